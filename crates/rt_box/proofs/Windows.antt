@@ -1,0 +1,245 @@
+-- Lemmas on windows.
+use Rattle.std.proofs.Common.{◌≡◌, ℕ, zero, suc, ◌+◌, ◌*◌, ◌<◌, ◌↔◌, Bool, ℤ, pos, ◌≤ℤ◌, List, [], ◌∷◌, length, get_or, set, replicate, All, arith, refl, ap, ◌∙◌, w32, FitsSigned}
+use Rattle.std.specs.Int.{int_min, int_max}
+use Rattle.std.proofs.lemmas.Int.{ints, clamps}
+use Rattle.std.proofs.lemmas.List.{length-set, get_or_default, get_or-set_same, get_or-set_other, length-replicate}
+use Rattle.std.proofs.lemmas.List.Elements.{All-head, All-tail, All-nil, All-cons}
+use lib.Pointwise.{pointwise}
+use Rattle.rt_box.specs.declared.interval.Interval.{Interval}
+use Rattle.rt_box.specs.declared.op6.Op6.{Op6}
+use Rattle.rt_box.specs.declared.window.Ends.{Ends}
+use Rattle.rt_box.specs.Interval.{interval, Includes, Covers, FitsEnds}
+use Rattle.rt_box.specs.Op6.{Keeps}
+use Rattle.rt_box.specs.Rect.{IsBox, Holds}
+use Rattle.rt_box.specs.Ends.{in_order, paired_up, paired_up-in_order, AdmitsSide, MayHoldSide}
+use Rattle.rt_box.proofs.Made.{IsOrdered}
+use Rattle.rt_box.specs.Window.{Allows, IsUnlimited, Narrows, Admits, MayHold}
+
+-- two windows are equal exactly where their pairs are
+pub pointwise-paired_up : (same : Ends → Ends → Bool) (xs ys : List Ends) (v w : List Interval) (r : Bool) →
+    in_order xs ≡ v → in_order ys ≡ w → r ≡ pointwise same xs ys → r ≡ pointwise same (paired_up v) (paired_up w)
+pointwise-paired_up same xs ys v w r v_is w_is e =
+    rw (← v_is, ← w_is, paired_up-in_order xs, paired_up-in_order ys) e
+
+pub length-in_order : (es : List Ends) → length (in_order es) ≡ 2 * length es
+length-in_order [] = refl
+length-in_order (e ∷ es) = omega (arith, length-in_order es)
+
+-- the interval at an even coordinate, and at an odd one
+pub get_or-in_order_lo : (es : List Ends) (i k : ℕ) (d : Interval) (e : Ends) → k ≡ 2 * i → i < length es →
+    get_or (in_order es) k d ≡ (get_or es i e).lo
+get_or-in_order_lo [] i k d e is h = absurd (omega arith)
+get_or-in_order_lo (x ∷ es) zero zero d e is h = refl
+get_or-in_order_lo (x ∷ es) zero (suc k) d e is h = absurd (omega arith)
+get_or-in_order_lo (x ∷ es) (suc i) zero d e is h = absurd (omega arith)
+get_or-in_order_lo (x ∷ es) (suc i) (suc zero) d e is h = absurd (omega arith)
+get_or-in_order_lo (x ∷ es) (suc i) (suc (suc k)) d e is h = get_or-in_order_lo es i k d e (omega arith) (omega arith)
+
+pub get_or-in_order_hi : (es : List Ends) (i k : ℕ) (d : Interval) (e : Ends) → k ≡ 2 * i + 1 → i < length es →
+    get_or (in_order es) k d ≡ (get_or es i e).hi
+get_or-in_order_hi [] i k d e is h = absurd (omega arith)
+get_or-in_order_hi (x ∷ es) i zero d e is h = absurd (omega arith)
+get_or-in_order_hi (x ∷ es) zero (suc zero) d e is h = refl
+get_or-in_order_hi (x ∷ es) zero (suc (suc k)) d e is h = absurd (omega arith)
+get_or-in_order_hi (x ∷ es) (suc i) (suc zero) d e is h = absurd (omega arith)
+get_or-in_order_hi (x ∷ es) (suc i) (suc (suc k)) d e is h = get_or-in_order_hi es i k d e (omega arith) (omega arith)
+
+-- a write to one interval of a pair is a write to one coordinate
+pub in_order-set_lo : (es : List Ends) (i k : ℕ) (x : Interval) (e : Ends) → k ≡ 2 * i → i < length es →
+    in_order (set es i (record { lo = x; hi = (get_or es i e).hi })) ≡ set (in_order es) k x
+in_order-set_lo [] i k x e is h = absurd (omega arith)
+in_order-set_lo (y ∷ es) zero zero x e is h = refl
+in_order-set_lo (y ∷ es) zero (suc k) x e is h = absurd (omega arith)
+in_order-set_lo (y ∷ es) (suc i) zero x e is h = absurd (omega arith)
+in_order-set_lo (y ∷ es) (suc i) (suc zero) x e is h = absurd (omega arith)
+in_order-set_lo (y ∷ es) (suc i) (suc (suc k)) x e is h =
+    ap (λ w. y.lo ∷ y.hi ∷ w) (in_order-set_lo es i k x e (omega arith) (omega arith))
+
+pub in_order-set_hi : (es : List Ends) (i k : ℕ) (x : Interval) (e : Ends) → k ≡ 2 * i + 1 → i < length es →
+    in_order (set es i (record { lo = (get_or es i e).lo; hi = x })) ≡ set (in_order es) k x
+in_order-set_hi [] i k x e is h = absurd (omega arith)
+in_order-set_hi (y ∷ es) i zero x e is h = absurd (omega arith)
+in_order-set_hi (y ∷ es) zero (suc zero) x e is h = refl
+in_order-set_hi (y ∷ es) zero (suc (suc k)) x e is h = absurd (omega arith)
+in_order-set_hi (y ∷ es) (suc i) (suc zero) x e is h = absurd (omega arith)
+in_order-set_hi (y ∷ es) (suc i) (suc (suc k)) x e is h =
+    ap (λ w. y.lo ∷ y.hi ∷ w) (in_order-set_hi es i k x e (omega arith) (omega arith))
+
+nothing : Interval
+nothing = interval (pos 1) (pos 0)
+
+-- a window of which one interval is replaced by what a comparison keeps of it
+pub Narrows-set : (w : List Interval) (k : ℕ) (x : Interval) (op : Op6) (value : ℤ) → k < length w →
+    ((z : ℤ) → Includes x z ↔ (Allows w k z × Keeps op z value)) → Narrows w (set w k x) k op value
+Narrows-set w k x op value h narrowed = record {
+  long = length-set w k x;
+  taken = λ z. rw (get_or-set_same w k x (interval (pos 1) (pos 0)) h) (narrowed z);
+  others = λ j z ne. rw (get_or-set_other w k j x (interval (pos 1) (pos 0)) ne) ((λ p. p), (λ p. p));
+}
+
+-- ---- side by side
+
+pub Admits-from_sides : (es : List Ends) (b : List Interval) → length es ≡ length b →
+    ((i : ℕ) (e : Ends) (d : Interval) → i < length es → AdmitsSide (get_or es i e) (get_or b i d)) → Admits (in_order es) b
+Admits-from_sides [] [] same h = tt
+Admits-from_sides [] (x ∷ b) same h = absurd (omega arith)
+Admits-from_sides (e ∷ es) [] same h = absurd (omega arith)
+Admits-from_sides (e ∷ es) (x ∷ b) same h =
+    let here = h 0 e x (omega arith) in
+    (here.0, (here.1, Admits-from_sides es b (omega arith) (λ i d d' l. h (suc i) d d' (omega arith))))
+
+pub Admits-side : (es : List Ends) (b : List Interval) (i : ℕ) (e : Ends) (d : Interval) → i < length es →
+    Admits (in_order es) b → AdmitsSide (get_or es i e) (get_or b i d)
+Admits-side [] b i e d l h = absurd (omega arith)
+Admits-side (x ∷ es) [] i e d l h = absurd h
+Admits-side (x ∷ es) (y ∷ b) zero e d l h = (h.0, h.1.0)
+Admits-side (x ∷ es) (y ∷ b) (suc i) e d l h = Admits-side es b i e d (omega arith) h.1.1
+
+-- a write to one of a window's pairs
+pub Narrows-set_lo : (es : List Ends) (window : List Interval) (i k : ℕ) (new e : Ends) (x : Interval) (op : Op6) (value given : ℤ) →
+    in_order es ≡ window → k ≡ 2 * i → i < length es → new ≡ record { lo = x; hi = (get_or es i e).hi } → given ≡ value →
+    ((z : ℤ) → Includes x z ↔ (Includes (get_or es i e).lo z × Keeps op z given)) →
+    Narrows window (in_order (set es i new)) k op value
+Narrows-set_lo es window i k new e x op value given window_is even h new_is given_is narrowed =
+    rw (new_is, in_order-set_lo es i k x e even h, ← window_is, ← given_is)
+    (Narrows-set (in_order es) k x op given (omega (arith, length-in_order es))
+    (λ z. rw (get_or-in_order_lo es i k (interval (pos 1) (pos 0)) e even h) (narrowed z)))
+
+pub Narrows-set_hi : (es : List Ends) (window : List Interval) (i k : ℕ) (new e : Ends) (x : Interval) (op : Op6) (value given : ℤ) →
+    in_order es ≡ window → k ≡ 2 * i + 1 → i < length es → new ≡ record { lo = (get_or es i e).lo; hi = x } → given ≡ value →
+    ((z : ℤ) → Includes x z ↔ (Includes (get_or es i e).hi z × Keeps op z given)) →
+    Narrows window (in_order (set es i new)) k op value
+Narrows-set_hi es window i k new e x op value given window_is odd h new_is given_is narrowed =
+    rw (new_is, in_order-set_hi es i k x e odd h, ← window_is, ← given_is)
+    (Narrows-set (in_order es) k x op given (omega (arith, length-in_order es))
+    (λ z. rw (get_or-in_order_hi es i k (interval (pos 1) (pos 0)) e odd h) (narrowed z)))
+
+every-replicate : (axes : ℕ) (e : Ends) → ((z : ℤ) → Includes e.lo z ↔ FitsSigned w32 z) → ((z : ℤ) → Includes e.hi z ↔ FitsSigned w32 z) →
+    (coordinate : ℕ) (z : ℤ) → coordinate < 2 * axes → Allows (in_order (replicate axes e)) coordinate z ↔ FitsSigned w32 z
+every-replicate zero e lo hi k z h = absurd (omega arith)
+every-replicate (suc axes) e lo hi zero z h = lo z
+every-replicate (suc axes) e lo hi (suc zero) z h = hi z
+every-replicate (suc axes) e lo hi (suc (suc k)) z h = every-replicate axes e lo hi k z (omega arith)
+
+pub IsUnlimited-replicate : (axes : ℕ) (e : Ends) → ((z : ℤ) → Includes e.lo z ↔ FitsSigned w32 z) → ((z : ℤ) → Includes e.hi z ↔ FitsSigned w32 z) →
+    IsUnlimited axes (in_order (replicate axes e))
+IsUnlimited-replicate axes e lo hi = record {
+  long = length-in_order (replicate axes e) ∙ ap (λ n. 2 * n) (length-replicate axes e);
+  every = every-replicate axes e lo hi;
+}
+
+-- ---- on one axis the interval to try goes from x to y
+
+pub MayHoldSide-from : (e : Ends) (side : Interval) (x y : ℤ) → x ≡ int_max e.lo.lo side.lo → y ≡ int_min e.hi.hi side.hi →
+    x ≤ℤ e.lo.hi → e.hi.lo ≤ℤ y → x ≤ℤ y → MayHoldSide e side
+MayHoldSide-from e side x y x_is y_is low high order = (
+  interval x y,
+  order,
+  (omega (arith, ints, clamps), omega (arith, ints, clamps)),
+  ((omega (arith, ints, clamps), low), (high, omega (arith, ints, clamps))),
+)
+
+pub MayHoldSide-low : (e : Ends) (side : Interval) (x : ℤ) → x ≡ int_max e.lo.lo side.lo → MayHoldSide e side → x ≤ℤ e.lo.hi
+MayHoldSide-low e side x x_is m = omega (arith, ints, clamps, m.2, m.3.0)
+
+pub MayHoldSide-high : (e : Ends) (side : Interval) (y : ℤ) → y ≡ int_min e.hi.hi side.hi → MayHoldSide e side → e.hi.lo ≤ℤ y
+MayHoldSide-high e side y y_is m = omega (arith, ints, clamps, m.2, m.3.1)
+
+pub MayHoldSide-order : (e : Ends) (side : Interval) (x y : ℤ) → x ≡ int_max e.lo.lo side.lo → y ≡ int_min e.hi.hi side.hi →
+    MayHoldSide e side → x ≤ℤ y
+MayHoldSide-order e side x y x_is y_is m = omega (arith, ints, clamps, m.1, m.2, m.3.0, m.3.1)
+
+-- ---- the box to try is made axis by axis
+
+record Tried (es : List Ends) (b : List Interval) : Type 0 where
+  inner : List Interval
+  long : length inner ≡ length b
+  ordered : All IsOrdered inner
+  fits : All FitsEnds inner
+  holds : Holds b inner
+  admitted : Admits (in_order es) inner
+
+FitsEnds-within : (side inner : Interval) → FitsEnds side → inner.lo ≤ℤ inner.hi → Covers side inner → FitsEnds inner
+FitsEnds-within side inner fits order within = (omega (arith, ints, fits, within), omega (arith, ints, fits, within))
+
+tried : (es : List Ends) (b : List Interval) → length es ≡ length b → All FitsEnds b →
+    ((i : ℕ) (e : Ends) (d : Interval) → i < length es → MayHoldSide (get_or es i e) (get_or b i d)) → Tried es b
+tried [] [] same fits h = record {
+  inner = [];
+  long = refl;
+  ordered = All-nil IsOrdered;
+  fits = All-nil FitsEnds;
+  holds = tt;
+  admitted = tt;
+}
+tried [] (x ∷ b) same fits h = absurd (omega arith)
+tried (e ∷ es) [] same fits h = absurd (omega arith)
+tried (e ∷ es) (x ∷ b) same fits h =
+    let here = h 0 e x (omega arith) in
+    let rest = tried es b (omega arith) (All-tail FitsEnds x b fits) (λ i d d' l. h (suc i) d d' (omega arith)) in
+    record {
+      inner = here.0 ∷ rest.inner;
+      long = ap suc rest.long;
+      ordered = All-cons IsOrdered here.0 rest.inner here.1 rest.ordered;
+      fits = All-cons FitsEnds here.0 rest.inner (FitsEnds-within x here.0 (All-head FitsEnds x b fits) here.1 here.2) rest.fits;
+      holds = (here.2, rest.holds);
+      admitted = (here.3.0, (here.3.1, rest.admitted));
+    }
+
+pub MayHold-from_sides : (axes : ℕ) (es : List Ends) (b : List Interval) → IsBox axes b → length es ≡ axes →
+    ((i : ℕ) (e : Ends) (d : Interval) → i < length es → MayHoldSide (get_or es i e) (get_or b i d)) → MayHold axes (in_order es) b
+MayHold-from_sides axes es b is long h =
+    let t = tried es b (omega (arith, is.axes_are)) is.fits h in (
+      t.inner,
+      record {
+        some = is.some;
+        few = is.few;
+        axes_are = t.long ∙ is.axes_are;
+        ordered = t.ordered;
+        fits = t.fits;
+      },
+      t.holds,
+      t.admitted,
+    )
+
+side_of : (es : List Ends) (b inner : List Interval) (i : ℕ) (e : Ends) (d : Interval) → i < length es →
+    All IsOrdered inner → Holds b inner → Admits (in_order es) inner → MayHoldSide (get_or es i e) (get_or b i d)
+side_of [] b inner i e d l ordered holds admitted = absurd (omega arith)
+side_of (x ∷ es) b [] i e d l ordered holds admitted = absurd admitted
+side_of (x ∷ es) [] (z ∷ inner) i e d l ordered holds admitted = absurd holds
+side_of (x ∷ es) (y ∷ b) (z ∷ inner) zero e d l ordered holds admitted =
+    (z, All-head IsOrdered z inner ordered, holds.0, (admitted.0, admitted.1.0))
+side_of (x ∷ es) (y ∷ b) (z ∷ inner) (suc i) e d l ordered holds admitted =
+    side_of es b inner i e d (omega arith) (All-tail IsOrdered z inner ordered) holds.1 admitted.1.1
+
+pub MayHold-side : (axes : ℕ) (es : List Ends) (b : List Interval) (i : ℕ) (e : Ends) (d : Interval) → i < length es →
+    MayHold axes (in_order es) b → MayHoldSide (get_or es i e) (get_or b i d)
+MayHold-side axes es b i e d l m = side_of es b m.0 i e d l m.1.ordered m.2 m.3
+
+-- ---- what the loops over the axes cite: the window's view is the pairs in order, and x is the box's side at i
+
+pub sides_here : (P : Ends → Interval → Type 0) (es : List Ends) (b : List Interval) (i : ℕ) (here : Ends) (x : Interval) →
+    i < length es → i < length b → x ≡ get_or b i x → P (get_or es i here) x →
+    (e : Ends) (d : Interval) → P (get_or es i e) (get_or b i d)
+sides_here P es b i here x in_es in_b x_is holds e d =
+    rw (get_or_default es i e here in_es, get_or_default b i d x in_b, ← x_is) holds
+
+pub Admits-at : (es : List Ends) (window b : List Interval) (i : ℕ) (e : Ends) (x : Interval) →
+    in_order es ≡ window → i < length es → x ≡ get_or b i x → Admits window b → AdmitsSide (get_or es i e) x
+Admits-at es window b i e x window_is h x_is admitted =
+    let whole : Admits (in_order es) b = rw window_is admitted in
+    rw x_is (Admits-side es b i e x h whole)
+
+pub Admits-all : (es : List Ends) (window b : List Interval) → in_order es ≡ window → length es ≡ length b →
+    ((i : ℕ) (e : Ends) (d : Interval) → i < length es → AdmitsSide (get_or es i e) (get_or b i d)) → Admits window b
+Admits-all es window b window_is same h = rw (← window_is) (Admits-from_sides es b same h)
+
+pub MayHold-at : (axes : ℕ) (es : List Ends) (window b : List Interval) (i : ℕ) (e : Ends) (x : Interval) →
+    in_order es ≡ window → i < length es → x ≡ get_or b i x → MayHold axes window b → MayHoldSide (get_or es i e) x
+MayHold-at axes es window b i e x window_is h x_is held =
+    let whole : MayHold axes (in_order es) b = rw window_is held in
+    rw x_is (MayHold-side axes es b i e x h whole)
+
+pub MayHold-all : (axes : ℕ) (es : List Ends) (window b : List Interval) → in_order es ≡ window → length es ≡ axes → IsBox axes b →
+    ((i : ℕ) (e : Ends) (d : Interval) → i < length es → MayHoldSide (get_or es i e) (get_or b i d)) → MayHold axes window b
+MayHold-all axes es window b window_is long is h = rw (← window_is) (MayHold-from_sides axes es b is long h)

@@ -1,0 +1,28 @@
+-- The pairs in which a window keeps its intervals, one pair for each axis.
+use Rattle.std.specs.Prelude.{◌≡◌, List, [], ◌∷◌, ◌≤ℤ◌}
+use Rattle.std.proofs.Common.{refl, ap}
+use Rattle.rt_box.specs.declared.interval.Interval.{Interval}
+use Rattle.rt_box.specs.declared.window.Ends.{Ends}
+use Rattle.rt_box.specs.Interval.{Includes, Covers}
+
+-- one interval for each coordinate
+abbrev pub in_order : List Ends → List Interval
+in_order [] = []
+in_order (e ∷ es) = e.lo ∷ e.hi ∷ in_order es
+
+abbrev pub paired_up : List Interval → List Ends
+paired_up [] = []
+paired_up (i ∷ []) = []
+paired_up (i ∷ j ∷ w) = record { lo = i; hi = j } ∷ paired_up w
+
+pub paired_up-in_order : (es : List Ends) → paired_up (in_order es) ≡ es
+paired_up-in_order [] = refl
+paired_up-in_order (e ∷ es) = ap (λ rest. e ∷ rest) (paired_up-in_order es)
+
+-- both ends of a side are allowed
+abbrev pub AdmitsSide : Ends → Interval → Type 0
+AdmitsSide e side = Includes e.lo side.lo × Includes e.hi side.hi
+
+-- some interval within the side is admitted
+abbrev pub MayHoldSide : Ends → Interval → Type 0
+MayHoldSide e side = (inner : Interval) × (inner.lo ≤ℤ inner.hi) × Covers side inner × AdmitsSide e inner

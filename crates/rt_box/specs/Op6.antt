@@ -1,0 +1,19 @@
+-- Comparisons of a coordinate with a number (SQLite's documentation: The SQLite R*Tree Module).
+use Rattle.std.specs.Prelude.{◌≡◌, ◌≢◌, ℤ, ◌<ℤ◌, ◌≤ℤ◌, ⊤}
+use Rattle.rt_box.specs.declared.op6.Op6.{Op6}
+use Rattle.rt_box.specs.declared.op6.Op6.TheVariants.{Eq, Ne, Lt, Le, Gt, Ge}
+
+-- the comparison holds of a number, with the value on its right
+abbrev pub Compares : Op6 → ℤ → ℤ → Type 0
+Compares Eq z value = z ≡ value
+Compares Ne z value = z ≢ value
+Compares Lt z value = z <ℤ value
+Compares Le z value = z ≤ℤ value
+Compares Gt z value = value <ℤ z
+Compares Ge z value = value ≤ℤ z
+
+-- a window that is narrowed by the comparison keeps the number: `<>` takes nothing, since an interval
+-- can't have a gap (own)
+abbrev pub Keeps : Op6 → ℤ → ℤ → Type 0
+Keeps Ne z value = ⊤
+Keeps op z value = Compares op z value

@@ -1,0 +1,80 @@
+ghost use Rattle.std.specs.Prelude.{◌≡◌, ◌↔◌, IsSome, IfSome};
+ghost use Rattle.rt_box.specs.Capacity.{IsCapacity, least_fill, reinsertion_share};
+
+use std::marker::Model;
+
+/// The greatest number of cells in a node of a tree, from 5 to 51.
+#[derive(Clone, Copy, Debug, PartialEq, Eq)]
+pub struct Capacity {
+    greatest: u8,
+}
+
+// Clauses see the number.
+impl Model for Capacity {
+    ghost use Rattle.std.specs.Prelude.{ℕ};
+    ghost use Rattle.rt_box.specs.Capacity.{IsCapacity};
+
+    ghost Value = { ℕ };
+
+    ghost view = { λ c. c.greatest };
+
+    ghost invariant = { λ c. IsCapacity c.greatest };
+
+    ghost inverse = { λ n. record { greatest = n } };
+}
+
+impl Capacity {
+    /// The capacity of `greatest` cells, or `None` where that is below 5 or above 51.
+    pub fn new(greatest: u8) -> Option<Capacity>
+        ensures valid { IsSome result ↔ IsCapacity greatest }
+        ensures value { IfSome result (λ c. c ≡ greatest) }
+    {
+        if greatest >= 5 && greatest <= 51 {
+            Some(Capacity { greatest })
+        } else {
+            None
+        }
+    }
+
+    /// The greatest number of cells in a node.
+    pub fn greatest(self) -> usize
+        ensures value { result ≡ self }
+        ensures valid { IsCapacity self }
+    {
+        usize::from(self.greatest)
+    }
+
+    /// The least number of cells in a node that isn't the root: two fifths of the greatest, rounded down.
+    pub fn least(self) -> usize
+        ensures value { result ≡ least_fill self }
+        ensures valid { IsCapacity self }
+    {
+        self.greatest() * 2 / 5
+    }
+
+    /// The number of cells that an overfull node gives up for reinsertion: three tenths, rounded down.
+    pub fn share(self) -> usize
+        ensures value { result ≡ reinsertion_share self }
+        ensures valid { IsCapacity self }
+    {
+        self.greatest() * 3 / 10
+    }
+}
+
+#[cfg(test)]
+mod tests {
+    use super::*;
+
+    fn numbers(greatest: u8) -> Option<(usize, usize, usize)> {
+        let capacity = Capacity::new(greatest)?;
+        Some((capacity.greatest(), capacity.least(), capacity.share()))
+    }
+
+    #[test]
+    fn takes_5_to_51(rt: HostRuntime) {
+        assert!(rt; numbers(4).is_none());
+        assert_eq!(rt; numbers(5), Some((5, 2, 1)));
+        assert_eq!(rt; numbers(51), Some((51, 20, 15)));
+        assert!(rt; numbers(52).is_none());
+    }
+}

@@ -1,0 +1,25 @@
+//! Boxes of one to three axes, windows over them, and the capacity of a tree's nodes.
+//!
+//! - `Rect` is a box with 32-bit coordinates. Its measures (area, margin, overlap, union, enlargement,
+//!   distance of centres) are those of the R*-tree, exact over whole numbers: nothing wraps, and each
+//!   states the bound that sums of it need.
+//! - `Window` holds what a search asks of each coordinate. It admits a box exactly where all of its
+//!   comparisons but `<>` hold, and `may_hold` says exactly whether an admitted box fits into a given one.
+//! - `Capacity` is the greatest number of cells in a node, with the two numbers that follow from it.
+//! - `laws` states what searching and splitting rest on, over the definitions that the contracts cite.
+//!
+//! No call takes memory, and none refuses but the two constructors that are themselves the test.
+#![tactic(auto)]
+
+mod capacity;
+mod interval;
+pub mod laws;
+mod op6;
+mod rect;
+mod window;
+
+pub use capacity::Capacity;
+pub use interval::Interval;
+pub use op6::Op6;
+pub use rect::Rect;
+pub use window::Window;

@@ -1,0 +1,182 @@
+ghost use Rattle.std.specs.Prelude.{◌*◌, ◌<◌, ◌↔◌, IsTrue};
+ghost use Rattle.rt_box.specs.Ends.{AdmitsSide, MayHoldSide};
+ghost use Rattle.rt_box.specs.Window.{IsUnlimited, Narrows, Admits, MayHold};
+
+use crate::interval::Interval;
+use crate::op6::Op6;
+use crate::rect::Rect;
+use std::marker::Model;
+
+/// The numbers that a window allows the two ends of a box on one axis.
+#[derive(Clone, Copy, Debug, PartialEq, Eq)]
+struct Ends {
+    lo: Interval,
+    hi: Interval,
+}
+
+impl Ends {
+    fn admits(self, side: Interval) -> bool
+        ensures { IsTrue result ↔ AdmitsSide self side }
+    {
+        self.lo.includes(side.lo) && self.hi.includes(side.hi)
+    }
+
+    /// Whether an interval that is admitted fits into `side`. It is enough to try the longest: from the
+    /// least number that its `lo` may be to the greatest that its `hi` may be.
+    fn may_hold(self, side: Interval) -> bool
+        ensures { IsTrue result ↔ MayHoldSide self side }
+    {
+        let least = self.lo.lo.max(side.lo);
+        let greatest = self.hi.hi.min(side.hi);
+        if least > self.lo.hi {
+            return false;
+        }
+        if greatest < self.hi.lo {
+            return false;
+        }
+        least <= greatest
+    }
+}
+
+/// What a search asks of each coordinate of a box: an interval of 32-bit numbers, which may be empty.
+///
+/// The coordinates are those of a table's columns: `lo` and `hi` of the first axis, then of the next.
+#[derive(Clone, Copy, Debug, PartialEq, Eq)]
+pub struct Window<const D: usize> {
+    axes: [Ends; D],
+}
+
+// Clauses see the list of the intervals, one for each coordinate.
+impl<const D: usize> Model for Window<D> {
+    ghost use Rattle.std.specs.Prelude.{◌≡◌, List, length};
+    ghost use Rattle.rt_box.specs.declared.interval.Interval.{Interval};
+    ghost use Rattle.rt_box.specs.Ends.{in_order, paired_up, paired_up-in_order};
+
+    ghost Value = { List Interval };
+
+    ghost view = { λ w. in_order w.axes };
+
+    ghost invariant = { λ w. length w.axes ≡ D };
+
+    ghost inverse = { λ v. record { axes = paired_up v } };
+
+    ghost use Rattle.std.proofs.Common.{ap};
+
+    ghost inverse_ok = { λ w _. ap (λ e. record { axes = e }) (paired_up-in_order w.axes) };
+}
+
+impl<const D: usize> Window<D> {
+    /// The window that admits every box.
+    pub fn all() -> Window<D>
+        ensures { IsUnlimited D result }
+    {
+        Window {
+            axes: [Ends {
+                lo: Interval::ALL,
+                hi: Interval::ALL,
+            }; D],
+        }
+    }
+
+    /// Takes the numbers from a coordinate of which the comparison with `value` doesn't hold; `<>` takes
+    /// none, since it would leave a gap.
+    pub fn narrow(&mut self, coordinate: usize, op: Op6, value: i64)
+        requires { coordinate < 2 * D }
+        ensures { Narrows self.old self.new coordinate op value }
+    {
+        let axis = coordinate / 2;
+        let ends = self.axes[axis];
+        self.axes[axis] = if coordinate % 2 == 0 {
+            Ends {
+                lo: ends.lo.narrowed(op, value),
+                hi: ends.hi,
+            }
+        } else {
+            Ends {
+                lo: ends.lo,
+                hi: ends.hi.narrowed(op, value),
+            }
+        };
+    }
+
+    /// Whether each coordinate of the box is in its interval.
+    #[inline]
+    pub fn admits(&self, rect: &Rect<D>) -> bool
+        ensures { IsTrue result ↔ Admits self.now rect.now }
+    {
+        for axis in 0..rect.axes() {
+            if !self.axes[axis].admits(rect.range(axis)) {
+                return false;
+            }
+        }
+        true
+    }
+
+    /// Whether some box that lies in the given one is admitted.
+    #[inline]
+    pub fn may_hold(&self, rect: &Rect<D>) -> bool
+        ensures { IsTrue result ↔ MayHold D self.now rect.now }
+    {
+        for axis in 0..rect.axes() {
+            if !self.axes[axis].may_hold(rect.range(axis)) {
+                return false;
+            }
+        }
+        true
+    }
+}
+
+#[cfg(test)]
+mod tests {
+    use super::*;
+    use std::test::Fail;
+
+    /// Whether the window of one comparison admits the box from 0 to 5, and may hold within it.
+    fn answers(coordinate: usize, op: Op6, value: i64) -> Option<(bool, bool)>
+        requires { coordinate < 2 }
+    {
+        let rect = Rect::new([0], [5])?;
+        let mut window = Window::<1>::all();
+        window.narrow(coordinate, op, value);
+        Some((window.admits(&rect), window.may_hold(&rect)))
+    }
+
+    #[test]
+    fn compares_each_way(rt: HostRuntime) {
+        assert_eq!(rt; answers(1, Op6::Ge, 5), Some((true, true)));
+        assert_eq!(rt; answers(1, Op6::Gt, 5), Some((false, false)));
+        assert_eq!(rt; answers(0, Op6::Le, 0), Some((true, true)));
+        assert_eq!(rt; answers(0, Op6::Lt, 0), Some((false, false)));
+        assert_eq!(rt; answers(0, Op6::Eq, 3), Some((false, true)));
+        assert_eq!(rt; answers(0, Op6::Ne, 0), Some((true, true)));
+        assert_eq!(rt; answers(1, Op6::Le, 4), Some((false, true)));
+        assert_eq!(rt; answers(1, Op6::Lt, 0), Some((false, false)));
+    }
+
+    #[test]
+    fn compares_with_the_ends_of_64_bits(rt: HostRuntime) {
+        assert_eq!(rt; answers(0, Op6::Gt, i64::MIN), Some((true, true)));
+        assert_eq!(rt; answers(0, Op6::Lt, i64::MIN), Some((false, false)));
+        assert_eq!(rt; answers(1, Op6::Lt, i64::MAX), Some((true, true)));
+        assert_eq!(rt; answers(1, Op6::Gt, i64::MAX), Some((false, false)));
+        assert_eq!(rt; answers(0, Op6::Eq, i64::MAX), Some((false, false)));
+        assert_eq!(rt;
+            answers(0, Op6::Ge, i64::from(i32::MIN)),
+            Some((true, true))
+        );
+    }
+
+    #[test]
+    fn needs_every_axis(rt: HostRuntime) -> Result<(), Fail> {
+        let rect = Rect::new([0, 10, i32::MIN], [9, 12, i32::MAX]).ok_or("no box")?;
+        let mut window = Window::<3>::all();
+        assert!(rt; window.admits(&rect));
+        window.narrow(5, Op6::Ge, i64::from(i32::MAX));
+        assert!(rt; window.admits(&rect));
+        window.narrow(2, Op6::Gt, 10);
+        assert!(rt; !window.admits(&rect) && window.may_hold(&rect));
+        window.narrow(3, Op6::Lt, 11);
+        assert!(rt; !window.may_hold(&rect));
+        Ok(())
+    }
+}

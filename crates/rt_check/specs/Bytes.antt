@@ -1,0 +1,28 @@
+-- What readers and writers count, and what a whole write leaves (own).
+use Rattle.std.specs.Prelude.{◌≡◌, ℕ, ◌+◌, ◌-◌, ◌^◌, ◌≤◌, min, List, length, take, MatchResult, Result, Option}
+use Rattle.std.specs.Io.KnownBytes.{Appends}
+
+-- a count raised by one, which stays at 2^64 - 1
+abbrev pub one_more : ℕ → ℕ
+one_more n = min (n + 1) (2 ^ 64 - 1)
+
+-- an Err raises the count by one, an Ok leaves it
+abbrev pub CountsErr : {T E : Type 0} → ℕ → ℕ → Result T E → Type 0
+CountsErr old new r = MatchResult r (λ _. new ≡ old) (λ _. new ≡ one_more old)
+
+-- all of the bytes were written, and no fault was counted
+abbrev pub WritesAll : Option (List ℕ) → Option (List ℕ) → ℕ → ℕ → List ℕ → Type 0
+WritesAll old new faults_old faults_new bytes = Appends old new bytes × (faults_new ≡ faults_old)
+
+-- some front of the bytes was written
+abbrev pub AppendsFront : Option (List ℕ) → Option (List ℕ) → List ℕ → Type 0
+AppendsFront old new bytes = (n : ℕ) × (n ≤ length bytes) × Appends old new (take n bytes)
+
+-- a front of the bytes was written, and one fault counted
+abbrev pub WritesFront : Option (List ℕ) → Option (List ℕ) → ℕ → ℕ → List ℕ → Type 0
+WritesFront old new faults_old faults_new bytes = AppendsFront old new bytes × (faults_new ≡ one_more faults_old)
+
+-- at Ok all of the bytes were written; at Err a front of them, and the fault was counted
+abbrev pub Writes : {T E : Type 0} → Option (List ℕ) → Option (List ℕ) → ℕ → ℕ → Result T E → List ℕ → Type 0
+Writes old new faults_old faults_new r bytes =
+    MatchResult r (λ _. WritesAll old new faults_old faults_new bytes) (λ _. WritesFront old new faults_old faults_new bytes)

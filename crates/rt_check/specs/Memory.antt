@@ -1,0 +1,13 @@
+-- How contracts see the readers and writers over memory (own).
+use Rattle.std.specs.Prelude.{ℕ, List}
+
+-- a reader over a slice: the bytes left, the most that one read gives, and the reads so far
+pub record Reading : Type 0 where
+  pub left : List ℕ
+  pub most : ℕ
+  pub reads : ℕ
+
+-- a writer into memory: the bytes written, and the writes for which there was no memory
+pub record Written : Type 0 where
+  pub bytes : List ℕ
+  pub faults : ℕ

@@ -1,0 +1,254 @@
+-- How an engine comes on through a script.
+use Rattle.std.proofs.Common.{◌≡◌, ◌∙◌, ℕ, ◌+◌, ◌≤◌, Bool, true, false, List, [], ◌∷◌, ◌++◌, Option, Some, None, Result, Ok, Err, refl, sym, ap, subst, inl, inr, arith, rules, append_assoc, append-nil}
+use Rattle.std.specs.Prelude.{◌||◌, ◌&&◌, ◌⊎◌}
+use Rattle.std.specs.Result.{is_err}
+use Rattle.std.proofs.lemmas.Grind.{common_steps}
+use Rattle.rt_sql.specs.Piece.{PieceText}
+use Rattle.rt_sql.specs.Pieces.{IsGap, IsWholePiece, IsLastPiece, Pieces, EndedPieces}
+use Rattle.rt_sql.specs.Cutter.{Front, StandsAt, FinishedAt, ready_piece}
+use Rattle.rt_sql.specs.declared.refusal.Refusal.{Refusal}
+use Rattle.rt_sql.specs.declared.refusal.Refusal.TheVariants.{OutOfMemory}
+use Rattle.rt_sql.proofs.CutterFront.{nothing_ready}
+use Rattle.rt_sql.proofs.CutterLaws.{cut_somehow}
+use Rattle.rt_check.specs.declared.bytes.WriteFault.{WriteFault}
+use Rattle.rt_shell.specs.declared.session.Reply.{Reply}
+use Rattle.rt_shell.specs.declared.runner.Engine.{Engine}
+use Rattle.rt_shell.specs.declared.runner.Status.{Status}
+use Rattle.rt_shell.specs.declared.runner.Status.TheVariants.{Refused}
+use Rattle.rt_shell.specs.declared.runner.Flow.{Flow}
+use Rattle.rt_shell.specs.declared.runner.Flow.TheVariants.{Goes, Stops}
+use Rattle.rt_shell.specs.Session.{State}
+use Rattle.rt_shell.specs.Lines.{answer_lines}
+use Rattle.rt_shell.specs.Transcript.{Progress, Outcome, MayGive, after, Prints, lines_of, status_of}
+use Rattle.rt_shell.specs.Engine.{outcome_of, GivesAnswer, Answers, AnswersPiece, WaitsForMore, progress_of, ready_lines, flow_of, CutInto, Gives, Moves, StopsWith, Reaches, AnswersReady, Finishes}
+
+-- an answer's outcome is one that the piece may give
+pub MayGive-outcome_of : (old : State) (piece : PieceText) (answer : Result Reply Refusal) (new : State) → GivesAnswer old piece answer new → MayGive old piece (outcome_of answer new)
+MayGive-outcome_of old piece (Ok reply) new gives = gives
+MayGive-outcome_of old piece (Err refusal) new gives = gives.0
+
+or-false : (b : Bool) → (b || false) ≡ b
+or-false true = refl
+or-false false = refl
+
+or-true : (b : Bool) → (b || true) ≡ true
+or-true true = refl
+or-true false = refl
+
+-- and the progress with it
+pub after-outcome_of : (p : Progress) (piece : PieceText) (answer : Result Reply Refusal) (new : State) → GivesAnswer p.tables piece answer new
+    → (let next : Progress = record { tables = new; pieces = p.pieces + 1; refused = p.refused || is_err answer } in next ≡ after p (outcome_of answer new))
+after-outcome_of p piece (Ok reply) new gives = ap (λ b. record { tables = new; pieces = p.pieces + 1; refused = b }) (or-false p.refused)
+after-outcome_of p piece (Err refusal) new gives =
+    ap (λ b. record { tables = new; pieces = p.pieces + 1; refused = b }) (or-true p.refused)
+    ∙ ap (λ t. record { tables = t; pieces = p.pieces + 1; refused = true }) gives.1
+
+-- ---- every text is cut, and every list of pieces may print something
+
+ended_of : (x : List ℕ) (pieces : List PieceText) → Pieces x pieces → (ended : List PieceText) × EndedPieces x ended
+ended_of x [] gap = ([], inl gap)
+ended_of x (piece ∷ pieces) (inl last) = ([], inr (piece, last.0))
+ended_of x (piece ∷ pieces) (inr (front, rest, split, whole, more)) =
+    let later = ended_of rest pieces more in
+    (piece ∷ later.0, (front, rest, split, whole, later.1))
+
+cut_in_some_way : (so_far : Bool) (x : List ℕ) → (pieces : List PieceText) × CutInto so_far x pieces
+cut_in_some_way false x = cut_somehow x
+cut_in_some_way true x = ended_of x _ (cut_somehow x).1
+
+prints_somehow : (bail : Bool) (p : Progress) (pieces : List PieceText) → (out : List ℕ) × (status : Status) × Prints bail p pieces out status
+prints_somehow bail p [] = ([], status_of p, (refl, refl))
+prints_somehow true p (piece ∷ pieces) =
+    (lines_of (p.pieces + 1) (Err OutOfMemory) ++ [], Refused, (Err OutOfMemory, inl refl, [], refl, (refl, refl)))
+prints_somehow false p (piece ∷ pieces) =
+    let later = prints_somehow false (after p (Err OutOfMemory)) pieces in
+    (lines_of (p.pieces + 1) (Err OutOfMemory) ++ later.0, later.1, (Err OutOfMemory, inl refl, later.0, refl, later.2))
+
+gives_somehow : (so_far bail : Bool) (p : Progress) (x : List ℕ) → (out : List ℕ) × (status : Status) × Gives so_far bail p x out status
+gives_somehow so_far bail p x =
+    let cut = cut_in_some_way so_far x in
+    let printed = prints_somehow bail p cut.0 in
+    (printed.0, printed.1, (cut.0, cut.1, printed.2))
+
+-- ---- steps
+
+pub moves_nowhere : (e : Engine) (x : List ℕ) → StandsAt e.cutter x → Moves e x [] [] e x
+moves_nowhere e x stands = record { stands = stands; same_bail = refl; leads = λ so_far ahead out status gives. gives }
+
+-- bytes that the cutter took
+pub moves_by_feed : (e : Engine) (c : Front) (x taken : List ℕ) → StandsAt c (x ++ taken) → Moves e x taken [] (record e { cutter = c }) (x ++ taken)
+moves_by_feed e c x taken stands = record {
+  stands = stands;
+  same_bail = refl;
+  leads = λ so_far ahead out status gives. rw (← append_assoc x taken ahead) gives;
+}
+
+pub moves_on : (old mid new : Engine) (x y z b c l m : List ℕ) → Moves old x b l mid y → Moves mid y c m new z → Moves old x (b ++ c) (l ++ m) new z
+moves_on old mid new x y z b c l m first second = record {
+  stands = second.stands;
+  same_bail = second.same_bail ∙ first.same_bail;
+  leads = λ so_far ahead out status gives.
+      let kept : Gives so_far mid.bail (progress_of new) (z ++ ahead) out status = rw first.same_bail gives in
+      let later = second.leads so_far ahead out status kept in
+      let led : Gives so_far old.bail (progress_of mid) (y ++ (c ++ ahead)) (m ++ out) status = rw (← first.same_bail) later in
+      rw (append_assoc b c ahead, append_assoc l m out) (first.leads so_far (c ++ ahead) (m ++ out) status led);
+}
+
+pub stops_after : (old mid : Engine) (x y b l m rest : List ℕ) → Moves old x b l mid y → StopsWith mid y [] m → StopsWith old x (b ++ rest) (l ++ m)
+stops_after old mid x y b l m rest first stops so_far ahead =
+    let led : Gives so_far old.bail (progress_of mid) (y ++ (rest ++ ahead)) m Refused = rw (← first.same_bail) (stops so_far (rest ++ ahead)) in
+    rw (append_assoc b rest ahead) (first.leads so_far (rest ++ ahead) m Refused led)
+
+pub reaches_after : (old mid : Engine) (x y b l m rest : List ℕ) → Moves old x b l mid y → Reaches mid y [] m → Reaches old x (b ++ rest) (l ++ m)
+reaches_after old mid x y b l m rest first reaches so_far ahead =
+    let later = reaches so_far (rest ++ ahead) in
+    let led : Gives so_far old.bail (progress_of mid) (y ++ (rest ++ ahead)) (m ++ later.0) later.1 = rw (← first.same_bail) later.2 in
+    (later.0, later.1, rw (append_assoc b rest ahead, append_assoc l m later.0) (first.leads so_far (rest ++ ahead) (m ++ later.0) later.1 led))
+
+pub reaches_from : (old new : Engine) (x y b l : List ℕ) → Moves old x b l new y → Reaches old x b l
+reaches_from old new x y b l moves so_far ahead =
+    let later = gives_somehow so_far old.bail (progress_of new) (y ++ ahead) in
+    (later.0, later.1, moves.leads so_far ahead later.0 later.1 later.2)
+
+-- ---- an answered piece
+
+cut_more : (so_far : Bool) (x rest : List ℕ) (piece : PieceText) (pieces : List PieceText) → IsWholePiece x piece → CutInto so_far rest pieces → CutInto so_far (x ++ rest) (piece ∷ pieces)
+cut_more true x rest piece pieces whole cut = (x, rest, refl, whole, cut)
+cut_more false x rest piece pieces whole cut = inr (x, rest, refl, whole, cut)
+
+lines_of-outcome_of : (n : ℕ) (answer : Result Reply Refusal) (new : State) → lines_of n (outcome_of answer new) ≡ answer_lines n answer
+lines_of-outcome_of n (Ok reply) new = refl
+lines_of-outcome_of n (Err refusal) new = refl
+
+goes_on : (bail : Bool) (answer : Result Reply Refusal) (new : State) → flow_of bail (Some answer) ≡ Goes → (bail && is_err (outcome_of answer new)) ≡ false
+goes_on false answer new flow = refl
+goes_on true (Ok reply) new flow = refl
+goes_on true (Err refusal) new flow = cc
+
+stops_here : (bail : Bool) (answer : Result Reply Refusal) (new : State) → flow_of bail (Some answer) ≡ Stops → (bail && is_err (outcome_of answer new)) ≡ true
+stops_here false answer new flow = cc
+stops_here true (Ok reply) new flow = cc
+stops_here true (Err refusal) new flow = refl
+
+pub moves_by_answer : (old : Engine) (answer : Option (Result Reply Refusal)) (new : Engine) (x : List ℕ) → StandsAt old.cutter x → Answers old answer new
+    → flow_of old.bail answer ≡ Goes → (y : List ℕ) × Moves old x [] (ready_lines (old.pieces + 1) answer) new y
+moves_by_answer old None new x stands waits flow = (x, rw waits.same (moves_nowhere old x stands))
+moves_by_answer old (Some answer) new x stands answers flow = (
+  [],
+  record {
+    stands = answers.starts_anew;
+    same_bail = answers.same_bail;
+    leads = λ so_far ahead out status gives.
+        let outcome = outcome_of answer new.session in
+        let on : Prints old.bail (after (progress_of old) outcome) gives.0 out status = rw (← answers.comes_on) gives.2 in
+        let kept = goes_on old.bail answer new.session flow in (
+          answers.piece ∷ gives.0,
+          cut_more so_far x ahead answers.piece gives.0 (answers.whole x stands) gives.1,
+          (outcome, answers.gives, out, rw (lines_of-outcome_of (old.pieces + 1) answer new.session) refl, rw kept on),
+        );
+  },
+)
+
+pub stops_by_answer : (old : Engine) (answer : Option (Result Reply Refusal)) (new : Engine) (x : List ℕ) → StandsAt old.cutter x → Answers old answer new
+    → flow_of old.bail answer ≡ Stops → StopsWith old x [] (ready_lines (old.pieces + 1) answer)
+stops_by_answer old None new x stands waits flow so_far ahead = absurd (let none : ⊥ = cc in none)
+stops_by_answer old (Some answer) new x stands answers flow so_far ahead =
+    let cut = cut_in_some_way so_far ahead in
+    let outcome = outcome_of answer new.session in
+    let stop = stops_here old.bail answer new.session flow in (
+      answers.piece ∷ cut.0,
+      cut_more so_far x ahead answers.piece cut.0 (answers.whole x stands) cut.1,
+      (outcome, answers.gives, [], rw (lines_of-outcome_of (old.pieces + 1) answer new.session) (sym (append-nil _)), rw stop (refl, refl)),
+    )
+
+pub reaches_by_answer : (old : Engine) (answer : Option (Result Reply Refusal)) (new : Engine) (x : List ℕ) → StandsAt old.cutter x → Answers old answer new
+    → Reaches old x [] (ready_lines (old.pieces + 1) answer)
+reaches_by_answer old answer new x stands answers =
+    elim (flow_of old.bail answer) as (λ flow. flow_of old.bail answer ≡ flow → Reaches old x [] (ready_lines (old.pieces + 1) answer)) [
+      | Goes ↦ λ goes. let moves = moves_by_answer old answer new x stands answers goes in reaches_from old new x moves.0 [] _ moves.1
+      | Stops ↦ λ stops so_far ahead.
+          let gives = stops_by_answer old answer new x stands answers stops so_far ahead in
+          ([], Refused, rw (append-nil (ready_lines (old.pieces + 1) answer)) gives)
+    ] refl
+
+-- ---- the end of the input
+
+empty_gap : IsGap []
+empty_gap = ([], [], refl, ([], refl, search rules), inl refl)
+
+only_piece : (x : List ℕ) (piece : PieceText) → IsWholePiece x piece ⊎ IsLastPiece x piece → Pieces x (piece ∷ [])
+only_piece x piece (inl whole) = inr (x, [], sym (append-nil x), whole, empty_gap)
+only_piece x piece (inr last) = inl (last, refl)
+
+prints_last : (bail : Bool) (p : Progress) (piece : PieceText) (outcome : Outcome) → MayGive p.tables piece outcome
+    → Prints bail p (piece ∷ []) (lines_of (p.pieces + 1) outcome) (status_of (after p outcome))
+prints_last true p piece (Err refusal) gives = (Err refusal, gives, [], sym (append-nil _), (refl, refl))
+prints_last false p piece (Err refusal) gives = (Err refusal, gives, [], sym (append-nil _), (refl, refl))
+prints_last true p piece (Ok given) gives = (Ok given, gives, [], sym (append-nil _), (refl, refl))
+prints_last false p piece (Ok given) gives = (Ok given, gives, [], sym (append-nil _), (refl, refl))
+
+pub gives_at_end : (old : Engine) (answer : Option (Result Reply Refusal)) (new : Engine) (x : List ℕ) → FinishedAt old.cutter x → Answers old answer new
+    → Gives false old.bail (progress_of old) x (ready_lines (old.pieces + 1) answer) (status_of (progress_of new))
+gives_at_end old None new x finished waits = ([], waits.gap x finished, (refl, ap (λ e. status_of (progress_of e)) waits.same))
+gives_at_end old (Some answer) new x finished answers =
+    let prints = prints_last old.bail (progress_of old) answers.piece (outcome_of answer new.session) answers.gives in (
+      answers.piece ∷ [],
+      only_piece x answers.piece (answers.last x finished),
+      subst (λ (q : Progress). Prints old.bail (progress_of old) (answers.piece ∷ []) (answer_lines (old.pieces + 1) answer) (status_of q)) (sym answers.comes_on)
+          (subst (λ (out : List ℕ). Prints old.bail (progress_of old) (answers.piece ∷ []) out (status_of (after (progress_of old) (outcome_of answer new.session))))
+          (lines_of-outcome_of (old.pieces + 1) answer new.session) prints),
+    )
+
+pub finishes_ok : (old : Engine) (c : Front) (new : Engine) (w v : Option (List ℕ)) (f g : ℕ) (flow : Flow) → ((x : List ℕ) → StandsAt old.cutter x → FinishedAt c x)
+    → AnswersReady (record old { cutter = c }) new w v f g (Ok flow) → Finishes old w v f g (Ok (status_of (progress_of new)))
+finishes_ok old c new w v f g flow ends ready =
+    (ready_lines (old.pieces + 1) ready.answer, ready.writes, λ x stands. gives_at_end (record old { cutter = c }) ready.answer new x (ends x stands) ready.answers)
+
+pub finishes_err : (old : Engine) (c : Front) (new : Engine) (w v : Option (List ℕ)) (f g : ℕ) (fault : WriteFault) → ((x : List ℕ) → StandsAt old.cutter x → FinishedAt c x)
+    → AnswersReady (record old { cutter = c }) new w v f g (Err fault) → Finishes old w v f g (Err fault)
+finishes_err old c new w v f g fault ends ready = (
+  ready_lines (old.pieces + 1) ready.answer,
+  ready.writes,
+  λ x stands. (status_of (progress_of new), gives_at_end (record old { cutter = c }) ready.answer new x (ends x stands) ready.answers),
+)
+
+-- ---- one turn of a loop over bytes
+
+pub moves_step : (old now : Engine) (c : Front) (answer : Option (Result Reply Refusal)) (new : Engine) (x y b l taken : List ℕ)
+    → Moves old x b l now y → StandsAt c (y ++ taken) → Answers (record now { cutter = c }) answer new → flow_of now.bail answer ≡ Goes
+    → (z : List ℕ) × Moves old x (b ++ taken) (l ++ ready_lines (now.pieces + 1) answer) new z
+moves_step old now c answer new x y b l taken first stands answers goes =
+    let fed = moves_on old now (record now { cutter = c }) x y (y ++ taken) b taken l [] first (moves_by_feed now c y taken stands) in
+    let answered = moves_by_answer (record now { cutter = c }) answer new (y ++ taken) stands answers goes in
+    let on = moves_on old (record now { cutter = c }) new x (y ++ taken) answered.0 (b ++ taken) [] (l ++ []) (ready_lines (now.pieces + 1) answer) fed answered.1 in
+    (answered.0, rw (append-nil (b ++ taken), append-nil l) at on)
+
+pub stops_step : (old now : Engine) (c : Front) (answer : Option (Result Reply Refusal)) (new : Engine) (x y b l taken rest : List ℕ)
+    → Moves old x b l now y → StandsAt c (y ++ taken) → Answers (record now { cutter = c }) answer new → flow_of now.bail answer ≡ Stops
+    → StopsWith old x (b ++ (taken ++ rest)) (l ++ ready_lines (now.pieces + 1) answer)
+stops_step old now c answer new x y b l taken rest first stands answers stops =
+    let fed = moves_on old now (record now { cutter = c }) x y (y ++ taken) b taken l [] first (moves_by_feed now c y taken stands) in
+    let stop = stops_by_answer (record now { cutter = c }) answer new (y ++ taken) stands answers stops in
+    rw (← append_assoc b taken rest, ← append-nil l) (stops_after old (record now { cutter = c }) x (y ++ taken) (b ++ taken) (l ++ []) (ready_lines (now.pieces + 1) answer) rest fed stop)
+
+pub reaches_step : (old now : Engine) (c : Front) (answer : Option (Result Reply Refusal)) (new : Engine) (x y b l taken rest : List ℕ)
+    → Moves old x b l now y → StandsAt c (y ++ taken) → Answers (record now { cutter = c }) answer new
+    → Reaches old x (b ++ (taken ++ rest)) (l ++ ready_lines (now.pieces + 1) answer)
+reaches_step old now c answer new x y b l taken rest first stands answers =
+    let fed = moves_on old now (record now { cutter = c }) x y (y ++ taken) b taken l [] first (moves_by_feed now c y taken stands) in
+    let reach = reaches_by_answer (record now { cutter = c }) answer new (y ++ taken) stands answers in
+    rw (← append_assoc b taken rest, ← append-nil l) (reaches_after old (record now { cutter = c }) x (y ++ taken) (b ++ taken) (l ++ []) (ready_lines (now.pieces + 1) answer) rest fed reach)
+
+pub idle_after : (old : Engine) (answer : Option (Result Reply Refusal)) (new : Engine) → Answers old answer new → ready_piece new.cutter ≡ None
+idle_after old None new waits = rw waits.same waits.not_ready
+idle_after old (Some answer) new answers = nothing_ready new.cutter answers.starts_anew
+
+pieces-after : (p : Progress) (outcome : Outcome) → (after p outcome).pieces ≡ p.pieces + 1
+pieces-after p (Ok given) = refl
+pieces-after p (Err refusal) = refl
+
+pub pieces_grow : (old : Engine) (answer : Option (Result Reply Refusal)) (new : Engine) → Answers old answer new → new.pieces ≤ old.pieces + 1
+pieces_grow old None new waits = rw waits.same (omega arith)
+pieces_grow old (Some answer) new answers =
+    let same : new.pieces ≡ old.pieces + 1 = ap (λ (p : Progress). p.pieces) answers.comes_on ∙ pieces-after (progress_of old) (outcome_of answer new.session) in
+    omega arith

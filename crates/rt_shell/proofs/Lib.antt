@@ -1,0 +1,5 @@
+pub mod EngineLemmas
+pub mod Pumping
+pub mod RowsLemmas
+pub mod SessionLemmas
+pub mod Taking

@@ -1,0 +1,249 @@
+//! The run of a whole script.
+
+ghost use Rattle.std.specs.Prelude.{◌≡◌, ℕ, ◌+◌, ◌-◌, ◌<◌, ◌^◌, length, None, IfOk, OnOk, ◌≤◌};
+ghost use Rattle.rt_shell.specs.Engine.{IsFresh, GivesAnswer, Answers, AnswersReady, TakesAll, Finishes};
+ghost use Rattle.rt_shell.specs.Run.{Devices, Pumps, Runs};
+ghost use Rattle.rt_sql.specs.Cutter.{ready_piece};
+ghost use Rattle.rt_check.specs.Bytes.{Writes};
+ghost use Rattle.rt_shell.specs.Lines.{answer_lines};
+
+use crate::reply::{write_refusal, write_reply};
+use crate::session::{Reply, Session};
+use rt_check::{ByteReader, ByteWriter, ReadFault, WriteFault};
+use rt_sql::{Cutter, Piece, Refusal, parse};
+use std::alloc::{AllocError, Global};
+use thiserror::Error;
+
+/// How many bytes a read is given room for.
+const READ_SIZE: usize = 4096;
+
+/// The most reads of one run.
+const MOST_READS: u64 = 1 << 40;
+
+/// How a run goes.
+#[derive(Clone, Copy, PartialEq, Eq, Debug)]
+pub struct Options {
+    /// The run ends after the first refusal.
+    pub bail: bool,
+}
+
+/// Whether a run refused a piece.
+#[derive(Clone, Copy, PartialEq, Eq, Debug)]
+pub enum Status {
+    Clean,
+    Refused,
+}
+
+/// Why a run came to no end.
+#[derive(Clone, Copy, PartialEq, Eq, Debug, Error)]
+pub enum RunFault {
+    /// A read failed, or the input had not ended after 2^40 reads.
+    #[error("read fault")]
+    Read,
+    /// A write or the flush failed.
+    #[error("write fault")]
+    Write,
+    /// The start found no memory.
+    #[error("out of memory")]
+    Memory,
+}
+
+impl From<ReadFault> for RunFault {
+    ghost use Rattle.std.specs.Prelude.{◌≡◌};
+    ghost use Rattle.rt_shell.specs.declared.runner.RunFault.TheVariants.{Read};
+
+    ghost from_gives = { λ _ fault. fault ≡ Read };
+
+    fn from(_fault: ReadFault) -> RunFault {
+        RunFault::Read
+    }
+}
+
+impl From<WriteFault> for RunFault {
+    ghost use Rattle.std.specs.Prelude.{◌≡◌};
+    ghost use Rattle.rt_shell.specs.declared.runner.RunFault.TheVariants.{Write};
+
+    ghost from_gives = { λ _ fault. fault ≡ Write };
+
+    fn from(_fault: WriteFault) -> RunFault {
+        RunFault::Write
+    }
+}
+
+impl From<AllocError> for RunFault {
+    ghost use Rattle.std.specs.Prelude.{◌≡◌};
+    ghost use Rattle.rt_shell.specs.declared.runner.RunFault.TheVariants.{Memory};
+
+    ghost from_gives = { λ _ fault. fault ≡ Memory };
+
+    fn from(_error: AllocError) -> RunFault {
+        RunFault::Memory
+    }
+}
+
+/// Whether a run goes on.
+#[derive(Clone, Copy, PartialEq, Eq, Debug)]
+enum Flow {
+    Goes,
+    Stops,
+}
+
+/// Cuts a script, and answers its pieces.
+#[derive(Drop)]
+struct Engine {
+    alloc: Global,
+    cutter: Cutter,
+    session: Session,
+    // How many pieces came, and whether one was refused.
+    pieces: u64,
+    refused: bool,
+    bail: bool,
+}
+
+fn answer_to(alloc: Global, session: &mut Session, piece: &Piece<'_>) -> Result<Reply, Refusal>
+    ensures { GivesAnswer session.old piece.now result session.new }
+{
+    let statement = parse(alloc, piece)?;
+    session.step(statement)
+}
+
+/// Writes the lines of an answer to the piece of this number.
+fn write_answer<W: ByteWriter>(
+    number: &u64,
+    answer: &Result<Reply, Refusal>,
+    writer: &mut W,
+) -> Result<(), WriteFault>
+    ensures { Writes (W.written writer.old) (W.written writer.new) (W.faults writer.old) (W.faults writer.new)
+        result (answer_lines number.now answer.now) }
+{
+    match answer {
+        Ok(reply) => write_reply(reply, writer),
+        Err(refusal) => write_refusal(number, *refusal, writer),
+    }
+}
+
+impl Engine {
+    fn new(alloc: Global, options: &Options) -> Result<Engine, AllocError>
+        ensures { IfOk result (λ engine. IsFresh engine options.now.bail) }
+    {
+        Ok(Engine {
+            alloc,
+            cutter: Cutter::new(alloc)?,
+            session: Session::new(alloc),
+            pieces: 0,
+            refused: false,
+            bail: options.bail,
+        })
+    }
+
+    // Answers the piece that the cutter has ready, and drops it.
+    fn next_answer(&mut self) -> Option<Result<Reply, Refusal>>
+        requires { self.old.pieces < 2 ^ 64 - 1 }
+        ensures { Answers self.old result self.new }
+    {
+        let piece = self.cutter.ready()?;
+        let answer = answer_to(self.alloc, &mut self.session, &piece);
+        self.cutter.clear();
+        self.pieces += 1;
+        self.refused |= answer.is_err();
+        Some(answer)
+    }
+
+    // Answers the piece that the cutter has ready, if it has one, and writes the lines.
+    fn answer_ready<W: ByteWriter>(&mut self, writer: &mut W) -> Result<Flow, WriteFault>
+        requires { self.old.pieces < 2 ^ 64 - 1 }
+        ensures { AnswersReady self.old self.new (W.written writer.old) (W.written writer.new) (W.faults writer.old) (W.faults writer.new) result }
+    {
+        let Some(answer) = self.next_answer() else {
+            return Ok(Flow::Goes);
+        };
+        write_answer(&self.pieces, &answer, writer)?;
+        Ok(if self.bail && answer.is_err() {
+            Flow::Stops
+        } else {
+            Flow::Goes
+        })
+    }
+
+    // Takes all of the bytes and answers the pieces that end in them.
+    fn take_all<W: ByteWriter>(&mut self, bytes: &[u8], writer: &mut W) -> Result<Flow, WriteFault>
+        requires few { self.old.pieces + length bytes.now < 2 ^ 63 }
+        requires idle { ready_piece self.old.cutter ≡ None }
+        ensures takes { TakesAll self.old bytes.now self.new (W.written writer.old) (W.written writer.new) (W.faults writer.old) (W.faults writer.new) result }
+        ensures few { OnOk result (self.new.pieces ≤ self.old.pieces + length bytes.now) }
+        ensures idle { IfOk result (λ flow. flow ≡ Flow.Goes → ready_piece self.new.cutter ≡ None) }
+    {
+        let mut rest = bytes;
+        while !rest.is_empty() {
+            let taken = self.cutter.feed(rest);
+            rest = &rest[taken..];
+            match self.answer_ready(writer)? {
+                Flow::Goes => {}
+                Flow::Stops => return Ok(Flow::Stops),
+            }
+        }
+        Ok(Flow::Goes)
+    }
+
+    // The input has ended: answers the piece that it ends, if it does.
+    fn finish<W: ByteWriter>(&mut self, writer: &mut W) -> Result<Status, WriteFault>
+        requires { self.old.pieces < 2 ^ 64 - 1 }
+        ensures { Finishes self.old (W.written writer.old) (W.written writer.new) (W.faults writer.old) (W.faults writer.new) result }
+    {
+        self.cutter.finish();
+        self.answer_ready(writer)?;
+        Ok(if self.refused {
+            Status::Refused
+        } else {
+            Status::Clean
+        })
+    }
+
+    // Reads the script to its end, or with bail to the first refusal.
+    fn pump<R: ByteReader, W: ByteWriter>(
+        &mut self,
+        reader: &mut R,
+        writer: &mut W,
+    ) -> Result<Status, RunFault>
+        requires { IsFresh self.old self.old.bail }
+        ensures pumps { Pumps self.old.bail
+            (record { left = R.left reader.old; failures = R.failures reader.old; reads = R.reads reader.old; written = W.written writer.old; faults = W.faults writer.old })
+            (record { left = R.left reader.new; failures = R.failures reader.new; reads = R.reads reader.new; written = W.written writer.new; faults = W.faults writer.new })
+            result }
+        ensures reads { R.reads reader.new ≤ R.reads reader.old + 2 ^ 40 }
+    {
+        let mut buffer = [0; READ_SIZE];
+        for _turn in 0..MOST_READS {
+            let count = reader.read(&mut buffer)?;
+            if count == 0 {
+                return Ok(self.finish(writer)?);
+            }
+            match self.take_all(&buffer[..count], writer)? {
+                Flow::Goes => {}
+                Flow::Stops => return Ok(Status::Refused),
+            }
+        }
+        Err(RunFault::Read)
+    }
+}
+
+/// Runs a script: reads it from the reader, and writes to the writer what its statements print. What
+/// a piece of it prints is written before the next piece is taken. It holds a piece of the script
+/// and 4,096 bytes at a time, reads at most 2^40 times, and flushes the writer once, at the end.
+pub fn run<R: ByteReader, W: ByteWriter>(
+    alloc: Global,
+    reader: &mut R,
+    writer: &mut W,
+    options: &Options,
+) -> Result<Status, RunFault>
+    ensures runs { Runs options.now.bail
+        (record { left = R.left reader.old; failures = R.failures reader.old; reads = R.reads reader.old; written = W.written writer.old; faults = W.faults writer.old })
+        (record { left = R.left reader.new; failures = R.failures reader.new; reads = R.reads reader.new; written = W.written writer.new; faults = W.faults writer.new })
+        result }
+    ensures reads { R.reads reader.new ≤ R.reads reader.old + 2 ^ 40 }
+{
+    let mut engine = Engine::new(alloc, options)?;
+    let status = engine.pump(reader, writer)?;
+    writer.flush()?;
+    Ok(status)
+}

@@ -1,0 +1,9 @@
+-- Names of tables, columns and views, which are compared without ASCII case (SQLite's documentation).
+use Rattle.std.specs.Prelude.{ℕ, Bool, List, IsTrue}
+use Rattle.std.specs.Str.{str_eq_ignore_ascii_case}
+
+abbrev pub same_name : List ℕ → List ℕ → Bool
+same_name a b = str_eq_ignore_ascii_case a b
+
+abbrev pub SameName : List ℕ → List ℕ → Type 0
+SameName a b = IsTrue (same_name a b)

@@ -1,0 +1,53 @@
+ghost use Rattle.std.specs.Prelude.{◌≡◌, ◌<◌, ◌^◌, SomeIff, FitsSigned};
+ghost use Rattle.std.specs.Int.{w64};
+ghost use Rattle.rt_sql.specs.Number as spec;
+
+/// Which integers a reading takes.
+#[derive(Clone, Copy, Debug)]
+pub enum Numbers {
+    /// Those within 64 bits.
+    Within64Bits,
+    /// Any, where one outside 64 bits is read as 0.
+    AnySize,
+}
+
+#[tactic(auto, using(crate::proofs::Numbers::decimal_from_more, crate::proofs::Numbers::decimal_from_end, crate::proofs::Numbers::decimal_from_ge))]
+fn magnitude(digits: &str) -> Option<u64>
+    ensures { SomeIff result (spec.decimal digits.now < 2 ^ 64) (spec.decimal digits.now) }
+{
+    let mut number: u64 = 0;
+    for digit in digits.as_bytes() {
+        number = number
+            .checked_mul(10)?
+            .checked_add(u64::from(digit.saturating_sub(b'0')))?;
+    }
+    Some(number)
+}
+
+fn signed(is_negative: bool, magnitude: u64) -> Option<i64>
+    ensures { SomeIff result (FitsSigned w64 (spec.with_sign is_negative magnitude)) (spec.with_sign is_negative magnitude) }
+{
+    let number = i128::from(magnitude);
+    i64::try_from(if is_negative { -number } else { number }).ok()
+}
+
+#[tactic(auto, using(crate::proofs::Numbers::fits_signed, crate::proofs::Numbers::fits_from_signed, crate::proofs::Numbers::fits_below))]
+fn within(is_negative: bool, digits: &str) -> Option<i64>
+    ensures { result ≡ spec.within is_negative digits.now }
+{
+    match magnitude(digits) {
+        Some(magnitude) => signed(is_negative, magnitude),
+        None => None,
+    }
+}
+
+/// The number that the digits write in base ten, or none where it isn't taken.
+#[tactic(auto, unfolding(crate::specs::Number::number_by))]
+pub fn number(numbers: Numbers, is_negative: bool, digits: &str) -> Option<i64>
+    ensures { result ≡ spec.number_by numbers is_negative digits.now }
+{
+    match numbers {
+        Numbers::Within64Bits => within(is_negative, digits),
+        Numbers::AnySize => Some(within(is_negative, digits).unwrap_or(0)),
+    }
+}

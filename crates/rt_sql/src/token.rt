@@ -1,0 +1,79 @@
+use std::marker::Model;
+
+/// A part of a text, as it is written there.
+#[derive(Debug, Drop)]
+pub struct Spelling<'a> {
+    text: &'a str,
+}
+
+impl<'a> Model for Spelling<'a> {
+    ghost use Rattle.std.specs.Prelude.{ℕ, List};
+
+    ghost Value = { List ℕ };
+
+    ghost view = { λ spelling. spelling.text.now };
+}
+
+impl<'a> Spelling<'a> {
+    ghost use Rattle.std.specs.Prelude.{◌≡◌};
+
+    pub fn new(text: &'a str) -> Spelling<'a>
+        ensures { result ≡ text.now }
+    {
+        Spelling { text }
+    }
+
+    pub fn as_str(&self) -> &'a str
+        ensures { result.now ≡ self.now }
+    {
+        self.text
+    }
+}
+
+/// A sign of one character or two.
+#[derive(Clone, Copy, PartialEq, Eq, Debug)]
+pub enum Sign {
+    LeftParenthesis,
+    RightParenthesis,
+    Comma,
+    Semicolon,
+    Plus,
+    Minus,
+    Star,
+}
+
+/// The least part of a statement that means something, which borrows the statement's text.
+#[derive(Debug, Drop)]
+pub enum Token<'a> {
+    Word(Spelling<'a>),
+    Digits(Spelling<'a>),
+    Sign(Sign),
+    /// A character that begins no token.
+    Bad,
+}
+
+impl<'a> Token<'a> {
+    ghost use Rattle.std.specs.Prelude.{◌≡◌};
+    ghost use Rattle.rt_sql.specs.Reading as reading;
+
+    #[tactic(auto, unfolding(crate::specs::Reading::is_sign))]
+    pub fn is_sign(&self, sign: Sign) -> bool
+        ensures { result ≡ reading.is_sign sign self.now }
+    {
+        match self {
+            Token::Sign(own) => *own == sign,
+            _ => false,
+        }
+    }
+
+    /// It is this word, in whatever ASCII case.
+    #[tactic(auto, unfolding(crate::specs::Reading::is_word))]
+    pub fn is_word(&self, word: &str) -> bool
+        ensures { result ≡ reading.is_word word.now self.now }
+    {
+        match self {
+            Token::Word(own) => own.as_str().eq_ignore_ascii_case(word),
+            _ => false,
+        }
+    }
+}

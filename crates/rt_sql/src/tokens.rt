@@ -1,0 +1,123 @@
+use crate::lexer::lex;
+use crate::refusal::Refusal;
+use crate::token::{Sign, Token};
+use std::marker::Model;
+use std::mem;
+
+/// The tokens of a text from a place on. Each is cut as it is reached.
+#[derive(Debug, Drop)]
+pub struct Tokens<'a> {
+    next: Option<Token<'a>>,
+    /// The text after that token.
+    text: &'a str,
+}
+
+impl<'a> Model for Tokens<'a> {
+    ghost use Rattle.std.specs.Prelude.{List};
+    ghost use Rattle.rt_sql.specs.declared.token.Token.{Token};
+
+    ghost Value = { List Token };
+
+    ghost use Rattle.rt_sql.specs.Cursor.{tokens_left, EndsWithText};
+
+    ghost view = { tokens_left };
+
+    ghost invariant = { EndsWithText };
+}
+
+impl<'a> Tokens<'a> {
+    ghost use Rattle.std.specs.Prelude.{◌≡◌, if◌then◌else◌};
+    ghost use Rattle.std.specs.Option.{option_copied};
+    ghost use Rattle.rt_sql.specs.Lex.{tokens_of};
+    ghost use Rattle.rt_sql.specs.Reading as reading;
+    ghost use Rattle.rt_sql.specs.Reading.{Reads};
+
+    pub fn new(text: &'a str) -> Tokens<'a>
+        ensures { result ≡ tokens_of text.now }
+    {
+        let (next, text) = lex(text);
+        Tokens { next, text }
+    }
+
+    #[tactic(auto, using(crate::proofs::Cursor::first_left))]
+    pub fn peek(&self) -> Option<&Token<'a>>
+        ensures { option_copied result ≡ reading.first self.now }
+    {
+        self.next.as_ref()
+    }
+
+    #[tactic(auto, using(crate::proofs::Cursor::first_left, crate::proofs::Cursor::rest_left))]
+    pub fn take(&mut self) -> Option<Token<'a>>
+        ensures first { result ≡ reading.first self.old }
+        ensures rest { self.new ≡ reading.rest self.old }
+    {
+        let (next, text) = lex(self.text);
+        self.text = text;
+        mem::replace(&mut self.next, next)
+    }
+
+    #[tactic(auto, using(crate::proofs::Cursor::first_left), unfolding(crate::specs::Reading::sees_sign))]
+    pub fn sees_sign(&self, sign: Sign) -> bool
+        ensures { result ≡ reading.sees_sign sign self.now }
+    {
+        match &self.next {
+            Some(token) => token.is_sign(sign),
+            None => false,
+        }
+    }
+
+    /// The word is the next token, in whatever ASCII case.
+    #[tactic(auto, using(crate::proofs::Cursor::first_left), unfolding(crate::specs::Reading::sees_word))]
+    pub fn sees_word(&self, word: &str) -> bool
+        ensures { result ≡ reading.sees_word word.now self.now }
+    {
+        match &self.next {
+            Some(token) => token.is_word(word),
+            None => false,
+        }
+    }
+
+    pub fn eat_sign(&mut self, sign: Sign) -> bool
+        ensures found { result ≡ reading.sees_sign sign self.old }
+        ensures after { self.new ≡ (if reading.sees_sign sign self.old then reading.rest self.old else self.old) }
+    {
+        let found = self.sees_sign(sign);
+        if found {
+            self.take();
+        }
+        found
+    }
+
+    pub fn eat_word(&mut self, word: &str) -> bool
+        ensures found { result ≡ reading.sees_word word.now self.old }
+        ensures after { self.new ≡ (if reading.sees_word word.now self.old then reading.rest self.old else self.old) }
+    {
+        let found = self.sees_word(word);
+        if found {
+            self.take();
+        }
+        found
+    }
+
+    #[tactic(auto, unfolding(crate::specs::Reading::sign))]
+    pub fn expect_sign(&mut self, sign: Sign) -> Result<(), Refusal>
+        ensures { Reads (reading.sign sign self.old) result self.new }
+    {
+        if self.eat_sign(sign) {
+            Ok(())
+        } else {
+            Err(Refusal::SyntaxError)
+        }
+    }
+
+    #[tactic(auto, unfolding(crate::specs::Reading::keyword))]
+    pub fn expect_word(&mut self, word: &str) -> Result<(), Refusal>
+        ensures { Reads (reading.keyword word.now self.old) result self.new }
+    {
+        if self.eat_word(word) {
+            Ok(())
+        } else {
+            Err(Refusal::SyntaxError)
+        }
+    }
+}
