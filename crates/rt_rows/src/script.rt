@@ -1,0 +1,38 @@
+//! Runs a script over memory.
+
+ghost use Rattle.std.specs.Prelude.{◌<◌};
+
+use rt_check::bytes::{Sink, SliceReader};
+use rt_shell::{Options, RunFault, Status, run};
+use std::alloc::Global;
+use std::process::Abort;
+
+/// What a run of the script wrote, from reads of at most `most` bytes, and its status.
+pub fn outcome(
+    alloc: Global,
+    script: &str,
+    most: usize,
+    bail: bool,
+) -> Result<(Vec<u8>, Status), RunFault>
+    requires { 0 < most }
+{
+    let mut reader = SliceReader::new(script.as_bytes(), most);
+    let mut sink = Sink::new(alloc);
+    let status = run(alloc, &mut reader, &mut sink, &Options { bail })?;
+    Ok((sink.into_bytes(), status))
+}
+
+/// The script prints this with this status, whether it is read at once or byte by byte.
+pub fn expect(
+    rt: &(impl Abort + AllocGlobal),
+    script: &str,
+    printed: &str,
+    status: Status,
+) -> Result<(), RunFault> {
+    for most in [4096, 1] {
+        let (bytes, ended) = outcome(rt.alloc(), script, most, false)?;
+        assert!(rt; bytes.as_slice() == printed.as_bytes(), "{script}");
+        assert!(rt; ended == status, "{script}");
+    }
+    Ok(())
+}
