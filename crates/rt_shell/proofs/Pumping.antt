@@ -69,9 +69,9 @@ module _ (e0 e : Engine) (old now : Devices) (turn : ℕ) (fresh : IsFresh e0 e0
   transcript_so_far : IsTranscriptSoFar e0.bail so_far.read so_far.lines
   transcript_so_far =
       let nothing : Gives true e0.bail (progress_of e) (moved.0 ++ []) [] (status_of (progress_of e)) =
-          ([], rw (append-nil moved.0) (rw so_far.idle at (whole_at e.cutter moved.0 moved.1.stands)), (refl, refl)) in
+      ([], rw (append-nil moved.0) (rw so_far.idle at (whole_at e.cutter moved.0 moved.1.stands)), (refl, refl)) in
       let gives : Gives true e0.bail start so_far.read so_far.lines (status_of (progress_of e)) =
-          rw (append-nil so_far.read, append-nil so_far.lines) at (from_start true [] [] (status_of (progress_of e)) nothing) in
+      rw (append-nil so_far.read, append-nil so_far.lines) at (from_start true [] [] (status_of (progress_of e)) nothing) in
       (gives.0, gives.1, status_of (progress_of e), gives.2)
 
   pub read_fails : (new : Devices) → Keeps now.left new.left → new.failures ≡ one_more now.failures → new.written ≡ now.written → new.faults ≡ now.faults → FailsToRead e0.bail old new
@@ -134,8 +134,10 @@ module _ (e0 e : Engine) (old now : Devices) (turn : ℕ) (fresh : IsFresh e0 e0
           out = so_far.lines ++ takes.0;
           consumed = consumed;
           wrote = all.0;
-          transcript = inr ((so.0, so.1, Refused, so.2),
-            λ rest. rw (append_assoc so_far.read bytes rest) (given false (bytes ++ rest) takes.0 Refused (stop false rest)));
+          transcript = inr (
+            (so.0, so.1, Refused, so.2),
+            λ rest. rw (append_assoc so_far.read bytes rest) (given false (bytes ++ rest) takes.0 Refused (stop false rest)),
+          );
           no_read_failed = no_failure ∙ so_far.no_failure;
           no_write_failed = all.1;
         }
@@ -229,14 +231,14 @@ flushed bail old now new status ran left failures kept faults =
     let wrote = Appends-kept old.written now.written new.written ran.out ran.wrote kept in
     elim ran.transcript [
       | inl whole ↦ record {
-          script = ran.read;
-          out = ran.out;
-          held = held_at_end old.left now.left ran.read ran.consumed whole.0;
-          transcript = whole.1;
-          wrote = wrote;
-          no_read_failed = failures ∙ ran.no_read_failed;
-          no_write_failed = faults ∙ ran.no_write_failed;
-        }
+        script = ran.read;
+        out = ran.out;
+        held = held_at_end old.left now.left ran.read ran.consumed whole.0;
+        transcript = whole.1;
+        wrote = wrote;
+        no_read_failed = failures ∙ ran.no_read_failed;
+        no_write_failed = faults ∙ ran.no_write_failed;
+      }
       | inr stopped ↦
           let rest = held_before old.left now.left ran.read ran.consumed in
           record {

@@ -73,11 +73,12 @@ parses_ok text s left e =
     (tokens_of text, are_tokens text, (sound_whole (number_by Within64Bits) WritesWithin64Bits within_only (tokens_of text) s left e).0)
 
 pub parses_outside : (text : Text) (s : Stmt) (left : List Token) → R.whole (number_by Within64Bits) (tokens_of text) ≡ None → R.whole (number_by AnySize) (tokens_of text) ≡ Some (s, left) → ParsesText text (Err r.IntegerOutOfRange)
-parses_outside text s left e f =
-    ( tokens_of text
-    , are_tokens text
-    , carry WritesCut WritesAnySize any_from_cut (tokens_of text) s (sound_whole (number_by AnySize) WritesCut (λ b d n h. h) (tokens_of text) s left f).0
-    , λ asked g. none_some (sym e ∙ complete_whole (number_by Within64Bits) WritesWithin64Bits within_each (tokens_of text) asked g) )
+parses_outside text s left e f = (
+  tokens_of text,
+  are_tokens text,
+  carry WritesCut WritesAnySize any_from_cut (tokens_of text) s (sound_whole (number_by AnySize) WritesCut (λ b d n h. h) (tokens_of text) s left f).0,
+  λ asked g. none_some (sym e ∙ complete_whole (number_by Within64Bits) WritesWithin64Bits within_each (tokens_of text) asked g),
+)
 
 pub parses_none : (text : Text) → R.whole (number_by AnySize) (tokens_of text) ≡ None → ParsesText text (Err r.SyntaxError)
 parses_none text e tokens asked at g =

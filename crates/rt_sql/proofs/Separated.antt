@@ -52,15 +52,15 @@ module _ {A : Type 0} (item : Parser A) (takes : TakesTokens item) where
       ⊎_elim
       (λ (e : item ts ≡ None). turn_none item (suc n) found ts e ∙ sym (turn_none item (suc m) found ts e))
       (λ (s : (x : A × List Token) × (item ts ≡ Some x)).
-          let shorter = takes ts s.0.0 s.0.1 s.1 in
-          ⊎_elim
-          (λ (more : sees_sign Comma s.0.1 ≡ true).
-              turn_more item n found ts s.0.1 s.0.0 s.1 more
-              ∙ turns_enough n m (found ++ s.0.0 ∷ []) (rest s.0.1) (omega (arith, rest_shorter s.0.1)) (omega (arith, rest_shorter s.0.1))
-              ∙ sym (turn_more item m found ts s.0.1 s.0.0 s.1 more))
-          (λ (last : sees_sign Comma s.0.1 ≡ false).
-              turn_last item n found ts s.0.1 s.0.0 s.1 last ∙ sym (turn_last item m found ts s.0.1 s.0.0 s.1 last))
-          (bool_cases (sees_sign Comma s.0.1)))
+      let shorter = takes ts s.0.0 s.0.1 s.1 in
+      ⊎_elim
+      (λ (more : sees_sign Comma s.0.1 ≡ true).
+      turn_more item n found ts s.0.1 s.0.0 s.1 more
+      ∙ turns_enough n m (found ++ s.0.0 ∷ []) (rest s.0.1) (omega (arith, rest_shorter s.0.1)) (omega (arith, rest_shorter s.0.1))
+      ∙ sym (turn_more item m found ts s.0.1 s.0.0 s.1 more))
+      (λ (last : sees_sign Comma s.0.1 ≡ false).
+      turn_last item n found ts s.0.1 s.0.0 s.1 last ∙ sym (turn_last item m found ts s.0.1 s.0.0 s.1 last))
+      (bool_cases (sees_sign Comma s.0.1)))
       (option_cases (item ts))
 
   pub loop_none : (found : List A) (ts : List Token) → item ts ≡ None → separated_from item (length ts) found ts ≡ None

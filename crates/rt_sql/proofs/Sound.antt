@@ -50,8 +50,8 @@ sound_sign s [] a after h = none h
 sound_sign s (token.Sign t ∷ ts) a after h =
     test (sameb the_type t s)
     (λ e. let h1 = rw e at h in
-        let is_same : t ≡ s = same_true the_type tt _ _ e in
-        rw (is_same, (same h1).1) refl)
+    let is_same : t ≡ s = same_true the_type tt _ _ e in
+    rw (is_same, (same h1).1) refl)
     (λ e. none (rw e at h))
 sound_sign s (_ ∷ ts) a after h = none h
 
@@ -71,8 +71,8 @@ sound_name (token.Word w ∷ ts) a after h =
     test (is_reserved w)
     (λ e. none (rw e at h))
     (λ e. let h1 = rw e at h in
-        let k = same h1 in
-        (rw (k.0, k.1) refl, rw (← k.0) e))
+    let k = same h1 in
+    (rw (k.0, k.1) refl, rw (← k.0) e))
 sound_name (_ ∷ ts) a after h = none h
 
 pub sound_number : (read : Read) (writes : Writes) (only : TakesOnly read writes) (is_negative : Bool) → Sound (R.number read is_negative) (G.digits writes is_negative)
@@ -103,9 +103,9 @@ sound_integer read writes only ts a after h =
     test (R.sees_sign Minus ts)
     (λ e. inr (inr (R.rest ts, sees_sign_is Minus ts e, sound_number read writes only true (R.rest ts) a after (rw e at h))))
     (λ e. let h1 = rw e at h in
-        test (R.sees_sign Plus ts)
-        (λ f. inr (inl (R.rest ts, sees_sign_is Plus ts f, sound_number read writes only false (R.rest ts) a after (rw f at h1))))
-        (λ f. inl (sound_number read writes only false ts a after (rw f at h1))))
+    test (R.sees_sign Plus ts)
+    (λ f. inr (inl (R.rest ts, sees_sign_is Plus ts f, sound_number read writes only false (R.rest ts) a after (rw f at h1))))
+    (λ f. inl (sound_number read writes only false ts a after (rw f at h1))))
 
 pub sound_value : (read : Read) (writes : Writes) (only : TakesOnly read writes) → Sound (R.value read) (G.value writes)
 unfolding R.value
@@ -113,9 +113,9 @@ sound_value read writes only ts a after h =
     test (R.sees_word (codes "NULL") ts)
     (λ e. let k = same (rw e at h) in rw (← k.0, ← k.1) (sees_word_is (codes "NULL") ts e))
     (λ e. let h1 = rw e at h in
-        cases (R.integer read ts)
-        (λ f. none (rw f at h1))
-        (λ x f. let k = same (rw f at h1) in rw (← k.0, ← k.1) (sound_integer read writes only ts x.0 x.1 f)))
+    cases (R.integer read ts)
+    (λ f. none (rw f at h1))
+    (λ x f. let k = same (rw f at h1) in rw (← k.0, ← k.1) (sound_integer read writes only ts x.0 x.1 f)))
 
 -- ---- lists
 
@@ -132,11 +132,13 @@ module _ {A : Type 0} (item : Parser A) (P : A → G.Part) (sound : Sound item P
       cases (item ts)
       (λ e. none (rw e at h))
       (λ x e. let h1 = rw e at h in
-          test (R.sees_sign Comma x.1)
-          (λ f. let more = sound_separated_from n (found ++ x.0 ∷ []) (R.rest x.1) vs after (rw f at h1) in
-              (x.0 ∷ more.0, more.1 ∙ append_assoc found (x.0 ∷ []) more.0,
-                  (x.1, sound ts x.0 x.1 e, further_from P more.0 x.1 (R.rest x.1) after (sees_sign_is Comma x.1 f) more.2)))
-          (λ f. let k = same (rw f at h1) in (x.0 ∷ [], sym k.0, (x.1, sound ts x.0 x.1 e, k.1))))
+      test (R.sees_sign Comma x.1)
+      (λ f. let more = sound_separated_from n (found ++ x.0 ∷ []) (R.rest x.1) vs after (rw f at h1) in (
+        x.0 ∷ more.0,
+        more.1 ∙ append_assoc found (x.0 ∷ []) more.0,
+        (x.1, sound ts x.0 x.1 e, further_from P more.0 x.1 (R.rest x.1) after (sees_sign_is Comma x.1 f) more.2),
+      ))
+      (λ f. let k = same (rw f at h1) in (x.0 ∷ [], sym k.0, (x.1, sound ts x.0 x.1 e, k.1))))
 
   pub sound_separated : Sound (R.separated item) (G.separated P)
   sound_separated ts vs after h =

@@ -70,9 +70,9 @@ sound_statement read writes only ts r after h =
     test (R.sees_word (codes "CREATE") ts)
     (λ e. sound_create read writes only ts r after (eaten_is_due (codes "CREATE") R.create ts e ∙ rw e at h))
     (λ e. let h1 = rw e at h in
-        test (R.sees_word (codes "INSERT") ts)
-        (λ f. sound_insert read writes only ts r after (eaten_is_due (codes "INSERT") (R.insert read) ts f ∙ rw f at h1))
-        (λ f. sound_select read writes only ts r after (rw f at h1)))
+    test (R.sees_word (codes "INSERT") ts)
+    (λ f. sound_insert read writes only ts r after (eaten_is_due (codes "INSERT") (R.insert read) ts f ∙ rw f at h1))
+    (λ f. sound_select read writes only ts r after (rw f at h1)))
 
 no_first : (ts : List Token) → is_some (R.first ts) ≡ false → ts ≡ []
 unfolding R.first
@@ -86,6 +86,7 @@ sound_whole read writes only ts r after h =
     cases (R.sign Semicolon x1.1) (λ e. none (rw e at h1)) (λ x2 e2. let h2 = rw e2 at h1 in
     test (is_some (R.first x2.1)) (λ e. none (rw e at h2)) (λ e3.
     let k = same (rw e3 at h2) in
-    let is_end = no_first x2.1 e3 in
-    ( rw (← k.0) (x1.1, sound_statement read writes only ts x1.0 x1.1 e1, rw is_end at (sound_sign Semicolon x1.1 x2.0 x2.1 e2))
-    , sym k.1 ∙ is_end ))))
+    let is_end = no_first x2.1 e3 in (
+      rw (← k.0) (x1.1, sound_statement read writes only ts x1.0 x1.1 e1, rw is_end at (sound_sign Semicolon x1.1 x2.0 x2.1 e2)),
+      sym k.1 ∙ is_end,
+    ))))

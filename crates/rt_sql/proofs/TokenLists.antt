@@ -117,20 +117,22 @@ lexeme_is (token.Word []) b z after g = absurd (cc)
 lexeme_is (token.Word (x ∷ w)) b z after g =
     let e : b ∷ z ≡ (x ∷ w) ++ after = g.0 in
     let is_first : b ≡ x = cc in
-    let first : begins_word b ≡ true = rw is_first g.1 in
-    ( length (x ∷ w)
-    , rw (word_not_white b first, first, e) (word_is (x ∷ w) after g.2 g.3)
-    , omega arith
-    , rw e (drop_front (x ∷ w) after) )
+    let first : begins_word b ≡ true = rw is_first g.1 in (
+      length (x ∷ w),
+      rw (word_not_white b first, first, e) (word_is (x ∷ w) after g.2 g.3),
+      omega arith,
+      rw e (drop_front (x ∷ w) after),
+    )
 lexeme_is (token.Digits []) b z after g = absurd (cc)
 lexeme_is (token.Digits (x ∷ d)) b z after g =
     let e : b ∷ z ≡ (x ∷ d) ++ after = g.0 in
     let is_first : b ≡ x = cc in
-    let first : is_ascii_digit b ≡ true = rw is_first g.1 in
-    ( length (x ∷ d)
-    , rw (digit_not_white b first, digit_not_word b first, first, e) (digits_is (x ∷ d) after g.2 g.3)
-    , omega arith
-    , rw e (drop_front (x ∷ d) after) )
+    let first : is_ascii_digit b ≡ true = rw is_first g.1 in (
+      length (x ∷ d),
+      rw (digit_not_white b first, digit_not_word b first, first, e) (digits_is (x ∷ d) after g.2 g.3),
+      omega arith,
+      rw e (drop_front (x ∷ d) after),
+    )
 lexeme_is (token.Sign s) b z after g = lexeme_sign s b z after g
 lexeme_is token.Bad b z after g = absurd g
 
@@ -184,12 +186,12 @@ found b z =
     test (is_white b)
     (λ w. rw w (w, refl))
     (λ w.
-        test (begins_word b)
-        (λ e. rw (w, e) (found_word b z w e))
-        (λ e.
-            test (is_ascii_digit b)
-            (λ f. rw (w, e, f) (found_digits b z w f))
-            (λ f. rw (w, e, f) (found_sign b z w (sign_of b) refl))))
+    test (begins_word b)
+    (λ e. rw (w, e) (found_word b z w e))
+    (λ e.
+    test (is_ascii_digit b)
+    (λ f. rw (w, e, f) (found_digits b z w f))
+    (λ f. rw (w, e, f) (found_sign b z w (sign_of b) refl))))
 
 -- ---- lists
 
@@ -259,11 +261,14 @@ no_gap : (start : Text) → Gap start start
 no_gap start = ([], refl, refl)
 
 longest_at : (b : ℕ) (z : Text) (t : Token) (n : ℕ) → lexeme b (b ∷ z) ≡ (Some t, n) → IsToken t (b ∷ z) (drop n (b ∷ z)) → IsLongest t (b ∷ z) (drop n (b ∷ z))
-longest_at b z t n e g = (g, λ other left h.
-    let l = lexeme_is other b z left h in
-    let same_len : l.0 ≡ n = ap (λ (x : Lexeme). x.1) (sym l.1 ∙ e) in
-    let is_left : drop n (b ∷ z) ≡ left = rw same_len at l.3 in
-    omega (arith, ap length is_left))
+longest_at b z t n e g = (
+  g,
+  λ other left h.
+      let l = lexeme_is other b z left h in
+      let same_len : l.0 ≡ n = ap (λ (x : Lexeme). x.1) (sym l.1 ∙ e) in
+      let is_left : drop n (b ∷ z) ≡ left = rw same_len at l.3 in
+      omega (arith, ap length is_left),
+)
 
 drop_shorter : (n b : ℕ) (z : Text) → 0 < n → length (drop n (b ∷ z)) ≤ length z
 drop_shorter n b z h = omega (arith, length-drop n (b ∷ z))

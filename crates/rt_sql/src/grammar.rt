@@ -61,11 +61,7 @@ fn value(alloc: Global, tokens: &mut Tokens<'_>, numbers: Numbers) -> Result<Val
     }
 }
 
-fn values(
-    alloc: Global,
-    tokens: &mut Tokens<'_>,
-    numbers: Numbers,
-) -> Result<Items<Value>, Refusal>
+fn values(alloc: Global, tokens: &mut Tokens<'_>, numbers: Numbers) -> Result<Items<Value>, Refusal>
     ensures { Reads (reading.separated (reading.value (number_by numbers)) tokens.old) result tokens.new }
 {
     let mut values = Items::new(alloc);

@@ -69,17 +69,14 @@ pub fn parse(alloc: Global, piece: &Piece<'_>) -> Result<Stmt, Refusal>
 /// Law: no list of tokens spells two statements.
 pub fn tokens_spell_one_statement()
     ensures { OneStatement }
-{
-}
+{}
 
 /// Law: a text has one list of tokens.
 pub fn text_has_one_list_of_tokens()
     ensures { OneTokenList }
-{
-}
+{}
 
 /// Law: a piece has one answer.
 pub fn piece_has_one_answer()
     ensures { OneAnswer }
-{
-}
+{}

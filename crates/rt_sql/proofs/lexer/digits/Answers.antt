@@ -10,6 +10,6 @@ pub returns-clause-value : goal.returns-clause-value
 unfolding digits
 returns-clause-value c =
     let ends : is_in_word (slice_index c.args.text.now c.front_len-end.result) ≡ false =
-        elim c.else-end-bytes.branch
-        [ else-end-bytes-via-then-end-bytes+else-is_in_word w ↦ search rules | else-end-bytes-via-else-end-bytes w ↦ no_word_past_end c.args.text.now c.front_len-end.result (omega arith) ] in
+    elim c.else-end-bytes.branch
+    [ else-end-bytes-via-then-end-bytes+else-is_in_word w ↦ search rules | else-end-bytes-via-else-end-bytes w ↦ no_word_past_end c.args.text.now c.front_len-end.result (omega arith) ] in
     grind (arith, common_steps)

@@ -7,7 +7,8 @@ returns-then-is_some-clause-tokens c =
     c.loop-first.invariant.1 ∙ lex_step _ _ _ _ (omega arith) (search rules) c.lexeme-token.ensures.value c.lexeme-token.ensures.moves c.range_from-rest.ensures.value
 
 pub loop-first-preserved : goal.loop-first-preserved
-loop-first-preserved c =
-    ( c.range_from-rest.utf8
-    , c.loop-first.invariant.1 ∙ lex_step _ _ _ _ (omega arith) (search rules) c.lexeme-token.ensures.value c.lexeme-token.ensures.moves c.range_from-rest.ensures.value
-      ∙ put_none c.lexeme-token.result.0 _ (cc))
+loop-first-preserved c = (
+  c.range_from-rest.utf8,
+  c.loop-first.invariant.1 ∙ lex_step _ _ _ _ (omega arith) (search rules) c.lexeme-token.ensures.value c.lexeme-token.ensures.moves c.range_from-rest.ensures.value
+      ∙ put_none c.lexeme-token.result.0 _ (cc),
+)

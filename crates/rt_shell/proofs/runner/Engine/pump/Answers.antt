@@ -19,31 +19,31 @@ returns-in_err-finish-clause-pumps g c =
     let p = err_from_is_err_and c.from_residual-in_err-finish.result c.from_residual-in_err-finish.ensures.1 in
     let none : take c.in_ok-count.count c.read.new.buffer ≡ [] = rw c.if-count-eq0.true refl in
     rw (p.1, p.2) (end_fails c.args.self.now c.loop-turn.self _ _ _ c.requires c.loop-turn.invariant _ (take c.in_ok-count.count c.read.new.buffer) c.loop-turn.self
-      c.in_ok-count.ensures.bytes.0 c.in_ok-count.ensures.failed _ none (c.in_ok-count.ensures.bytes.1 c.if-count-eq0.true (search rules)) c.in_err-finish.ensures)
+    c.in_ok-count.ensures.bytes.0 c.in_ok-count.ensures.failed _ none (c.in_ok-count.ensures.bytes.1 c.if-count-eq0.true (search rules)) c.in_err-finish.ensures)
 
 pub returns-then-count-eq0-clause-pumps : goal.returns-then-count-eq0-clause-pumps
 returns-then-count-eq0-clause-pumps g c =
     let none : take c.in_ok-count.count c.read.new.buffer ≡ [] = rw c.if-count-eq0.true refl in
     ends c.args.self.now c.loop-turn.self _ _ _ c.requires c.loop-turn.invariant _ (take c.in_ok-count.count c.read.new.buffer) c.loop-turn.self
-      c.in_ok-count.ensures.bytes.0 c.in_ok-count.ensures.failed _ none (c.in_ok-count.ensures.bytes.1 c.if-count-eq0.true (search rules)) c.in_ok-finish.ensures
+    c.in_ok-count.ensures.bytes.0 c.in_ok-count.ensures.failed _ none (c.in_ok-count.ensures.bytes.1 c.if-count-eq0.true (search rules)) c.in_ok-finish.ensures
 
 pub returns-in_err-take_all-clause-pumps : goal.returns-in_err-take_all-clause-pumps
 returns-in_err-take_all-clause-pumps g c =
     let p = err_from_is_err_and c.from_residual-in_err-take_all.result c.from_residual-in_err-take_all.ensures.1 in
     rw (p.1, p.2) (write_fails c.args.self.now c.loop-turn.self _ _ _ c.requires c.loop-turn.invariant _ (take c.in_ok-count.count c.read.new.buffer) c.take_all.new.self
-      c.in_ok-count.ensures.bytes.0 c.in_ok-count.ensures.failed _ c.in_err-take_all.ensures.takes)
+    c.in_ok-count.ensures.bytes.0 c.in_ok-count.ensures.failed _ c.in_err-take_all.ensures.takes)
 
 pub returns-in-Stops-clause-pumps : goal.returns-in-Stops-clause-pumps
 returns-in-Stops-clause-pumps g c =
     stops c.args.self.now c.loop-turn.self _ _ _ c.requires c.loop-turn.invariant _ (take c.in_ok-count.count c.read.new.buffer) c.take_all.new.self
-      c.in_ok-count.ensures.bytes.0 c.in_ok-count.ensures.failed (rw c.in-Stops.is at c.in_ok-take_all.ensures.takes)
+    c.in_ok-count.ensures.bytes.0 c.in_ok-count.ensures.failed (rw c.in-Stops.is at c.in_ok-take_all.ensures.takes)
 
 pub loop-turn-preserved : goal.loop-turn-preserved
 loop-turn-preserved g c =
     let counted : length (take c.in_ok-count.count c.read.new.buffer) ≡ c.in_ok-count.count = length-take-le c.in_ok-count.count c.read.new.buffer c.in_ok-count.ensures.count.0 in
     goes_on c.args.self.now c.loop-turn.self _ _ _ c.requires c.loop-turn.invariant _ (take c.in_ok-count.count c.read.new.buffer) c.take_all.new.self
-      c.in_ok-count.ensures.bytes.0 c.in_ok-count.ensures.failed (rw c.in-Goes.is at c.in_ok-take_all.ensures.takes)
-      (rw counted (omega arith)) (rw counted (search rules)) (c.in_ok-take_all.ensures.idle c.in-Goes.is) (c.in_ok-take_all.ensures.few) c.in_ok-count.ensures.turns c.loop-turn-test.true
+    c.in_ok-count.ensures.bytes.0 c.in_ok-count.ensures.failed (rw c.in-Goes.is at c.in_ok-take_all.ensures.takes)
+    (rw counted (omega arith)) (rw counted (search rules)) (c.in_ok-take_all.ensures.idle c.in-Goes.is) (c.in_ok-take_all.ensures.few) c.in_ok-count.ensures.turns c.loop-turn-test.true
 
 pub returns-clause-pumps : goal.returns-clause-pumps
 returns-clause-pumps g c = reads_out c.args.self.now c.loop-turn.self _ _ _ c.requires c.loop-turn.invariant (omega arith)
