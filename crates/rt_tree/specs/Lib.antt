@@ -1,0 +1,11 @@
+pub mod Keys
+pub mod Hull
+pub mod Subtree
+pub mod Costs
+pub mod Sorting
+pub mod Split
+pub mod Reinsertion
+pub mod Entries
+pub mod Outliers
+pub mod Judgements
+pub mod Laws
