@@ -1,5 +1,5 @@
 -- The tokens of a text, one token further.
-use Rattle.std.proofs.Common.{◌≡◌, ℕ, zero, suc, ◌<◌, ◌≤◌, ◌-◌, [], ◌∷◌, length, List, Option, Some, None, false, drop, slice_index, refl, ap, ◌∙◌, sym, arith}
+use Rattle.std.proofs.Common.{◌≡◌, ℕ, zero, suc, ◌<◌, ◌-◌, [], ◌∷◌, length, List, Option, Some, None, false, drop, slice_index, refl, ap, ◌∙◌, arith}
 use Rattle.std.specs.Option.{is_some}
 use Rattle.rt_sql.specs.declared.token.Token.{Token}
 use Rattle.rt_sql.specs.Token.{Text}
@@ -30,3 +30,7 @@ lex_step (x ∷ z) rest b found some e f moves r =
 pub put_none : (found : Option Token) (ts : List Token) → is_some found ≡ false → put found ts ≡ ts
 put_none None ts h = refl
 put_none (Some t) ts h = cc
+
+pub tokens_of-nil : tokens_of [] ≡ []
+unfolding tokens_of
+tokens_of-nil = refl

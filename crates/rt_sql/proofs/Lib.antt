@@ -1,10 +1,17 @@
+mod Basics
+mod Closings
 mod Cursor
 mod Cuts
+mod Doubling
 mod Lexing
 mod Numbers
+mod PieceLists
+mod Quotes
 mod Separated
+mod Shorter
 mod TokenLists
 mod Transfer
+mod Words
 pub mod Complete
 pub mod CompleteForms
 pub mod CutterAtoms

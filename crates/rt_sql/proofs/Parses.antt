@@ -1,7 +1,7 @@
 -- From what is read to what a text spells.
-use Rattle.std.proofs.Common.{◌≡◌, ℕ, ◌⊎◌, inl, inr, ⊎_elim, Bool, true, false, List, [], ◌∷◌, Option, Some, None, Result, Ok, Err, refl, ap, ◌∙◌, sym, arith}
+use Rattle.std.proofs.Common.{◌≡◌, ◌⊎◌, inl, inr, Bool, true, false, List, [], ◌∷◌, Some, None, Result, Ok, Err, ◌||◌, codes, refl, ap, ◌∙◌, sym}
 use Rattle.std.specs.Prelude.{unwrap_or}
-use lib.IntN.{ℤ, pos}
+use lib.IntN.{pos}
 use Rattle.rt_sql.specs.declared.number.Numbers.TheVariants.{Within64Bits, AnySize}
 use Rattle.rt_sql.specs.declared.piece.Ending.{Ending}
 use Rattle.rt_sql.specs.declared.piece.Ending.TheVariants.{Whole, Incomplete, TooLong}
@@ -10,19 +10,23 @@ use Rattle.rt_sql.specs.declared.refusal.Refusal.TheVariants as r
 use Rattle.rt_sql.specs.declared.statement.Stmt.{Stmt}
 use Rattle.rt_sql.specs.declared.token.Token.{Token}
 use Rattle.rt_sql.specs.Grammar.{Spells}
-use Rattle.rt_sql.specs.Lex.{tokens_of}
+use Rattle.rt_sql.specs.Lex.{piece_tokens}
 use Rattle.rt_sql.specs.Number.{Writes, WritesAnySize, WritesWithin64Bits, with_sign, decimal, fits, within, number_by}
-use Rattle.rt_sql.specs.Parse.{IsText, ParsesText, ParsesAs, Parses}
+use Rattle.rt_sql.specs.Parse.{IsText, ParsesText, ParsesAs, Parses, is_unknown}
+use Rattle.rt_sql.specs.Word.{same_word}
+use Rattle.rt_sql.specs.declared.statement.Stmt.TheVariants as stmt
+use Rattle.rt_sql.specs.declared.token.Token.TheVariants as token
 use Rattle.rt_sql.specs.Piece.{PieceText}
 use Rattle.rt_sql.specs.Reading as R
 use Rattle.rt_sql.specs.Reading.{Read}
 use Rattle.rt_sql.specs.Token.{Text}
-use Rattle.rt_sql.specs.Tokens.{IsTokens}
-use Rattle.rt_sql.proofs.CompleteForms.{complete_whole}
+use Rattle.rt_sql.specs.Tokens.{PieceTokens}
+use Rattle.rt_sql.proofs.CompleteForms.{complete_whole, head_word}
 use Rattle.rt_sql.proofs.Numbers.{fits_signed, fits_from_signed}
-use Rattle.rt_sql.proofs.Sound.{TakesOnly, TakesEach, cases, test, none, same}
+use Rattle.rt_sql.proofs.Basics.{test, none}
+use Rattle.rt_sql.proofs.Sound.{TakesOnly, TakesEach, same}
 use Rattle.rt_sql.proofs.SoundForms.{sound_whole}
-use Rattle.rt_sql.proofs.TokenLists.{tokens_are, are_tokens}
+use Rattle.rt_sql.proofs.PieceLists.{piece_tokens_are, are_piece_tokens}
 use Rattle.rt_sql.proofs.Transfer.{Carries, carry}
 
 -- ---- which numbers each reading takes
@@ -68,28 +72,96 @@ none_some e = cc
 
 -- ---- what a text spells
 
-pub parses_ok : (text : Text) (s : Stmt) (left : List Token) → R.whole (number_by Within64Bits) (tokens_of text) ≡ Some (s, left) → ParsesText text (Ok s)
+pub parses_ok : (text : Text) (s : Stmt) (left : List Token) → R.whole (number_by Within64Bits) (piece_tokens text) ≡ Some (s, left) → ParsesText text (Ok s)
 parses_ok text s left e =
-    (tokens_of text, are_tokens text, (sound_whole (number_by Within64Bits) WritesWithin64Bits within_only (tokens_of text) s left e).0)
+    (piece_tokens text, are_piece_tokens text, sound_whole (number_by Within64Bits) WritesWithin64Bits within_only (piece_tokens text) s left e)
 
-pub parses_outside : (text : Text) (s : Stmt) (left : List Token) → R.whole (number_by Within64Bits) (tokens_of text) ≡ None → R.whole (number_by AnySize) (tokens_of text) ≡ Some (s, left) → ParsesText text (Err r.IntegerOutOfRange)
+pub parses_outside : (text : Text) (s : Stmt) (left : List Token) → R.whole (number_by Within64Bits) (piece_tokens text) ≡ None → R.whole (number_by AnySize) (piece_tokens text) ≡ Some (s, left) → ParsesText text (Err r.IntegerOutOfRange)
 parses_outside text s left e f = (
-  tokens_of text,
-  are_tokens text,
-  carry WritesCut WritesAnySize any_from_cut (tokens_of text) s (sound_whole (number_by AnySize) WritesCut (λ b d n h. h) (tokens_of text) s left f).0,
-  λ asked g. none_some (sym e ∙ complete_whole (number_by Within64Bits) WritesWithin64Bits within_each (tokens_of text) asked g),
+  piece_tokens text,
+  are_piece_tokens text,
+  carry WritesCut WritesAnySize any_from_cut (piece_tokens text) s (sound_whole (number_by AnySize) WritesCut (λ b d n h. h) (piece_tokens text) s left f),
+  λ asked g. none_some (sym e ∙ complete_whole (number_by Within64Bits) WritesWithin64Bits within_each (piece_tokens text) asked g),
 )
 
-pub parses_none : (text : Text) → R.whole (number_by AnySize) (tokens_of text) ≡ None → ParsesText text (Err r.SyntaxError)
-parses_none text e tokens asked at g =
-    let is_own = tokens_are text tokens at in
-    let cut = carry WritesAnySize WritesCut cut_from_any tokens asked g in
-    none_some (sym e ∙ ap (R.whole (number_by AnySize)) is_own ∙ complete_whole (number_by AnySize) WritesCut (λ b d n h. h) tokens cut.0 cut.1)
+unknown_is : (ts : List Token) → is_unknown ts ≡ R.unknown_in (R.first ts)
+unfolding R.unknown_in R.first R.is_command
+unknown_is [] = refl
+unknown_is (token.Dot w ∷ ts) = refl
+unknown_is (token.Word x ∷ ts) = refl
+unknown_is (token.Quoted x ∷ ts) = refl
+unknown_is (token.Digits x ∷ ts) = refl
+unknown_is (token.Text x ∷ ts) = refl
+unknown_is (token.Blob x ∷ ts) = refl
+unknown_is (token.Sign x ∷ ts) = refl
+unknown_is (token.Bad ∷ ts) = refl
+
+pub parses_unknown : (text : Text) → R.unknown_in (R.first (piece_tokens text)) ≡ true → ParsesText text (Err r.UnknownCommand)
+parses_unknown text e = (piece_tokens text, are_piece_tokens text, unknown_is (piece_tokens text) ∙ e)
+
+pub parses_none : (text : Text) → R.unknown_in (R.first (piece_tokens text)) ≡ false → R.whole (number_by AnySize) (piece_tokens text) ≡ None → ParsesText text (Err r.SyntaxError)
+parses_none text known e = (
+  piece_tokens text,
+  are_piece_tokens text,
+  unknown_is (piece_tokens text) ∙ known,
+  λ asked g.
+      let cut = carry WritesAnySize WritesCut cut_from_any (piece_tokens text) asked g in
+      none_some (sym e ∙ complete_whole (number_by AnySize) WritesCut (λ b d n h. h) (piece_tokens text) cut.0 cut.1),
+)
+
+-- a dot line that spells something is known
+known_at_word : (w : Text) (ts after : List Token) → ts ≡ token.Word w ∷ after → is_unknown ts ≡ false
+known_at_word w ts after g = rw g refl
+
+known_at_dot : (w : Text) (ts after : List Token) → ts ≡ token.Dot w ∷ after → R.is_command w ≡ true → is_unknown ts ≡ false
+unfolding R.is_command
+known_at_dot w ts after g h = rw (g, h) refl
+
+or_true : (x y : Bool) → y ≡ true → (x || y) ≡ true
+or_true true y h = refl
+or_true false y h = h
+
+or_first : (x y : Bool) → x ≡ true → (x || y) ≡ true
+or_first true y h = refl
+or_first false y h = absurd (cc)
+
+watch_known : (w : Text) → same_word w (codes "WATCH") ≡ true → R.is_command w ≡ true
+unfolding R.is_command
+watch_known w h = rw h refl
+
+unwatch_known : (w : Text) → same_word w (codes "UNWATCH") ≡ true → R.is_command w ≡ true
+unfolding R.is_command
+unwatch_known w h =
+    or_first (same_word w (codes "WATCH") || same_word w (codes "UNWATCH") || same_word w (codes "VIEW")) (same_word w (codes "NODES"))
+    (or_first (same_word w (codes "WATCH") || same_word w (codes "UNWATCH")) (same_word w (codes "VIEW")) (or_true (same_word w (codes "WATCH")) (same_word w (codes "UNWATCH")) h))
+
+view_known : (w : Text) → same_word w (codes "VIEW") ≡ true → R.is_command w ≡ true
+unfolding R.is_command
+view_known w h =
+    or_first (same_word w (codes "WATCH") || same_word w (codes "UNWATCH") || same_word w (codes "VIEW")) (same_word w (codes "NODES"))
+    (or_true (same_word w (codes "WATCH") || same_word w (codes "UNWATCH")) (same_word w (codes "VIEW")) h)
+
+nodes_known : (w : Text) → same_word w (codes "NODES") ≡ true → R.is_command w ≡ true
+unfolding R.is_command
+nodes_known w h = or_true (same_word w (codes "WATCH") || same_word w (codes "UNWATCH") || same_word w (codes "VIEW")) (same_word w (codes "NODES")) h
+
+spelled_known : (writes : Writes) (ts : List Token) (s : Stmt) → Spells writes ts s → is_unknown ts ≡ false
+spelled_known writes ts (stmt.Create a b c) g = known_at_word g.1.1.0 ts g.1.0 g.1.1.1
+spelled_known writes ts (stmt.Drop a b) g = known_at_word g.1.1.0 ts g.1.0 g.1.1.1
+spelled_known writes ts (stmt.Insert how a b c) g = let k = head_word how ts g.1.0 g.1.1 in known_at_word k.0 ts k.1 k.2
+spelled_known writes ts (stmt.Update a b c) g = known_at_word g.1.1.0 ts g.1.0 g.1.1.1
+spelled_known writes ts (stmt.Delete a b) g = known_at_word g.1.1.0 ts g.1.0 g.1.1.1
+spelled_known writes ts (stmt.Select a b c d) g = known_at_word g.1.1.0 ts g.1.0 g.1.1.1
+spelled_known writes ts (stmt.Check a) g = known_at_word g.1.1.0 ts g.1.0 g.1.1.1
+spelled_known writes ts (stmt.Watch a b c) g = known_at_dot g.1.1.0 ts g.1.0 g.1.1.1 (watch_known g.1.1.0 g.1.1.2)
+spelled_known writes ts (stmt.Unwatch a) g = known_at_dot g.1.1.0 ts g.1.0 g.1.1.1 (unwatch_known g.1.1.0 g.1.1.2)
+spelled_known writes ts (stmt.View a) g = known_at_dot g.1.1.0 ts g.1.0 g.1.1.1 (view_known g.1.1.0 g.1.1.2)
+spelled_known writes ts (stmt.Nodes a) g = known_at_dot g.1.1.0 ts g.1.0 g.1.1.1 (nodes_known g.1.1.0 g.1.1.2)
 
 -- ---- laws
 
-pub one_list : (text : Text) (one other : List Token) → IsTokens text one → IsTokens text other → one ≡ other
-one_list text one other g h = sym (tokens_are text one g) ∙ tokens_are text other h
+pub one_list : (text : Text) (one other : List Token) → PieceTokens text one → PieceTokens text other → one ≡ other
+one_list text one other g h = sym (piece_tokens_are text one g) ∙ piece_tokens_are text other h
 
 pub one_statement : (tokens : List Token) (one other : Stmt) → Spells WritesAnySize tokens one → Spells WritesAnySize tokens other → one ≡ other
 one_statement tokens one other g h =
@@ -99,27 +171,50 @@ one_within : (tokens : List Token) (one other : Stmt) → Spells WritesWithin64B
 one_within tokens one other g h =
     (same (sym (complete_whole (number_by Within64Bits) WritesWithin64Bits within_each tokens one g) ∙ complete_whole (number_by Within64Bits) WritesWithin64Bits within_each tokens other h)).0
 
--- the three answers to a text
+-- the four answers to a text
 abbrev Kind : Text → Result Stmt Refusal → Type 0
 Kind text answer =
     ((s : Stmt) × (answer ≡ Ok s) × ParsesText text (Ok s))
     ⊎ ((answer ≡ Err r.SyntaxError) × ParsesText text (Err r.SyntaxError))
     ⊎ ((answer ≡ Err r.IntegerOutOfRange) × ParsesText text (Err r.IntegerOutOfRange))
+    ⊎ ((answer ≡ Err r.UnknownCommand) × ParsesText text (Err r.UnknownCommand))
 
 kind : (text : Text) (answer : Result Stmt Refusal) → ParsesText text answer → Kind text answer
 kind text (Ok s) g = inl (s, refl, g)
 kind text (Err r.SyntaxError) g = inr (inl (refl, g))
-kind text (Err r.IntegerOutOfRange) g = inr (inr (refl, g))
+kind text (Err r.IntegerOutOfRange) g = inr (inr (inl (refl, g)))
+kind text (Err r.UnknownCommand) g = inr (inr (inr (refl, g)))
 kind text (Err _) g = absurd g
 
 ok_or_syntax : (text : Text) (s : Stmt) → ParsesText text (Ok s) → ParsesText text (Err r.SyntaxError) → ⊥
-ok_or_syntax text s g h = let any = carry WritesWithin64Bits WritesAnySize any_from_within g.0 s g.2 in h g.0 any.0 g.1 any.1
+ok_or_syntax text s g h =
+    let own = rw (one_list text g.0 h.0 g.1 h.1) at g.2 in
+    let any = carry WritesWithin64Bits WritesAnySize any_from_within h.0 s own in
+    h.3 any.0 any.1
 
 ok_or_range : (text : Text) (s : Stmt) → ParsesText text (Ok s) → ParsesText text (Err r.IntegerOutOfRange) → ⊥
 ok_or_range text s g h = h.3 s (rw (one_list text g.0 h.0 g.1 h.1) at g.2)
 
+not_both : (x : Bool) → x ≡ true → x ≡ false → ⊥
+not_both x e f = cc
+
+ok_or_unknown : (text : Text) (s : Stmt) → ParsesText text (Ok s) → ParsesText text (Err r.UnknownCommand) → ⊥
+ok_or_unknown text s g h =
+    let own = rw (one_list text g.0 h.0 g.1 h.1) at g.2 in
+    not_both (is_unknown h.0) h.2 (spelled_known WritesWithin64Bits h.0 s own)
+
 syntax_or_range : (text : Text) → ParsesText text (Err r.SyntaxError) → ParsesText text (Err r.IntegerOutOfRange) → ⊥
-syntax_or_range text g h = g h.0 h.2.0 h.1 h.2.1
+syntax_or_range text g h =
+    let own = rw (one_list text h.0 g.0 h.1 g.1) at h.2.1 in
+    g.3 h.2.0 own
+
+syntax_or_unknown : (text : Text) → ParsesText text (Err r.SyntaxError) → ParsesText text (Err r.UnknownCommand) → ⊥
+syntax_or_unknown text g h = not_both (is_unknown g.0) (ap is_unknown (one_list text g.0 h.0 g.1 h.1) ∙ h.2) g.2
+
+range_or_unknown : (text : Text) → ParsesText text (Err r.IntegerOutOfRange) → ParsesText text (Err r.UnknownCommand) → ⊥
+range_or_unknown text g h =
+    let own = rw (one_list text g.0 h.0 g.1 h.1) at g.2.1 in
+    not_both (is_unknown h.0) h.2 (spelled_known WritesAnySize h.0 g.2.0 own)
 
 one_ok : (text : Text) (s t : Stmt) → ParsesText text (Ok s) → ParsesText text (Ok t) → s ≡ t
 one_ok text s t g h = one_within h.0 s t (rw (one_list text g.0 h.0 g.1 h.1) at g.2) h.2
@@ -127,13 +222,20 @@ one_ok text s t g h = one_within h.0 s t (rw (one_list text g.0 h.0 g.1 h.1) at 
 one_kind : (text : Text) (one other : Result Stmt Refusal) → Kind text one → Kind text other → one ≡ other
 one_kind text one other (inl g) (inl h) = g.1 ∙ ap Ok (one_ok text g.0 h.0 g.2 h.2) ∙ sym h.1
 one_kind text one other (inl g) (inr (inl h)) = absurd (ok_or_syntax text g.0 g.2 h.1)
-one_kind text one other (inl g) (inr (inr h)) = absurd (ok_or_range text g.0 g.2 h.1)
+one_kind text one other (inl g) (inr (inr (inl h))) = absurd (ok_or_range text g.0 g.2 h.1)
+one_kind text one other (inl g) (inr (inr (inr h))) = absurd (ok_or_unknown text g.0 g.2 h.1)
 one_kind text one other (inr (inl g)) (inl h) = absurd (ok_or_syntax text h.0 h.2 g.1)
 one_kind text one other (inr (inl g)) (inr (inl h)) = g.0 ∙ sym h.0
-one_kind text one other (inr (inl g)) (inr (inr h)) = absurd (syntax_or_range text g.1 h.1)
-one_kind text one other (inr (inr g)) (inl h) = absurd (ok_or_range text h.0 h.2 g.1)
-one_kind text one other (inr (inr g)) (inr (inl h)) = absurd (syntax_or_range text h.1 g.1)
-one_kind text one other (inr (inr g)) (inr (inr h)) = g.0 ∙ sym h.0
+one_kind text one other (inr (inl g)) (inr (inr (inl h))) = absurd (syntax_or_range text g.1 h.1)
+one_kind text one other (inr (inl g)) (inr (inr (inr h))) = absurd (syntax_or_unknown text g.1 h.1)
+one_kind text one other (inr (inr (inl g))) (inl h) = absurd (ok_or_range text h.0 h.2 g.1)
+one_kind text one other (inr (inr (inl g))) (inr (inl h)) = absurd (syntax_or_range text h.1 g.1)
+one_kind text one other (inr (inr (inl g))) (inr (inr (inl h))) = g.0 ∙ sym h.0
+one_kind text one other (inr (inr (inl g))) (inr (inr (inr h))) = absurd (range_or_unknown text g.1 h.1)
+one_kind text one other (inr (inr (inr g))) (inl h) = absurd (ok_or_unknown text h.0 h.2 g.1)
+one_kind text one other (inr (inr (inr g))) (inr (inl h)) = absurd (syntax_or_unknown text h.1 g.1)
+one_kind text one other (inr (inr (inr g))) (inr (inr (inl h))) = absurd (range_or_unknown text h.1 g.1)
+one_kind text one other (inr (inr (inr g))) (inr (inr (inr h))) = g.0 ∙ sym h.0
 
 one_answer_as : (ending : Ending) (text : Text) (one other : Result Stmt Refusal) → ParsesAs ending text one → ParsesAs ending text other → one ≡ other
 one_answer_as TooLong text one other g h = g ∙ sym h

@@ -1,29 +1,30 @@
 -- The tokens of a text are the list that reading token by token gives.
 use Rattle.std.proofs.Math.Numerals.{one-add}
-use Rattle.std.proofs.Common.{slice_index, length-drop, ◌≡◌, ℕ, zero, suc, ◌+◌, ◌-◌, ◌<◌, ◌≤◌, ◌⊎◌, inl, inr, ⊎_elim, Bool, true, false, ◌&&◌, cond, List, [], ◌∷◌, ◌++◌, length, take, drop, Option, Some, None, IsTrue, refl, ap, ◌∙◌, sym, arith}
+use Rattle.std.proofs.Common.{slice_index, length-drop, lit<, zero-add, ◌≡◌, ◌≢◌, ℕ, zero, suc, ◌+◌, ◌<◌, ◌≤◌, ◌%◌, ◌⊎◌, inl, inr, ⊎_elim, Bool, true, false, not, ◌==◌, ◌&&◌, ◌||◌, List, [], ◌∷◌, ◌++◌, length, take, drop, Option, Some, None, refl, ap, ◌∙◌, sym, arith}
 use Rattle.std.proofs.lemmas.Bool.Decides.{nat_tests}
 use Rattle.std.proofs.lemmas.List.{take-append-drop}
-use Rattle.std.specs.Char.{is_ascii_digit}
+use Rattle.std.proofs.lemmas.List.Folds.{length-prefix_len}
+use Rattle.std.specs.Char.{is_ascii_digit, is_ascii_hexdigit}
 use Rattle.std.specs.List.{prefix_len, list_all}
 use Rattle.rt_sql.specs.declared.token.Sign.{Sign}
-use Rattle.rt_sql.specs.declared.token.Sign.TheVariants.{LeftParenthesis, RightParenthesis, Comma, Semicolon, Plus, Minus, Star}
+use Rattle.rt_sql.specs.declared.token.Sign.TheVariants.{LeftParenthesis, RightParenthesis, Comma, Semicolon, Plus, Minus, Star, Equal, DoubleEqual, LessGreater, BangEqual, Less, LessOrEqual, Greater, GreaterOrEqual}
 use Rattle.rt_sql.specs.declared.token.Token.{Token}
 use Rattle.rt_sql.specs.declared.token.Token.TheVariants as token
-use Rattle.rt_sql.specs.Token.{Text, is_white, begins_word, is_in_word}
-use Rattle.rt_sql.specs.Tokens.{begins, spelling, IsToken, IsLongest, Gap, IsBad, TokenAt, IsTokens}
-use Rattle.rt_sql.specs.Lex.{Lexeme, lexeme, word, digits, sign_of, signed, put, tokens_of}
+use Rattle.rt_sql.specs.Token.{Text, is_white, begins_word, is_in_word, is_in_line, is_open, begins, doubled}
+use Rattle.rt_sql.specs.Tokens.{spelling, is_byte, IsToken, IsLongest, TokenAt, GapAt, GapsAt, Gap, IsTokens}
+use Rattle.rt_sql.specs.Lex.{Lexeme, bad, lexeme, spelled, gap, is_gap, word, digits, text, quoted, blob, closing, closed_text, closed_name, line_len, block_len, long_sign, short_sign, sign, signed, put, tokens_of}
+use Rattle.rt_sql.proofs.Basics.{test, cases}
 use Rattle.rt_sql.proofs.Cuts.{word_goes_on}
-use Rattle.rt_sql.proofs.Cursor.{tokens_of-nil}
-use Rattle.rt_sql.proofs.Lexing.{tokens_of-step}
-use Rattle.rt_sql.proofs.Sound.{test, cases, none}
+use Rattle.rt_sql.proofs.Lexing.{tokens_of-nil, tokens_of-step}
+use Rattle.rt_sql.proofs.Quotes.{closing_doubled, closed_by, byte_is}
 
 -- ---- fronts of a class
 
-front_all : (p : ℕ → Bool) (z : Text) → list_all p (take (prefix_len p z) z) ≡ true
+pub front_all : (p : ℕ → Bool) (z : Text) → list_all p (take (prefix_len p z) z) ≡ true
 front_all p [] = refl
 front_all p (b ∷ z) = test (p b) (λ e. rw (e, one-add, e) (front_all p z)) (λ e. rw e refl)
 
-front_stops : (p : ℕ → Bool) (z : Text) → begins p (drop (prefix_len p z) z) ≡ false
+pub front_stops : (p : ℕ → Bool) (z : Text) → begins p (drop (prefix_len p z) z) ≡ false
 front_stops p [] = refl
 front_stops p (b ∷ z) = test (p b) (λ e. rw (e, one-add) (front_stops p z)) (λ e. rw e e)
 
@@ -32,18 +33,18 @@ and_both true true h = (refl, refl)
 and_both true false h = absurd (cc)
 and_both false y h = absurd (cc)
 
-front_is : (p : ℕ → Bool) (w after : Text) → list_all p w ≡ true → begins p after ≡ false → prefix_len p (w ++ after) ≡ length w
+pub front_is : (p : ℕ → Bool) (w after : Text) → list_all p w ≡ true → begins p after ≡ false → prefix_len p (w ++ after) ≡ length w
 front_is p [] [] h stops = refl
 front_is p [] (b ∷ z) h stops = rw stops refl
 front_is p (b ∷ w) after h stops =
     let both = and_both (p b) (list_all p w) h in
     rw (both.0, one-add, front_is p w after both.1 stops) refl
 
-take_front : (w after : Text) → take (length w) (w ++ after) ≡ w
+pub take_front : (w after : Text) → take (length w) (w ++ after) ≡ w
 take_front [] after = refl
 take_front (b ∷ w) after = ap (λ x. b ∷ x) (take_front w after)
 
-drop_front : (w after : Text) → drop (length w) (w ++ after) ≡ after
+pub drop_front : (w after : Text) → drop (length w) (w ++ after) ≡ after
 drop_front [] after = refl
 drop_front (b ∷ w) after = drop_front w after
 
@@ -91,76 +92,226 @@ unfolding digits
 digits_is d after all stops =
     rw (front_is is_ascii_digit d after all (no_digit_after after stops), slice_index-front d after, first_in_word after stops, take_front d after) refl
 
-abbrev Lexed : Token → ℕ → Text → Text → Type 0
-Lexed t b z after = (n : ℕ) × (lexeme b (b ∷ z) ≡ (Some t, n)) × (0 < n) × (drop n (b ∷ z) ≡ after)
+-- ---- what a token's lexeme is
 
-short_sign : (s : Sign) (c b : ℕ) (z after : Text) → lexeme c (c ∷ after) ≡ (Some (token.Sign s), 1) → b ∷ z ≡ c ∷ after → Lexed (token.Sign s) b z after
-short_sign s c b z after h e =
-    let is_byte : b ≡ c = cc in
-    let is_rest : z ≡ after = cc in
-    (1, rw (is_byte, is_rest) h, omega arith, is_rest)
+abbrev Lexed : Token → Lexeme → Text → Text → Type 0
+Lexed t l start after = (n : ℕ) × (l ≡ (Some t, n)) × (0 < n) × (drop n start ≡ after)
 
-lexeme_sign : (s : Sign) (b : ℕ) (z after : Text) → b ∷ z ≡ spelling s ++ after → Lexed (token.Sign s) b z after
-unfolding lexeme sign_of is_white begins_word
-lexeme_sign LeftParenthesis b z after e = short_sign LeftParenthesis 40 b z after refl e
-lexeme_sign RightParenthesis b z after e = short_sign RightParenthesis 41 b z after refl e
-lexeme_sign Comma b z after e = short_sign Comma 44 b z after refl e
-lexeme_sign Semicolon b z after e = short_sign Semicolon 59 b z after refl e
-lexeme_sign Plus b z after e = short_sign Plus 43 b z after refl e
-lexeme_sign Minus b z after e = short_sign Minus 45 b z after refl e
-lexeme_sign Star b z after e = short_sign Star 42 b z after refl e
+-- or a longer token is there
+abbrev Longer : Lexeme → Text → Text → Type 0
+Longer l start after = (t : Token) × (n : ℕ) × (l ≡ (Some t, n)) × IsToken t start (drop n start) × (length (drop n start) < length after)
 
--- the lexeme at a proper token is the token
-lexeme_is : (t : Token) (b : ℕ) (z after : Text) → IsToken t (b ∷ z) after → Lexed t b z after
-unfolding lexeme
-lexeme_is (token.Word []) b z after g = absurd (cc)
-lexeme_is (token.Word (x ∷ w)) b z after g =
-    let e : b ∷ z ≡ (x ∷ w) ++ after = g.0 in
-    let is_first : b ≡ x = cc in
-    let first : begins_word b ≡ true = rw is_first g.1 in (
-      length (x ∷ w),
-      rw (word_not_white b first, first, e) (word_is (x ∷ w) after g.2 g.3),
-      omega arith,
-      rw e (drop_front (x ∷ w) after),
-    )
-lexeme_is (token.Digits []) b z after g = absurd (cc)
-lexeme_is (token.Digits (x ∷ d)) b z after g =
-    let e : b ∷ z ≡ (x ∷ d) ++ after = g.0 in
-    let is_first : b ≡ x = cc in
-    let first : is_ascii_digit b ≡ true = rw is_first g.1 in (
-      length (x ∷ d),
-      rw (digit_not_white b first, digit_not_word b first, first, e) (digits_is (x ∷ d) after g.2 g.3),
-      omega arith,
-      rw e (drop_front (x ∷ d) after),
-    )
-lexeme_is (token.Sign s) b z after g = lexeme_sign s b z after g
-lexeme_is token.Bad b z after g = absurd g
+abbrev LexedOrLonger : Token → Lexeme → Text → Text → Type 0
+LexedOrLonger t l start after = Lexed t l start after ⊎ Longer l start after
 
--- a lexeme that isn't bad is a proper token
-sign_is : (b : ℕ) (s : Sign) → sign_of b ≡ Some s → b ∷ [] ≡ spelling s
-unfolding sign_of
-sign_is b LeftParenthesis h = let e : b ≡ 40 = grind (arith, nat_tests) in rw e refl
-sign_is b RightParenthesis h = let e : b ≡ 41 = grind (arith, nat_tests) in rw e refl
-sign_is b Comma h = let e : b ≡ 44 = grind (arith, nat_tests) in rw e refl
-sign_is b Semicolon h = let e : b ≡ 59 = grind (arith, nat_tests) in rw e refl
-sign_is b Plus h = let e : b ≡ 43 = grind (arith, nat_tests) in rw e refl
-sign_is b Minus h = let e : b ≡ 45 = grind (arith, nat_tests) in rw e refl
-sign_is b Star h = let e : b ≡ 42 = grind (arith, nat_tests) in rw e refl
+letter_or_word : (b c : ℕ) → begins_word b ≡ false → ((b == 88 || b == 120) && c == 39) ≡ false
+unfolding begins_word
+letter_or_word b c h = grind (arith, nat_tests)
 
--- what a lexeme is: white space, a bad character, or a token
-abbrev Found : ℕ → Text → Option Token → ℕ → Type 0
-Found b z None n = (is_white b ≡ true) × (n ≡ 1)
-Found b z (Some token.Bad) n = (is_white b ≡ false) × (n ≡ 1)
-Found b z (Some t) n = (is_white b ≡ false) × IsToken t (b ∷ z) (drop n (b ∷ z)) × (0 < n)
+digit_no_word : (b : ℕ) → is_ascii_digit b ≡ true → begins_word b ≡ false
+unfolding begins_word
+digit_no_word b h = grind (arith, nat_tests)
 
-take_drop : (n : ℕ) (z : Text) → z ≡ take n z ++ drop n z
+letter_begins : (b : ℕ) → (b ≡ 88) ⊎ (b ≡ 120) → ((b == 88 || b == 120) ≡ true) × (begins_word b ≡ true)
+unfolding begins_word
+letter_begins b (inl e) = rw e (refl, refl)
+letter_begins b (inr e) = rw e (refl, refl)
+
+text_is : (t s after : Text) → t ≡ doubled 39 s → begins (is_byte 39) after ≡ false → text (t ++ 39 ∷ after) ≡ (Some (token.Text t), length t + 2)
+unfolding text
+text_is t s after d stops =
+    let end : closing 39 0 (t ++ 39 ∷ after) ≡ Some (length t) = rw d (closing_doubled 39 0 s after stops ∙ ap Some (zero-add (length (doubled 39 s)))) in
+    rw (end, take_front t (39 ∷ after)) refl
+
+doubled_some : (q : ℕ) (n : Text) → n ≢ [] → doubled q n ≢ []
+doubled_some q [] h = absurd (h refl)
+doubled_some q (b ∷ n) h =
+    test (b == q) (λ e. rw e (λ k. cc)) (λ e. rw e (λ k. cc))
+
+name_is : (t after : Text) → t ≢ [] → closed_name (t ++ 34 ∷ after) (Some (length t)) ≡ (Some (token.Quoted t), length t + 2)
+name_is [] after h = absurd (h refl)
+name_is (b ∷ t) after h = ap (λ x. (Some (token.Quoted (b ∷ x)), suc (length t) + 2)) (take_front t (34 ∷ after))
+
+quoted_is : (t n after : Text) → t ≡ doubled 34 n → n ≢ [] → begins (is_byte 34) after ≡ false → quoted (t ++ 34 ∷ after) ≡ (Some (token.Quoted t), length t + 2)
+unfolding quoted
+quoted_is t n after d some stops =
+    let end : closing 34 0 (t ++ 34 ∷ after) ≡ Some (length t) = rw d (closing_doubled 34 0 n after stops ∙ ap Some (zero-add (length (doubled 34 n)))) in
+    rw end (name_is t after (rw d (doubled_some 34 n some)))
+
+even_is : (n : ℕ) → n % 2 ≡ 0 → (n % 2 == 0) ≡ true
+even_is n h = rw h refl
+
+quote_ends_hex : (after : Text) → begins is_ascii_hexdigit (39 ∷ after) ≡ false
+quote_ends_hex after = refl
+
+first_after : (h after : Text) → slice_index (h ++ 39 ∷ after) (length h) ≡ 39
+first_after [] after = refl
+first_after (b ∷ h) after = first_after h after
+
+blob_is : (h after : Text) (other : Lexeme) → list_all is_ascii_hexdigit h ≡ true → length h % 2 ≡ 0 → blob (h ++ 39 ∷ after) other ≡ (Some (token.Blob h), length h + 3)
+unfolding blob
+blob_is h after other all even =
+    rw (front_is is_ascii_hexdigit h (39 ∷ after) all refl, first_after h after, even, take_front h (39 ∷ after)) refl
+
+pub take_drop : (n : ℕ) (z : Text) → z ≡ take n z ++ drop n z
 take_drop n z = sym (take-append-drop n z)
 
-found_word : (b : ℕ) (z : Text) → is_white b ≡ false → begins_word b ≡ true → Found b z (word (b ∷ z)).0 (word (b ∷ z)).1
+drop_past : (t after : Text) (q : ℕ) → drop (suc (length t)) (t ++ q ∷ after) ≡ after
+drop_past [] after q = refl
+drop_past (b ∷ t) after q = drop_past t after q
+
+one_quote : (q : ℕ) (t after : Text) → drop (length t + 2) ((q ∷ t) ++ q ∷ after) ≡ after
+one_quote q t after = let e : length t + 2 ≡ suc (suc (length t)) = omega arith in rw e (drop_past t after q)
+
+two_quotes : (x q : ℕ) (t after : Text) → drop (length t + 3) ((x ∷ q ∷ t) ++ q ∷ after) ≡ after
+two_quotes x q t after = let e : length t + 3 ≡ suc (suc (suc (length t))) = omega arith in rw e (drop_past t after q)
+
+-- ---- the lexeme at a token
+
+-- at a start that is spelled out, in terms of its first bytes
+abbrev at_start : Text → Lexeme
+at_start [] = bad
+at_start (b ∷ z) = spelled b (slice_index z 0) (b ∷ z)
+
+moved : (t : Token) (start other after : Text) → start ≡ other → LexedOrLonger t (at_start other) other after → LexedOrLonger t (at_start start) start after
+moved t start other after e h = rw e h
+
+lexed_quoted : (q after : Text) (n : Text) → q ≡ doubled 34 n → n ≢ [] → begins (is_byte 34) after ≡ false → LexedOrLonger (token.Quoted q) (at_start ((34 ∷ q) ++ 34 ∷ after)) ((34 ∷ q) ++ 34 ∷ after) after
+unfolding spelled begins_word
+lexed_quoted q after n d some stops = inl (length q + 2, quoted_is q n after d some stops, omega arith, one_quote 34 q after)
+
+lexed_text : (t after : Text) (s : Text) → t ≡ doubled 39 s → begins (is_byte 39) after ≡ false → LexedOrLonger (token.Text t) (at_start ((39 ∷ t) ++ 39 ∷ after)) ((39 ∷ t) ++ 39 ∷ after) after
+unfolding spelled begins_word
+lexed_text t after s d stops = inl (length t + 2, text_is t s after d stops, omega arith, one_quote 39 t after)
+
+lexed_blob : (x : ℕ) (h after : Text) → (x ≡ 88) ⊎ (x ≡ 120) → list_all is_ascii_hexdigit h ≡ true → length h % 2 ≡ 0 → LexedOrLonger (token.Blob h) (at_start ((x ∷ 39 ∷ h) ++ 39 ∷ after)) ((x ∷ 39 ∷ h) ++ 39 ∷ after) after
+unfolding spelled
+lexed_blob x h after letter all even =
+    inl (length h + 3, rw ((letter_begins x letter).0) (blob_is h after (word ((x ∷ 39 ∷ h) ++ 39 ∷ after)) all even), omega arith, two_quotes x 39 h after)
+
+lexed_digits : (b : ℕ) (d after : Text) → is_ascii_digit b ≡ true → list_all is_ascii_digit (b ∷ d) ≡ true → begins is_in_word after ≡ false → LexedOrLonger (token.Digits (b ∷ d)) (at_start ((b ∷ d) ++ after)) ((b ∷ d) ++ after) after
+unfolding spelled
+lexed_digits b d after first all stops =
+    let w = digit_no_word b first in
+    inl (length (b ∷ d), rw (letter_or_word b (slice_index (d ++ after) 0) w, w, first) (digits_is (b ∷ d) after all stops), omega arith, drop_front (b ∷ d) after)
+
+-- ---- blobs and words
+
+at_place : (z : Text) (n b : ℕ) → slice_index z n ≡ b → 0 < b → drop n z ≡ b ∷ drop (suc n) z
+at_place [] zero b e h = absurd (omega (arith, e))
+at_place [] (suc n) b e h = absurd (omega (arith, e))
+at_place (x ∷ z) zero b e h = ap (λ y. y ∷ z) e
+at_place (x ∷ z) (suc n) b e h = at_place z n b e h
+
+eqb_is : (a b : ℕ) → (a == b) ≡ true → a ≡ b
+eqb_is a b h = byte_is a b h
+
+blob_found : (x : ℕ) (z : Text) (n : ℕ) → (x ≡ 88) ⊎ (x ≡ 120) → n ≡ prefix_len is_ascii_hexdigit z → (slice_index z n == 39 && (n % 2 == 0)) ≡ true → IsToken (token.Blob (take n z)) (x ∷ 39 ∷ z) (drop (n + 3) (x ∷ 39 ∷ z))
+blob_found x z n letter is_len h =
+    let both = and_both (slice_index z n == 39) (n % 2 == 0) h in
+    let quote : drop n z ≡ 39 ∷ drop (suc n) z = at_place z n 39 (eqb_is (slice_index z n) 39 both.0) (lit< tt) in
+    let three : n + 3 ≡ suc (suc (suc n)) = omega arith in
+    let len : length (take n z) ≡ n = rw is_len (length-prefix_len is_ascii_hexdigit z) in (
+      x,
+      letter,
+      rw three (ap (λ y. x ∷ 39 ∷ y) (take_drop n z ∙ ap (λ y. take n z ++ y) quote)),
+      rw is_len (front_all is_ascii_hexdigit z),
+      rw len (eqb_is (n % 2) 0 both.1),
+    )
+
+no_quote_in_word : (c : ℕ) → is_in_word c ≡ true → (c == 39) ≡ false
+unfolding is_in_word
+no_quote_in_word c h = grind (arith, nat_tests)
+
+is_letter : (x : ℕ) → (x == 88 || x == 120) ≡ true → (x ≡ 88) ⊎ (x ≡ 120)
+is_letter x h = grind (arith, nat_tests)
+
+quote_outside : (z : Text) → begins is_in_word (39 ∷ z) ≡ false
+unfolding is_in_word
+quote_outside z = refl
+
+shorter_after_blob : (n : ℕ) (z : Text) (x : ℕ) → length (drop (n + 3) (x ∷ 39 ∷ z)) < length (39 ∷ z)
+shorter_after_blob n z x = omega (arith, length-drop (n + 3) (x ∷ 39 ∷ z))
+
+lexed_letter : (x : ℕ) (z : Text) → (x == 88 || x == 120) ≡ true → begins_word x ≡ true → LexedOrLonger (token.Word (x ∷ [])) (blob z (word (x ∷ 39 ∷ z))) (x ∷ 39 ∷ z) (39 ∷ z)
+unfolding blob
+lexed_letter x z letter first =
+    let n = prefix_len is_ascii_hexdigit z in
+    test (slice_index z n == 39 && (n % 2 == 0))
+    (λ e. rw e (inr (token.Blob (take n z), n + 3, refl, blob_found x z n (is_letter x letter) refl e, shorter_after_blob n z x)))
+    (λ e. rw e (inl (1, word_is (x ∷ []) (39 ∷ z) (rw (word_goes_on x first) refl) (quote_outside z), omega arith, refl)))
+
+letter_word : (x : ℕ) (w after : Text) → begins_word x ≡ true → list_all is_in_word (x ∷ w) ≡ true → ((x == 88 || x == 120) ≡ true) × ((slice_index (w ++ after) 0 == 39) ≡ true) → LexedOrLonger (token.Word (x ∷ w)) (blob (drop 2 ((x ∷ w) ++ after)) (word ((x ∷ w) ++ after))) ((x ∷ w) ++ after) after
+letter_word x [] [] first all e = absurd (cc)
+letter_word x [] (c ∷ z) first all e = let quote = eqb_is c 39 e.1 in rw quote (lexed_letter x z e.0 first)
+letter_word x (y ∷ w) after first all e =
+    let goes = and_both (is_in_word y) (list_all is_in_word w) (and_both (is_in_word x) (list_all is_in_word (y ∷ w)) all).1 in
+    absurd (let k = no_quote_in_word y goes.0 in cc)
+
+lexed_word : (x : ℕ) (w after : Text) → begins_word x ≡ true → list_all is_in_word (x ∷ w) ≡ true → begins is_in_word after ≡ false → LexedOrLonger (token.Word (x ∷ w)) (at_start ((x ∷ w) ++ after)) ((x ∷ w) ++ after) after
+unfolding spelled
+lexed_word x w after first all stops =
+    test ((x == 88 || x == 120) && slice_index (w ++ after) 0 == 39)
+    (λ e. rw e (letter_word x w after first all (and_both (x == 88 || x == 120) (slice_index (w ++ after) 0 == 39) e)))
+    (λ e. rw (e, first) (inl (length (x ∷ w), word_is (x ∷ w) after all stops, omega arith, drop_front (x ∷ w) after)))
+
+-- ---- signs
+
+abbrev LexedSign : Sign → Text → Type 0
+LexedSign s after = LexedOrLonger (token.Sign s) (at_start (spelling s ++ after)) (spelling s ++ after) after
+
+lexed_sign : (s : Sign) (after : Text) → LexedSign s after
+unfolding spelled begins_word sign long_sign short_sign
+lexed_sign LeftParenthesis [] = inl (1, refl, omega arith, refl)
+lexed_sign LeftParenthesis (c ∷ z) = test (c == 61) (λ e. rw e (inl (1, refl, omega arith, refl))) (λ e. rw e (inl (1, refl, omega arith, refl)))
+lexed_sign RightParenthesis [] = inl (1, refl, omega arith, refl)
+lexed_sign RightParenthesis (c ∷ z) = test (c == 61) (λ e. rw e (inl (1, refl, omega arith, refl))) (λ e. rw e (inl (1, refl, omega arith, refl)))
+lexed_sign Comma [] = inl (1, refl, omega arith, refl)
+lexed_sign Comma (c ∷ z) = test (c == 61) (λ e. rw e (inl (1, refl, omega arith, refl))) (λ e. rw e (inl (1, refl, omega arith, refl)))
+lexed_sign Semicolon [] = inl (1, refl, omega arith, refl)
+lexed_sign Semicolon (c ∷ z) = test (c == 61) (λ e. rw e (inl (1, refl, omega arith, refl))) (λ e. rw e (inl (1, refl, omega arith, refl)))
+lexed_sign Plus [] = inl (1, refl, omega arith, refl)
+lexed_sign Plus (c ∷ z) = test (c == 61) (λ e. rw e (inl (1, refl, omega arith, refl))) (λ e. rw e (inl (1, refl, omega arith, refl)))
+lexed_sign Minus [] = inl (1, refl, omega arith, refl)
+lexed_sign Minus (c ∷ z) = test (c == 61) (λ e. rw e (inl (1, refl, omega arith, refl))) (λ e. rw e (inl (1, refl, omega arith, refl)))
+lexed_sign Star [] = inl (1, refl, omega arith, refl)
+lexed_sign Star (c ∷ z) = test (c == 61) (λ e. rw e (inl (1, refl, omega arith, refl))) (λ e. rw e (inl (1, refl, omega arith, refl)))
+lexed_sign Equal [] = inl (1, refl, omega arith, refl)
+lexed_sign Equal (c ∷ z) = test (c == 61) (λ e. rw e (inr (token.Sign DoubleEqual, 2, refl, ap (λ x. 61 ∷ x ∷ z) (eqb_is c 61 e), omega arith))) (λ e. rw e (inl (1, refl, omega arith, refl)))
+lexed_sign Less [] = inl (1, refl, omega arith, refl)
+lexed_sign Less (c ∷ z) = test (c == 61) (λ e. rw e (inr (token.Sign LessOrEqual, 2, refl, ap (λ x. 60 ∷ x ∷ z) (eqb_is c 61 e), omega arith))) (λ f. rw f (test (c == 62) (λ e. rw e (inr (token.Sign LessGreater, 2, refl, ap (λ x. 60 ∷ x ∷ z) (eqb_is c 62 e), omega arith))) (λ e. rw e (inl (1, refl, omega arith, refl)))))
+lexed_sign Greater [] = inl (1, refl, omega arith, refl)
+lexed_sign Greater (c ∷ z) = test (c == 61) (λ e. rw e (inr (token.Sign GreaterOrEqual, 2, refl, ap (λ x. 62 ∷ x ∷ z) (eqb_is c 61 e), omega arith))) (λ e. rw e (inl (1, refl, omega arith, refl)))
+lexed_sign DoubleEqual after = inl (2, refl, omega arith, refl)
+lexed_sign LessGreater after = inl (2, refl, omega arith, refl)
+lexed_sign BangEqual after = inl (2, refl, omega arith, refl)
+lexed_sign LessOrEqual after = inl (2, refl, omega arith, refl)
+lexed_sign GreaterOrEqual after = inl (2, refl, omega arith, refl)
+
+lexed : (t : Token) (start after : Text) → IsToken t start after → LexedOrLonger t (at_start start) start after
+lexed (token.Word []) start after g = absurd (cc)
+lexed (token.Word (x ∷ w)) start after g = moved (token.Word (x ∷ w)) start ((x ∷ w) ++ after) after g.0 (lexed_word x w after g.1.0 g.1.1 g.1.2)
+lexed (token.Quoted q) start after g = moved (token.Quoted q) start ((34 ∷ q) ++ 34 ∷ after) after g.3.0 (lexed_quoted q after g.0 g.1 g.2 g.3.1)
+lexed (token.Digits []) start after g = absurd (cc)
+lexed (token.Digits (x ∷ d)) start after g = moved (token.Digits (x ∷ d)) start ((x ∷ d) ++ after) after g.0 (lexed_digits x d after g.1 g.2 g.3)
+lexed (token.Text t) start after g = moved (token.Text t) start ((39 ∷ t) ++ 39 ∷ after) after g.2.0 (lexed_text t after g.0 g.1 g.2.1)
+lexed (token.Blob h) start after g = moved (token.Blob h) start ((g.0 ∷ 39 ∷ h) ++ 39 ∷ after) after g.2 (lexed_blob g.0 h after g.1 g.3 g.4)
+lexed (token.Sign s) start after g = moved (token.Sign s) start (spelling s ++ after) after g (lexed_sign s after)
+lexed (token.Dot w) start after g = absurd g
+lexed token.Bad start after g = absurd g
+
+-- ---- what stands at a place where a lexeme is no gap
+
+abbrev Found : Text → Option Token → ℕ → Type 0
+Found start None n = ⊥
+Found start (Some token.Bad) n = n ≡ 1
+Found start (Some t) n = IsToken t start (drop n start) × (0 < n)
+
+found_word : (x : ℕ) (z : Text) → begins_word x ≡ true → Found (x ∷ z) (word (x ∷ z)).0 (word (x ∷ z)).1
 unfolding word
-found_word b z w first =
-    let goes = word_goes_on b first in
-    (w, (take_drop (prefix_len is_in_word (b ∷ z)) (b ∷ z), rw (goes, one-add) first, front_all is_in_word (b ∷ z), front_stops is_in_word (b ∷ z)), rw goes (omega arith))
+found_word x z first =
+    let goes = word_goes_on x first in
+    ((take_drop (prefix_len is_in_word (x ∷ z)) (x ∷ z), (rw (goes, one-add) first, front_all is_in_word (x ∷ z), front_stops is_in_word (x ∷ z))), rw goes (omega arith))
 
 begins_at : (z : Text) (n : ℕ) → is_in_word (slice_index z n) ≡ false → begins is_in_word (drop n z) ≡ false
 begins_at [] zero h = refl
@@ -168,53 +319,390 @@ begins_at [] (suc n) h = refl
 begins_at (b ∷ z) zero h = h
 begins_at (b ∷ z) (suc n) h = begins_at z n h
 
-found_digits : (b : ℕ) (z : Text) → is_white b ≡ false → is_ascii_digit b ≡ true → Found b z (digits (b ∷ z)).0 (digits (b ∷ z)).1
+found_digits : (x : ℕ) (z : Text) → is_ascii_digit x ≡ true → Found (x ∷ z) (digits (x ∷ z)).0 (digits (x ∷ z)).1
 unfolding digits
-found_digits b z w first =
-    let n = prefix_len is_ascii_digit (b ∷ z) in
-    test (is_in_word (slice_index (b ∷ z) n))
-    (λ e. rw e (w, refl))
-    (λ e. rw e (w, (take_drop n (b ∷ z), rw (first, one-add) first, front_all is_ascii_digit (b ∷ z), begins_at (b ∷ z) n e), rw first (omega arith)))
+found_digits x z first =
+    let n = prefix_len is_ascii_digit (x ∷ z) in
+    test (is_in_word (slice_index (x ∷ z) n))
+    (λ e. rw e refl)
+    (λ e. rw e ((take_drop n (x ∷ z), rw (first, one-add) first, front_all is_ascii_digit (x ∷ z), begins_at (x ∷ z) n e), rw first (omega arith)))
 
-found_sign : (b : ℕ) (z : Text) → is_white b ≡ false → (o : Option Sign) → sign_of b ≡ o → Found b z (signed o).0 (signed o).1
-found_sign b z w None e = (w, refl)
-found_sign b z w (Some s) e = (w, ap (λ x. x ++ z) (sign_is b s e), omega arith)
+found_blob : (x : ℕ) (z : Text) → (x == 88 || x == 120) ≡ true → begins_word x ≡ true → Found (x ∷ 39 ∷ z) (blob z (word (x ∷ 39 ∷ z))).0 (blob z (word (x ∷ 39 ∷ z))).1
+unfolding blob
+found_blob x z letter first =
+    let n = prefix_len is_ascii_hexdigit z in
+    test (slice_index z n == 39 && (n % 2 == 0))
+    (λ e. rw e (blob_found x z n (is_letter x letter) refl e, omega arith))
+    (λ e. rw e (found_word x (39 ∷ z) first))
 
-found : (b : ℕ) (z : Text) → Found b z (lexeme b (b ∷ z)).0 (lexeme b (b ∷ z)).1
-unfolding lexeme
+-- the text up to the quote that closes
+inside_is : (q n m : ℕ) (z inside after : Text) → z ≡ inside ++ q ∷ after → m ≡ length inside → (take m z ≡ inside) × (drop (m + 2) (q ∷ z) ≡ after)
+inside_is q n m z inside after e f =
+    (rw (f, e) (take_front inside (q ∷ after)), rw (f, e) (one_quote q inside after))
+
+found_text : (z : Text) (o : Option ℕ) → closing 39 0 z ≡ o → Found (39 ∷ z) (closed_text z o).0 (closed_text z o).1
+found_text z None e = refl
+found_text z (Some m) e =
+    let k = closed_by 39 0 z m e in
+    let len : m ≡ length (doubled 39 k.0) = omega (arith, k.4) in
+    let i = inside_is 39 0 m z (doubled 39 k.0) k.1 k.2 len in
+    ((k.0, i.0, (rw (i.0, i.1) (ap (λ x. 39 ∷ x) k.2), rw i.1 k.3)), omega arith)
+
+some_inside : (m : ℕ) (n : Text) → suc m ≡ length (doubled 34 n) → n ≢ []
+some_inside m [] e = λ h. absurd (omega (arith, e))
+some_inside m (b ∷ n) e = λ h. cc
+
+found_quoted : (z : Text) (o : Option ℕ) → closing 34 0 z ≡ o → Found (34 ∷ z) (closed_name z o).0 (closed_name z o).1
+found_quoted z None e = refl
+found_quoted z (Some zero) e = refl
+found_quoted z (Some (suc m)) e =
+    let k = closed_by 34 0 z (suc m) e in
+    let len : suc m ≡ length (doubled 34 k.0) = omega (arith, k.4) in
+    let i = inside_is 34 0 (suc m) z (doubled 34 k.0) k.1 k.2 len in
+    ((k.0, i.0, some_inside m k.0 len, (rw (i.0, i.1) (ap (λ x. 34 ∷ x) k.2), rw i.1 k.3)), omega arith)
+
+short_is : (b : ℕ) (s : Sign) → short_sign b ≡ Some s → b ∷ [] ≡ spelling s
+unfolding short_sign
+short_is b LeftParenthesis h = let e : b ≡ 40 = grind (arith, nat_tests) in rw e refl
+short_is b RightParenthesis h = let e : b ≡ 41 = grind (arith, nat_tests) in rw e refl
+short_is b Comma h = let e : b ≡ 44 = grind (arith, nat_tests) in rw e refl
+short_is b Semicolon h = let e : b ≡ 59 = grind (arith, nat_tests) in rw e refl
+short_is b Plus h = let e : b ≡ 43 = grind (arith, nat_tests) in rw e refl
+short_is b Minus h = let e : b ≡ 45 = grind (arith, nat_tests) in rw e refl
+short_is b Star h = let e : b ≡ 42 = grind (arith, nat_tests) in rw e refl
+short_is b Equal h = let e : b ≡ 61 = grind (arith, nat_tests) in rw e refl
+short_is b Less h = let e : b ≡ 60 = grind (arith, nat_tests) in rw e refl
+short_is b Greater h = let e : b ≡ 62 = grind (arith, nat_tests) in rw e refl
+short_is b DoubleEqual h = absurd (grind (arith, nat_tests))
+short_is b LessGreater h = absurd (grind (arith, nat_tests))
+short_is b BangEqual h = absurd (grind (arith, nat_tests))
+short_is b LessOrEqual h = absurd (grind (arith, nat_tests))
+short_is b GreaterOrEqual h = absurd (grind (arith, nat_tests))
+
+long_is : (b c : ℕ) (s : Sign) → long_sign b c ≡ Some s → b ∷ c ∷ [] ≡ spelling s
+unfolding long_sign
+long_is b c DoubleEqual h = let e : b ≡ 61 = grind (arith, nat_tests) in let f : c ≡ 61 = grind (arith, nat_tests) in rw (e, f) refl
+long_is b c LessGreater h = let e : b ≡ 60 = grind (arith, nat_tests) in let f : c ≡ 62 = grind (arith, nat_tests) in rw (e, f) refl
+long_is b c BangEqual h = let e : b ≡ 33 = grind (arith, nat_tests) in let f : c ≡ 61 = grind (arith, nat_tests) in rw (e, f) refl
+long_is b c LessOrEqual h = let e : b ≡ 60 = grind (arith, nat_tests) in let f : c ≡ 61 = grind (arith, nat_tests) in rw (e, f) refl
+long_is b c GreaterOrEqual h = let e : b ≡ 62 = grind (arith, nat_tests) in let f : c ≡ 61 = grind (arith, nat_tests) in rw (e, f) refl
+long_is b c LeftParenthesis h = absurd (grind (arith, nat_tests))
+long_is b c RightParenthesis h = absurd (grind (arith, nat_tests))
+long_is b c Comma h = absurd (grind (arith, nat_tests))
+long_is b c Semicolon h = absurd (grind (arith, nat_tests))
+long_is b c Plus h = absurd (grind (arith, nat_tests))
+long_is b c Minus h = absurd (grind (arith, nat_tests))
+long_is b c Star h = absurd (grind (arith, nat_tests))
+long_is b c Equal h = absurd (grind (arith, nat_tests))
+long_is b c Less h = absurd (grind (arith, nat_tests))
+long_is b c Greater h = absurd (grind (arith, nat_tests))
+
+found_short : (b : ℕ) (z : Text) (o : Option Sign) → short_sign b ≡ o → Found (b ∷ z) (signed o 1 bad).0 (signed o 1 bad).1
+found_short b z None e = refl
+found_short b z (Some s) e = (ap (λ x. x ++ z) (short_is b s e), omega arith)
+
+no_long_at_end : (b : ℕ) → long_sign b 0 ≡ None
+unfolding long_sign
+no_long_at_end b = test (b == 60) (λ e. rw e refl) (λ e. rw e refl)
+
+found_sign : (b : ℕ) (z : Text) → Found (b ∷ z) (sign b (slice_index z 0)).0 (sign b (slice_index z 0)).1
+unfolding sign
+found_sign b [] = rw (no_long_at_end b) (found_short b [] (short_sign b) refl)
+found_sign b (c ∷ z) =
+    cases (long_sign b c)
+    (λ e. rw e (found_short b (c ∷ z) (short_sign b) refl))
+    (λ s e. rw e (ap (λ x. x ++ z) (long_is b c s e), omega arith))
+
+found_letter : (x : ℕ) (z : Text) → ((x == 88 || x == 120) ≡ true) × ((slice_index z 0 == 39) ≡ true) → Found (x ∷ z) (blob (drop 2 (x ∷ z)) (word (x ∷ z))).0 (blob (drop 2 (x ∷ z)) (word (x ∷ z))).1
+found_letter x [] e = absurd (cc)
+found_letter x (c ∷ z) e =
+    let quote = eqb_is c 39 e.1 in
+    rw quote (found_blob x z e.0 (letter_begins x (is_letter x e.0)).1)
+
+found : (b : ℕ) (z : Text) → Found (b ∷ z) (at_start (b ∷ z)).0 (at_start (b ∷ z)).1
+unfolding spelled text quoted
 found b z =
-    test (is_white b)
-    (λ w. rw w (w, refl))
-    (λ w.
-    test (begins_word b)
-    (λ e. rw (w, e) (found_word b z w e))
+    test ((b == 88 || b == 120) && slice_index z 0 == 39)
+    (λ e. rw e (found_letter b z (and_both (b == 88 || b == 120) (slice_index z 0 == 39) e)))
     (λ e.
+    test (begins_word b)
+    (λ f. rw (e, f) (found_word b z f))
+    (λ f.
     test (is_ascii_digit b)
-    (λ f. rw (w, e, f) (found_digits b z w f))
-    (λ f. rw (w, e, f) (found_sign b z w (sign_of b) refl))))
+    (λ g. rw (e, f, g) (found_digits b z g))
+    (λ g.
+    test (b == 39)
+    (λ h. rw (e, f, g, h) (rw (eqb_is b 39 h) (found_text z (closing 39 0 z) refl)))
+    (λ h.
+    test (b == 34)
+    (λ k. rw (e, f, g, h, k) (rw (eqb_is b 34 k) (found_quoted z (closing 34 0 z) refl)))
+    (λ k. rw (e, f, g, h, k) (found_sign b z))))))
+
+-- ---- white space and comments
+
+begins_slash : (z : Text) → begins (λ c. c == 47) z ≡ (slice_index z 0 == 47)
+begins_slash [] = refl
+begins_slash (c ∷ z) = refl
+
+same_slash : (body r : Text) → begins (λ c. c == 47) (body ++ 42 ∷ []) ≡ (slice_index (body ++ 42 ∷ 47 ∷ r) 0 == 47)
+same_slash [] r = refl
+same_slash (c ∷ body) r = refl
+
+block_end : (b : ℕ) (z : Text) → ((b == 42) ≡ true) × ((slice_index z 0 == 47) ≡ true) → b ∷ z ≡ 42 ∷ 47 ∷ drop 1 z
+block_end b [] e = absurd (cc)
+block_end b (c ∷ z) e = ap (λ x. x ∷ c ∷ z) (eqb_is b 42 e.0) ∙ ap (λ x. 42 ∷ x ∷ z) (eqb_is c 47 e.1)
+
+-- a comment up to its `*/`, or the end
+abbrev Block : Text → Type 0
+Block z = ((body : Text) × (z ≡ body ++ 42 ∷ 47 ∷ drop (block_len z) z) × (is_open (body ++ 42 ∷ []) ≡ true)) ⊎ ((is_open z ≡ true) × (drop (block_len z) z ≡ []))
+
+block : (z : Text) → Block z
+block [] = inr (refl, refl)
+block (b ∷ z) =
+    test (b == 42 && slice_index z 0 == 47)
+    (λ e. rw e (inl ([], block_end b z (and_both (b == 42) (slice_index z 0 == 47) e), refl)))
+    (λ e. rw e
+    (⊎_elim
+    (λ (k : (body : Text) × (z ≡ body ++ 42 ∷ 47 ∷ drop (block_len z) z) × (is_open (body ++ 42 ∷ []) ≡ true)).
+    let not_yet : (b == 42 && begins (λ c. c == 47) (k.0 ++ 42 ∷ [])) ≡ false =
+    ap (λ x. b == 42 && x) (same_slash k.0 (drop (block_len z) z)) ∙ ap (λ x. b == 42 && (slice_index x 0 == 47)) (sym k.1) ∙ e in
+    inl (b ∷ k.0, ap (λ x. b ∷ x) k.1, rw not_yet k.2))
+    (λ (k : (is_open z ≡ true) × (drop (block_len z) z ≡ [])).
+    let not_yet : (b == 42 && begins (λ c. c == 47) z) ≡ false = ap (λ x. b == 42 && x) (begins_slash z) ∙ e in
+    inr (rw not_yet k.0, k.1))
+    (block z)))
+
+abbrev GapFound : ℕ → Text → Type 0
+GapFound b z = (n : ℕ) × (gap b (b ∷ z) ≡ (None, n)) × (0 < n) × GapAt (b ∷ z) (drop n (b ∷ z))
+
+or_second : (x y : Bool) → (x || y) ≡ true → x ≡ false → y ≡ true
+or_second true y h e = absurd (cc)
+or_second false y h e = h
+
+line_found : (b c : ℕ) (z : Text) → is_white b ≡ false → (b == 45) ≡ true → (c == 45) ≡ true → GapFound b (c ∷ z)
+unfolding gap line_len
+line_found b c z w e f =
+    let n = prefix_len is_in_line z in
+    let two : 2 + n ≡ suc (suc n) = omega arith in (
+      2 + n,
+      rw (w, e) refl,
+      omega arith,
+      rw two (inr (inl (take n z, ap (λ x. x ∷ c ∷ z) (eqb_is b 45 e) ∙ ap (λ x. 45 ∷ x ∷ z) (eqb_is c 45 f) ∙ ap (λ x. 45 ∷ 45 ∷ x) (take_drop n z), front_all is_in_line z, front_stops is_in_line z))),
+    )
+
+block_found : (b c : ℕ) (z : Text) → is_white b ≡ false → (b == 45) ≡ false → (b == 47) ≡ true → (c == 42) ≡ true → GapFound b (c ∷ z)
+unfolding gap
+block_found b c z w e f g =
+    let n = block_len z in
+    let two : 2 + n ≡ suc (suc n) = omega arith in
+    let starts = ap (λ x. x ∷ c ∷ z) (eqb_is b 47 f) ∙ ap (λ x. 47 ∷ x ∷ z) (eqb_is c 42 g) in (
+      2 + n,
+      rw (w, e) refl,
+      omega arith,
+      rw two
+          (⊎_elim
+          (λ (k : (body : Text) × (z ≡ body ++ 42 ∷ 47 ∷ drop n z) × (is_open (body ++ 42 ∷ []) ≡ true)). inr (inr (inl (k.0, starts ∙ ap (λ x. 47 ∷ 42 ∷ x) k.1, k.2))))
+          (λ (k : (is_open z ≡ true) × (drop n z ≡ [])). inr (inr (inr (z, starts, k.0, k.1))))
+          (block z)),
+    )
+
+no_minus : (b : ℕ) → (b == 47) ≡ true → (b == 45) ≡ false
+no_minus b h = grind (arith, nat_tests)
+
+comment_found : (b : ℕ) (z : Text) → is_white b ≡ false → ((b == 45 && slice_index z 0 == 45) || (b == 47 && slice_index z 0 == 42)) ≡ true → GapFound b z
+comment_found b [] w h = absurd (grind (arith, nat_tests))
+comment_found b (c ∷ z) w h =
+    test (b == 45 && c == 45)
+    (λ e. let k = and_both (b == 45) (c == 45) e in line_found b c z w k.0 k.1)
+    (λ e.
+    let k = and_both (b == 47) (c == 42) (or_second (b == 45 && c == 45) (b == 47 && c == 42) h e) in
+    block_found b c z w (no_minus b k.0) k.0 k.1)
+
+gap_found : (b : ℕ) (z : Text) → is_gap b (slice_index z 0) ≡ true → GapFound b z
+unfolding gap
+gap_found b z h =
+    test (is_white b)
+    (λ w. (1, rw w refl, omega arith, inl (b, refl, w)))
+    (λ w. comment_found b z w (rw w at h))
+
+white_gap : (b c : ℕ) → is_white b ≡ true → is_gap b c ≡ true
+white_gap b c w = rw w refl
+
+comment_gap : (b c : ℕ) → ((b ≡ 45) × (c ≡ 45)) ⊎ ((b ≡ 47) × (c ≡ 42)) → is_gap b c ≡ true
+unfolding is_white
+comment_gap b c (inl e) = rw (e.0, e.1) refl
+comment_gap b c (inr e) = rw (e.0, e.1) refl
+
+gap_starts : (b : ℕ) (z later : Text) → GapAt (b ∷ z) later → is_gap b (slice_index z 0) ≡ true
+gap_starts b z later (inl g) = let e : b ≡ g.0 = cc in white_gap b (slice_index z 0) (rw e g.2)
+gap_starts b z later (inr (inl g)) =
+    let e : b ≡ 45 = cc in
+    let f : z ≡ (45 ∷ g.0) ++ later = cc in
+    comment_gap b (slice_index z 0) (inl (e, ap (λ x. slice_index x 0) f))
+gap_starts b z later (inr (inr (inl g))) =
+    let e : b ≡ 47 = cc in
+    let f : z ≡ (42 ∷ g.0) ++ 42 ∷ 47 ∷ later = cc in
+    comment_gap b (slice_index z 0) (inr (e, ap (λ x. slice_index x 0) f))
+gap_starts b z later (inr (inr (inr g))) =
+    let e : b ≡ 47 = cc in
+    let f : z ≡ 42 ∷ g.0 = cc in
+    comment_gap b (slice_index z 0) (inr (e, ap (λ x. slice_index x 0) f))
+
+abbrev NoGap : Text → Type 0
+NoGap start = (later : Text) → GapAt start later → ⊥
+
+no_gap_at : (b : ℕ) (z : Text) → is_gap b (slice_index z 0) ≡ false → NoGap (b ∷ z)
+no_gap_at b z h later g = let k = gap_starts b z later g in cc
+
+no_gap_nil : NoGap []
+no_gap_nil later (inl g) = cc
+no_gap_nil later (inr (inl g)) = cc
+no_gap_nil later (inr (inr (inl g))) = cc
+no_gap_nil later (inr (inr (inr g))) = cc
+
+is_gap_no : (b : ℕ) (z : Text) → NoGap (b ∷ z) → is_gap b (slice_index z 0) ≡ false
+is_gap_no b z lacks = test (is_gap b (slice_index z 0)) (λ e. let k = gap_found b z e in absurd (lacks (drop k.0 (b ∷ z)) k.3)) (λ e. e)
+
+not_true : (x : Bool) → not x ≡ true → x ≡ false
+not_true true h = cc
+not_true false h = refl
+
+block_len_is : (body after : Text) → is_open (body ++ 42 ∷ []) ≡ true → block_len (body ++ 42 ∷ 47 ∷ after) ≡ length body + 2
+block_len_is [] after h = refl
+block_len_is (b ∷ body) after h =
+    let both = and_both (not (b == 42 && begins (λ c. c == 47) (body ++ 42 ∷ []))) (is_open (body ++ 42 ∷ [])) h in
+    let not_yet : (b == 42 && slice_index (body ++ 42 ∷ 47 ∷ after) 0 == 47) ≡ false = ap (λ x. b == 42 && x) (sym (same_slash body after)) ∙ not_true (b == 42 && begins (λ c. c == 47) (body ++ 42 ∷ [])) both.0 in
+    rw (not_yet, block_len_is body after both.1) (omega arith)
+
+block_len_open : (z : Text) → is_open z ≡ true → block_len z ≡ length z
+block_len_open [] h = refl
+block_len_open (b ∷ z) h =
+    let both = and_both (not (b == 42 && begins (λ c. c == 47) z)) (is_open z) h in
+    let not_yet : (b == 42 && slice_index z 0 == 47) ≡ false = ap (λ x. b == 42 && x) (sym (begins_slash z)) ∙ not_true (b == 42 && begins (λ c. c == 47) z) both.0 in
+    rw (not_yet, block_len_open z both.1) refl
+
+drop_whole : (z : Text) → drop (length z) z ≡ []
+drop_whole [] = refl
+drop_whole (b ∷ z) = drop_whole z
 
 -- ---- lists
+
+lexeme_gap : (b : ℕ) (z : Text) → is_gap b (slice_index z 0) ≡ true → lexeme b (b ∷ z) ≡ gap b (b ∷ z)
+unfolding lexeme
+lexeme_gap b z h = rw h refl
+
+lexeme_start : (b : ℕ) (z : Text) → is_gap b (slice_index z 0) ≡ false → lexeme b (b ∷ z) ≡ at_start (b ∷ z)
+unfolding lexeme
+lexeme_start b z h = rw h refl
 
 lexed_tokens : (b : ℕ) (z : Text) (o : Option Token) (n : ℕ) → lexeme b (b ∷ z) ≡ (o, n) → 0 < n → tokens_of (b ∷ z) ≡ put o (tokens_of (drop n (b ∷ z)))
 lexed_tokens b z o n e moves =
     let moves' : 0 < (lexeme b (b ∷ z)).1 = rw e moves in
     tokens_of-step b z moves' ∙ ap (λ (l : Lexeme). put l.0 (tokens_of (drop l.1 (b ∷ z)))) e
 
-white_lexeme : (b : ℕ) (z : Text) → is_white b ≡ true → lexeme b z ≡ (None, 1)
-unfolding lexeme
-white_lexeme b z w = rw w refl
+abbrev GapIs : ℕ → Text → Text → Type 0
+GapIs b z later = (n : ℕ) × (gap b (b ∷ z) ≡ (None, n)) × (0 < n) × (drop n (b ∷ z) ≡ later)
 
-gap_tokens : (white start : Text) → list_all is_white white ≡ true → tokens_of (white ++ start) ≡ tokens_of start
-gap_tokens [] start h = refl
-gap_tokens (b ∷ white) start h =
-    let both = and_both (is_white b) (list_all is_white white) h in
-    lexed_tokens b (white ++ start) None 1 (white_lexeme b (b ∷ white ++ start) both.0) (omega arith) ∙ gap_tokens white start both.1
+white_len : (b : ℕ) (z later : Text) → is_white b ≡ true → z ≡ later → GapIs b z later
+unfolding gap
+white_len b z later w e = (1, rw w refl, omega arith, e)
+
+not_white_45 : is_white 45 ≡ false
+unfolding is_white
+not_white_45 = refl
+
+not_white_47 : is_white 47 ≡ false
+unfolding is_white
+not_white_47 = refl
+
+line_gap : (line after : Text) → list_all is_in_line line ≡ true → begins is_in_line after ≡ false → GapIs 45 (45 ∷ line ++ after) after
+unfolding gap line_len
+line_gap line after all stops =
+    let n = front_is is_in_line line after all stops in
+    let two : 2 + length line ≡ suc (suc (length line)) = omega arith in
+    (2 + length line, rw (not_white_45, n) refl, omega arith, rw two (drop_front line after))
+
+drop_two : (body after : Text) → drop (length body + 2) (body ++ 42 ∷ 47 ∷ after) ≡ after
+drop_two [] after = refl
+drop_two (b ∷ body) after =
+    let e : length (b ∷ body) + 2 ≡ suc (length body + 2) = omega arith in rw e (drop_two body after)
+
+block_gap : (body after : Text) → is_open (body ++ 42 ∷ []) ≡ true → GapIs 47 (42 ∷ body ++ 42 ∷ 47 ∷ after) after
+unfolding gap
+block_gap body after open_to =
+    let n = block_len_is body after open_to in
+    let two : 2 + (length body + 2) ≡ suc (suc (length body + 2)) = omega arith in
+    (2 + (length body + 2), rw (not_white_47, n) refl, omega arith, rw two (drop_two body after))
+
+last_gap : (body : Text) → is_open body ≡ true → GapIs 47 (42 ∷ body) []
+unfolding gap
+last_gap body open_to =
+    let n = block_len_open body open_to in
+    let two : 2 + length body ≡ suc (suc (length body)) = omega arith in
+    (2 + length body, rw (not_white_47, n) refl, omega arith, rw two (drop_whole body))
+
+-- the length of a gap that is spelled out
+gap_len : (b : ℕ) (z later : Text) → GapAt (b ∷ z) later → GapIs b z later
+gap_len b z later (inl g) =
+    let e : b ≡ g.0 = cc in
+    let f : z ≡ later = cc in
+    white_len b z later (rw e g.2) f
+gap_len b z later (inr (inl g)) =
+    let e : b ≡ 45 = cc in
+    let f : z ≡ (45 ∷ g.0) ++ later = cc in
+    rw (e, f) (line_gap g.0 later g.2 g.3)
+gap_len b z later (inr (inr (inl g))) =
+    let e : b ≡ 47 = cc in
+    let f : z ≡ (42 ∷ g.0) ++ 42 ∷ 47 ∷ later = cc in
+    rw (e, f) (block_gap g.0 later g.2)
+gap_len b z later (inr (inr (inr g))) =
+    let e : b ≡ 47 = cc in
+    let f : z ≡ 42 ∷ g.0 = cc in
+    rw (e, f, g.3) (last_gap g.0 g.2)
+
+one_gap : (text next : Text) → GapAt text next → tokens_of text ≡ tokens_of next
+one_gap [] next g = absurd (no_gap_nil next g)
+one_gap (b ∷ z) next g =
+    let l = gap_len b z next g in
+    lexed_tokens b z None l.0 (lexeme_gap b z (gap_starts b z next g) ∙ l.1) l.2 ∙ ap tokens_of l.3
+
+gap_tokens : (places : List Text) (text start : Text) → GapsAt places text start → tokens_of text ≡ tokens_of start
+gap_tokens [] text start g = ap tokens_of g
+gap_tokens (next ∷ places) text start g = one_gap text next g.0 ∙ gap_tokens places next start g.1
+
+token_tokens : (t : Token) (b : ℕ) (z after : Text) → NoGap (b ∷ z) → IsLongest t (b ∷ z) after → tokens_of (b ∷ z) ≡ t ∷ tokens_of after
+token_tokens t b z after lacks at =
+    let starts = lexeme_start b z (is_gap_no b z lacks) in
+    ⊎_elim
+    (λ (l : Lexed t (at_start (b ∷ z)) (b ∷ z) after). lexed_tokens b z (Some t) l.0 (starts ∙ l.1) l.2 ∙ ap (λ x. t ∷ tokens_of x) l.3)
+    (λ (l : Longer (at_start (b ∷ z)) (b ∷ z) after). absurd (omega (arith, l.4, at.1 l.0 (drop l.1 (b ∷ z)) l.3)))
+    (lexed t (b ∷ z) after at.0)
+
+bad_found : (start : Text) (o : Option Token) (n : ℕ) → Found start o n → ((other : Token) (left : Text) → IsToken other start left → ⊥) → (o ≡ Some token.Bad) × (n ≡ 1)
+bad_found start None n f lacks = absurd f
+bad_found start (Some token.Bad) n f lacks = (refl, f)
+bad_found start (Some (token.Word x)) n f lacks = absurd (lacks (token.Word x) (drop n start) f.0)
+bad_found start (Some (token.Quoted x)) n f lacks = absurd (lacks (token.Quoted x) (drop n start) f.0)
+bad_found start (Some (token.Digits x)) n f lacks = absurd (lacks (token.Digits x) (drop n start) f.0)
+bad_found start (Some (token.Text x)) n f lacks = absurd (lacks (token.Text x) (drop n start) f.0)
+bad_found start (Some (token.Blob x)) n f lacks = absurd (lacks (token.Blob x) (drop n start) f.0)
+bad_found start (Some (token.Sign x)) n f lacks = absurd (lacks (token.Sign x) (drop n start) f.0)
+bad_found start (Some (token.Dot x)) n f lacks = absurd f.0
+
+bad_tokens : (b : ℕ) (z : Text) → NoGap (b ∷ z) → ((other : Token) (left : Text) → IsToken other (b ∷ z) left → ⊥) → tokens_of (b ∷ z) ≡ token.Bad ∷ tokens_of z
+bad_tokens b z lacks others =
+    let starts = lexeme_start b z (is_gap_no b z lacks) in
+    let k = bad_found (b ∷ z) (at_start (b ∷ z)).0 (at_start (b ∷ z)).1 (found b z) others in
+    lexed_tokens b z (Some token.Bad) 1 (starts ∙ rw (← k.0, ← k.1) refl) (omega arith)
 
 none_at_end : (t : Token) (after : Text) → IsToken t [] after → ⊥
 none_at_end (token.Word []) after g = cc
 none_at_end (token.Word (x ∷ w)) after g = cc
+none_at_end (token.Quoted q) after g = let e = g.3.0 in cc
 none_at_end (token.Digits []) after g = cc
 none_at_end (token.Digits (x ∷ w)) after g = cc
+none_at_end (token.Text q) after g = let e = g.2.0 in cc
+none_at_end (token.Blob h) after g = let e = g.2 in cc
 none_at_end (token.Sign LeftParenthesis) after g = cc
 none_at_end (token.Sign RightParenthesis) after g = cc
 none_at_end (token.Sign Comma) after g = cc
@@ -222,86 +710,111 @@ none_at_end (token.Sign Semicolon) after g = cc
 none_at_end (token.Sign Plus) after g = cc
 none_at_end (token.Sign Minus) after g = cc
 none_at_end (token.Sign Star) after g = cc
+none_at_end (token.Sign Equal) after g = cc
+none_at_end (token.Sign DoubleEqual) after g = cc
+none_at_end (token.Sign LessGreater) after g = cc
+none_at_end (token.Sign BangEqual) after g = cc
+none_at_end (token.Sign Less) after g = cc
+none_at_end (token.Sign LessOrEqual) after g = cc
+none_at_end (token.Sign Greater) after g = cc
+none_at_end (token.Sign GreaterOrEqual) after g = cc
+none_at_end (token.Dot w) after g = g
 none_at_end token.Bad after g = g
 
-proper_tokens : (t : Token) (start after : Text) → IsToken t start after → tokens_of start ≡ t ∷ tokens_of after
-proper_tokens t [] after g = absurd (none_at_end t after g)
-proper_tokens t (b ∷ z) after g =
-    let l = lexeme_is t b z after g in
-    lexed_tokens b z (Some t) l.0 l.1 l.2 ∙ ap (λ x. t ∷ tokens_of x) l.3
+proper_at : (t : Token) (start after : Text) → NoGap start → IsLongest t start after → tokens_of start ≡ t ∷ tokens_of after
+proper_at t [] after lacks at = absurd (none_at_end t after at.0)
+proper_at t (b ∷ z) after lacks at = token_tokens t b z after lacks at
 
-bad_lexeme : (b : ℕ) (z : Text) (o : Option Token) (n : ℕ) → Found b z o n → is_white b ≡ false → ((other : Token) (left : Text) → IsToken other (b ∷ z) left → ⊥) → (o ≡ Some token.Bad) × (n ≡ 1)
-bad_lexeme b z None n f w lacks = absurd (cc)
-bad_lexeme b z (Some token.Bad) n f w lacks = (refl, f.1)
-bad_lexeme b z (Some (token.Word x)) n f w lacks = absurd (lacks (token.Word x) (drop n (b ∷ z)) f.1)
-bad_lexeme b z (Some (token.Digits x)) n f w lacks = absurd (lacks (token.Digits x) (drop n (b ∷ z)) f.1)
-bad_lexeme b z (Some (token.Sign x)) n f w lacks = absurd (lacks (token.Sign x) (drop n (b ∷ z)) f.1)
-
-token_tokens : (t : Token) (start after : Text) → TokenAt t start after → tokens_of start ≡ t ∷ tokens_of after
-token_tokens token.Bad start after g =
-    let b = g.0 in
-    let lacks : (other : Token) (left : Text) → IsToken other (b ∷ after) left → ⊥ = rw g.1 at g.3 in
-    let k = bad_lexeme b after (lexeme b (b ∷ after)).0 (lexeme b (b ∷ after)).1 (found b after) g.2 lacks in
-    rw g.1 (lexed_tokens b after (Some token.Bad) 1 (rw (← k.0, ← k.1) refl) (omega arith))
-token_tokens (token.Word x) start after g = proper_tokens _ start after g.0
-token_tokens (token.Digits x) start after g = proper_tokens _ start after g.0
-token_tokens (token.Sign x) start after g = proper_tokens _ start after g.0
+tokens_at : (t : Token) (start after : Text) → NoGap start → TokenAt t start after → tokens_of start ≡ t ∷ tokens_of after
+tokens_at (token.Word x) start after lacks at = proper_at (token.Word x) start after lacks at
+tokens_at (token.Quoted x) start after lacks at = proper_at (token.Quoted x) start after lacks at
+tokens_at (token.Digits x) start after lacks at = proper_at (token.Digits x) start after lacks at
+tokens_at (token.Text x) start after lacks at = proper_at (token.Text x) start after lacks at
+tokens_at (token.Blob x) start after lacks at = proper_at (token.Blob x) start after lacks at
+tokens_at (token.Sign x) start after lacks at = proper_at (token.Sign x) start after lacks at
+tokens_at (token.Dot x) start after lacks at = proper_at (token.Dot x) start after lacks at
+tokens_at token.Bad start after lacks at =
+    let lacks' : NoGap (at.0 ∷ after) = rw at.1 at lacks in
+    let others : (other : Token) (left : Text) → IsToken other (at.0 ∷ after) left → ⊥ = rw at.1 at at.2 in
+    rw at.1 (bad_tokens at.0 after lacks' others)
 
 pub tokens_are : (text : Text) (ts : List Token) → IsTokens text ts → tokens_of text ≡ ts
-tokens_are text [] g = rw g.1 (gap_tokens g.0 [] g.2 ∙ tokens_of-nil)
+tokens_are text [] g = gap_tokens g.0 text [] g.1 ∙ tokens_of-nil
 tokens_are text (t ∷ ts) g =
-    let gap = g.2 in
-    rw gap.1 (gap_tokens gap.0 g.0 gap.2 ∙ token_tokens t g.0 g.1 g.3 ∙ ap (λ x. t ∷ x) (tokens_are g.1 ts g.4))
+    gap_tokens g.2.0 text g.0 g.2.1 ∙ tokens_at t g.0 g.1 g.2.2 g.3 ∙ ap (λ x. t ∷ x) (tokens_are g.1 ts g.4)
 
-gap_more : (b : ℕ) (z : Text) (ts : List Token) → is_white b ≡ true → IsTokens z ts → IsTokens (b ∷ z) ts
-gap_more b z [] w g = (b ∷ g.0, ap (λ x. b ∷ x) g.1, rw w g.2)
-gap_more b z (t ∷ ts) w g = (g.0, g.1, (b ∷ g.2.0, ap (λ x. b ∷ x) g.2.1, rw w g.2.2), g.3, g.4)
+gap_more : (text next : Text) (ts : List Token) → GapAt text next → IsTokens next ts → IsTokens text ts
+gap_more text next [] at g = (next ∷ g.0, (at, g.1), g.2)
+gap_more text next (t ∷ ts) at g = (g.0, g.1, (next ∷ g.2.0, (at, g.2.1), g.2.2), g.3, g.4)
 
-no_gap : (start : Text) → Gap start start
-no_gap start = ([], refl, refl)
+no_gap : (start : Text) → NoGap start → Gap start start
+no_gap start lacks = ([], refl, lacks)
 
-longest_at : (b : ℕ) (z : Text) (t : Token) (n : ℕ) → lexeme b (b ∷ z) ≡ (Some t, n) → IsToken t (b ∷ z) (drop n (b ∷ z)) → IsLongest t (b ∷ z) (drop n (b ∷ z))
+some_same : {A : Type 0} {a b : A} → Some a ≡ Some b → a ≡ b
+some_same e = cc
+
+lexeme_parts : {l : Lexeme} {o : Option Token} {n : ℕ} → l ≡ (o, n) → (l.0 ≡ o) × (l.1 ≡ n)
+lexeme_parts e = (ap (λ (x : Lexeme). x.0) e, ap (λ (x : Lexeme). x.1) e)
+
+longest_at : (b : ℕ) (z : Text) (t : Token) (n : ℕ) → at_start (b ∷ z) ≡ (Some t, n) → IsToken t (b ∷ z) (drop n (b ∷ z)) → IsLongest t (b ∷ z) (drop n (b ∷ z))
 longest_at b z t n e g = (
   g,
   λ other left h.
-      let l = lexeme_is other b z left h in
-      let same_len : l.0 ≡ n = ap (λ (x : Lexeme). x.1) (sym l.1 ∙ e) in
+      ⊎_elim
+      (λ (l : Lexed other (at_start (b ∷ z)) (b ∷ z) left).
+      let same_len : l.0 ≡ n = sym (lexeme_parts l.1).1 ∙ (lexeme_parts e).1 in
       let is_left : drop n (b ∷ z) ≡ left = rw same_len at l.3 in
-      omega (arith, ap length is_left),
+      omega (arith, ap length is_left))
+      (λ (l : Longer (at_start (b ∷ z)) (b ∷ z) left).
+      let same_len : l.1 ≡ n = sym (lexeme_parts l.2).1 ∙ (lexeme_parts e).1 in
+      let less : length (drop n (b ∷ z)) < length left = rw same_len at l.4 in
+      omega arith)
+      (lexed other (b ∷ z) left h),
 )
+
+bad_is_none : (b : ℕ) (z : Text) (n : ℕ) → at_start (b ∷ z) ≡ (Some token.Bad, n) → (other : Token) (left : Text) → IsToken other (b ∷ z) left → ⊥
+bad_is_none b z n e other left h =
+    ⊎_elim
+    (λ (l : Lexed other (at_start (b ∷ z)) (b ∷ z) left).
+    let same_token : other ≡ token.Bad = some_same (sym (lexeme_parts l.1).0 ∙ (lexeme_parts e).0) in
+    rw same_token at h)
+    (λ (l : Longer (at_start (b ∷ z)) (b ∷ z) left).
+    let same_token : l.0 ≡ token.Bad = some_same (sym (lexeme_parts l.2).0 ∙ (lexeme_parts e).0) in
+    rw same_token at l.3)
+    (lexed other (b ∷ z) left h)
 
 drop_shorter : (n b : ℕ) (z : Text) → 0 < n → length (drop n (b ∷ z)) ≤ length z
 drop_shorter n b z h = omega (arith, length-drop n (b ∷ z))
 
-bad_is_none : (b : ℕ) (z : Text) (n : ℕ) → lexeme b (b ∷ z) ≡ (Some token.Bad, n) → (other : Token) (left : Text) → IsToken other (b ∷ z) left → ⊥
-bad_is_none b z n e other left h =
-    let l = lexeme_is other b z left h in
-    let is_bad : Some other ≡ Some token.Bad = ap (λ (x : Lexeme). x.0) (sym l.1 ∙ e) in
-    let same_token : other ≡ token.Bad = cc in
-    rw same_token at h
+module _ (b : ℕ) (z : Text) (others : (rest : Text) → length rest ≤ length z → IsTokens rest (tokens_of rest)) (starts : is_gap b (slice_index z 0) ≡ false) where
+  proper_lexeme : (t : Token) (n : ℕ) → at_start (b ∷ z) ≡ (Some t, n) → 0 < n → TokenAt t (b ∷ z) (drop n (b ∷ z)) → IsTokens (b ∷ z) (tokens_of (b ∷ z))
+  proper_lexeme t n e moves at =
+      rw (lexed_tokens b z (Some t) n (lexeme_start b z starts ∙ e) moves)
+      (b ∷ z, drop n (b ∷ z), no_gap (b ∷ z) (no_gap_at b z starts), at, others (drop n (b ∷ z)) (drop_shorter n b z moves))
 
-proper_lexeme : (b : ℕ) (z : Text) → ((rest : Text) → length rest ≤ length z → IsTokens rest (tokens_of rest)) → (t : Token) (n : ℕ) → lexeme b (b ∷ z) ≡ (Some t, n) → IsToken t (b ∷ z) (drop n (b ∷ z)) → 0 < n → TokenAt t (b ∷ z) (drop n (b ∷ z)) → IsTokens (b ∷ z) (tokens_of (b ∷ z))
-proper_lexeme b z others t n e f moves at =
-    rw (lexed_tokens b z (Some t) n e moves)
-    (b ∷ z, drop n (b ∷ z), no_gap (b ∷ z), at, others (drop n (b ∷ z)) (drop_shorter n b z moves))
-
-one_lexeme : (b : ℕ) (z : Text) → ((rest : Text) → length rest ≤ length z → IsTokens rest (tokens_of rest)) → (o : Option Token) (n : ℕ) → lexeme b (b ∷ z) ≡ (o, n) → Found b z o n → IsTokens (b ∷ z) (tokens_of (b ∷ z))
-one_lexeme b z others None n e f =
-    let e1 : lexeme b (b ∷ z) ≡ (None, 1) = rw f.1 at e in
-    rw (lexed_tokens b z None 1 e1 (omega arith)) (gap_more b z (tokens_of z) f.0 (others z (omega arith)))
-one_lexeme b z others (Some token.Bad) n e f =
-    let e1 : lexeme b (b ∷ z) ≡ (Some token.Bad, 1) = rw f.1 at e in
-    rw (lexed_tokens b z (Some token.Bad) 1 e1 (omega arith))
-    (b ∷ z, z, no_gap (b ∷ z), (b, refl, f.0, λ other left h. bad_is_none b z 1 e1 other left h), others z (omega arith))
-one_lexeme b z others (Some (token.Word w)) n e f = proper_lexeme b z others _ n e f.1 f.2 (longest_at b z _ n e f.1)
-one_lexeme b z others (Some (token.Digits d)) n e f = proper_lexeme b z others _ n e f.1 f.2 (longest_at b z _ n e f.1)
-one_lexeme b z others (Some (token.Sign s)) n e f = proper_lexeme b z others _ n e f.1 f.2 (longest_at b z _ n e f.1)
+  one_lexeme : (o : Option Token) (n : ℕ) → at_start (b ∷ z) ≡ (o, n) → Found (b ∷ z) o n → IsTokens (b ∷ z) (tokens_of (b ∷ z))
+  one_lexeme None n e f = absurd f
+  one_lexeme (Some token.Bad) n e f =
+      let e1 : at_start (b ∷ z) ≡ (Some token.Bad, 1) = rw f at e in
+      proper_lexeme token.Bad 1 e1 (omega arith) (b, refl, λ other left h. bad_is_none b z 1 e1 other left h)
+  one_lexeme (Some (token.Word x)) n e f = proper_lexeme (token.Word x) n e f.1 (longest_at b z (token.Word x) n e f.0)
+  one_lexeme (Some (token.Quoted x)) n e f = proper_lexeme (token.Quoted x) n e f.1 (longest_at b z (token.Quoted x) n e f.0)
+  one_lexeme (Some (token.Digits x)) n e f = proper_lexeme (token.Digits x) n e f.1 (longest_at b z (token.Digits x) n e f.0)
+  one_lexeme (Some (token.Text x)) n e f = proper_lexeme (token.Text x) n e f.1 (longest_at b z (token.Text x) n e f.0)
+  one_lexeme (Some (token.Blob x)) n e f = proper_lexeme (token.Blob x) n e f.1 (longest_at b z (token.Blob x) n e f.0)
+  one_lexeme (Some (token.Sign x)) n e f = proper_lexeme (token.Sign x) n e f.1 (longest_at b z (token.Sign x) n e f.0)
+  one_lexeme (Some (token.Dot x)) n e f = absurd f.0
 
 are_tokens_from : (n : ℕ) (text : Text) → length text ≤ n → IsTokens text (tokens_of text)
-are_tokens_from n [] h = rw tokens_of-nil ([], refl, refl)
+are_tokens_from n [] h = rw tokens_of-nil ([], refl, no_gap_nil)
 are_tokens_from zero (b ∷ z) h = absurd (omega arith)
 are_tokens_from (suc n) (b ∷ z) h =
-    one_lexeme b z (λ rest l. are_tokens_from n rest (omega arith)) (lexeme b (b ∷ z)).0 (lexeme b (b ∷ z)).1 refl (found b z)
+    test (is_gap b (slice_index z 0))
+    (λ e.
+    let k = gap_found b z e in
+    rw (lexed_tokens b z None k.0 (lexeme_gap b z e ∙ k.1) k.2)
+    (gap_more (b ∷ z) (drop k.0 (b ∷ z)) (tokens_of (drop k.0 (b ∷ z))) k.3 (are_tokens_from n (drop k.0 (b ∷ z)) (omega (arith, drop_shorter k.0 b z k.2)))))
+    (λ e. one_lexeme b z (λ rest l. are_tokens_from n rest (omega arith)) e (at_start (b ∷ z)).0 (at_start (b ∷ z)).1 refl (found b z))
 
 pub are_tokens : (text : Text) → IsTokens text (tokens_of text)
 are_tokens text = are_tokens_from (length text) text (omega arith)

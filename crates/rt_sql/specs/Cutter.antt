@@ -1,4 +1,5 @@
--- Where a cutter stands.
+-- Where a cutter stands: the kind of place at which the bytes since the last piece's end stop, and
+-- what is held of a piece there.
 use Rattle.std.specs.Prelude.{◌≡◌, ℕ, Bool, true, false, List, [], ◌∷◌, ◌++◌, Option, Some, None}
 use Rattle.std.specs.Option.{option_map}
 use Rattle.rt_sql.specs.Piece.{PieceText}
@@ -17,7 +18,8 @@ pub record Front : Type 0 where
   pub held : Option (List ℕ)
   pub finished : Bool
 
--- the bytes after the last atom, by the spot at which they stop
+-- the bytes after the last whole atom, by the spot at which they stop: `BlockComment` is where not
+-- even a `/` would end the comment
 abbrev pub IsOpen : Spot → List ℕ → Type 0
 IsOpen Between tail = tail ≡ []
 IsOpen AfterDash tail = tail ≡ 45 ∷ []

@@ -1,4 +1,5 @@
--- What one byte does to a cutter.
+-- What one byte does to a cutter, for the contracts of its private steps alone. That these steps cut a
+-- text as Pieces says is proved of them.
 use Rattle.std.specs.Prelude.{◌==◌, ℕ, List, [], ◌∷◌, ◌++◌, length, Option, Some, None, nat_lt, if◌then◌else◌}
 use Rattle.rt_sql.specs.Pieces.{is_gap_byte, is_quote}
 use Rattle.rt_sql.specs.Cutter.{Front}

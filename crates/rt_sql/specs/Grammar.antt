@@ -1,19 +1,26 @@
--- Which tokens spell which statement (SQLite's documentation: SQL As Understood By SQLite; The SQLite R*Tree Module).
+-- Which tokens spell which statement (SQLite's documentation: SQL As Understood By SQLite; The SQLite R*Tree Module; dot lines: own).
 -- A part of a statement is a relation between the tokens from its start on and those after it.
-use Rattle.std.specs.Prelude.{◌≡◌, ◌⊎◌, Bool, true, false, List, [], ◌∷◌, Option, Some, None, IsTrue, codes}
+use Rattle.std.specs.Prelude.{◌≡◌, ◌⊎◌, Bool, true, false, List, [], ◌∷◌, ◌++◌, map, Option, Some, None, IsTrue, codes}
 use lib.IntN.{ℤ}
+use Rattle.rt_sql.specs.declared.statement.ColumnDef.{ColumnDef}
+use Rattle.rt_sql.specs.declared.statement.Op6.{Op6}
+use Rattle.rt_sql.specs.declared.statement.Op6.TheVariants.{Eq, Ne, Lt, Le, Gt, Ge}
+use Rattle.rt_sql.specs.declared.statement.Rule.{Rule}
+use Rattle.rt_sql.specs.declared.statement.Rule.TheVariants.{Abort, Replace, Ignore}
+use Rattle.rt_sql.specs.declared.statement.Source.{Source}
+use Rattle.rt_sql.specs.declared.statement.Source.TheVariants as sources
+use Rattle.rt_sql.specs.declared.statement.Stmt.{Stmt}
+use Rattle.rt_sql.specs.declared.statement.Stmt.TheVariants.{Create, Drop, Insert, Update, Delete, Select, Check, Watch, Unwatch, View, Nodes}
+use Rattle.rt_sql.specs.declared.statement.Test.{Test}
+use Rattle.rt_sql.specs.declared.statement.Test.TheVariants as tests
 use Rattle.rt_sql.specs.declared.token.Sign.{Sign}
-use Rattle.rt_sql.specs.declared.token.Sign.TheVariants.{LeftParenthesis, RightParenthesis, Comma, Semicolon, Plus, Minus, Star}
+use Rattle.rt_sql.specs.declared.token.Sign.TheVariants.{LeftParenthesis, RightParenthesis, Comma, Semicolon, Plus, Minus, Star, Equal, DoubleEqual, LessGreater, BangEqual, Less, LessOrEqual, Greater, GreaterOrEqual}
 use Rattle.rt_sql.specs.declared.token.Token.{Token}
 use Rattle.rt_sql.specs.declared.token.Token.TheVariants as token
-use Rattle.rt_sql.specs.declared.statement.ColumnDef.{ColumnDef}
-use Rattle.rt_sql.specs.declared.statement.Rule.TheVariants.{Abort}
-use Rattle.rt_sql.specs.declared.statement.Stmt.{Stmt}
-use Rattle.rt_sql.specs.declared.statement.Stmt.TheVariants.{Create, Insert, Select}
 use Rattle.rt_sql.specs.declared.value.Value.{Value}
-use Rattle.rt_sql.specs.declared.value.Value.TheVariants.{Null, Int}
+use Rattle.rt_sql.specs.declared.value.Value.TheVariants as values
 use Rattle.rt_sql.specs.Number.{Writes}
-use Rattle.rt_sql.specs.Token.{Text}
+use Rattle.rt_sql.specs.Token.{Text, undoubled, hex_bytes}
 use Rattle.rt_sql.specs.Word.{same_word, is_reserved}
 
 abbrev pub Part : Type 1
@@ -34,53 +41,173 @@ nothing ts after = ts ≡ after
 abbrev pub never : Part
 never ts after = ⊥
 
+-- it is there, or it isn't
+abbrev pub flag : Part → Bool → Part
+flag p true = p
+flag p false = nothing
+
 -- ---- tokens
 
 abbrev pub word : Text → Part
 word spelling ts after = (w : Text) × (ts ≡ token.Word w ∷ after) × IsTrue (same_word w spelling)
 
+abbrev pub any_words : Part
+any_words ts after = (ws : List Text) × (ts ≡ map (λ w. token.Word w) ws ++ after)
+
 abbrev pub sign : Sign → Part
 sign s ts after = ts ≡ token.Sign s ∷ after
 
+abbrev pub plain_name : Text → Part
+plain_name n ts after = (ts ≡ token.Word n ∷ after) × (is_reserved n ≡ false)
+
+abbrev pub quoted_name : Text → Part
+quoted_name n ts after = (q : Text) × (ts ≡ token.Quoted q ∷ after) × (n ≡ undoubled 34 q)
+
 abbrev pub name : Text → Part
-name n ts after = (ts ≡ token.Word n ∷ after) × (is_reserved n ≡ false)
+name n = plain_name n or quoted_name n
+
+abbrev pub text : Text → Part
+text t ts after = (q : Text) × (ts ≡ token.Text q ∷ after) × (t ≡ undoubled 39 q)
+
+abbrev pub blob : Text → Part
+blob bytes ts after = (h : Text) × (ts ≡ token.Blob h ∷ after) × (bytes ≡ hex_bytes h)
 
 abbrev pub digits : Writes → Bool → ℤ → Part
 digits writes is_negative n ts after = (d : Text) × (ts ≡ token.Digits d ∷ after) × writes is_negative d n
 
--- item {, item}
-abbrev pub further : {A : Type 0} → (A → Part) → List A → Part
-further item [] = nothing
-further item (x ∷ xs) = sign Comma ⨾ item x ⨾ further item xs
+-- ---- lists: item {, item}
 
-abbrev pub separated : {A : Type 0} → (A → Part) → List A → Part
-separated item [] = never
-separated item (x ∷ xs) = item x ⨾ further item xs
+abbrev pub further : {A : Type 0} → Part → (A → Part) → List A → Part
+further separator item [] = nothing
+further separator item (x ∷ xs) = separator ⨾ item x ⨾ further separator item xs
+
+abbrev pub separated : {A : Type 0} → Part → (A → Part) → List A → Part
+separated separator item [] = never
+separated separator item (x ∷ xs) = item x ⨾ further separator item xs
+
+abbrev pub by_commas : {A : Type 0} → (A → Part) → List A → Part
+by_commas = separated (sign Comma)
+
+-- ---- values
 
 abbrev pub integer : Writes → ℤ → Part
 integer writes n = digits writes false n or sign Plus ⨾ digits writes false n or sign Minus ⨾ digits writes true n
 
 abbrev pub value : Writes → Value → Part
-value writes Null = word (codes "NULL")
-value writes (Int n) = integer writes n
-value writes _ = never
+value writes values.Null = word (codes "NULL")
+value writes (values.Int n) = integer writes n
+value writes (values.Text t) = text t
+value writes (values.Blob bytes) = blob bytes
 
 -- ( value {, value} )
 abbrev pub list : Writes → List Value → Part
-list writes values = sign LeftParenthesis ⨾ separated (value writes) values ⨾ sign RightParenthesis
+list writes row = sign LeftParenthesis ⨾ by_commas (value writes) row ⨾ sign RightParenthesis
 
-abbrev pub column : ColumnDef → Part
-column c ts after = name c.name ts after × (c.auxiliary ≡ false)
+-- ---- columns of a table
+
+abbrev pub some_digits : Writes → Part
+some_digits writes ts after = (n : ℤ) × digits writes false n ts after
+
+-- ( digits [, digits] ) {word}
+abbrev pub size : Writes → Part
+size writes =
+    sign LeftParenthesis ⨾ some_digits writes ⨾ (nothing or sign Comma ⨾ some_digits writes) ⨾ sign RightParenthesis ⨾ any_words
+
+-- [+] name {word} [size]
+abbrev pub column : Writes → ColumnDef → Part
+column writes c = flag (sign Plus) c.auxiliary ⨾ name c.name ⨾ any_words ⨾ (nothing or size writes)
+
+-- ---- conditions
+
+abbrev pub operator : Op6 → Part
+operator Eq = sign Equal or sign DoubleEqual
+operator Ne = sign LessGreater or sign BangEqual
+operator Lt = sign Less
+operator Le = sign LessOrEqual
+operator Gt = sign Greater
+operator Ge = sign GreaterOrEqual
+
+abbrev pub test : Writes → Test → Part
+test writes (tests.Compare c) = name c.column ⨾ operator c.op ⨾ value writes c.value
+test writes (tests.IsNull column) = name column ⨾ word (codes "IS") ⨾ word (codes "NULL")
+test writes (tests.IsNotNull column) = name column ⨾ word (codes "IS") ⨾ word (codes "NOT") ⨾ word (codes "NULL")
+
+-- [WHERE test {AND test}]
+abbrev pub condition : Writes → List Test → Part
+condition writes [] = nothing
+condition writes (t ∷ ts) = word (codes "WHERE") ⨾ separated (word (codes "AND")) (test writes) (t ∷ ts)
+
+-- ---- parts of statements
+
+-- INSERT | REPLACE | INSERT OR ABORT | INSERT OR IGNORE | INSERT OR REPLACE
+abbrev pub head : Rule → Part
+head Abort = word (codes "INSERT") or word (codes "INSERT") ⨾ word (codes "OR") ⨾ word (codes "ABORT")
+head Ignore = word (codes "INSERT") ⨾ word (codes "OR") ⨾ word (codes "IGNORE")
+head Replace = word (codes "REPLACE") or word (codes "INSERT") ⨾ word (codes "OR") ⨾ word (codes "REPLACE")
+
+-- [( name {, name} )]
+abbrev pub named_columns : Option (List Text) → Part
+named_columns None = nothing
+named_columns (Some names) = sign LeftParenthesis ⨾ by_commas name names ⨾ sign RightParenthesis
+
+abbrev pub source : Writes → Source → Part
+source writes (sources.Literal v) = value writes v
+source writes (sources.Column column) = name column
+source writes (sources.Plus column n) = name column ⨾ sign Plus ⨾ digits writes false n
+source writes (sources.Minus column n) = name column ⨾ sign Minus ⨾ digits writes false n
+
+abbrev pub set : Writes → Text × Source → Part
+set writes s = name s.0 ⨾ sign Equal ⨾ source writes s.1
+
+-- * | name {, name}
+abbrev pub shown : Option (List Text) → Part
+shown None = sign Star
+shown (Some names) = by_commas name names
+
+-- [ORDER BY name [ASC]]
+abbrev pub order : Option Text → Part
+order None = nothing
+order (Some column) = word (codes "ORDER") ⨾ word (codes "BY") ⨾ name column ⨾ (nothing or word (codes "ASC"))
+
+-- ---- whole statements and dot lines
+
+-- the dot with its word, which ASCII case doesn't change
+abbrev pub dot : Text → Part
+dot spelling ts after = (w : Text) × (ts ≡ token.Dot w ∷ after) × IsTrue (same_word w spelling)
+
+-- a dot line may end at a `;`, at which a statement has to end
+abbrev pub ending : Part
+ending = nothing or sign Semicolon
 
 abbrev pub statement : Writes → Stmt → Part
-statement writes (Create table false columns) =
-    word (codes "CREATE") ⨾ word (codes "VIRTUAL") ⨾ word (codes "TABLE") ⨾ name table
-    ⨾ word (codes "USING") ⨾ word (codes "RTREE_I32") ⨾ sign LeftParenthesis ⨾ separated column columns ⨾ sign RightParenthesis
-statement writes (Insert Abort table None (row ∷ [])) =
-    word (codes "INSERT") ⨾ word (codes "INTO") ⨾ name table ⨾ word (codes "VALUES") ⨾ list writes row
-statement writes (Select None table [] None) = word (codes "SELECT") ⨾ sign Star ⨾ word (codes "FROM") ⨾ name table
-statement writes _ = never
+statement writes (Create table if_absent columns) =
+    word (codes "CREATE") ⨾ word (codes "VIRTUAL") ⨾ word (codes "TABLE")
+    ⨾ flag (word (codes "IF") ⨾ word (codes "NOT") ⨾ word (codes "EXISTS")) if_absent ⨾ name table
+    ⨾ word (codes "USING") ⨾ word (codes "RTREE_I32") ⨾ sign LeftParenthesis ⨾ by_commas (column writes) columns ⨾ sign RightParenthesis
+statement writes (Drop table if_there) =
+    word (codes "DROP") ⨾ word (codes "TABLE") ⨾ flag (word (codes "IF") ⨾ word (codes "EXISTS")) if_there ⨾ name table
+statement writes (Insert rule table columns rows) =
+    head rule ⨾ word (codes "INTO") ⨾ name table ⨾ named_columns columns ⨾ word (codes "VALUES") ⨾ by_commas (list writes) rows
+statement writes (Update table sets cond) =
+    word (codes "UPDATE") ⨾ name table ⨾ word (codes "SET") ⨾ by_commas (set writes) sets ⨾ condition writes cond
+statement writes (Delete table cond) = word (codes "DELETE") ⨾ word (codes "FROM") ⨾ name table ⨾ condition writes cond
+statement writes (Select columns table cond by) =
+    word (codes "SELECT") ⨾ shown columns ⨾ word (codes "FROM") ⨾ name table ⨾ condition writes cond ⨾ order by
+statement writes (Check table) =
+    word (codes "SELECT") ⨾ word (codes "RTREECHECK") ⨾ sign LeftParenthesis ⨾ text table ⨾ sign RightParenthesis
+statement writes (Watch view table cond) =
+    dot (codes "WATCH") ⨾ name view ⨾ word (codes "FROM") ⨾ name table ⨾ condition writes cond
+statement writes (Unwatch view) = dot (codes "UNWATCH") ⨾ name view
+statement writes (View view) = dot (codes "VIEW") ⨾ name view
+statement writes (Nodes table) = dot (codes "NODES") ⨾ name table
 
--- the tokens spell the statement, and nothing is left
+abbrev pub end_of : Stmt → Part
+end_of (Watch view table cond) = ending
+end_of (Unwatch view) = ending
+end_of (View view) = ending
+end_of (Nodes table) = ending
+end_of _ = sign Semicolon
+
+-- the tokens spell the statement up to its end, and nothing is left
 abbrev pub Spells : Writes → List Token → Stmt → Type 0
-Spells writes tokens asked = (statement writes asked ⨾ sign Semicolon) tokens []
+Spells writes tokens asked = (statement writes asked ⨾ end_of asked) tokens []

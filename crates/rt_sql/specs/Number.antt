@@ -1,5 +1,5 @@
 -- The number that a sign and digits write.
-use Rattle.std.specs.Prelude.{◌≡◌, ℕ, ◌+◌, ◌-◌, ◌*◌, ◌^◌, Bool, true, false, cond, nat_lt, List, [], ◌∷◌, Option, Some, None, FitsSigned, unwrap_or, if◌then◌else◌}
+use Rattle.std.specs.Prelude.{◌≡◌, ℕ, ◌+◌, ◌-◌, ◌*◌, ◌^◌, Bool, cond, nat_lt, [], ◌∷◌, Option, Some, None, FitsSigned, unwrap_or, if◌then◌else◌}
 use Rattle.std.specs.Int.{w64}
 use lib.IntN.{ℤ, pos, neg_ℤ}
 use Rattle.rt_sql.specs.declared.number.Numbers.{Numbers}

@@ -1,28 +1,38 @@
 -- What a piece of a script asks for, or why it is refused. Source: own.
-use Rattle.std.specs.Prelude.{◌≡◌, ◌⊎◌, List, Result, Ok, Err, Contains}
+use Rattle.std.specs.Prelude.{◌≡◌, ◌⊎◌, Bool, false, not, ◌||◌, List, [], ◌∷◌, Result, Ok, Err, Contains, IsTrue, codes}
 use Rattle.std.specs.Str.{IsUtf8}
 use Rattle.rt_sql.specs.declared.piece.Ending.{Ending}
 use Rattle.rt_sql.specs.declared.piece.Ending.TheVariants.{Whole, Incomplete, TooLong}
 use Rattle.rt_sql.specs.declared.refusal.Refusal.{Refusal}
-use Rattle.rt_sql.specs.declared.refusal.Refusal.TheVariants.{SyntaxError, IncompleteInput, StatementTooLong, NotUtf8, IntegerOutOfRange, OutOfMemory}
+use Rattle.rt_sql.specs.declared.refusal.Refusal.TheVariants.{SyntaxError, IncompleteInput, StatementTooLong, NotUtf8, IntegerOutOfRange, OutOfMemory, UnknownCommand}
 use Rattle.rt_sql.specs.declared.statement.Stmt.{Stmt}
 use Rattle.rt_sql.specs.declared.token.Token.{Token}
+use Rattle.rt_sql.specs.declared.token.Token.TheVariants as token
 use Rattle.rt_sql.specs.Grammar.{Spells}
 use Rattle.rt_sql.specs.Number.{WritesAnySize, WritesWithin64Bits}
 use Rattle.rt_sql.specs.Piece.{PieceText}
 use Rattle.rt_sql.specs.Token.{Text}
-use Rattle.rt_sql.specs.Tokens.{IsTokens}
+use Rattle.rt_sql.specs.Word.{same_word}
+use Rattle.rt_sql.specs.Tokens.{PieceTokens}
 
 -- UTF-8 with no zero byte
 abbrev pub IsText : Text → Type 0
 IsText text = IsUtf8 text × ¬ Contains text 0
 
--- The statement that the tokens spell, all of its integers within 64 bits; a syntax error where they spell none with integers of any size.
+-- a dot line whose word is none of the four
+abbrev pub is_unknown : List Token → Bool
+is_unknown [] = false
+is_unknown (token.Dot w ∷ ts) = not (same_word w (codes "WATCH") || same_word w (codes "UNWATCH") || same_word w (codes "VIEW") || same_word w (codes "NODES"))
+is_unknown (t ∷ ts) = false
+
+-- The statement that the tokens spell, all of its integers within 64 bits. An unknown command comes before a syntax error, where they spell none with integers of any size.
 abbrev pub ParsesText : Text → Result Stmt Refusal → Type 0
-ParsesText text (Ok asked) = (tokens : List Token) × IsTokens text tokens × Spells WritesWithin64Bits tokens asked
-ParsesText text (Err SyntaxError) = (tokens : List Token) (asked : Stmt) → IsTokens text tokens → ¬ Spells WritesAnySize tokens asked
+ParsesText text (Ok asked) = (tokens : List Token) × PieceTokens text tokens × Spells WritesWithin64Bits tokens asked
+ParsesText text (Err UnknownCommand) = (tokens : List Token) × PieceTokens text tokens × IsTrue (is_unknown tokens)
+ParsesText text (Err SyntaxError) =
+    (tokens : List Token) × PieceTokens text tokens × (is_unknown tokens ≡ false) × ((asked : Stmt) → ¬ Spells WritesAnySize tokens asked)
 ParsesText text (Err IntegerOutOfRange) =
-    (tokens : List Token) × IsTokens text tokens × ((asked : Stmt) × Spells WritesAnySize tokens asked) × ((asked : Stmt) → ¬ Spells WritesWithin64Bits tokens asked)
+    (tokens : List Token) × PieceTokens text tokens × ((asked : Stmt) × Spells WritesAnySize tokens asked) × ((asked : Stmt) → ¬ Spells WritesWithin64Bits tokens asked)
 ParsesText text (Err _) = ⊥
 
 abbrev pub ParsesAs : Ending → Text → Result Stmt Refusal → Type 0
@@ -43,7 +53,7 @@ abbrev pub OneStatement : Type 0
 OneStatement = (tokens : List Token) (one other : Stmt) → Spells WritesAnySize tokens one → Spells WritesAnySize tokens other → one ≡ other
 
 abbrev pub OneTokenList : Type 0
-OneTokenList = (text : Text) (one other : List Token) → IsTokens text one → IsTokens text other → one ≡ other
+OneTokenList = (text : Text) (one other : List Token) → PieceTokens text one → PieceTokens text other → one ≡ other
 
 abbrev pub OneAnswer : Type 0
 OneAnswer = (piece : PieceText) (one other : Result Stmt Refusal) → Parses piece one → Parses piece other → one ≡ other

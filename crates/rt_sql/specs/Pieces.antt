@@ -1,5 +1,6 @@
--- How a script's bytes are cut into pieces (own; comments and quotes as in SQLite's SQL, dot lines
--- as in its shell). Everything here speaks of whole texts.
+-- How a script's bytes are cut into pieces (own; comments and quotes are those of SQLite's SQL, dot
+-- lines are like its shell's). Everything here speaks of whole texts. Bytes are their codes: 10 is a
+-- line feed, 34 `"`, 39 `'`, 42 `*`, 45 `-`, 46 `.`, 47 `/` and 59 `;`.
 use Rattle.std.specs.Prelude.{◌≡◌, ◌≢◌, ℕ, Bool, false, ◌||◌, ◌==◌, nat_le, if◌then◌else◌, IsTrue, List, [], ◌∷◌, ◌++◌, length, ◌⊎◌, All, Option, Some, None}
 use Rattle.rt_sql.specs.Piece.{PieceText}
 use Rattle.rt_sql.specs.declared.piece.Ending.{Ending}
@@ -61,7 +62,8 @@ IsComment (Quoted quote text) = ⊥
 -- a comment that doesn't end
 abbrev pub IsOpenComment : List ℕ → Type 0
 IsOpenComment x =
-    ((text : List ℕ) × (x ≡ 45 ∷ 45 ∷ text) × Lacks 10 text) ⊎ ((text : List ℕ) × (x ≡ 47 ∷ 42 ∷ text) × ¬ HasClose text)
+    ((text : List ℕ) × (x ≡ 45 ∷ 45 ∷ text) × Lacks 10 text)
+    ⊎ ((text : List ℕ) × (x ≡ 47 ∷ 42 ∷ text) × ¬ HasClose text)
 
 -- an atom that may stand between pieces
 abbrev pub IsGapAtom : Atom → Type 0
@@ -74,11 +76,12 @@ IsGapAtom (Quoted quote text) = ⊥
 abbrev pub IsClosedGap : List ℕ → Type 0
 IsClosedGap x = (atoms : List Atom) × (x ≡ spelled_all atoms) × All IsGapAtom atoms
 
--- nothing but what may stand between pieces
+-- nothing but what may stand between pieces, to the end of the text
 abbrev pub IsGap : List ℕ → Type 0
 IsGap x = (gap tail : List ℕ) × (x ≡ gap ++ tail) × IsClosedGap gap × ((tail ≡ []) ⊎ IsOpenComment tail)
 
--- an atom that may stand in a statement, before these bytes
+-- an atom that may stand in a statement, before these bytes: a byte that is no `;`, no quote and no
+-- beginning of a comment, a comment, or quotes with none of their own kind between them
 abbrev pub IsAtom : Atom → List ℕ → Type 0
 IsAtom (Byte b) rest = (b ≢ 59) × (is_quote b ≡ false) × ¬ BeginsComment (b ∷ rest)
 IsAtom (Line text) rest = IsComment (Line text)
@@ -90,7 +93,7 @@ abbrev pub AreAtoms : List Atom → List ℕ → Type 0
 AreAtoms [] rest = Unit {0}
 AreAtoms (atom ∷ atoms) rest = IsAtom atom (spelled_all atoms ++ rest) × AreAtoms atoms rest
 
--- quotes that aren't closed
+-- a quote that isn't closed, and what follows it
 abbrev pub IsOpenQuote : ℕ → List ℕ → Type 0
 IsOpenQuote quote x = (text : List ℕ) × (x ≡ quote ∷ text) × IsTrue (is_quote quote) × Lacks quote text
 
@@ -102,12 +105,15 @@ BeginsStatement (b ∷ rest) = (is_gap_byte b ≡ false) × (b ≢ 46) × ¬ Beg
 -- a statement up to and with its `;`
 abbrev pub IsStatement : List ℕ → Type 0
 IsStatement x =
-    (atoms : List Atom) × (x ≡ spelled_all atoms ++ 59 ∷ []) × AreAtoms atoms (59 ∷ []) × BeginsStatement x
+    (atoms : List Atom) × (x ≡ spelled_all atoms ++ 59 ∷ []) × AreAtoms atoms (59 ∷ [])
+    × BeginsStatement x
 
 -- a statement whose `;` doesn't come
 abbrev pub IsOpenStatement : List ℕ → Type 0
 IsOpenStatement x =
-    (atoms : List Atom) × (tail : List ℕ) × (x ≡ spelled_all atoms ++ tail) × AreAtoms atoms tail × BeginsStatement x × ((tail ≡ []) ⊎ (IsOpenComment tail ⊎ ((quote : ℕ) × IsOpenQuote quote tail)))
+    (atoms : List Atom) × (tail : List ℕ) × (x ≡ spelled_all atoms ++ tail) × AreAtoms atoms tail
+    × BeginsStatement x
+    × ((tail ≡ []) ⊎ (IsOpenComment tail ⊎ ((quote : ℕ) × IsOpenQuote quote tail)))
 
 -- a line that begins with `.`, without its line feed
 abbrev pub IsDotLine : List ℕ → Type 0
@@ -143,7 +149,8 @@ IsLastPiece x p =
 abbrev pub Pieces : List ℕ → List PieceText → Type 0
 Pieces x [] = IsGap x
 Pieces x (p ∷ ps) =
-    (IsLastPiece x p × (ps ≡ [])) ⊎ ((front rest : List ℕ) × (x ≡ front ++ rest) × IsWholePiece front p × Pieces rest ps)
+    (IsLastPiece x p × (ps ≡ []))
+    ⊎ ((front rest : List ℕ) × (x ≡ front ++ rest) × IsWholePiece front p × Pieces rest ps)
 
 -- the pieces that have ended in a text that may go on
 abbrev pub EndedPieces : List ℕ → List PieceText → Type 0

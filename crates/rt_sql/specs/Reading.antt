@@ -1,22 +1,29 @@
 -- Statements read from the front of a list of tokens, as functions: the value and the tokens after it, or none where the tokens spell no such thing.
-use Rattle.std.specs.Prelude.{◌≡◌, ◌≢◌, ℕ, zero, suc, Bool, true, false, List, [], ◌∷◌, ◌++◌, length, Option, Some, None, Result, Ok, Err, if◌then◌else◌, codes}
+use Rattle.std.specs.Prelude.{◌≡◌, ◌≢◌, ℕ, zero, suc, Bool, true, false, not, List, [], ◌∷◌, ◌++◌, length, Option, Some, None, Result, Ok, Err, if◌then◌else◌, codes, ◌&&◌, ◌||◌}
 use lib.IntN.{ℤ}
 use Rattle.std.specs.Option.{is_some}
 use denote.Enum.Bare.{sameb}
 use Rattle.rt_sql.specs.contracts.token.Sign.{the_type}
 use Rattle.rt_sql.specs.declared.token.Sign.{Sign}
-use Rattle.rt_sql.specs.declared.token.Sign.TheVariants.{LeftParenthesis, RightParenthesis, Comma, Semicolon, Plus, Minus, Star}
+use Rattle.rt_sql.specs.declared.token.Sign.TheVariants.{LeftParenthesis, RightParenthesis, Comma, Semicolon, Plus, Minus, Star, Equal, DoubleEqual, LessGreater, BangEqual, Less, LessOrEqual, Greater, GreaterOrEqual}
 use Rattle.rt_sql.specs.declared.token.Token.{Token}
 use Rattle.rt_sql.specs.declared.token.Token.TheVariants as token
 use Rattle.rt_sql.specs.declared.refusal.Refusal.{Refusal}
 use Rattle.rt_sql.specs.declared.refusal.Refusal.TheVariants.{OutOfMemory}
 use Rattle.rt_sql.specs.declared.statement.ColumnDef.{ColumnDef}
-use Rattle.rt_sql.specs.declared.statement.Rule.TheVariants.{Abort}
+use Rattle.rt_sql.specs.declared.statement.Op6.{Op6}
+use Rattle.rt_sql.specs.declared.statement.Op6.TheVariants.{Eq, Ne, Lt, Le, Gt, Ge}
+use Rattle.rt_sql.specs.declared.statement.Rule.{Rule}
+use Rattle.rt_sql.specs.declared.statement.Rule.TheVariants.{Abort, Replace, Ignore}
+use Rattle.rt_sql.specs.declared.statement.Source.{Source}
+use Rattle.rt_sql.specs.declared.statement.Source.TheVariants as source
 use Rattle.rt_sql.specs.declared.statement.Stmt.{Stmt}
-use Rattle.rt_sql.specs.declared.statement.Stmt.TheVariants.{Create, Insert, Select}
+use Rattle.rt_sql.specs.declared.statement.Stmt.TheVariants as stmt
+use Rattle.rt_sql.specs.declared.statement.Test.{Test}
+use Rattle.rt_sql.specs.declared.statement.Test.TheVariants as test
 use Rattle.rt_sql.specs.declared.value.Value.{Value}
-use Rattle.rt_sql.specs.declared.value.Value.TheVariants.{Null, Int}
-use Rattle.rt_sql.specs.Token.{Text}
+use Rattle.rt_sql.specs.declared.value.Value.TheVariants as value
+use Rattle.rt_sql.specs.Token.{Text, undoubled, hex_bytes}
 use Rattle.rt_sql.specs.Word.{same_word, is_reserved}
 
 abbrev pub Outcome : Type 0 → Type 0
@@ -97,10 +104,11 @@ abbrev pub Reads : {A : Type 0} → Outcome A → Result A Refusal → List Toke
 Reads outcome (Ok a) new = outcome ≡ Some (a, new)
 Reads outcome (Err e) new = e ≢ OutOfMemory → outcome ≡ None
 
--- ---- names, values and lists
+-- ---- names and values
 
 unfoldable pub name_in : Option Token → Option Text
 name_in (Some (token.Word w)) = if is_reserved w then None else Some w
+name_in (Some (token.Quoted q)) = Some (undoubled 34 q)
 name_in _ = None
 
 unfoldable pub name : Parser Text
@@ -122,77 +130,378 @@ integer read = do
   if is_negative then pure true else eat_sign Plus
   number read is_negative
 
-unfoldable pub value : Read → Parser Value
-value read = do
+unfoldable pub literal_in : Option Token → Option Value
+literal_in (Some (token.Text t)) = Some (value.Text (undoubled 39 t))
+literal_in (Some (token.Blob h)) = Some (value.Blob (hex_bytes h))
+literal_in _ = None
+
+unfoldable pub literal : Parser Value
+literal = from_first literal_in
+
+unfoldable pub is_literal : Token → Bool
+is_literal (token.Text t) = true
+is_literal (token.Blob h) = true
+is_literal _ = false
+
+unfoldable pub sees_literal : List Token → Bool
+sees_literal ts = passes is_literal (first ts)
+
+unfoldable pub not_null : Read → Parser Value
+not_null read = λ ts. if sees_literal ts then literal ts else (do n ← integer read; pure (value.Int n)) ts
+
+unfoldable pub a_value : Read → Parser Value
+a_value read = do
   is_null ← eat_word (codes "NULL")
-  if is_null then pure Null else (do n ← integer read; pure (Int n))
+  if is_null then pure value.Null else not_null read
 
--- items with commas between. Each turn takes a token, so their number bounds the turns.
-unfoldable pub separated_from : {A : Type 0} → Parser A → ℕ → List A → Parser (List A)
-separated_from item zero found = refuse
-separated_from item (suc turns) found = do
+-- ---- lists. Each turn takes a token, so their number bounds the turns.
+
+unfoldable pub separated_from : {A : Type 0} → (List Token → Bool) → Parser A → ℕ → List A → Parser (List A)
+separated_from sees item zero found = refuse
+separated_from sees item (suc turns) found = do
   x ← item
-  more ← eat_sign Comma
-  if more then separated_from item turns (found ++ x ∷ []) else pure (found ++ x ∷ [])
+  more ← (λ ts. Some (sees ts, if sees ts then rest ts else ts))
+  if more then separated_from sees item turns (found ++ x ∷ []) else pure (found ++ x ∷ [])
 
-abbrev pub separated : {A : Type 0} → Parser A → Parser (List A)
-separated item = λ ts. separated_from item (length ts) [] ts
+-- items with what `sees` sees between
+abbrev pub separated : {A : Type 0} → (List Token → Bool) → Parser A → Parser (List A)
+separated sees item = λ ts. separated_from sees item (length ts) [] ts
+
+abbrev pub by_commas : {A : Type 0} → Parser A → Parser (List A)
+by_commas item = separated (sees_sign Comma) item
 
 unfoldable pub list : Read → Parser (List Value)
 list read = do
   sign LeftParenthesis
-  values ← separated (value read)
+  values ← by_commas (a_value read)
   sign RightParenthesis
   pure values
 
--- ---- statements
+-- ---- columns
 
-unfoldable pub column : Parser ColumnDef
-column = do
+unfoldable pub is_any_word : Token → Bool
+is_any_word (token.Word w) = true
+is_any_word _ = false
+
+unfoldable pub sees_any_word : List Token → Bool
+sees_any_word ts = passes is_any_word (first ts)
+
+unfoldable pub skip_words : List Token → List Token
+skip_words [] = []
+skip_words (t ∷ ts) = if is_any_word t then skip_words ts else t ∷ ts
+
+abbrev pub words : Parser (Unit {0})
+words = λ ts. Some (tt, skip_words ts)
+
+unfoldable pub second_size : Read → Parser (Unit {0})
+second_size read = do
+  more ← eat_sign Comma
+  if more then (do number read false; pure tt) else pure tt
+
+unfoldable pub size_digits : Read → Parser (Unit {0})
+size_digits read = do
+  number read false
+  second_size read
+  sign RightParenthesis
+  words
+
+unfoldable pub size : Read → Parser (Unit {0})
+size read = do
+  is_sized ← eat_sign LeftParenthesis
+  if is_sized then size_digits read else pure tt
+
+unfoldable pub column : Read → Parser ColumnDef
+column read = do
+  marked ← eat_sign Plus
   called ← name
-  pure (record { name = called; auxiliary = false })
+  words
+  size read
+  pure (record { name = called; auxiliary = marked })
 
-unfoldable pub create : Parser Stmt
-create = do
+-- ---- tables that may be there or not
+
+unfoldable pub table : Bool → Parser (Bool × Text)
+table is_guarded = do
+  called ← name
+  pure (is_guarded, called)
+
+unfoldable pub if_not_exists : Parser (Bool × Text)
+if_not_exists = λ ts.
+    if sees_word (codes "IF") ts && sees_word (codes "NOT") (rest ts)
+    then (do keyword (codes "EXISTS"); table true) (rest (rest ts))
+    else table false ts
+
+unfoldable pub if_exists : Parser (Bool × Text)
+if_exists = λ ts.
+    if sees_word (codes "IF") ts && sees_word (codes "EXISTS") (rest ts) then table true (rest (rest ts)) else table false ts
+
+unfoldable pub create : Read → Parser Stmt
+create read = do
   keyword (codes "VIRTUAL")
   keyword (codes "TABLE")
-  table ← name
+  target ← if_not_exists
   keyword (codes "USING")
   keyword (codes "RTREE_I32")
   sign LeftParenthesis
-  columns ← separated column
+  columns ← by_commas (column read)
   sign RightParenthesis
-  pure (Create table false columns)
+  pure (stmt.Create target.1 target.0 columns)
 
-unfoldable pub insert : Read → Parser Stmt
-insert read = do
+unfoldable pub drop_table : Parser Stmt
+drop_table = do
+  keyword (codes "TABLE")
+  target ← if_exists
+  pure (stmt.Drop target.1 target.0)
+
+-- ---- INSERT
+
+unfoldable pub other_rule : Parser Rule
+other_rule = do
+  is_ignore ← eat_word (codes "IGNORE")
+  if is_ignore then pure Ignore else (do keyword (codes "ABORT"); pure Abort)
+
+unfoldable pub chosen_rule : Parser Rule
+chosen_rule = do
+  is_replace ← eat_word (codes "REPLACE")
+  if is_replace then pure Replace else other_rule
+
+unfoldable pub rule : Parser Rule
+rule = do
+  is_or ← eat_word (codes "OR")
+  if is_or then chosen_rule else pure Abort
+
+unfoldable pub name_list : Parser (Option (List Text))
+name_list = do
+  names ← by_commas name
+  sign RightParenthesis
+  pure (Some names)
+
+unfoldable pub named_columns : Parser (Option (List Text))
+named_columns = do
+  is_open ← eat_sign LeftParenthesis
+  if is_open then name_list else pure None
+
+unfoldable pub insert : Read → Rule → Parser Stmt
+insert read how = do
   keyword (codes "INTO")
   table ← name
+  columns ← named_columns
   keyword (codes "VALUES")
-  row ← list read
-  pure (Insert Abort table None (row ∷ []))
+  rows ← by_commas (list read)
+  pure (stmt.Insert how table columns rows)
 
-unfoldable pub select : Parser Stmt
-select = do
-  sign Star
+-- ---- conditions
+
+unfoldable pub operator_in : Option Token → Option Op6
+operator_in (Some (token.Sign Equal)) = Some Eq
+operator_in (Some (token.Sign DoubleEqual)) = Some Eq
+operator_in (Some (token.Sign LessGreater)) = Some Ne
+operator_in (Some (token.Sign BangEqual)) = Some Ne
+operator_in (Some (token.Sign Less)) = Some Lt
+operator_in (Some (token.Sign LessOrEqual)) = Some Le
+operator_in (Some (token.Sign Greater)) = Some Gt
+operator_in (Some (token.Sign GreaterOrEqual)) = Some Ge
+operator_in _ = None
+
+unfoldable pub operator : Parser Op6
+operator = from_first operator_in
+
+unfoldable pub null_test : Text → Parser Test
+null_test column = do
+  is_not ← eat_word (codes "NOT")
+  keyword (codes "NULL")
+  pure (if is_not then test.IsNotNull column else test.IsNull column)
+
+unfoldable pub comparison : Read → Text → Parser Test
+comparison read column = do
+  op ← operator
+  v ← a_value read
+  pure (test.Compare (record { column = column; op = op; value = v }))
+
+unfoldable pub a_test : Read → Parser Test
+a_test read = do
+  column ← name
+  is_is ← eat_word (codes "IS")
+  if is_is then null_test column else comparison read column
+
+unfoldable pub condition : Read → Parser (List Test)
+condition read = do
+  is_where ← eat_word (codes "WHERE")
+  if is_where then separated (sees_word (codes "AND")) (a_test read) else pure []
+
+-- ---- UPDATE and DELETE
+
+unfoldable pub begins_value : Token → Bool
+begins_value (token.Word w) = same_word w (codes "NULL")
+begins_value (token.Digits d) = true
+begins_value (token.Text t) = true
+begins_value (token.Blob h) = true
+begins_value (token.Sign Plus) = true
+begins_value (token.Sign Minus) = true
+begins_value _ = false
+
+unfoldable pub sees_value : List Token → Bool
+sees_value ts = passes begins_value (first ts)
+
+unfoldable pub less_or_same : Read → Text → Parser Source
+less_or_same read column = do
+  is_minus ← eat_sign Minus
+  if is_minus then (do n ← number read false; pure (source.Minus column n)) else pure (source.Column column)
+
+unfoldable pub from_column : Read → Parser Source
+from_column read = do
+  column ← name
+  is_plus ← eat_sign Plus
+  if is_plus then (do n ← number read false; pure (source.Plus column n)) else less_or_same read column
+
+unfoldable pub a_source : Read → Parser Source
+a_source read = λ ts. if sees_value ts then (do v ← a_value read; pure (source.Literal v)) ts else from_column read ts
+
+unfoldable pub set : Read → Parser (Text × Source)
+set read = do
+  column ← name
+  sign Equal
+  from ← a_source read
+  pure (column, from)
+
+unfoldable pub update : Read → Parser Stmt
+update read = do
+  table ← name
+  keyword (codes "SET")
+  sets ← by_commas (set read)
+  tests ← condition read
+  pure (stmt.Update table sets tests)
+
+unfoldable pub delete : Read → Parser Stmt
+delete read = do
   keyword (codes "FROM")
   table ← name
-  pure (Select None table [] None)
+  tests ← condition read
+  pure (stmt.Delete table tests)
 
-unfoldable pub insert_or_select : Read → Parser Stmt
-insert_or_select read = do
+-- ---- SELECT
+
+unfoldable pub order_by : Parser (Option Text)
+order_by = do
+  keyword (codes "BY")
+  column ← name
+  eat_word (codes "ASC")
+  pure (Some column)
+
+unfoldable pub order : Parser (Option Text)
+order = do
+  is_ordered ← eat_word (codes "ORDER")
+  if is_ordered then order_by else pure None
+
+unfoldable pub shown : Parser (Option (List Text))
+shown = do
+  is_all ← eat_sign Star
+  if is_all then pure None else (do names ← by_commas name; pure (Some names))
+
+unfoldable pub select_rows : Read → Parser Stmt
+select_rows read = do
+  columns ← shown
+  keyword (codes "FROM")
+  table ← name
+  tests ← condition read
+  by ← order
+  pure (stmt.Select columns table tests by)
+
+unfoldable pub text_in : Option Token → Option Text
+text_in (Some (token.Text t)) = Some (undoubled 39 t)
+text_in _ = None
+
+unfoldable pub text : Parser Text
+text = from_first text_in
+
+unfoldable pub check : Parser Stmt
+check = do
+  sign LeftParenthesis
+  table ← text
+  sign RightParenthesis
+  pure (stmt.Check table)
+
+unfoldable pub select : Read → Parser Stmt
+select read = λ ts. if sees_word (codes "RTREECHECK") ts && sees_sign LeftParenthesis (rest ts) then check (rest ts) else select_rows read ts
+
+-- ---- statements
+
+unfoldable pub definition : Read → Parser Stmt
+definition read = do
+  is_create ← eat_word (codes "CREATE")
+  if is_create then create read else (do keyword (codes "DROP"); drop_table)
+
+unfoldable pub change : Read → Parser Stmt
+change read = do
+  is_update ← eat_word (codes "UPDATE")
+  if is_update then update read else (do
+    is_delete ← eat_word (codes "DELETE")
+    if is_delete then delete read else definition read)
+
+unfoldable pub replacement : Read → Parser Stmt
+replacement read = do
+  is_replace ← eat_word (codes "REPLACE")
+  if is_replace then insert read Replace else change read
+
+unfoldable pub insertion : Read → Parser Stmt
+insertion read = do
   is_insert ← eat_word (codes "INSERT")
-  if is_insert then insert read else (keyword (codes "SELECT") >> select)
+  if is_insert then (do how ← rule; insert read how) else replacement read
 
 unfoldable pub statement : Read → Parser Stmt
 statement read = do
-  is_create ← eat_word (codes "CREATE")
-  if is_create then create else insert_or_select read
+  is_select ← eat_word (codes "SELECT")
+  if is_select then select read else insertion read
+
+-- ---- dot lines
+
+unfoldable pub watch : Read → Parser Stmt
+watch read = do
+  view ← name
+  keyword (codes "FROM")
+  table ← name
+  tests ← condition read
+  pure (stmt.Watch view table tests)
+
+unfoldable pub is_command : Text → Bool
+is_command w = same_word w (codes "WATCH") || same_word w (codes "UNWATCH") || same_word w (codes "VIEW") || same_word w (codes "NODES")
+
+unfoldable pub named_command : Text → Parser Stmt
+named_command w = do
+  n ← name
+  if same_word w (codes "UNWATCH") then pure (stmt.Unwatch n) else (if same_word w (codes "VIEW") then pure (stmt.View n) else (if same_word w (codes "NODES") then pure (stmt.Nodes n) else refuse))
+
+unfoldable pub command : Read → Text → Parser Stmt
+command read w = if same_word w (codes "WATCH") then watch read else named_command w
+
+unfoldable pub dot_in : Option Token → Option Text
+dot_in (Some (token.Dot w)) = Some w
+dot_in _ = None
+
+-- a dot line with another word
+unfoldable pub unknown_in : Option Token → Bool
+unknown_in (Some (token.Dot w)) = not (is_command w)
+unknown_in _ = false
+
+unfoldable pub finish : Stmt → Parser Stmt
+finish asked = λ ts. if is_some (first ts) then None else Some (asked, ts)
+
+unfoldable pub whole_command : Read → Text → Parser Stmt
+whole_command read w = do
+  asked ← command read w
+  eat_sign Semicolon
+  finish asked
+
+unfoldable pub whole_statement : Read → Parser Stmt
+whole_statement read = do
+  asked ← statement read
+  sign Semicolon
+  finish asked
+
+abbrev pub whole_of : Read → Option Text → Parser Stmt
+whole_of read (Some w) = λ ts. whole_command read w (rest ts)
+whole_of read None = whole_statement read
 
 -- all of the tokens
 unfoldable pub whole : Read → Parser Stmt
-whole read = do
-  asked ← statement read
-  sign Semicolon
-  left ← (λ ts. Some (first ts, ts))
-  if is_some left then refuse else pure asked
+whole read = λ ts. whole_of read (dot_in (first ts)) ts

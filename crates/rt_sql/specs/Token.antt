@@ -1,6 +1,7 @@
 -- The characters of a statement's text, as bytes (SQLite's documentation: Identifiers and literals).
-use Rattle.std.specs.Prelude.{ℕ, Bool, List, ◌||◌, ◌==◌, nat_le}
-use Rattle.std.specs.Char.{is_ascii_alphabetic, is_ascii_alphanumeric}
+use Rattle.std.specs.Prelude.{ℕ, ◌+◌, ◌-◌, ◌*◌, Bool, true, false, not, List, [], ◌∷◌, ◌&&◌, ◌||◌, ◌==◌, nat_le, if◌then◌else◌}
+use Rattle.std.specs.Char.{is_ascii_alphabetic, is_ascii_alphanumeric, is_ascii_digit}
+use Rattle.std.specs.Int.{is_in_range}
 
 abbrev pub Text : Type 0
 Text = List ℕ
@@ -16,3 +17,36 @@ begins_word b = is_ascii_alphabetic b || b == 95 || nat_le 128 b
 -- the same, a digit or `$`
 unfoldable pub is_in_word : ℕ → Bool
 is_in_word b = is_ascii_alphanumeric b || b == 95 || b == 36 || nat_le 128 b
+
+abbrev pub begins : (ℕ → Bool) → Text → Bool
+begins is_in [] = false
+begins is_in (b ∷ z) = is_in b
+
+-- with each quote twice
+abbrev pub doubled : ℕ → Text → Text
+doubled quote [] = []
+doubled quote (b ∷ z) = if b == quote then b ∷ b ∷ doubled quote z else b ∷ doubled quote z
+
+-- with one quote for each two
+abbrev pub undoubled : ℕ → Text → Text
+undoubled quote [] = []
+undoubled quote (b ∷ []) = b ∷ []
+undoubled quote (b ∷ c ∷ z) = if b == quote && c == quote then b ∷ undoubled quote z else b ∷ undoubled quote (c ∷ z)
+
+abbrev pub hex_value : ℕ → ℕ
+hex_value b = if is_ascii_digit b then b - 48 else (if is_in_range 97 102 b then b - 87 else (if is_in_range 65 70 b then b - 55 else 0))
+
+-- the bytes that pairs of hexadecimal digits write
+abbrev pub hex_bytes : Text → List ℕ
+hex_bytes [] = []
+hex_bytes (high ∷ []) = []
+hex_bytes (high ∷ low ∷ z) = (16 * hex_value high + hex_value low) ∷ hex_bytes z
+
+-- a line feed ends a comment of a line
+unfoldable pub is_in_line : ℕ → Bool
+is_in_line b = not (b == 10)
+
+-- `*/` stands nowhere in it
+abbrev pub is_open : Text → Bool
+is_open [] = true
+is_open (b ∷ z) = not (b == 42 && begins (λ c. c == 47) z) && is_open z

@@ -174,7 +174,7 @@ impl Cutter {
     }
 
     /// Takes bytes up to the end of the first piece that ends in them, and says how many. With a
-    /// piece ready it takes none.
+    /// piece ready it takes none. Which piece comes of bytes after `finish` is left open.
     pub fn feed(&mut self, bytes: &[u8]) -> usize
         ensures taken { result ≤ length bytes.now }
         ensures stands { (x : List ℕ) → StandsAt self.old x → StandsAt self.new (x ++ take result bytes.now) }
@@ -250,6 +250,7 @@ impl Cutter {
             self.held.clear();
             self.too_long = true;
         } else if !self.too_long {
+            // There is room, which `new` took.
             let _ = self.held.push(byte);
         }
     }

@@ -1,4 +1,4 @@
-ghost use Rattle.std.specs.Prelude.{◌≡◌, ◌≢◌, ◌<◌, ◌≤◌, ◌+◌, [], length, slice_index, true, drop, None};
+ghost use Rattle.std.specs.Prelude.{◌≡◌, ◌≢◌, ◌<◌, ◌≤◌, ◌+◌, [], length, slice_index, true, drop, None, IfSome, ◌⊎◌};
 ghost use Rattle.std.specs.Char.{is_ascii_digit};
 ghost use Rattle.std.specs.List.{prefix_len};
 ghost use Rattle.std.specs.Str.{IsCharBoundary};
@@ -12,10 +12,12 @@ use crate::token::{Sign, Spelling, Token};
 #[derive(Clone, Copy, Debug)]
 enum Class {
     Digit,
+    Hex,
     InWord,
+    InLine,
 }
 
-/// A token, or none for white space, and its length in bytes.
+/// A token, or none for white space and a comment, and its length in bytes.
 type Lexeme<'a> = (Option<Token<'a>>, usize);
 
 #[tactic(auto, unfolding(crate::specs::Token::is_white))]
@@ -39,13 +41,24 @@ fn is_in_word(b: u8) -> bool
     b.is_ascii_alphanumeric() || b == b'_' || b == b'$' || 128 <= b
 }
 
+#[tactic(auto, unfolding(crate::specs::Token::is_in_line))]
 fn is_in(class: Class, b: u8) -> bool
     ensures { result ≡ is_in class b }
 {
     match class {
         Class::Digit => b.is_ascii_digit(),
+        Class::Hex => b.is_ascii_hexdigit(),
         Class::InWord => is_in_word(b),
+        Class::InLine => b != b'\n',
     }
+}
+
+/// The byte at a place, and 0 past the end.
+fn byte(text: &[u8], at: usize) -> u8
+    ensures value { result ≡ slice_index text.now at }
+    ensures within { result ≢ 0 → at < length text.now }
+{
+    if at < text.len() { text[at] } else { 0 }
 }
 
 /// How many bytes of the class the text begins with.
@@ -60,12 +73,11 @@ fn front_len(class: Class, text: &[u8]) -> usize
     end
 }
 
-#[tactic(auto, using(crate::proofs::Cuts::cut_at_front, crate::proofs::Cuts::ascii_outside_word, crate::proofs::Cuts::word_moves), unfolding(crate::specs::Lex::word))]
+#[tactic(auto, using(crate::proofs::Cuts::cut_at_front, crate::proofs::Cuts::ascii_outside_word), unfolding(crate::specs::Lex::word))]
 fn word(text: &str) -> Lexeme<'_>
-    requires { spec.begins_word (slice_index text.now 0) ≡ true }
     ensures value { result ≡ lexing.word text.now }
     ensures cut { IsCharBoundary text.now result.1 }
-    ensures moves { 0 < result.1 }
+    ensures moves { spec.begins_word (slice_index text.now 0) ≡ true → 0 < result.1 }
 {
     let end = front_len(Class::InWord, text.as_bytes());
     (Some(Token::Word(Spelling::new(&text[..end]))), end)
@@ -80,15 +92,50 @@ fn digits(text: &str) -> Lexeme<'_>
 {
     let bytes = text.as_bytes();
     let end = front_len(Class::Digit, bytes);
-    if end < bytes.len() && is_in_word(bytes[end]) {
+    if is_in_word(byte(bytes, end)) {
         return (Some(Token::Bad), 1);
     }
     (Some(Token::Digits(Spelling::new(&text[..end]))), end)
 }
 
-#[tactic(auto, unfolding(crate::specs::Lex::sign_of))]
-fn sign(b: u8) -> Option<Sign>
-    ensures { result ≡ lexing.sign_of b }
+#[tactic(auto, using(crate::proofs::Closings::closing_goes, crate::proofs::Closings::closing_skips))]
+/// Where the quote stands that closes, in a text without the opening one. A doubled quote
+/// doesn't close.
+fn closing(quote: u8, text: &[u8]) -> Option<usize>
+    ensures value { result ≡ lexing.closing quote 0 text.now }
+    ensures within { IfSome result (λ end. (end < length text.now) × (slice_index text.now end ≡ quote)) }
+{
+    let mut at = 0;
+    while at < text.len() {
+        if text[at] != quote {
+            at += 1;
+        } else if at + 1 < text.len() && text[at + 1] == quote {
+            at += 2;
+        } else {
+            return Some(at);
+        }
+    }
+    None
+}
+
+#[tactic(auto, unfolding(crate::specs::Lex::long_sign))]
+fn long_sign(b: u8, next: u8) -> Option<Sign>
+    ensures value { result ≡ lexing.long_sign b next }
+    ensures within { IfSome result (λ _. (0 < next) × (next < 128)) }
+{
+    match (b, next) {
+        (b'=', b'=') => Some(Sign::DoubleEqual),
+        (b'<', b'=') => Some(Sign::LessOrEqual),
+        (b'>', b'=') => Some(Sign::GreaterOrEqual),
+        (b'!', b'=') => Some(Sign::BangEqual),
+        (b'<', b'>') => Some(Sign::LessGreater),
+        _ => None,
+    }
+}
+
+#[tactic(auto, unfolding(crate::specs::Lex::short_sign))]
+fn short_sign(b: u8) -> Option<Sign>
+    ensures { result ≡ lexing.short_sign b }
 {
     match b {
         b'(' => Some(Sign::LeftParenthesis),
@@ -98,11 +145,141 @@ fn sign(b: u8) -> Option<Sign>
         b'+' => Some(Sign::Plus),
         b'-' => Some(Sign::Minus),
         b'*' => Some(Sign::Star),
+        b'=' => Some(Sign::Equal),
+        b'<' => Some(Sign::Less),
+        b'>' => Some(Sign::Greater),
         _ => None,
     }
 }
 
-#[tactic(auto, using(crate::proofs::Cuts::cut_after_first, crate::proofs::Cuts::ascii_from_white, crate::proofs::Cuts::ascii_before_word), unfolding(crate::specs::Lex::lexeme))]
+#[tactic(auto, unfolding(crate::specs::Lex::sign))]
+fn sign(b: u8, next: u8) -> (Option<Token<'static>>, usize)
+    ensures value { result ≡ lexing.sign b next }
+    ensures within { (result.1 ≡ 1) ⊎ ((result.1 ≡ 2) × (0 < next) × (next < 128)) }
+{
+    if let Some(sign) = long_sign(b, next) {
+        return (Some(Token::Sign(sign)), 2);
+    }
+    match short_sign(b) {
+        Some(sign) => (Some(Token::Sign(sign)), 1),
+        None => (Some(Token::Bad), 1),
+    }
+}
+
+/// A text in quotes.
+#[tactic(auto, using(crate::proofs::Cuts::cut_past_quote, crate::proofs::Cuts::cut_after_first, crate::proofs::Cuts::cut_before), unfolding(crate::specs::Lex::text))]
+fn literal(text: &str) -> Lexeme<'_>
+    requires some { 0 < length text.now }
+    requires first { slice_index text.now 0 ≡ 39 }
+    ensures value { result ≡ lexing.text (drop 1 text.now) }
+    ensures cut { IsCharBoundary text.now result.1 }
+    ensures moves { 0 < result.1 }
+{
+    let rest = &text[1..];
+    match closing(b'\'', rest.as_bytes()) {
+        Some(end) => (Some(Token::Text(Spelling::new(&rest[..end]))), end + 2),
+        None => (Some(Token::Bad), 1),
+    }
+}
+
+/// A name in quotes.
+#[tactic(auto, using(crate::proofs::Cuts::cut_past_quote, crate::proofs::Cuts::cut_after_first, crate::proofs::Cuts::cut_before), unfolding(crate::specs::Lex::quoted))]
+fn quoted(text: &str) -> Lexeme<'_>
+    requires some { 0 < length text.now }
+    requires first { slice_index text.now 0 ≡ 34 }
+    ensures value { result ≡ lexing.quoted (drop 1 text.now) }
+    ensures cut { IsCharBoundary text.now result.1 }
+    ensures moves { 0 < result.1 }
+{
+    let rest = &text[1..];
+    match closing(b'"', rest.as_bytes()) {
+        Some(end) if end > 0 => (Some(Token::Quoted(Spelling::new(&rest[..end]))), end + 2),
+        _ => (Some(Token::Bad), 1),
+    }
+}
+
+/// The length of a comment up to its `*/`, given without the two bytes that begin it.
+#[tactic(auto, using(crate::proofs::Cuts::cut_past_slash))]
+fn block_len(rest: &str) -> usize
+    ensures value { result ≡ lexing.block_len rest.now }
+    ensures cut { IsCharBoundary rest.now result }
+{
+    let bytes = rest.as_bytes();
+    for (at, b) in bytes.iter().enumerate() {
+        if *b == b'*' && byte(bytes, at + 1) == b'/' {
+            return at + 2;
+        }
+    }
+    bytes.len()
+}
+
+/// A blob, or a word where the letter begins no blob.
+#[tactic(auto, using(crate::proofs::Cuts::cut_past_blob, crate::proofs::Cuts::cut_before), unfolding(crate::specs::Lex::blob))]
+fn blob(text: &str) -> Lexeme<'_>
+    requires some { 1 < length text.now }
+    requires letter { spec.begins_word (slice_index text.now 0) ≡ true }
+    requires quote { slice_index text.now 1 ≡ 39 }
+    ensures value { result ≡ lexing.blob (drop 2 text.now) (lexing.word text.now) }
+    ensures cut { IsCharBoundary text.now result.1 }
+    ensures moves { 0 < result.1 }
+{
+    let rest = &text[2..];
+    let bytes = rest.as_bytes();
+    let end = front_len(Class::Hex, bytes);
+    if byte(bytes, end) == b'\'' && end % 2 == 0 {
+        (Some(Token::Blob(Spelling::new(&rest[..end]))), end + 3)
+    } else {
+        word(text)
+    }
+}
+
+/// The length of the white space or the comment that the text begins with.
+#[tactic(auto, using(crate::proofs::Cuts::cut_after_first, crate::proofs::Cuts::ascii_from_white), unfolding(crate::specs::Lex::gap, crate::specs::Lex::line_len))]
+fn gap_len(first: u8, text: &str) -> usize
+    requires some { 0 < length text.now }
+    requires first { first ≡ slice_index text.now 0 }
+    requires gap { lexing.is_gap first (slice_index text.now 1) ≡ true }
+    ensures value { lexing.gap first text.now ≡ (None, result) }
+    ensures cut { IsCharBoundary text.now result }
+    ensures moves { 0 < result }
+{
+    if is_white(first) {
+        return 1;
+    }
+    let rest = &text[2..];
+    2 + if first == b'-' {
+        front_len(Class::InLine, rest.as_bytes())
+    } else {
+        block_len(rest)
+    }
+}
+
+/// The token that begins with this byte.
+#[tactic(auto, using(crate::proofs::Cuts::cut_after_first, crate::proofs::Cuts::ascii_before_word), unfolding(crate::specs::Lex::spelled))]
+fn spelled(first: u8, text: &str) -> Lexeme<'_>
+    requires some { 0 < length text.now }
+    requires first { first ≡ slice_index text.now 0 }
+    ensures value { result ≡ lexing.spelled first (slice_index text.now 1) text.now }
+    ensures cut { IsCharBoundary text.now result.1 }
+    ensures moves { 0 < result.1 }
+{
+    let next = byte(text.as_bytes(), 1);
+    if (first == b'X' || first == b'x') && next == b'\'' {
+        blob(text)
+    } else if begins_word(first) {
+        word(text)
+    } else if first.is_ascii_digit() {
+        digits(text)
+    } else if first == b'\'' {
+        literal(text)
+    } else if first == b'"' {
+        quoted(text)
+    } else {
+        sign(first, next)
+    }
+}
+
+#[tactic(auto, unfolding(crate::specs::Lex::lexeme))]
 fn lexeme(first: u8, text: &str) -> Lexeme<'_>
     requires some { 0 < length text.now }
     requires first { first ≡ slice_index text.now 0 }
@@ -110,18 +287,11 @@ fn lexeme(first: u8, text: &str) -> Lexeme<'_>
     ensures cut { IsCharBoundary text.now result.1 }
     ensures moves { 0 < result.1 }
 {
-    if is_white(first) {
-        return (None, 1);
-    }
-    if begins_word(first) {
-        return word(text);
-    }
-    if first.is_ascii_digit() {
-        return digits(text);
-    }
-    match sign(first) {
-        None => (Some(Token::Bad), 1),
-        Some(sign) => (Some(Token::Sign(sign)), 1),
+    let next = byte(text.as_bytes(), 1);
+    if is_white(first) || (first == b'-' && next == b'-') || (first == b'/' && next == b'*') {
+        (None, gap_len(first, text))
+    } else {
+        spelled(first, text)
     }
 }
 
@@ -139,4 +309,16 @@ pub fn lex(text: &str) -> (Option<Token<'_>>, &str)
         }
     }
     (None, rest)
+}
+
+/// The length of the word that a dot line begins with after its dot, which may be empty.
+#[tactic(auto, using(crate::proofs::Cuts::cut_at_front, crate::proofs::Cuts::cut_at_start, crate::proofs::Cuts::ascii_outside_word))]
+pub fn dot_len(line: &str) -> usize
+    ensures value { result ≡ lexing.dot_len line.now }
+    ensures cut { IsCharBoundary line.now result }
+{
+    match line.as_bytes() {
+        [first, ..] if begins_word(*first) => front_len(Class::InWord, line.as_bytes()),
+        _ => 0,
+    }
 }

@@ -10,13 +10,14 @@
 pub mod cutter;
 mod grammar;
 mod lexer;
+mod literals;
 pub mod name;
 mod number;
 mod parser;
 pub mod piece;
 pub mod refusal;
 pub mod statement;
-pub mod token;
+mod token;
 mod tokens;
 pub mod value;
 mod word;

@@ -19,6 +19,7 @@ impl Model for Name {
 
 impl Name {
     ghost use Rattle.std.specs.Prelude.{◌≡◌, IfOk};
+    ghost use Rattle.std.specs.String.{string_bytes};
     ghost use Rattle.rt_sql.specs.Name.{same_name};
 
     /// A name with this text.
@@ -28,6 +29,12 @@ impl Name {
         Ok(Name {
             text: String::from_str(alloc, text)?,
         })
+    }
+
+    pub fn from_string(text: String) -> Name
+        ensures { result ≡ string_bytes text }
+    {
+        Name { text }
     }
 
     pub fn as_str(&self) -> &str

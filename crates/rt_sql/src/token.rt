@@ -40,14 +40,30 @@ pub enum Sign {
     Plus,
     Minus,
     Star,
+    Equal,
+    DoubleEqual,
+    LessGreater,
+    BangEqual,
+    Less,
+    LessOrEqual,
+    Greater,
+    GreaterOrEqual,
 }
 
 /// The least part of a statement that means something, which borrows the statement's text.
 #[derive(Debug, Drop)]
 pub enum Token<'a> {
     Word(Spelling<'a>),
+    /// A name in `"`, without the quotes round it; one inside is doubled.
+    Quoted(Spelling<'a>),
     Digits(Spelling<'a>),
+    /// A text in `'`, without the quotes round it; one inside is doubled.
+    Text(Spelling<'a>),
+    /// The hexadecimal digits of a blob.
+    Blob(Spelling<'a>),
     Sign(Sign),
+    /// The word of a dot line, which may be empty.
+    Dot(Spelling<'a>),
     /// A character that begins no token.
     Bad,
 }

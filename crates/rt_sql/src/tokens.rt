@@ -1,6 +1,6 @@
-use crate::lexer::lex;
+use crate::lexer::{dot_len, lex};
 use crate::refusal::Refusal;
-use crate::token::{Sign, Token};
+use crate::token::{Sign, Spelling, Token};
 use std::marker::Model;
 use std::mem;
 
@@ -28,15 +28,26 @@ impl<'a> Model for Tokens<'a> {
 impl<'a> Tokens<'a> {
     ghost use Rattle.std.specs.Prelude.{◌≡◌, if◌then◌else◌};
     ghost use Rattle.std.specs.Option.{option_copied};
-    ghost use Rattle.rt_sql.specs.Lex.{tokens_of};
+    ghost use Rattle.rt_sql.specs.Lex.{piece_tokens};
     ghost use Rattle.rt_sql.specs.Reading as reading;
     ghost use Rattle.rt_sql.specs.Reading.{Reads};
 
-    pub fn new(text: &'a str) -> Tokens<'a>
-        ensures { result ≡ tokens_of text.now }
+    /// The tokens of a piece of a script, which is a dot line if it begins with a dot.
+    #[tactic(auto, using(crate::proofs::Cursor::piece_empty, crate::proofs::Cursor::piece_other, crate::proofs::Cursor::piece_dot, crate::proofs::Cuts::cut_after_first))]
+    pub fn new(piece: &'a str) -> Tokens<'a>
+        ensures { result ≡ piece_tokens piece.now }
     {
-        let (next, text) = lex(text);
-        Tokens { next, text }
+        let bytes = piece.as_bytes();
+        if bytes.is_empty() || bytes[0] != b'.' {
+            let (next, text) = lex(piece);
+            return Tokens { next, text };
+        }
+        let line = &piece[1..];
+        let (word, text) = line.split_at(dot_len(line));
+        Tokens {
+            next: Some(Token::Dot(Spelling::new(word))),
+            text,
+        }
     }
 
     #[tactic(auto, using(crate::proofs::Cursor::first_left))]
@@ -54,6 +65,14 @@ impl<'a> Tokens<'a> {
         let (next, text) = lex(self.text);
         self.text = text;
         mem::replace(&mut self.next, next)
+    }
+
+    /// The token after the next.
+    #[tactic(auto, using(crate::proofs::Cursor::rest_left, crate::proofs::Cursor::first_lexed))]
+    pub fn second(&self) -> Option<Token<'a>>
+        ensures { result ≡ reading.first (reading.rest self.now) }
+    {
+        lex(self.text).0
     }
 
     #[tactic(auto, using(crate::proofs::Cursor::first_left), unfolding(crate::specs::Reading::sees_sign))]

@@ -1,4 +1,4 @@
-use Rattle.std.proofs.Common.{◌∙◌, sym, rules, arith}
+use Rattle.std.proofs.Common.{◌∙◌, sym, arith}
 use Rattle.rt_sql.proofs.Numbers.{decimal_from_end}
 use Rattle.rt_sql.proofs.number.magnitude.Goals as goal
 

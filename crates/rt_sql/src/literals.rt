@@ -1,0 +1,62 @@
+ghost use Rattle.std.specs.Prelude.{◌≡◌, ℕ, ◌+◌, ◌<◌, ◌++◌, length, take, drop, slice_index, IfOk, MatchOption};
+ghost use Rattle.std.specs.String.{string_bytes};
+ghost use Rattle.rt_sql.specs.Token as spec;
+
+use std::alloc::{AllocError, Global};
+
+/// The first place where two quotes stand side by side.
+
+fn pair_at(quote: u8, text: &[u8]) -> Option<usize>
+    ensures value { MatchOption result (spec.undoubled quote text.now ≡ text.now) (λ at. spec.undoubled quote text.now ≡ take (at + 1) text.now ++ spec.undoubled quote (drop (at + 2) text.now)) }
+    ensures within { MatchOption result (Unit {0}) (λ at. (at + 1 < length text.now) × (slice_index text.now at ≡ quote) × (slice_index text.now (at + 1) ≡ quote)) }
+{
+    let mut at = 0;
+    while at < text.len() {
+        if text[at] == quote && at + 1 < text.len() && text[at + 1] == quote {
+            return Some(at);
+        }
+        at += 1;
+    }
+    None
+}
+
+/// The text with one quote for each two.
+pub fn undoubled(alloc: Global, quote: u8, text: &str) -> Result<String, AllocError>
+    requires { quote < 128 }
+    ensures { IfOk result (λ plain. string_bytes plain ≡ spec.undoubled quote text.now) }
+{
+    let mut plain = String::new(alloc);
+    let mut rest = text;
+    while let Some(at) = pair_at(quote, rest.as_bytes()) {
+        plain.push_str(&rest[..at + 1])?;
+        rest = &rest[at + 2..];
+    }
+    plain.push_str(rest)?;
+    Ok(plain)
+}
+
+fn hex_value(digit: u8) -> u8
+    ensures value { result ≡ spec.hex_value digit }
+    ensures within { result < 16 }
+{
+    match digit {
+        b'0'..=b'9' => digit - b'0',
+        b'a'..=b'f' => digit - b'a' + 10,
+        b'A'..=b'F' => digit - b'A' + 10,
+        _ => 0,
+    }
+}
+
+/// The bytes that pairs of hexadecimal digits write.
+pub fn hex_bytes(alloc: Global, digits: &str) -> Result<Vec<u8>, AllocError>
+    ensures { IfOk result (λ bytes. bytes.items ≡ spec.hex_bytes digits.now) }
+{
+    let digits = digits.as_bytes();
+    let mut bytes = Vec::new(alloc);
+    let mut at = 0;
+    while digits.len() - at >= 2 {
+        bytes.push(16 * hex_value(digits[at]) + hex_value(digits[at + 1]))?;
+        at += 2;
+    }
+    Ok(bytes)
+}
