@@ -1,1 +1,10 @@
 pub mod Writing
+pub mod Known
+pub mod Axes
+pub mod Listing
+pub mod Tallies
+pub mod DumpText
+pub mod Cuts
+pub mod Numerals
+pub mod Wording
+pub mod Ranges

@@ -103,3 +103,13 @@ pub Writes-failed : {T E : Type 0} (a b : Option (List ℕ)) (f g : ℕ) (r : Re
     → IsErr r → WritesFront a b f g xs → Writes a b f g r xs
 Writes-failed a b f g (Ok t) xs e p = let none : ⊥ = cc in absurd none
 Writes-failed a b f g (Err x) xs e p = p
+
+-- two writes, one after the other
+pub Writes-both : {T E : Type 0} (a b c : Option (List ℕ)) (f g h : ℕ) (r : Result T E) (xs ys all : List ℕ) → xs ++ ys ≡ all
+    → WritesAll a b f g xs → Writes b c g h r ys → Writes a c f h r all
+Writes-both a b c f g h r xs ys all e p q = subst (Writes a c f h r) e (Writes-after a b c f g h r xs ys p q)
+
+-- two writes, of which the first failed
+pub Writes-first : {T E : Type 0} (a b : Option (List ℕ)) (f g : ℕ) (r : Result T E) (xs ys all : List ℕ) → xs ++ ys ≡ all
+    → IsErr r → WritesFront a b f g xs → Writes a b f g r all
+Writes-first a b f g r xs ys all e failed p = Writes-failed a b f g r all failed (subst (WritesFront a b f g) e (WritesFront-more a b f g xs ys p))

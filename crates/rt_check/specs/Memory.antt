@@ -1,5 +1,5 @@
 -- How contracts see the readers and writers over memory (own).
-use Rattle.std.specs.Prelude.{ℕ, List}
+use Rattle.std.specs.Prelude.{ℕ, Bool, List}
 
 -- a reader over a slice: the bytes left, the most that one read gives, and the reads so far
 pub record Reading : Type 0 where
@@ -7,7 +7,9 @@ pub record Reading : Type 0 where
   pub most : ℕ
   pub reads : ℕ
 
--- a writer into memory: the bytes written, and the writes for which there was no memory
+-- a writer into memory: the bytes written, the writes for which there was no memory, and whether the last call was
+-- a flush
 pub record Written : Type 0 where
   pub bytes : List ℕ
   pub faults : ℕ
+  pub flushed : Bool

@@ -1,6 +1,6 @@
 //! Readers and writers of bytes, whose contracts know what is left, written and counted.
 
-ghost use Rattle.std.specs.Prelude.{◌≡◌, ℕ, ◌<◌, ◌≤◌, List, length, IfOk, Option};
+ghost use Rattle.std.specs.Prelude.{◌≡◌, ℕ, ◌<◌, ◌≤◌, Bool, true, false, List, length, IfOk, OnOk, Option};
 ghost use Rattle.std.specs.Io.{ReadsAtMost, WritesAtMost};
 ghost use Rattle.std.specs.Io.KnownBytes.{ReadConsumes, WriteAppends, Keeps};
 ghost use Rattle.rt_check.specs.Bytes.{one_more, CountsErr};
@@ -52,18 +52,23 @@ pub trait ByteWriter {
     // How many writes and flushes failed; the count stays at 2^64 - 1.
     ghost faults: { Self → ℕ };
 
+    // Whether a flush succeeded and no byte was written since.
+    ghost flushed: { Self → Bool };
+
     /// Writes a front of `bytes`, at least one byte where there is one, and answers how many
     /// those are. An `Err` has written nothing.
     fn write(&mut self, bytes: &[u8]) -> Result<usize, WriteFault>
         ensures count { WritesAtMost result bytes.now }
         ensures progress { IfOk result (λ n. 0 < length bytes.now → 0 < n) }
         ensures bytes { WriteAppends (written self.old) (written self.new) result bytes.now }
-        ensures failed { CountsErr (faults self.old) (faults self.new) result };
+        ensures failed { CountsErr (faults self.old) (faults self.new) result }
+        ensures held { IfOk result (λ n. 0 < n → flushed self.new ≡ false) };
 
     /// Passes on what the writer still holds back.
     fn flush(&mut self) -> Result<(), WriteFault>
         ensures bytes { Keeps (written self.old) (written self.new) }
-        ensures failed { CountsErr (faults self.old) (faults self.new) result };
+        ensures failed { CountsErr (faults self.old) (faults self.new) result }
+        ensures passed { OnOk result (flushed self.new ≡ true) };
 }
 
 #[cfg(test)]

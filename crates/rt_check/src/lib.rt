@@ -4,8 +4,27 @@
 //!   reads and failures; adapters over std's `Read` and `Write`; readers and writers over memory,
 //!   and failing ones, for tests. `write_whole` and `write_parts` write all that they are given,
 //!   or a front of it.
+//! - `shadow`: a `Shadow` is a tree seen from outside, a list of nodes and a list of row entries.
+//! - `check`: lists the problems of a shadow under nine conditions, C1 to C9.
 #![tactic(auto)]
 
 pub mod bytes;
+mod checker;
+mod conditions;
+mod dump;
+mod items;
+mod lines;
+mod node;
+mod numbers;
+mod pieces;
+mod reading;
+mod shadow;
+mod tally;
 
 pub use bytes::{ByteReader, ByteWriter, ReadFault, WriteFault, write_parts, write_whole};
+pub use checker::{Problem, check};
+pub use dump::{AnyShadow, write_dump};
+pub use items::Items;
+pub use node::{NodeRow, RawCell, RowEntry};
+pub use reading::{DumpFault, read_dump};
+pub use shadow::{Shadow, ShadowFault};

@@ -1,5 +1,6 @@
 //! What a run has written when a read, a write or the flush fails.
 
+use rt_box::Capacity;
 use rt_check::bytes::{FailingReader, FailingWriter, Sink, SliceReader, UnflushableWriter};
 use rt_shell::{Options, RunFault, run};
 use std::test::Fail;
@@ -7,13 +8,19 @@ use std::test::Fail;
 const SCRIPT: &[u8] =
     b"CREATE VIRTUAL TABLE t USING rtree_i32(id,minX,maxX); INSERT INTO t VALUES(9,5,7); INSERT INTO t VALUES(2,-1,0); SELECT * FROM t;";
 
-const OPTIONS: Options = Options { bail: false };
+fn options() -> Result<Options, Fail> {
+    let capacity = Capacity::new(51).ok_or("no capacity")?;
+    Ok(Options {
+        capacity,
+        bail: false,
+    })
+}
 
 #[test]
 fn a_failed_write_leaves_a_front(rt: HostRuntime) -> Result<(), Fail> {
     let mut reader = SliceReader::new(SCRIPT, 4096);
     let mut writer = FailingWriter::new(Sink::new(rt.alloc()), 10);
-    let outcome = run(rt.alloc(), &mut reader, &mut writer, &OPTIONS);
+    let outcome = run(rt.alloc(), &mut reader, &mut writer, &options()?);
     assert!(rt; outcome == Err(RunFault::Write));
     assert!(rt; writer.inner.bytes() == b"2|-1|0\n9|5".as_slice());
     Ok(())
@@ -23,7 +30,7 @@ fn a_failed_write_leaves_a_front(rt: HostRuntime) -> Result<(), Fail> {
 fn a_failed_flush_comes_after_all_bytes(rt: HostRuntime) -> Result<(), Fail> {
     let mut reader = SliceReader::new(SCRIPT, 4096);
     let mut writer = UnflushableWriter::new(Sink::new(rt.alloc()));
-    let outcome = run(rt.alloc(), &mut reader, &mut writer, &OPTIONS);
+    let outcome = run(rt.alloc(), &mut reader, &mut writer, &options()?);
     assert!(rt; outcome == Err(RunFault::Write));
     assert!(rt; writer.inner.bytes() == b"2|-1|0\n9|5|7\n".as_slice());
     Ok(())
@@ -39,7 +46,7 @@ fn a_failed_read_leaves_what_was_complete(rt: HostRuntime) -> Result<(), Fail> {
     ] {
         let mut reader = FailingReader::new(SliceReader::new(script, 4096), 1);
         let mut sink = Sink::new(rt.alloc());
-        let outcome = run(rt.alloc(), &mut reader, &mut sink, &OPTIONS);
+        let outcome = run(rt.alloc(), &mut reader, &mut sink, &options()?);
         assert!(rt; outcome == Err(RunFault::Read));
         assert!(rt; sink.bytes() == printed);
     }

@@ -2,6 +2,10 @@
 #![tactic(auto)]
 
 #[cfg(test)]
+mod cutting;
+#[cfg(test)]
+mod dumps;
+#[cfg(test)]
 mod faults;
 #[cfg(test)]
 mod script;

@@ -2,10 +2,14 @@
 
 ghost use Rattle.std.specs.Prelude.{◌<◌};
 
+use rt_box::Capacity;
 use rt_check::bytes::{Sink, SliceReader};
 use rt_shell::{Options, RunFault, Status, run};
 use std::alloc::Global;
 use std::process::Abort;
+
+/// Makes a table of one dimension.
+pub const TABLE: &str = "CREATE VIRTUAL TABLE t USING rtree_i32(id,minX,maxX); ";
 
 /// What a run of the script wrote, from reads of at most `most` bytes, and its status.
 pub fn outcome(
@@ -18,7 +22,8 @@ pub fn outcome(
 {
     let mut reader = SliceReader::new(script.as_bytes(), most);
     let mut sink = Sink::new(alloc);
-    let status = run(alloc, &mut reader, &mut sink, &Options { bail })?;
+    let capacity = Capacity::new(51).ok_or(RunFault::Memory)?;
+    let status = run(alloc, &mut reader, &mut sink, &Options { capacity, bail })?;
     Ok((sink.into_bytes(), status))
 }
 

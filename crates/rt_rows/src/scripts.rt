@@ -1,10 +1,8 @@
 //! Scripts with what they print.
 
-use crate::script::{expect, outcome};
+use crate::script::{TABLE, expect, outcome};
 use rt_shell::Status;
 use std::test::Fail;
-
-const TABLE: &str = "CREATE VIRTUAL TABLE t USING rtree_i32(id,minX,maxX); ";
 
 #[test]
 fn nothing_prints_nothing(rt: HostRuntime) -> Result<(), Fail> {

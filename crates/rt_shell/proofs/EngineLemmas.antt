@@ -2,7 +2,6 @@
 use Rattle.std.proofs.Common.{◌≡◌, ◌∙◌, ℕ, ◌+◌, ◌≤◌, Bool, true, false, List, [], ◌∷◌, ◌++◌, Option, Some, None, Result, Ok, Err, refl, sym, ap, subst, inl, inr, arith, rules, append_assoc, append-nil}
 use Rattle.std.specs.Prelude.{◌||◌, ◌&&◌, ◌⊎◌}
 use Rattle.std.specs.Result.{is_err}
-use Rattle.std.proofs.lemmas.Grind.{common_steps}
 use Rattle.rt_sql.specs.Piece.{PieceText}
 use Rattle.rt_sql.specs.Pieces.{IsGap, IsWholePiece, IsLastPiece, Pieces, EndedPieces}
 use Rattle.rt_sql.specs.Cutter.{Front, StandsAt, FinishedAt, ready_piece}
@@ -20,7 +19,7 @@ use Rattle.rt_shell.specs.declared.runner.Flow.TheVariants.{Goes, Stops}
 use Rattle.rt_shell.specs.Session.{State}
 use Rattle.rt_shell.specs.Lines.{answer_lines}
 use Rattle.rt_shell.specs.Transcript.{Progress, Outcome, MayGive, after, Prints, lines_of, status_of}
-use Rattle.rt_shell.specs.Engine.{outcome_of, GivesAnswer, Answers, AnswersPiece, WaitsForMore, progress_of, ready_lines, flow_of, CutInto, Gives, Moves, StopsWith, Reaches, AnswersReady, Finishes}
+use Rattle.rt_shell.specs.Engine.{outcome_of, GivesAnswer, Answers, progress_of, ready_lines, flow_of, CutInto, Gives, Moves, StopsWith, Reaches, AnswersReady, Finishes}
 
 -- an answer's outcome is one that the piece may give
 pub MayGive-outcome_of : (old : State) (piece : PieceText) (answer : Result Reply Refusal) (new : State) → GivesAnswer old piece answer new → MayGive old piece (outcome_of answer new)

@@ -1,4 +1,5 @@
 pub mod EngineLemmas
+pub mod Gathering
 pub mod Pumping
 pub mod RowsLemmas
 pub mod SessionLemmas

@@ -1,5 +1,5 @@
 -- What a loop keeps that takes the bytes of one read.
-use Rattle.std.proofs.Common.{◌≡◌, ◌∙◌, ℕ, ◌+◌, ◌≤◌, List, [], ◌++◌, length, take, drop, ◌-◌, Option, None, Ok, Err, refl, sym, ap, subst, arith, append_assoc, append-nil, length-append, length-drop}
+use Rattle.std.proofs.Common.{◌≡◌, ◌∙◌, ℕ, ◌+◌, ◌≤◌, List, [], ◌++◌, length, take, drop, ◌-◌, Option, None, Ok, Err, refl, sym, ap, arith, append_assoc, append-nil, length-append, length-drop}
 use Rattle.std.proofs.lemmas.List.{take_all, take-append-drop}
 use Rattle.std.specs.Prelude.{◌<◌}
 use Rattle.rt_check.specs.Bytes.{WritesAll}

@@ -1,5 +1,5 @@
 -- The rows of a table.
-use Rattle.std.specs.Prelude.{◌≡◌, ℕ, ◌-◌, ◌<◌, ◌≤◌, ℤ, ◌<ℤ◌, int_lt, List, ◌∷◌, ◌++◌, length, filter, AllPairs, Option, Bool, slice_get, slice_index_or}
+use Rattle.std.specs.Prelude.{◌≡◌, ℕ, ◌-◌, ◌<◌, ◌≤◌, ℤ, ◌<ℤ◌, int_lt, List, ◌∷◌, ◌++◌, length, filter, AllPairs, Option, slice_get, slice_index_or}
 use Rattle.rt_shell.specs.declared.rows.Row.{Row}
 
 -- each id is larger than those before it (SQLite: the id is a primary key; that rows are listed by rising id is own)

@@ -1,6 +1,6 @@
 -- What a session answers to a statement, over plain lists of tables and rows.
 -- Source: SQLite's documentation (The SQLite R*Tree Module); the limits and the order of refusals are own.
-use Rattle.std.specs.Prelude.{ℕ, Bool, not, ◌&&◌, ◌||◌, ◌==◌, false, if◌then◌else◌, nat_le, List, [], ◌∷◌, ◌++◌, length, find, is_some, Option, Some, None, Result, Ok, Err}
+use Rattle.std.specs.Prelude.{ℕ, Bool, not, ◌||◌, false, if◌then◌else◌, nat_le, List, [], ◌∷◌, ◌++◌, length, find, is_some, Option, Some, None, Result, Ok, Err}
 use Rattle.std.specs.List.{list_any}
 use Rattle.rt_sql.specs.Name.{same_name}
 use Rattle.rt_sql.specs.declared.value.Value.{Value}

@@ -10,7 +10,8 @@ use itoa::Buffer;
 use rt_check::{ByteWriter, WriteFault, write_parts};
 use rt_sql::Refusal;
 
-/// Writes the lines of a reply. After a fault a front of them is written.
+/// Writes the lines of a reply: for each row `id|minimum|maximum`, as SQLite's shell lists rows.
+/// After a fault a front of them is written.
 pub fn write_reply<W: ByteWriter>(reply: &Reply, writer: &mut W) -> Result<(), WriteFault>
     ensures { Writes (W.written writer.old) (W.written writer.new) (W.faults writer.old) (W.faults writer.new)
         result (reply_lines reply.now) }
@@ -47,8 +48,8 @@ fn write_row<W: ByteWriter>(row: &Row, writer: &mut W) -> Result<(), WriteFault>
     write_parts(writer, &parts)
 }
 
-/// Writes the line of a refusal, with the number of its piece. After a fault a front of it is
-/// written.
+/// Writes the line of a refusal, `refused NUMBER CODE: WORDS`, with the number of its piece. After a
+/// fault a front of it is written.
 pub fn write_refusal<W: ByteWriter>(
     number: &u64,
     refusal: Refusal,

@@ -10,7 +10,7 @@ use rt_sql::{Refusal, Value};
 use std::alloc::{AllocError, Global};
 use std::marker::Model;
 
-/// How many rows a table has at most.
+/// How many rows a table has at most. The limit is own.
 const MOST_ROWS: usize = 1_048_576;
 
 /// A row: its id, and the least and the greatest number of its one coordinate.
@@ -30,7 +30,9 @@ pub struct Candidate {
 }
 
 impl Candidate {
-    /// The candidate that the values are.
+    /// The candidate that the values are: an id, or NULL for a new one, then the minimum and the
+    /// maximum. Nothing is converted. The first of these that holds refuses it: not three values, a
+    /// value of the wrong type, a coordinate outside 32 bits, a minimum above the maximum.
     pub fn from_values(values: &[Value]) -> Result<Candidate, Refusal>
         ensures { result ≡ candidate_of values.now }
     {
@@ -87,12 +89,14 @@ impl RowList {
         }
     }
 
+    /// How many rows there are.
     pub fn len(&self) -> usize
         ensures { result ≡ length self.now }
     {
         self.rows.len()
     }
 
+    /// The rows by rising id.
     pub fn as_slice(&self) -> &[Row]
         ensures { result.now ≡ self.now }
     {
@@ -106,7 +110,7 @@ impl RowList {
         self.rows.last()
     }
 
-    /// Where the id is, or where a row with it would stand.
+    /// Where the row with this one's id is, or else where this one would stand.
     pub fn search(&self, row: &Row) -> Result<usize, usize>
         ensures found { IfOk result (IsAt self.now row.now) }
         ensures absent { IfErr result (IsGapFor self.now row.now) }
@@ -124,7 +128,9 @@ impl RowList {
         }
     }
 
-    /// Puts a row at its place. A refusal changes nothing.
+    /// Puts a row at its place, under its own id or one more than the largest. Refused are a new id
+    /// after the largest integer, an id that is taken and a row too many, in this order, and want of
+    /// memory. A refusal changes nothing.
     pub fn put(&mut self, candidate: &Candidate) -> Result<(), Refusal>
         ensures { ChangesUnlessMemory (put self.old candidate.now) result self.old self.new }
     {

@@ -1,6 +1,6 @@
 //! The run of a whole script.
 
-ghost use Rattle.std.specs.Prelude.{◌≡◌, ℕ, ◌+◌, ◌-◌, ◌<◌, ◌^◌, length, None, IfOk, OnOk, ◌≤◌};
+ghost use Rattle.std.specs.Prelude.{◌≡◌, ℕ, ◌+◌, ◌-◌, ◌<◌, ◌^◌, true, length, None, IfOk, OnOk, ◌≤◌};
 ghost use Rattle.rt_shell.specs.Engine.{IsFresh, GivesAnswer, Answers, AnswersReady, TakesAll, Finishes};
 ghost use Rattle.rt_shell.specs.Run.{Devices, Pumps, Runs};
 ghost use Rattle.rt_sql.specs.Cutter.{ready_piece};
@@ -9,20 +9,23 @@ ghost use Rattle.rt_shell.specs.Lines.{answer_lines};
 
 use crate::reply::{write_refusal, write_reply};
 use crate::session::{Reply, Session};
+use rt_box::Capacity;
 use rt_check::{ByteReader, ByteWriter, ReadFault, WriteFault};
 use rt_sql::{Cutter, Piece, Refusal, parse};
 use std::alloc::{AllocError, Global};
 use thiserror::Error;
 
 /// How many bytes a read is given room for.
-const READ_SIZE: usize = 4096;
+pub const READ_SIZE: usize = 4096;
 
 /// The most reads of one run.
-const MOST_READS: u64 = 1 << 40;
+pub const MOST_READS: u64 = 1 << 40;
 
 /// How a run goes.
 #[derive(Clone, Copy, PartialEq, Eq, Debug)]
 pub struct Options {
+    /// The capacity of the tables' nodes.
+    pub capacity: Capacity,
     /// The run ends after the first refusal.
     pub bail: bool,
 }
@@ -30,7 +33,9 @@ pub struct Options {
 /// Whether a run refused a piece.
 #[derive(Clone, Copy, PartialEq, Eq, Debug)]
 pub enum Status {
+    /// Each piece was carried out.
     Clean,
+    /// A piece was refused.
     Refused,
 }
 
@@ -129,7 +134,7 @@ impl Engine {
         Ok(Engine {
             alloc,
             cutter: Cutter::new(alloc)?,
-            session: Session::new(alloc),
+            session: Session::new(alloc, options.capacity),
             pieces: 0,
             refused: false,
             bail: options.bail,
@@ -230,6 +235,8 @@ impl Engine {
 /// Runs a script: reads it from the reader, and writes to the writer what its statements print. What
 /// a piece of it prints is written before the next piece is taken. It holds a piece of the script
 /// and 4,096 bytes at a time, reads at most 2^40 times, and flushes the writer once, at the end.
+/// A refusal is no fault: it is printed, and the status tells of it. After a fault nothing more is
+/// read or written.
 pub fn run<R: ByteReader, W: ByteWriter>(
     alloc: Global,
     reader: &mut R,
@@ -241,6 +248,7 @@ pub fn run<R: ByteReader, W: ByteWriter>(
         (record { left = R.left reader.new; failures = R.failures reader.new; reads = R.reads reader.new; written = W.written writer.new; faults = W.faults writer.new })
         result }
     ensures reads { R.reads reader.new ≤ R.reads reader.old + 2 ^ 40 }
+    ensures flushed { OnOk result (W.flushed writer.new ≡ true) }
 {
     let mut engine = Engine::new(alloc, options)?;
     let status = engine.pump(reader, writer)?;

@@ -8,12 +8,13 @@ ghost use Rattle.rt_shell.specs.Steps.{AnswersUnlessMemory};
 
 use crate::rows::{Row, RowList};
 use indexmap::IndexMap;
+use rt_box::Capacity;
 use rt_sql::{ColumnDef, Cond, Name, Refusal, Rule, Stmt, Value};
 use sqlite_items::Items;
 use std::alloc::{AllocError, Global};
 use std::marker::Model;
 
-/// How many tables there are at most.
+/// How many tables there are at most. The limit is own.
 const MOST_TABLES: usize = 64;
 
 /// A table, with the columns that it was made with.
@@ -27,7 +28,9 @@ pub struct Table {
 /// What a statement that was carried out shows.
 #[derive(Debug, Drop)]
 pub enum Reply {
+    /// Of a table made or a row put.
     Nothing,
+    /// The rows selected, by rising id.
     Rows(Items<Row>),
 }
 
@@ -35,6 +38,8 @@ pub enum Reply {
 #[derive(Drop)]
 pub struct Session {
     alloc: Global,
+    // The capacity of the nodes of each table; no table has any yet.
+    capacity: Capacity,
     tables: IndexMap<Vec<u8>, Table>,
 }
 
@@ -52,18 +57,18 @@ impl Model for Session {
 
 impl Session {
     /// A session with no table. It takes no memory.
-    pub fn new(alloc: Global) -> Session
+    pub fn new(alloc: Global, capacity: Capacity) -> Session
         ensures { result ≡ [] }
     {
         Session {
             alloc,
+            capacity,
             tables: IndexMap::new(alloc),
         }
     }
-}
 
-impl Session {
-    /// Carries out a statement. A refusal leaves the tables as they were.
+    /// Carries out a statement, as SQLite's R*Tree module does where the definitions name no rule
+    /// of their own. A refusal leaves the tables as they were.
     pub fn step(&mut self, statement: Stmt) -> Result<Reply, Refusal>
         ensures { AnswersUnlessMemory (answer self.old statement) result self.old self.new }
     {

@@ -1,72 +1,130 @@
-//! The shell's program: `rtsh run` reads a script from standard input, and prints what it gives.
+//! The shell's program: `rtsh run` runs a script, and `rtsh check` says whether a dump is sound.
 //!
-//! Its exit status is 0 where nothing was refused, 1 where a piece was, 2 where the command line
-//! was, and 3 where a device failed or memory ran out.
+//! Its exit status is 0 where nothing was refused and no problem found (or help was asked for), 1
+//! where something was, 2 where the command line was refused, and 3 where a file couldn't be
+//! opened, a device failed or memory ran out.
 #![tactic(auto)]
 
-use rt_check::bytes::{OverRead, OverWrite};
-use rt_shell::{Options, RunFault, Status, run};
+mod command;
+
+use clap::error::ErrorKind;
+use command::{Asked, asked_by, program};
+use rt_check::bytes::{ByteReader, ByteWriter, OverRead, OverWrite};
+use rt_shell::{RunFault, Status, run, run_check};
+use std::alloc::{AllocError, Global};
 use std::env;
+use std::fs::File;
 use std::io::{self, BufWriter, IsTerminal};
 use std::process::ExitCode;
+use thiserror::Error;
+
+/// Why the program came to no end.
+#[derive(Clone, Copy, Debug, Error)]
+enum Fault {
+    #[error("cannot open file")]
+    OpenFile,
+    #[error(transparent)]
+    Run(#[from] RunFault),
+}
+
+impl From<AllocError> for Fault {
+    fn from(_error: AllocError) -> Fault {
+        Fault::Run(RunFault::Memory)
+    }
+}
 
 fn main(rt: HostRuntime) -> ExitCode {
-    let Ok(asked) = asks_for_run(&rt) else {
-        return fault(&rt, RunFault::Memory);
-    };
-    if !asked {
-        let _ = rt.eprintln("usage: rtsh run < SCRIPT");
-        return ExitCode::from(2);
-    }
-    let outcome = if rt.stdout().is_terminal() {
-        run_at_terminal(&rt)
-    } else {
-        run_buffered(&rt)
-    };
-    match outcome {
-        Ok(Status::Clean) => ExitCode::SUCCESS,
-        Ok(Status::Refused) => ExitCode::from(1),
-        Err(why) => fault(&rt, why),
+    match start(&rt) {
+        Ok(code) => code,
+        Err(fault) => {
+            let _ = eprintln!(rt; "rtsh: {fault}");
+            ExitCode::from(3)
+        }
     }
 }
 
-/// Whether the command line is the one word `run`.
-fn asks_for_run(rt: &HostRuntime) -> io::Result<bool> {
-    let mut words = env::args(rt)?;
-    let _program = words.next();
-    let run = words.next();
-    Ok(run.is_some_and(|word| word.as_str() == "run") && words.next().is_none())
+/// Judges the command line, and does what it asks for.
+fn start(rt: &HostRuntime) -> Result<ExitCode, Fault> {
+    let words = words(rt)?;
+    let parsed = program(rt.alloc())?.try_get_matches_from(words.as_slice());
+    let matches = match parsed {
+        Ok(matches) => matches,
+        Err(error) => return refused(rt, &error),
+    };
+    let Some(asked) = asked_by(&matches) else {
+        return Ok(ExitCode::from(2));
+    };
+    match carry_out(rt, &asked)? {
+        Status::Clean => Ok(ExitCode::SUCCESS),
+        Status::Refused => Ok(ExitCode::from(1)),
+    }
 }
 
-/// Says why a run came to no end.
-fn fault(rt: &HostRuntime, why: RunFault) -> ExitCode {
-    let _ = eprintln!(rt; "rtsh: {why}");
-    ExitCode::from(3)
+fn words(rt: &HostRuntime) -> Result<Vec<String>, AllocError> {
+    let Ok(words) = env::args(rt) else {
+        return Err(AllocError);
+    };
+    words.collect(rt.alloc())
 }
 
-/// Each answer shows at once.
-fn run_at_terminal(rt: &HostRuntime) -> Result<Status, RunFault> {
-    let mut reader = OverRead::new(rt.reader());
-    let mut writer = OverWrite::new(io::writer(rt));
-    run(
-        rt.alloc(),
-        &mut reader,
-        &mut writer,
-        &Options { bail: false },
-    )
+/// Prints what is wrong with the command line, or the help that it asked for.
+fn refused(rt: &HostRuntime, error: &clap::Error) -> Result<ExitCode, Fault> {
+    if error.kind() == ErrorKind::OutOfMemory {
+        return Err(Fault::Run(RunFault::Memory));
+    }
+    if error.use_stderr() {
+        let _ = error.print(rt);
+        return Ok(ExitCode::from(2));
+    }
+    match error.print(rt) {
+        Ok(()) => Ok(ExitCode::SUCCESS),
+        Err(_) => Err(Fault::Run(RunFault::Write)),
+    }
 }
 
-/// Answers are gathered before they are written.
-fn run_buffered(rt: &HostRuntime) -> Result<Status, RunFault> {
-    let mut reader = OverRead::new(rt.reader());
+fn carry_out(rt: &HostRuntime, asked: &Asked<'_>) -> Result<Status, Fault> {
+    let file = match asked {
+        Asked::Run(_, file) | Asked::Check(file) => *file,
+    };
+    match file {
+        None => Ok(read_from(rt, &mut OverRead::new(rt.reader()), asked)?),
+        Some(path) => {
+            let Ok(file) = File::open(rt, path) else {
+                return Err(Fault::OpenFile);
+            };
+            Ok(read_from(rt, &mut OverRead::new(file), asked)?)
+        }
+    }
+}
+
+/// At a terminal each answer shows at once; else answers are gathered before they are written.
+fn read_from<R: ByteReader>(
+    rt: &HostRuntime,
+    reader: &mut R,
+    asked: &Asked<'_>,
+) -> Result<Status, RunFault> {
+    if rt.stdout().is_terminal() {
+        return read_and_write(
+            rt.alloc(),
+            reader,
+            &mut OverWrite::new(io::writer(rt)),
+            asked,
+        );
+    }
     let Ok(buffer) = BufWriter::new(rt.alloc(), io::writer(rt)) else {
         return Err(RunFault::Memory);
     };
-    let mut writer = OverWrite::new(buffer);
-    run(
-        rt.alloc(),
-        &mut reader,
-        &mut writer,
-        &Options { bail: false },
-    )
+    read_and_write(rt.alloc(), reader, &mut OverWrite::new(buffer), asked)
+}
+
+fn read_and_write<R: ByteReader, W: ByteWriter>(
+    alloc: Global,
+    reader: &mut R,
+    writer: &mut W,
+    asked: &Asked<'_>,
+) -> Result<Status, RunFault> {
+    match asked {
+        Asked::Run(options, _) => run(alloc, reader, writer, options),
+        Asked::Check(_) => run_check(alloc, reader, writer),
+    }
 }

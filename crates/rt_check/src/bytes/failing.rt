@@ -1,6 +1,6 @@
 //! Readers and writers that fail or give up early, for tests.
 
-ghost use Rattle.std.specs.Prelude.{◌≡◌, ◌+◌, ◌<◌, ◌≤◌, ◌⊎◌, min, length, IsErr, IfOk, OnErr};
+ghost use Rattle.std.specs.Prelude.{◌≡◌, ◌+◌, ◌<◌, ◌≤◌, ◌⊎◌, true, false, min, length, IsErr, IfOk, OnOk, OnErr};
 ghost use Rattle.std.specs.Io.{ReadsAtMost, WritesAtMost};
 ghost use Rattle.std.specs.Io.KnownBytes.{Keeps, ReadConsumes, WriteAppends};
 ghost use Rattle.rt_check.specs.Bytes.{one_more, CountsErr};
@@ -118,12 +118,15 @@ impl<W: ByteWriter> ByteWriter for FailingWriter<W> {
 
     ghost faults = { λ w. w.faults };
 
+    ghost flushed = { λ w. W.flushed w.inner };
+
     fn write(&mut self, bytes: &[u8]) -> Result<usize, WriteFault>
         ensures count { WritesAtMost result bytes.now }
         ensures progress { IfOk result (λ n. 0 < length bytes.now → 0 < n) }
         ensures bytes { WriteAppends (W.written self.old.inner) (W.written self.new.inner) result bytes.now }
         ensures failed { CountsErr (⟦<FailingWriter<W> as ByteWriter>⟧.faults self.old)
             (⟦<FailingWriter<W> as ByteWriter>⟧.faults self.new) result }
+        ensures held { IfOk result (λ n. 0 < n → W.flushed self.new.inner ≡ false) }
         ensures room { IfOk result (λ n. self.new.room + n ≡ self.old.room) }
         ensures passes { OnErr result ((self.old.room ≡ 0)
             ⊎ (W.faults self.new.inner ≡ one_more (W.faults self.old.inner))) }
@@ -147,6 +150,7 @@ impl<W: ByteWriter> ByteWriter for FailingWriter<W> {
         ensures failed { CountsErr (⟦<FailingWriter<W> as ByteWriter>⟧.faults self.old)
             (⟦<FailingWriter<W> as ByteWriter>⟧.faults self.new) result }
         ensures passes { CountsErr (W.faults self.old.inner) (W.faults self.new.inner) result }
+        ensures passed { OnOk result (W.flushed self.new.inner ≡ true) }
         ensures room { self.new.room ≡ self.old.room }
     {
         if self.inner.flush().is_ok() {
@@ -178,11 +182,14 @@ impl<W: ByteWriter> ByteWriter for OneByteWriter<W> {
 
     ghost faults = { λ w. W.faults w.inner };
 
+    ghost flushed = { λ w. W.flushed w.inner };
+
     fn write(&mut self, bytes: &[u8]) -> Result<usize, WriteFault>
         ensures count { WritesAtMost result bytes.now }
         ensures one { IfOk result (λ n. n ≡ min 1 (length bytes.now)) }
         ensures bytes { WriteAppends (W.written self.old.inner) (W.written self.new.inner) result bytes.now }
         ensures failed { CountsErr (W.faults self.old.inner) (W.faults self.new.inner) result }
+        ensures held { IfOk result (λ n. 0 < n → W.flushed self.new.inner ≡ false) }
     {
         if bytes.is_empty() {
             return Ok(0);
@@ -224,6 +231,8 @@ impl<W: ByteWriter> ByteWriter for UnflushableWriter<W> {
     ghost written = { λ w. W.written w.inner };
 
     ghost faults = { λ w. w.faults };
+
+    ghost flushed = { λ w. W.flushed w.inner };
 
     fn write(&mut self, bytes: &[u8]) -> Result<usize, WriteFault> {
         if let Ok(count) = self.inner.write(bytes) {

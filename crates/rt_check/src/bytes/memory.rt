@@ -1,6 +1,6 @@
 //! A reader and a writer over memory.
 
-ghost use Rattle.std.specs.Prelude.{◌≡◌, ◌<◌, [], ◌++◌, Some, length, min, IfOk, OnOk, OnErr, IsOk};
+ghost use Rattle.std.specs.Prelude.{◌≡◌, ◌<◌, true, false, [], ◌++◌, Some, length, min, IfOk, OnOk, OnErr, IsOk};
 ghost use Rattle.std.specs.Io.{ReadsAtMost};
 ghost use Rattle.std.specs.Io.KnownBytes.{ReadConsumes};
 ghost use Rattle.rt_check.specs.Bytes.{one_more, CountsErr};
@@ -85,6 +85,7 @@ impl<'a> ByteReader for SliceReader<'a> {
 pub struct Sink {
     bytes: Vec<u8>,
     faults: u64,
+    flushed: bool,
 }
 
 impl Model for Sink {
@@ -92,17 +93,18 @@ impl Model for Sink {
 
     ghost Value = { Written };
 
-    ghost view = { λ s. record { bytes = s.bytes.items; faults = s.faults } };
+    ghost view = { λ s. record { bytes = s.bytes.items; faults = s.faults; flushed = s.flushed } };
 }
 
 impl Sink {
     /// Nothing is written yet.
     pub fn new(alloc: Global) -> Sink
-        ensures { result ≡ record { bytes = []; faults = 0 } }
+        ensures { result ≡ record { bytes = []; faults = 0; flushed = false } }
     {
         Sink {
             bytes: Vec::new(alloc),
             faults: 0,
+            flushed: false,
         }
     }
 
@@ -117,7 +119,11 @@ impl Sink {
     pub fn into_bytes(self) -> Vec<u8>
         ensures { result.items ≡ self.bytes }
     {
-        let Sink { bytes, faults: _ } = self;
+        let Sink {
+            bytes,
+            faults: _,
+            flushed: _,
+        } = self;
         bytes
     }
 
@@ -134,12 +140,16 @@ impl ByteWriter for Sink {
 
     ghost faults = { λ s. s.faults };
 
+    ghost flushed = { λ s. s.flushed };
+
     fn write(&mut self, bytes: &[u8]) -> Result<usize, WriteFault>
         ensures ok { OnOk result (self.new.bytes ≡ self.old.bytes ++ bytes.now) }
         ensures err { OnErr result (self.new.bytes ≡ self.old.bytes) }
         ensures count { IfOk result (λ n. n ≡ length bytes.now) }
         ensures failed { CountsErr self.old.faults self.new.faults result }
+        ensures held { self.new.flushed ≡ false }
     {
+        self.flushed = false;
         match self.bytes.extend_from_slice(bytes) {
             Ok(()) => Ok(bytes.len()),
             Err(_) => {
@@ -151,8 +161,9 @@ impl ByteWriter for Sink {
 
     fn flush(&mut self) -> Result<(), WriteFault>
         ensures ok { IsOk result }
-        ensures same { self.new ≡ self.old }
+        ensures passed { self.new ≡ record self.old { flushed = true } }
     {
+        self.flushed = true;
         Ok(())
     }
 }

@@ -81,6 +81,7 @@ impl<R: Read> ByteReader for OverRead<R> {
 pub struct OverWrite<W> {
     inner: W,
     faults: u64,
+    flushed: bool,
 }
 
 impl<W: Write> OverWrite<W> {
@@ -89,14 +90,22 @@ impl<W: Write> OverWrite<W> {
         ensures written { ⟦<OverWrite<W> as ByteWriter>⟧.written result ≡ W.contents inner }
         ensures faults { ⟦<OverWrite<W> as ByteWriter>⟧.faults result ≡ 0 }
     {
-        OverWrite { inner, faults: 0 }
+        OverWrite {
+            inner,
+            faults: 0,
+            flushed: false,
+        }
     }
 
     /// The writer below.
     pub fn into_inner(self) -> W
         ensures { W.contents result ≡ ⟦<OverWrite<W> as ByteWriter>⟧.written self }
     {
-        let OverWrite { inner, faults: _ } = self;
+        let OverWrite {
+            inner,
+            faults: _,
+            flushed: _,
+        } = self;
         inner
     }
 
@@ -113,7 +122,10 @@ impl<W: Write> ByteWriter for OverWrite<W> {
 
     ghost faults = { λ w. w.faults };
 
+    ghost flushed = { λ w. w.flushed };
+
     fn write(&mut self, bytes: &[u8]) -> Result<usize, WriteFault> {
+        self.flushed = false;
         match self.inner.write(bytes) {
             Ok(count) if count > 0 || bytes.is_empty() => Ok(count),
             _ => {
@@ -125,7 +137,10 @@ impl<W: Write> ByteWriter for OverWrite<W> {
 
     fn flush(&mut self) -> Result<(), WriteFault> {
         match self.inner.flush() {
-            Ok(()) => Ok(()),
+            Ok(()) => {
+                self.flushed = true;
+                Ok(())
+            }
             Err(_) => {
                 self.faults = self.faults.saturating_add(1);
                 Err(WriteFault)

@@ -5,6 +5,6 @@ use Rattle.rt_shell.proofs.rows.RowList.search.Goals as goal
 
 pub returns : goal.returns
 returns c =
-    let facts = c.binary_search_by_key.ensures in
-    let by_id = facts.position (λ r. r.id) (answers_always _ _ _ (λ f a r g called. search rules)) in
-    rw (← c.self.view_is, ← c.deref.ensures.value) (searched _ (rw c.deref.ensures.value c.self.invariant) c.args.row.now _ facts.bound by_id)
+    rw (← c.self.view_is, ← c.deref.ensures.value)
+    (searched _ (rw c.deref.ensures.value c.self.invariant) c.args.row.now _ c.binary_search_by_key.ensures.bound
+    (c.binary_search_by_key.ensures.position (λ r. r.id) (answers_always _ _ _ (λ f a r g called. search rules))))

@@ -1,4 +1,3 @@
-use Rattle.std.proofs.Common.{ap, subst, true, false}
 use Rattle.std.proofs.lemmas.Result.{err_from_is_err_and}
 use Rattle.rt_shell.proofs.EngineLemmas.{finishes_ok, finishes_err}
 use Rattle.rt_shell.proofs.runner.Engine.finish.Goals as goal

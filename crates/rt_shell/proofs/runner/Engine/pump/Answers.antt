@@ -1,8 +1,6 @@
-use Rattle.std.proofs.Common.{◌≡◌, ◌<◌, ◌≤◌, ◌^◌, length, take, [], arith, refl, rules}
-use Rattle.std.proofs.lemmas.Bool.Decides.{nat_tests}
-use Rattle.std.proofs.lemmas.List.{length-take-le, take_all}
+use Rattle.std.proofs.Common.{◌≡◌, length, take, [], arith, refl, rules}
+use Rattle.std.proofs.lemmas.List.{length-take-le}
 use Rattle.std.proofs.lemmas.Result.{err_from_is_err_and}
-use Rattle.std.proofs.lemmas.Grind.{common_steps}
 use Rattle.rt_shell.proofs.Pumping.{pumping_starts, read_fails, reads_out, write_fails, stops, goes_on, ends, end_fails}
 use Rattle.rt_shell.proofs.runner.Engine.pump.Goals as goal
 

@@ -1,4 +1,3 @@
-use Rattle.rt_shell.specs.Run.{Devices}
 use Rattle.rt_shell.proofs.Pumping.{Pumping}
 use Rattle.rt_shell.proofs.runner.Engine.pump.Given as goal
 

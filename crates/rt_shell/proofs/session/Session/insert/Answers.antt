@@ -1,7 +1,7 @@
-use Rattle.std.proofs.Common.{◌≡◌, ◌∙◌, None, Some, refl, ap, arith, sym}
+use Rattle.std.proofs.Common.{◌≡◌, ◌∙◌, None, Some, refl, ap, sym}
 use Rattle.std.proofs.lemmas.Result.{err_from_is_err_and}
 use Rattle.std.specs.Map.{values_of, set_value}
-use Rattle.rt_shell.specs.Session.{table_of, with_rows}
+use Rattle.rt_shell.specs.Session.{table_of}
 use Rattle.rt_shell.proofs.SessionLemmas.{lookup-is, set_value-is, set_value-same, keyed-set_value}
 use Rattle.rt_shell.proofs.session.Session.insert.Goals as goal
 

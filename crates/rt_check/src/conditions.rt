@@ -1,0 +1,272 @@
+//! The tests of the nine conditions.
+
+ghost use Rattle.std.specs.Prelude.{◌≡◌, ◌<◌, ◌&&◌, min, int_le};
+ghost use Rattle.std.specs.List.{list_any, list_all};
+ghost use Rattle.std.specs.Ordering.{int_eq};
+ghost use Rattle.rt_check.specs.Conditions.{coordinate, has_root, is_root, is_below, has_place, names_child, is_ordered, lies_in, holds_child, is_reached, is_hull, fits_child, is_filled, has_entry, has_cell, times_named, inner_cells, leaf_cells};
+ghost use Rattle.rt_check.specs.CellConditions.{meets_condition};
+
+use crate::node::{NodeRow, RawCell, RowEntry};
+use crate::shadow::Shadow;
+
+/// The conditions that speak of a cell.
+#[derive(Clone, Copy)]
+pub(crate) enum CellCondition {
+    /// C3: the cell of an inner node names a listed node whose parent is this node.
+    Names,
+    /// C4: on each axis lo is at most hi.
+    Ordered,
+    /// C5: the cells of the node that the cell names lie in it.
+    Holds,
+    /// C6: the cell is the hull of the cells of the node that it names.
+    Fits,
+    /// C8: the cell of a leaf has a row entry with its id and this leaf.
+    HasEntry,
+}
+
+impl CellCondition {
+    ghost use Rattle.rt_check.specs.CellConditions.{condition_number};
+
+    /// The condition's number.
+    pub(crate) fn number(self) -> u8
+        ensures { result ≡ condition_number self }
+    {
+        match self {
+            CellCondition::Names => 3,
+            CellCondition::Ordered => 4,
+            CellCondition::Holds => 5,
+            CellCondition::Fits => 6,
+            CellCondition::HasEntry => 8,
+        }
+    }
+}
+
+/// Whether lo is at most hi on that axis.
+fn is_ordered_on<const D: usize>(cell: &RawCell<D>, axis: usize) -> bool
+    requires { axis < D }
+    ensures { result ≡ int_le (coordinate cell.now.lo axis) (coordinate cell.now.hi axis) }
+{
+    cell.lo[axis] <= cell.hi[axis]
+}
+
+fn is_ordered<const D: usize>(cell: &RawCell<D>) -> bool
+    ensures { result ≡ is_ordered cell.now }
+{
+    for axis in 0..D {
+        if !is_ordered_on(cell, axis) {
+            return false;
+        }
+    }
+    true
+}
+
+/// Whether the inner cell's range lies within the outer one's on that axis.
+fn lies_in_on<const D: usize>(inner: &RawCell<D>, outer: &RawCell<D>, axis: usize) -> bool
+    requires { axis < D }
+    ensures { result ≡ (int_le (coordinate outer.now.lo axis) (coordinate inner.now.lo axis)
+        && int_le (coordinate inner.now.hi axis) (coordinate outer.now.hi axis)) }
+{
+    outer.lo[axis] <= inner.lo[axis] && inner.hi[axis] <= outer.hi[axis]
+}
+
+fn lies_in<const D: usize>(inner: &RawCell<D>, outer: &RawCell<D>) -> bool
+    ensures { result ≡ lies_in inner.now outer.now }
+{
+    for axis in 0..D {
+        if !lies_in_on(inner, outer, axis) {
+            return false;
+        }
+    }
+    true
+}
+
+/// Whether all of the cells lie in the outer one.
+fn holds_all<const D: usize>(outer: &RawCell<D>, cells: &[RawCell<D>]) -> bool
+    ensures { result ≡ list_all (λ x. lies_in x outer.now) cells.now }
+{
+    for cell in cells {
+        if !lies_in(cell, outer) {
+            return false;
+        }
+    }
+    true
+}
+
+/// Whether some of the cells reaches down to the outer one's lo on that axis.
+fn reaches_lo<const D: usize>(outer: &RawCell<D>, cells: &[RawCell<D>], axis: usize) -> bool
+    requires { axis < D }
+    ensures { result ≡ list_any (λ x. int_eq (coordinate x.lo axis) (coordinate outer.now.lo axis)) cells.now }
+{
+    for cell in cells {
+        if cell.lo[axis] == outer.lo[axis] {
+            return true;
+        }
+    }
+    false
+}
+
+/// Whether some of the cells reaches up to the outer one's hi on that axis.
+fn reaches_hi<const D: usize>(outer: &RawCell<D>, cells: &[RawCell<D>], axis: usize) -> bool
+    requires { axis < D }
+    ensures { result ≡ list_any (λ x. int_eq (coordinate x.hi axis) (coordinate outer.now.hi axis)) cells.now }
+{
+    for cell in cells {
+        if cell.hi[axis] == outer.hi[axis] {
+            return true;
+        }
+    }
+    false
+}
+
+/// Whether the cells reach both ends of the outer one's range on that axis.
+fn is_reached_on<const D: usize>(outer: &RawCell<D>, cells: &[RawCell<D>], axis: usize) -> bool
+    requires { axis < D }
+    ensures { result ≡ (list_any (λ x. int_eq (coordinate x.lo axis) (coordinate outer.now.lo axis)) cells.now
+        && list_any (λ x. int_eq (coordinate x.hi axis) (coordinate outer.now.hi axis)) cells.now) }
+{
+    reaches_lo(outer, cells, axis) && reaches_hi(outer, cells, axis)
+}
+
+/// Whether the cells reach both ends of the outer one's range on each axis.
+fn is_reached<const D: usize>(outer: &RawCell<D>, cells: &[RawCell<D>]) -> bool
+    ensures { result ≡ is_reached outer.now cells.now }
+{
+    for axis in 0..D {
+        if !is_reached_on(outer, cells, axis) {
+            return false;
+        }
+    }
+    true
+}
+
+fn is_hull<const D: usize>(outer: &RawCell<D>, cells: &[RawCell<D>]) -> bool
+    ensures { result ≡ is_hull outer.now cells.now }
+{
+    holds_all(outer, cells) && is_reached(outer, cells)
+}
+
+/// C3: the cell names a listed node whose parent is this node.
+fn names_child<const D: usize>(shadow: &Shadow<D>, node: &NodeRow<D>, cell: &RawCell<D>) -> bool
+    ensures { result ≡ names_child shadow.now node.now cell.now }
+{
+    match shadow.node(&cell.number) {
+        Some(child) => child.parent == Some(node.number),
+        None => false,
+    }
+}
+
+/// C5: the cells of the node that the cell names lie in it.
+fn holds_child<const D: usize>(shadow: &Shadow<D>, cell: &RawCell<D>) -> bool
+    ensures { result ≡ holds_child shadow.now cell.now }
+{
+    match shadow.node(&cell.number) {
+        Some(child) => holds_all(cell, child.cells.as_slice()),
+        None => true,
+    }
+}
+
+/// C6: the cell is the hull of the cells of the node that it names.
+fn fits_child<const D: usize>(shadow: &Shadow<D>, cell: &RawCell<D>) -> bool
+    ensures { result ≡ fits_child shadow.now cell.now }
+{
+    match shadow.node(&cell.number) {
+        Some(child) => child.cells.len() == 0 || is_hull(cell, child.cells.as_slice()),
+        None => true,
+    }
+}
+
+/// C8: the cell has a row entry with its id and this node as leaf.
+fn has_entry<const D: usize>(shadow: &Shadow<D>, node: &NodeRow<D>, cell: &RawCell<D>) -> bool
+    ensures { result ≡ has_entry shadow.now node.now cell.now }
+{
+    match shadow.row(&cell.number) {
+        Some(row) => row.leaf == node.number,
+        None => false,
+    }
+}
+
+/// Whether a cell of a node meets the condition.
+pub(crate) fn meets<const D: usize>(
+    shadow: &Shadow<D>,
+    condition: CellCondition,
+    node: &NodeRow<D>,
+    cell: &RawCell<D>,
+) -> bool
+    ensures { result ≡ meets_condition shadow.now condition node.now cell.now }
+{
+    let is_leaf = node.level == 0;
+    match condition {
+        CellCondition::Names => is_leaf || names_child(shadow, node, cell),
+        CellCondition::Ordered => is_ordered(cell),
+        CellCondition::Holds => is_leaf || holds_child(shadow, cell),
+        CellCondition::Fits => is_leaf || fits_child(shadow, cell),
+        CellCondition::HasEntry => !is_leaf || has_entry(shadow, node, cell),
+    }
+}
+
+/// C1: the root's number is listed, without a parent.
+pub(crate) fn has_root<const D: usize>(shadow: &Shadow<D>) -> bool
+    ensures { result ≡ has_root shadow.now }
+{
+    match shadow.node(&shadow.root()) {
+        Some(root) => root.parent.is_none(),
+        None => false,
+    }
+}
+
+/// The root is the node with the root's number.
+fn is_root<const D: usize>(shadow: &Shadow<D>, node: &NodeRow<D>) -> bool
+    ensures { result ≡ is_root shadow.now node.now }
+{
+    node.number == shadow.root()
+}
+
+/// Whether the node's parent is listed, on the next level.
+fn is_below<const D: usize>(shadow: &Shadow<D>, node: &NodeRow<D>) -> bool
+    ensures { result ≡ is_below shadow.now node.now node.now.parent }
+{
+    let Some(number) = &node.parent else {
+        return false;
+    };
+    match shadow.node(number) {
+        Some(parent) => u16::from(parent.level) == u16::from(node.level) + 1,
+        None => false,
+    }
+}
+
+/// C2: the node is the root, or stands below its parent and is named once.
+///
+/// `named` is how many cells of inner nodes name it, 2 standing for more.
+pub(crate) fn has_place<const D: usize>(shadow: &Shadow<D>, node: &NodeRow<D>, named: u8) -> bool
+    requires { named ≡ min 2 (times_named node.now.number (inner_cells shadow.now.nodes)) }
+    ensures { result ≡ has_place shadow.now node.now }
+{
+    is_root(shadow, node) || (is_below(shadow, node) && named == 1)
+}
+
+/// C7: the node has at most as many cells as the capacity, and its least number of them.
+pub(crate) fn is_filled<const D: usize>(shadow: &Shadow<D>, node: &NodeRow<D>) -> bool
+    ensures { result ≡ is_filled shadow.now node.now }
+{
+    let capacity = shadow.capacity();
+    let least = if !is_root(shadow, node) {
+        capacity.least()
+    } else if node.level == 0 {
+        0
+    } else {
+        2
+    };
+    node.cells.len() <= capacity.greatest() && least <= node.cells.len()
+}
+
+/// C9: the entry's id is that of exactly one cell of the leaves.
+///
+/// `named` is how many cells of leaves name it, 2 standing for more.
+pub(crate) fn has_cell<const D: usize>(shadow: &Shadow<D>, row: &RowEntry, named: u8) -> bool
+    requires { named ≡ min 2 (times_named row.now.id (leaf_cells shadow.now.nodes)) }
+    ensures { result ≡ has_cell shadow.now row.now }
+{
+    let _ = shadow;
+    let _ = row;
+    named == 1
+}

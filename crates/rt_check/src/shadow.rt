@@ -1,0 +1,175 @@
+//! A tree seen from outside.
+
+ghost use Rattle.std.specs.Prelude.{◌≡◌, ◌≤◌, ◌↔◌, [], ◌∷◌, ◌++◌, Contains, IsErrOf, OnOk, OnErr};
+ghost use Rattle.std.specs.Option.{option_copied};
+
+use crate::items::item_at;
+use crate::node::{NodeRow, RawCell, RowEntry};
+use indexmap::IndexSet;
+use rt_box::Capacity;
+use std::alloc::{AllocError, Global};
+use std::marker::Model;
+
+/// A tree seen from outside: a capacity, the root's number, nodes with distinct numbers and row
+/// entries with distinct ids, each in the order in which they were added.
+#[derive(Drop)]
+pub struct Shadow<const D: usize> {
+    capacity: Capacity,
+    root: i64,
+    nodes: Vec<NodeRow<D>>,
+    rows: Vec<RowEntry>,
+    numbers: IndexSet<i64>,
+    ids: IndexSet<i64>,
+}
+
+impl<const D: usize> Model for Shadow<D> {
+    ghost use Rattle.rt_check.specs.Shadow.{ShadowLists};
+
+    ghost Value = { ShadowLists D };
+
+    ghost use Rattle.rt_check.specs.ShadowInside.{lists_of, IsWhole};
+
+    ghost view = { lists_of };
+
+    ghost invariant = { IsWhole };
+}
+
+/// Why a node or a row entry isn't added.
+#[derive(Clone, Copy, PartialEq, Eq, Debug)]
+pub enum ShadowFault {
+    /// That number or id is listed.
+    Twice,
+    /// No memory is left.
+    Memory,
+}
+
+impl<const D: usize> Shadow<D> {
+    ghost use Rattle.rt_check.specs.Shadow.{numbers_of, ids_of, with_cell};
+    ghost use Rattle.rt_check.specs.Conditions.{node_of, entry_of};
+
+    /// Nothing is listed yet.
+    pub fn new(alloc: Global, capacity: Capacity, root: i64) -> Shadow<D>
+        requires some { 1 ≤ D }
+        requires few { D ≤ 3 }
+        ensures { result ≡ record { capacity = capacity; root = root; nodes = []; rows = [] } }
+    {
+        Shadow {
+            capacity,
+            root,
+            nodes: Vec::new(alloc),
+            rows: Vec::new(alloc),
+            numbers: IndexSet::new(alloc),
+            ids: IndexSet::new(alloc),
+        }
+    }
+
+    /// The greatest number of cells of a node.
+    pub fn capacity(&self) -> Capacity
+        ensures value { result ≡ self.now.capacity }
+        ensures axes { (1 ≤ D) × (D ≤ 3) }
+    {
+        self.capacity
+    }
+
+    /// The root's number.
+    pub fn root(&self) -> i64
+        ensures { result ≡ self.now.root }
+    {
+        self.root
+    }
+
+    /// The nodes, in the order in which they were added.
+    pub fn nodes(&self) -> &[NodeRow<D>]
+        ensures { result.now ≡ self.now.nodes }
+    {
+        self.nodes.as_slice()
+    }
+
+    /// The row entries, in the order in which they were added.
+    pub fn rows(&self) -> &[RowEntry]
+        ensures { result.now ≡ self.now.rows }
+    {
+        self.rows.as_slice()
+    }
+
+    /// Lists a node. After a fault nothing has changed.
+    pub fn add_node(&mut self, node: NodeRow<D>) -> Result<(), ShadowFault>
+        ensures ok { OnOk result (self.new ≡ record self.old { nodes = self.old.nodes ++ node.entry ∷ [] }) }
+        ensures twice { IsErrOf result ShadowFault.Twice ↔ Contains (numbers_of self.old.nodes) node.entry.number }
+        ensures err { OnErr result (self.new ≡ self.old) }
+    {
+        if self.numbers.contains(&node.number) {
+            return Err(ShadowFault::Twice);
+        }
+        if self.numbers.reserve(1).is_err() || self.nodes.reserve(1).is_err() {
+            return Err(ShadowFault::Memory);
+        }
+        let _ = self.numbers.insert(node.number);
+        let _ = self.nodes.push(node);
+        Ok(())
+    }
+
+    /// Lists a row entry. After a fault nothing has changed.
+    pub fn add_row(&mut self, row: RowEntry) -> Result<(), ShadowFault>
+        ensures ok { OnOk result (self.new ≡ record self.old { rows = self.old.rows ++ row ∷ [] }) }
+        ensures twice { IsErrOf result ShadowFault.Twice ↔ Contains (ids_of self.old.rows) row.id }
+        ensures err { OnErr result (self.new ≡ self.old) }
+    {
+        if self.ids.contains(&row.id) {
+            return Err(ShadowFault::Twice);
+        }
+        if self.ids.reserve(1).is_err() || self.rows.reserve(1).is_err() {
+            return Err(ShadowFault::Memory);
+        }
+        let _ = self.ids.insert(row.id);
+        let _ = self.rows.push(row);
+        Ok(())
+    }
+
+    /// Gives the last node one cell more. After an `AllocError` nothing has changed.
+    pub(crate) fn add_cell(&mut self, cell: RawCell<D>) -> Result<(), AllocError>
+        ensures ok { OnOk result (self.new ≡ with_cell self.old cell.entry) }
+        ensures err { OnErr result (self.new ≡ self.old) }
+    {
+        let count = self.nodes.len();
+        if count == 0 {
+            return Ok(());
+        }
+        let node = &mut self.nodes[count - 1];
+        node.cells.push(cell)
+    }
+
+    /// The nodes' numbers, in the order of the nodes.
+    pub(crate) fn numbers(&self) -> &IndexSet<i64>
+        ensures { result.now.keys ≡ numbers_of self.now.nodes }
+    {
+        &self.numbers
+    }
+
+    /// The ids of the row entries, in their order.
+    pub(crate) fn ids(&self) -> &IndexSet<i64>
+        ensures { result.now.keys ≡ ids_of self.now.rows }
+    {
+        &self.ids
+    }
+
+    /// The node of that number, where it is listed.
+    pub fn node(&self, number: &i64) -> Option<&NodeRow<D>>
+        ensures { option_copied result ≡ node_of self.now.nodes number.now }
+    {
+        match self.numbers.get_index_of(number) {
+            Some(at) => item_at(self.nodes.as_slice(), at),
+            None => None,
+        }
+    }
+
+    /// The row entry of that id, where it is listed.
+    pub fn row(&self, id: &i64) -> Option<&RowEntry>
+        ensures { option_copied result ≡ entry_of self.now.rows id.now }
+    {
+        match self.ids.get_index_of(id) {
+            Some(at) => item_at(self.rows.as_slice(), at),
+            None => None,
+        }
+    }
+}
