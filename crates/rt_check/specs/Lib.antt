@@ -10,3 +10,4 @@ pub mod Pieces
 pub mod Numbers
 pub mod Lines
 pub mod Reading
+pub mod InRange

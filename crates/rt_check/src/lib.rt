@@ -6,6 +6,9 @@
 //!   or a front of it.
 //! - `shadow`: a `Shadow` is a tree seen from outside, a list of nodes and a list of row entries.
 //! - `check`: lists the problems of a shadow under nine conditions, C1 to C9.
+//! - `write_dump` and `read_dump`: a shadow as text, and back. Any bytes are read: as a shadow, or
+//!   with the first faulty line and its first code.
+//! - `laws`: what is written is read again, and what is read is written back byte for byte.
 #![tactic(auto)]
 
 pub mod bytes;
@@ -13,7 +16,9 @@ mod checker;
 mod conditions;
 mod dump;
 mod items;
+pub mod laws;
 mod lines;
+mod looks;
 mod node;
 mod numbers;
 mod pieces;

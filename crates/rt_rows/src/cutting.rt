@@ -5,26 +5,26 @@ use rt_shell::Status;
 use std::alloc::{AllocError, Global};
 use std::test::Fail;
 
-/// The text with the byte so often behind it that it has this length, and then the end.
+/// The start, the filler so often, and the end.
 fn filled(
     alloc: Global,
-    text: &str,
+    start: &str,
     filler: char,
-    length: usize,
+    times: usize,
     end: &str,
 ) -> Result<String, AllocError> {
     let mut script = String::new(alloc);
-    script.push_str(text)?;
-    while script.len() < length {
+    script.push_str(start)?;
+    for _ in 0..times {
         script.push(filler)?;
     }
     script.push_str(end)?;
     Ok(script)
 }
 
-/// A script whose third statement has this length.
-fn long_third(alloc: Global, length: usize) -> Result<String, AllocError> {
-    let third = filled(alloc, "SELECT * FROM t/*", '.', length - 3, "*/;")?;
+/// A script whose third statement has 20 bytes and a comment of so many dots.
+fn long_third(alloc: Global, dots: usize) -> Result<String, AllocError> {
+    let third = filled(alloc, "SELECT * FROM t/*", '.', dots, "*/;")?;
     let mut script = String::new(alloc);
     script.push_str(TABLE)?;
     script.push_str("INSERT INTO t VALUES(1,0,0);")?;
@@ -35,9 +35,9 @@ fn long_third(alloc: Global, length: usize) -> Result<String, AllocError> {
 
 #[test]
 fn a_statement_has_at_most_65536_bytes(rt: HostRuntime) -> Result<(), Fail> {
-    let script = long_third(rt.alloc(), 65_536)?;
+    let script = long_third(rt.alloc(), 65_516)?;
     expect(&rt, script.as_str(), "1|0|0\n1|0|0\n", Status::Clean)?;
-    let script = long_third(rt.alloc(), 65_537)?;
+    let script = long_third(rt.alloc(), 65_517)?;
     let printed = "refused 3 3: statement too long\n1|0|0\n";
     expect(&rt, script.as_str(), printed, Status::Refused)?;
     Ok(())
@@ -45,12 +45,12 @@ fn a_statement_has_at_most_65536_bytes(rt: HostRuntime) -> Result<(), Fail> {
 
 #[test]
 fn an_open_quote_goes_to_the_end(rt: HostRuntime) -> Result<(), Fail> {
-    for (length, printed) in [
-        (65_536, "refused 1 2: incomplete input\n"),
-        (65_537, "refused 1 3: statement too long\n"),
-        (1_000_008, "refused 1 3: statement too long\n"),
+    for (letters, printed) in [
+        (65_528, "refused 1 2: incomplete input\n"),
+        (65_529, "refused 1 3: statement too long\n"),
+        (1_000_000, "refused 1 3: statement too long\n"),
     ] {
-        let script = filled(rt.alloc(), "SELECT '", 'a', length, "")?;
+        let script = filled(rt.alloc(), "SELECT '", 'a', letters, "")?;
         expect(&rt, script.as_str(), printed, Status::Refused)?;
     }
     Ok(())

@@ -16,6 +16,8 @@ mod number;
 mod parser;
 pub mod piece;
 pub mod refusal;
+#[cfg(test)]
+mod spellings;
 pub mod statement;
 mod token;
 mod tokens;
