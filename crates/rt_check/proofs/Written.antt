@@ -1,28 +1,26 @@
 -- What is written of a shadow is read as that shadow.
-use Rattle.std.proofs.Common.{◌≡◌, ℕ, suc, ◌+◌, ◌-◌, ◌<◌, ◌≤◌, ◌^◌, ℤ, List, [], ◌∷◌, ◌++◌, Bool, true, false, ◌||◌, cond, refl, sym, ◌∙◌, ap, length, map, arith, Option, Some, None, Result, Ok, Err, append_assoc, append-nil}
+use Rattle.std.proofs.Common.{◌≡◌, ℕ, ◌+◌, ◌-◌, ◌<◌, ◌≤◌, ℤ, List, [], ◌∷◌, ◌++◌, Bool, true, false, ◌||◌, cond, refl, sym, ◌∙◌, ap, length, map, arith, Option, Some, Result, Ok, Err, append_assoc, append-nil}
 use Rattle.std.specs.Prelude.{◌==◌, codes, nat_lt, slice_get, slice_set}
 use Rattle.std.specs.List.{All, flat_map, list_any, IsDistinct, AllByRecursion}
 use Rattle.std.specs.Ordering.{int_eq}
 use Rattle.std.specs.Option.{option_map_or}
 use Rattle.std.proofs.lemmas.List.Elements.{All-head, All-tail}
-use Rattle.std.proofs.lemmas.Map.Keys.{IsDistinct-head}
 use Rattle.rt_check.specs.declared.node.RawCell.{RawCell}
 use Rattle.rt_check.specs.declared.node.NodeRow.{NodeRow}
 use Rattle.rt_check.specs.declared.node.RowEntry.{RowEntry}
 use Rattle.rt_check.specs.declared.lines.LineKind.{LineKind}
-use Rattle.rt_check.specs.declared.lines.LineKind.TheVariants.{Header, Node, Cell, Row, End}
-use Rattle.rt_check.specs.declared.lines.NodeHead.{NodeHead}
+use Rattle.rt_check.specs.declared.lines.LineKind.TheVariants.{Node, Cell, Row, End}
 use Rattle.rt_check.specs.declared.reading.Progress.{Progress}
 use Rattle.rt_check.specs.Shadow.{ShadowLists, numbers_of, ids_of, with_last}
 use Rattle.rt_check.specs.Pieces.{pieces}
-use Rattle.rt_check.specs.Lines.{words, kind_of, is_cell, node_head, row_entry, raw_cell}
+use Rattle.rt_check.specs.Lines.{kind_of, is_cell}
 use Rattle.rt_check.specs.Dump.{line, cell_line, node_line, node_text, row_line, end_line}
 use Rattle.rt_check.specs.Reading.{due, after_spelling, after_kind, after_head, after_cell, after_row, after_line, is_end, is_nothing, at_line, read_rest}
 use Rattle.rt_check.specs.InRange.{IsCellInRange, IsRowInRange, IsPositive, IsNodeInRange, IsNodeNumbered}
 use Rattle.rt_check.proofs.Cuts.{pieces-some}
 use Rattle.rt_check.proofs.Known.{same_number}
 use Rattle.rt_check.proofs.WrittenPieces.{IsWord, AreWords, spaced, words-spaced, pieces-line}
-use Rattle.rt_check.proofs.WrittenLines.{cell_words, row_words, node_words, head_of, cell-words, cell-kind, cell-read, row-words, row-kind, row-read, node-words, node-kind, node-read}
+use Rattle.rt_check.proofs.WrittenLines.{cell_words, row_words, node_words, cell-words, cell-kind, cell-read, row-words, row-kind, row-read, node-words, node-kind, node-read}
 
 -- a text that is read as a shadow once some lines are read
 abbrev pub ReadsTo : {D : ℕ} → Progress D → List ℕ → ShadowLists D → Type 0

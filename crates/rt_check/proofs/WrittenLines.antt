@@ -1,6 +1,6 @@
 -- Lemmas on the lines that are written: their words, their kind, and what they say.
-use Rattle.std.proofs.Common.{◌≡◌, ℕ, zero, suc, ◌+◌, ◌*◌, ◌<◌, ◌≤◌, ◌^◌, ℤ, pos, List, [], ◌∷◌, ◌++◌, Bool, true, false, not, ◌&&◌, ◌||◌, cond, refl, sym, ◌∙◌, ap, length, drop, arith, Option, Some, None}
-use Rattle.std.specs.Prelude.{◌==◌, bytes_eq, codes, nat_le, decimal}
+use Rattle.std.proofs.Common.{◌≡◌, ℕ, zero, suc, ◌+◌, ◌*◌, ◌<◌, ◌≤◌, ◌^◌, ℤ, List, [], ◌∷◌, Bool, true, false, ◌&&◌, ◌||◌, cond, refl, ◌∙◌, ap, length, arith, Option, Some, None}
+use Rattle.std.specs.Prelude.{◌==◌, codes, nat_le, decimal}
 use Rattle.std.specs.List.{All, flat_map, zip}
 use Rattle.std.specs.Option.{option_and_then, option_map, IfSome}
 use Rattle.std.specs.Fmt.{signed_decimal}
@@ -14,14 +14,14 @@ use Rattle.rt_check.specs.declared.lines.LineKind.TheVariants.{Header, Node, Cel
 use Rattle.rt_check.specs.declared.lines.NodeHead.{NodeHead}
 use Rattle.rt_check.specs.declared.lines.Range.{Range}
 use Rattle.rt_check.specs.declared.reading.Heading.{Heading}
-use Rattle.rt_check.specs.Numbers.{is_number, number_of, positive_of, count_of, byte_of, coordinate_of, parent_of}
-use Rattle.rt_check.specs.Lines.{are_numbers, is_plain, is_parent, is_node, is_cell, kind_of, node_head, row_entry, first_range, ranges_of, raw_cell}
+use Rattle.rt_check.specs.Numbers.{is_number, positive_of, count_of, byte_of, coordinate_of, parent_of}
+use Rattle.rt_check.specs.Lines.{are_numbers, is_plain, is_parent, is_node, is_cell, kind_of, node_head, row_entry, ranges_of, raw_cell}
 use Rattle.rt_check.specs.Reading.{axes_of, capacity_of, header_of}
 use Rattle.rt_check.specs.Dump.{range_words, parent_word}
 use Rattle.rt_check.specs.InRange.{IsLong, IsInt, IsPositive, IsCellInRange, IsRowInRange, IsNodeInRange, IsNodeNumbered}
 use Rattle.rt_check.specs.Shadow.{ShadowLists}
 use Rattle.rt_check.proofs.Spelled.{is_number-signed, number_of-signed}
-use Rattle.rt_check.proofs.WrittenPieces.{IsWord, AreWords}
+use Rattle.rt_check.proofs.WrittenPieces.{AreWords}
 use Rattle.rt_check.proofs.WrittenNumbers.{decimal-word, signed-word, is_number-count, count_of-decimal, byte_of-decimal, positive_of-signed, coordinate_of-signed, IsParent, parent-word, is_parent-word, parent_of-word}
 
 -- the further words of each line

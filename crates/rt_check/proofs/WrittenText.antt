@@ -1,5 +1,5 @@
 -- The text of a shadow is read as that shadow.
-use Rattle.std.proofs.Common.{◌≡◌, ℕ, ℤ, List, [], ◌∷◌, ◌++◌, refl, sym, ◌∙◌, ap, length, Option, Result, Ok}
+use Rattle.std.proofs.Common.{◌≡◌, ℕ, List, [], ◌∷◌, ◌++◌, refl, ◌∙◌, ap, length, Option, Ok}
 use Rattle.std.specs.Prelude.{codes}
 use Rattle.std.specs.List.{flat_map}
 use Rattle.rt_check.specs.declared.lines.LineKind.{LineKind}
@@ -15,7 +15,7 @@ use Rattle.rt_check.specs.InRange.{IsInRange, IsNumbered, IsAnyInRange, IsAnyNum
 use Rattle.rt_check.proofs.Cuts.{pieces-some, read_lines-first}
 use Rattle.rt_check.proofs.WrittenPieces.{IsWord, spaced, words-spaced, pieces-line}
 use Rattle.rt_check.proofs.WrittenLines.{header_words, header-words, header-kind, header-read, heading_of}
-use Rattle.rt_check.proofs.Written.{ReadsTo, nodes-read, rows-read}
+use Rattle.rt_check.proofs.Written.{nodes-read, rows-read}
 
 -- the lines after the header
 abbrev pub body_text : {D : ℕ} → ShadowLists D → List ℕ

@@ -1,5 +1,5 @@
 -- Shadows whose text is read again (own): what their types say of them, and that they count from 1.
-use Rattle.std.specs.Prelude.{◌≡◌, ℕ, ◌<◌, ◌≤◌, ◌^◌, ℤ, pos, true, List, length, Option, None, Some, int_le}
+use Rattle.std.specs.Prelude.{◌≡◌, ℕ, ◌<◌, ◌≤◌, ◌^◌, ℤ, pos, true, length, int_le}
 use Rattle.std.specs.Int.Signed.{mag}
 use Rattle.std.specs.List.{All, IsDistinct}
 use Rattle.std.specs.Option.{IfSome}
