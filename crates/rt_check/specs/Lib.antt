@@ -1,13 +1,5 @@
-pub mod Bytes
-pub mod Memory
 pub mod Shadow
 pub mod ShadowInside
 pub mod Conditions
 pub mod CellConditions
 pub mod Tally
-pub mod Dump
-pub mod Pieces
-pub mod Numbers
-pub mod Lines
-pub mod Reading
-pub mod InRange

@@ -127,7 +127,7 @@ impl<const D: usize> Shadow<D> {
     }
 
     /// Gives the last node one cell more. After an `AllocError` nothing has changed.
-    pub(crate) fn add_cell(&mut self, cell: RawCell<D>) -> Result<(), AllocError>
+    pub fn add_cell(&mut self, cell: RawCell<D>) -> Result<(), AllocError>
         ensures ok { OnOk result (self.new ≡ with_cell self.old cell.entry) }
         ensures err { OnErr result (self.new ≡ self.old) }
     {
@@ -140,14 +140,14 @@ impl<const D: usize> Shadow<D> {
     }
 
     /// The nodes' numbers, in the order of the nodes.
-    pub(crate) fn numbers(&self) -> &IndexSet<i64>
+    pub fn numbers(&self) -> &IndexSet<i64>
         ensures { result.now.keys ≡ numbers_of self.now.nodes }
     {
         &self.numbers
     }
 
     /// The ids of the row entries, in their order.
-    pub(crate) fn ids(&self) -> &IndexSet<i64>
+    pub fn ids(&self) -> &IndexSet<i64>
         ensures { result.now.keys ≡ ids_of self.now.rows }
     {
         &self.ids

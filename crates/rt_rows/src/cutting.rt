@@ -1,7 +1,7 @@
 //! Where a script's pieces begin and end, and what long and open ones give.
 
 use crate::script::{TABLE, expect, outcome};
-use rt_shell::Status;
+use rt_bytes::Status;
 use std::alloc::{AllocError, Global};
 use std::test::Fail;
 

@@ -2,8 +2,9 @@
 
 ghost use Rattle.std.specs.Prelude.{◌<◌};
 
-use rt_check::bytes::{FailingReader, FailingWriter, Sink, SliceReader};
-use rt_shell::{RunFault, Status, run_check};
+use rt_bytes::{FailingReader, FailingWriter, Sink, SliceReader};
+use rt_bytes::{RunFault, Status};
+use rt_report::run_check;
 use std::alloc::Global;
 use std::process::Abort;
 use std::test::Fail;

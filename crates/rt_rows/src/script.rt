@@ -3,8 +3,9 @@
 ghost use Rattle.std.specs.Prelude.{◌<◌};
 
 use rt_box::Capacity;
-use rt_check::bytes::{Sink, SliceReader};
-use rt_shell::{Options, RunFault, Status, run};
+use rt_bytes::{Sink, SliceReader};
+use rt_bytes::{RunFault, Status};
+use rt_shell::{Options, run};
 use std::alloc::Global;
 use std::process::Abort;
 

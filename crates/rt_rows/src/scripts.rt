@@ -1,7 +1,7 @@
 //! Scripts with what they print.
 
 use crate::script::{TABLE, expect, outcome};
-use rt_shell::Status;
+use rt_bytes::Status;
 use std::test::Fail;
 
 #[test]

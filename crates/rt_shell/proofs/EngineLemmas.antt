@@ -2,18 +2,18 @@
 use Rattle.std.proofs.Common.{◌≡◌, ◌∙◌, ℕ, ◌+◌, ◌≤◌, Bool, true, false, List, [], ◌∷◌, ◌++◌, Option, Some, None, Result, Ok, Err, refl, sym, ap, subst, inl, inr, arith, rules, append_assoc, append-nil}
 use Rattle.std.specs.Prelude.{◌||◌, ◌&&◌, ◌⊎◌}
 use Rattle.std.specs.Result.{is_err}
-use Rattle.rt_sql.specs.Piece.{PieceText}
-use Rattle.rt_sql.specs.Pieces.{IsGap, IsWholePiece, IsLastPiece, Pieces, EndedPieces}
-use Rattle.rt_sql.specs.Cutter.{Front, StandsAt, FinishedAt, ready_piece}
+use Rattle.rt_cut.specs.Piece.{PieceText}
+use Rattle.rt_cut.specs.Pieces.{IsGap, IsWholePiece, IsLastPiece, Pieces, EndedPieces}
+use Rattle.rt_cut.specs.Cutter.{Front, StandsAt, FinishedAt, ready_piece}
 use Rattle.rt_sql.specs.declared.refusal.Refusal.{Refusal}
 use Rattle.rt_sql.specs.declared.refusal.Refusal.TheVariants.{OutOfMemory}
-use Rattle.rt_sql.proofs.CutterFront.{nothing_ready}
-use Rattle.rt_sql.proofs.CutterLaws.{cut_somehow}
-use Rattle.rt_check.specs.declared.bytes.WriteFault.{WriteFault}
+use Rattle.rt_cut.proofs.CutterFront.{nothing_ready}
+use Rattle.rt_cut.proofs.CutterLaws.{cut_somehow}
+use Rattle.rt_bytes.specs.declared.device.WriteFault.{WriteFault}
 use Rattle.rt_shell.specs.declared.session.Reply.{Reply}
 use Rattle.rt_shell.specs.declared.runner.Engine.{Engine}
-use Rattle.rt_shell.specs.declared.runner.Status.{Status}
-use Rattle.rt_shell.specs.declared.runner.Status.TheVariants.{Refused}
+use Rattle.rt_bytes.specs.declared.outcome.Status.{Status}
+use Rattle.rt_bytes.specs.declared.outcome.Status.TheVariants.{Refused}
 use Rattle.rt_shell.specs.declared.runner.Flow.{Flow}
 use Rattle.rt_shell.specs.declared.runner.Flow.TheVariants.{Goes, Stops}
 use Rattle.rt_shell.specs.Session.{State}

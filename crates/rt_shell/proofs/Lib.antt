@@ -1,5 +1,4 @@
 pub mod EngineLemmas
-pub mod Gathering
 pub mod Pumping
 pub mod RowsLemmas
 pub mod SessionLemmas

@@ -2,45 +2,21 @@
 use Rattle.std.proofs.Common.{◌≡◌, ◌∙◌, ℕ, ◌+◌, ◌*◌, ◌^◌, ◌<◌, ◌≤◌, Bool, true, false, List, [], ◌++◌, length, Option, None, Some, Ok, Err, refl, sym, ap, subst, inl, inr, arith, append_assoc, append-nil, length-append}
 use Rattle.std.specs.Prelude.{IfSome}
 use Rattle.std.specs.Io.KnownBytes.{Appends, Consumes, Keeps, IsAtEnd}
-use Rattle.rt_check.specs.Bytes.{one_more, WritesAll}
-use Rattle.rt_check.specs.declared.bytes.WriteFault.{WriteFault}
-use Rattle.rt_check.proofs.Writing.{WritesAll-trans, WritesAll-nil, WritesFront-after, AppendsFront-more, AppendsFront-all}
-use Rattle.rt_sql.specs.Cutter.{StandsAt, ready_piece}
-use Rattle.rt_sql.proofs.CutterFront.{whole_at, nothing_ready}
+use Rattle.rt_bytes.specs.Bytes.{one_more, WritesAll}
+use Rattle.rt_bytes.specs.declared.device.WriteFault.{WriteFault}
+use Rattle.rt_bytes.proofs.Writing.{WritesAll-trans, WritesAll-nil, WritesFront-after, AppendsFront-more, AppendsFront-all}
+use Rattle.rt_cut.specs.Cutter.{StandsAt, ready_piece}
+use Rattle.rt_cut.proofs.CutterFront.{whole_at, nothing_ready}
 use Rattle.rt_shell.specs.declared.runner.Engine.{Engine}
-use Rattle.rt_shell.specs.declared.runner.Status.{Status}
-use Rattle.rt_shell.specs.declared.runner.Status.TheVariants.{Refused}
+use Rattle.rt_bytes.specs.declared.outcome.Status.{Status}
+use Rattle.rt_bytes.specs.declared.outcome.Status.TheVariants.{Refused}
 use Rattle.rt_shell.specs.declared.runner.Flow.TheVariants.{Goes, Stops}
 use Rattle.rt_shell.specs.Transcript.{Progress, start, status_of, IsTranscriptSoFar}
 use Rattle.rt_shell.specs.Engine.{IsFresh, progress_of, Gives, Moves, TakesAll, Finishes}
-use Rattle.rt_shell.specs.Run.{Devices, most_reads, Held, FailsToRead, FailsToWrite, ReadsToEnd, RunsScript}
+use Rattle.rt_bytes.specs.Devices.{Devices, most_reads, Held}
+use Rattle.rt_bytes.proofs.Consuming.{Consumes-trans, Consumes-kept, Consumes-none, always, too_long, held_at_end, held_before, Appends-kept}
+use Rattle.rt_shell.specs.Run.{FailsToRead, FailsToWrite, ReadsToEnd, RunsScript}
 use Rattle.rt_shell.proofs.EngineLemmas.{moves_nowhere, moves_on}
-
-pub Consumes-trans : (a b c : Option (List ℕ)) (xs ys : List ℕ) → Consumes a b xs → Consumes b c ys → Consumes a c (xs ++ ys)
-Consumes-trans None b c xs ys p q = tt
-Consumes-trans (Some s) None c xs ys p q = absurd p
-Consumes-trans (Some s) (Some t) None xs ys p q = absurd q
-Consumes-trans (Some s) (Some t) (Some u) xs ys p q = p ∙ ap (λ l. xs ++ l) q ∙ sym (append_assoc xs ys u)
-
-Consumes-kept : (a b c : Option (List ℕ)) (xs : List ℕ) → Consumes a b xs → Keeps b c → Consumes a c xs
-Consumes-kept None b c xs p q = tt
-Consumes-kept (Some s) None c xs p q = absurd p
-Consumes-kept (Some s) (Some t) None xs p q = absurd q
-Consumes-kept (Some s) (Some t) (Some u) xs p q = p ∙ ap (λ l. xs ++ l) (sym q)
-
-pub Consumes-none : (a : Option (List ℕ)) → Consumes a a []
-Consumes-none None = tt
-Consumes-none (Some s) = refl
-
-pub always : (P : Type 0) (a : Option (List ℕ)) → P → IfSome a (λ script. length script < most_reads → P)
-always P None p = tt
-always P (Some s) p = λ short. p
-
--- that many bytes were read, so the script wasn't shorter
-pub too_long : (P : Type 0) (a b : Option (List ℕ)) (xs : List ℕ) → Consumes a b xs → most_reads ≤ length xs → IfSome a (λ script. length script < most_reads → P)
-too_long P None b xs p long = tt
-too_long P (Some s) None xs p long = absurd p
-too_long P (Some s) (Some t) xs p long = λ short. absurd (omega (arith, ap length p, length-append xs t))
 
 -- so much is read, and the pieces that ended in it are answered
 pub record Pumping (e0 e : Engine) (old now : Devices) (turn : ℕ) : Type 0 where
@@ -208,22 +184,6 @@ pumping_starts e bail now fresh = record {
 }
 
 -- ---- after the flush
-
-pub held_at_end : (a b : Option (List ℕ)) (read : List ℕ) → Consumes a b read → IsAtEnd b → Held a read
-held_at_end None b read p e = tt
-held_at_end (Some s) None read p e = absurd p
-held_at_end (Some s) (Some t) read p e = p ∙ ap (λ l. read ++ l) e ∙ append-nil read
-
-held_before : (a b : Option (List ℕ)) (read : List ℕ) → Consumes a b read → (rest : List ℕ) × Held a (read ++ rest)
-held_before None b read p = ([], tt)
-held_before (Some s) None read p = absurd p
-held_before (Some s) (Some t) read p = (t, p)
-
-pub Appends-kept : (a b c : Option (List ℕ)) (xs : List ℕ) → Appends a b xs → Keeps b c → Appends a c xs
-Appends-kept None b c xs p q = tt
-Appends-kept (Some s) None c xs p q = absurd p
-Appends-kept (Some s) (Some t) None xs p q = absurd q
-Appends-kept (Some s) (Some t) (Some u) xs p q = q ∙ p
 
 pub flushed : (bail : Bool) (old now new : Devices) (status : Status) → ReadsToEnd bail old now status
     → new.left ≡ now.left → new.failures ≡ now.failures → Keeps now.written new.written → new.faults ≡ now.faults → RunsScript bail old new status

@@ -2,10 +2,10 @@
 use Rattle.std.proofs.Common.{◌≡◌, ◌∙◌, ℕ, ◌+◌, ◌≤◌, List, [], ◌++◌, length, take, drop, ◌-◌, Option, None, Ok, Err, refl, sym, ap, arith, append_assoc, append-nil, length-append, length-drop}
 use Rattle.std.proofs.lemmas.List.{take_all, take-append-drop}
 use Rattle.std.specs.Prelude.{◌<◌}
-use Rattle.rt_check.specs.Bytes.{WritesAll}
-use Rattle.rt_check.specs.declared.bytes.WriteFault.{WriteFault}
-use Rattle.rt_check.proofs.Writing.{WritesAll-trans, WritesAll-nil, WritesFront-after}
-use Rattle.rt_sql.specs.Cutter.{Front, StandsAt, ready_piece}
+use Rattle.rt_bytes.specs.Bytes.{WritesAll}
+use Rattle.rt_bytes.specs.declared.device.WriteFault.{WriteFault}
+use Rattle.rt_bytes.proofs.Writing.{WritesAll-trans, WritesAll-nil, WritesFront-after}
+use Rattle.rt_cut.specs.Cutter.{Front, StandsAt, ready_piece}
 use Rattle.rt_shell.specs.declared.runner.Engine.{Engine}
 use Rattle.rt_shell.specs.declared.runner.Flow.TheVariants.{Goes, Stops}
 use Rattle.rt_shell.specs.Engine.{ready_lines, Moves, AnswersReady, TakesAll}

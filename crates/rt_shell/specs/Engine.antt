@@ -1,18 +1,18 @@
 -- What an engine does with the pieces of a script.
 use Rattle.std.specs.Prelude.{◌≡◌, ◌⊎◌, ℕ, ◌+◌, Bool, true, false, ◌&&◌, if◌then◌else◌, List, [], ◌++◌, Result, Ok, Err, Option, Some, None, IfOk}
 use Rattle.std.specs.Result.{is_err}
-use Rattle.rt_check.specs.Bytes.{Writes, WritesAll, WritesFront}
-use Rattle.rt_check.specs.declared.bytes.WriteFault.{WriteFault}
-use Rattle.rt_sql.specs.Piece.{PieceText}
-use Rattle.rt_sql.specs.Pieces.{IsGap, IsWholePiece, IsLastPiece, Pieces, EndedPieces}
-use Rattle.rt_sql.specs.Cutter.{StandsAt, FinishedAt, ready_piece}
+use Rattle.rt_bytes.specs.Bytes.{Writes, WritesAll, WritesFront}
+use Rattle.rt_bytes.specs.declared.device.WriteFault.{WriteFault}
+use Rattle.rt_cut.specs.Piece.{PieceText}
+use Rattle.rt_cut.specs.Pieces.{IsGap, IsWholePiece, IsLastPiece, Pieces, EndedPieces}
+use Rattle.rt_cut.specs.Cutter.{StandsAt, FinishedAt, ready_piece}
 use Rattle.rt_sql.specs.declared.refusal.Refusal.{Refusal}
 use Rattle.rt_shell.specs.declared.session.Reply.{Reply}
 use Rattle.rt_shell.specs.declared.runner.Engine.{Engine}
 use Rattle.rt_shell.specs.declared.runner.Flow.{Flow}
 use Rattle.rt_shell.specs.declared.runner.Flow.TheVariants.{Goes, Stops}
-use Rattle.rt_shell.specs.declared.runner.Status.{Status}
-use Rattle.rt_shell.specs.declared.runner.Status.TheVariants.{Refused}
+use Rattle.rt_bytes.specs.declared.outcome.Status.{Status}
+use Rattle.rt_bytes.specs.declared.outcome.Status.TheVariants.{Refused}
 use Rattle.rt_shell.specs.Session.{State}
 use Rattle.rt_shell.specs.Lines.{answer_lines}
 use Rattle.rt_shell.specs.Transcript.{Progress, start, Outcome, MayGive, after, Prints}

@@ -7,5 +7,3 @@ pub mod Lines
 pub mod Engine
 pub mod Transcript
 pub mod Run
-pub mod Report
-pub mod CheckRun

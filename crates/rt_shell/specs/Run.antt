@@ -1,29 +1,12 @@
 -- What a whole run does to its reader and its writer (own).
 use Rattle.std.specs.Prelude.{◌≡◌, ◌⊎◌, ℕ, ◌+◌, ◌^◌, ◌<◌, Bool, List, ◌++◌, length, Option, Some, None, Result, Ok, Err, IfSome, ⊤}
 use Rattle.std.specs.Io.KnownBytes.{Appends, Consumes, IsAtEnd}
-use Rattle.rt_check.specs.Bytes.{one_more, AppendsFront}
-use Rattle.rt_shell.specs.declared.runner.Status.{Status}
-use Rattle.rt_shell.specs.declared.runner.RunFault.{RunFault}
-use Rattle.rt_shell.specs.declared.runner.RunFault.TheVariants.{Read, Write, Memory}
+use Rattle.rt_bytes.specs.Bytes.{one_more, AppendsFront}
+use Rattle.rt_bytes.specs.Devices.{Devices, most_reads, Held}
+use Rattle.rt_bytes.specs.declared.outcome.Status.{Status}
+use Rattle.rt_bytes.specs.declared.outcome.RunFault.{RunFault}
+use Rattle.rt_bytes.specs.declared.outcome.RunFault.TheVariants.{Read, Write, Memory}
 use Rattle.rt_shell.specs.Transcript.{IsTranscript, IsTranscriptSoFar}
-
--- what is known of a reader and a writer: the bytes left and those written, where they are known, and the counts of
--- reads and of failures
-pub record Devices : Type 0 where
-  pub left : Option (List ℕ)
-  pub failures : ℕ
-  pub reads : ℕ
-  pub written : Option (List ℕ)
-  pub faults : ℕ
-
--- the most reads of one run
-abbrev pub most_reads : ℕ
-most_reads = 2 ^ 40
-
--- the reader held this script, where its bytes are known
-abbrev pub Held : Option (List ℕ) → List ℕ → Type 0
-Held None script = ⊤
-Held (Some bytes) script = bytes ≡ script
 
 -- the script that the reader held was run, and what was written is its transcript
 pub record RunsScript (bail : Bool) (old new : Devices) (status : Status) : Type 0 where

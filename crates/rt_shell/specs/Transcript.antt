@@ -2,15 +2,15 @@
 use Rattle.std.specs.Prelude.{◌≡◌, ◌⊎◌, ℕ, ◌+◌, Bool, true, false, ◌&&◌, if◌then◌else◌, List, [], ◌∷◌, ◌++◌, Result, Ok, Err}
 use Rattle.std.specs.Bool.{MatchBool}
 use Rattle.std.specs.Result.{is_err}
-use Rattle.rt_sql.specs.Piece.{PieceText}
-use Rattle.rt_sql.specs.Pieces.{Pieces, EndedPieces}
+use Rattle.rt_cut.specs.Piece.{PieceText}
+use Rattle.rt_cut.specs.Pieces.{Pieces, EndedPieces}
 use Rattle.rt_sql.specs.Parse.{Parses}
 use Rattle.rt_sql.specs.declared.statement.Stmt.{Stmt}
 use Rattle.rt_sql.specs.declared.refusal.Refusal.{Refusal}
 use Rattle.rt_sql.specs.declared.refusal.Refusal.TheVariants.{OutOfMemory}
 use Rattle.rt_shell.specs.declared.session.Reply.{Reply}
-use Rattle.rt_shell.specs.declared.runner.Status.{Status}
-use Rattle.rt_shell.specs.declared.runner.Status.TheVariants.{Clean, Refused}
+use Rattle.rt_bytes.specs.declared.outcome.Status.{Status}
+use Rattle.rt_bytes.specs.declared.outcome.Status.TheVariants.{Clean, Refused}
 use Rattle.rt_shell.specs.Session.{State, answer}
 use Rattle.rt_shell.specs.Steps.{and_then}
 use Rattle.rt_shell.specs.Lines.{reply_lines, refusal_line}

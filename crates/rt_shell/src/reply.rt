@@ -1,13 +1,13 @@
 //! What is printed of an answer. Printing takes no memory, so no line is ever cut off by a want of it.
 
 ghost use Rattle.std.specs.List.{flat_map};
-ghost use Rattle.rt_check.specs.Bytes.{Writes};
+ghost use Rattle.rt_bytes.specs.Bytes.{Writes};
 ghost use Rattle.rt_shell.specs.Lines.{row_line, reply_lines, refusal_line};
 
 use crate::rows::Row;
 use crate::session::Reply;
 use itoa::Buffer;
-use rt_check::{ByteWriter, WriteFault, write_parts};
+use rt_bytes::{ByteWriter, WriteFault, write_parts};
 use rt_sql::Refusal;
 
 /// Writes the lines of a reply: for each row `id|minimum|maximum`, as SQLite's shell lists rows.

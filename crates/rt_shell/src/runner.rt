@@ -2,24 +2,19 @@
 
 ghost use Rattle.std.specs.Prelude.{◌≡◌, ℕ, ◌+◌, ◌-◌, ◌<◌, ◌^◌, true, length, None, IfOk, OnOk, ◌≤◌};
 ghost use Rattle.rt_shell.specs.Engine.{IsFresh, GivesAnswer, Answers, AnswersReady, TakesAll, Finishes};
-ghost use Rattle.rt_shell.specs.Run.{Devices, Pumps, Runs};
-ghost use Rattle.rt_sql.specs.Cutter.{ready_piece};
-ghost use Rattle.rt_check.specs.Bytes.{Writes};
+ghost use Rattle.rt_bytes.specs.Devices.{Devices};
+ghost use Rattle.rt_shell.specs.Run.{Pumps, Runs};
+ghost use Rattle.rt_cut.specs.Cutter.{ready_piece};
+ghost use Rattle.rt_bytes.specs.Bytes.{Writes};
 ghost use Rattle.rt_shell.specs.Lines.{answer_lines};
 
 use crate::reply::{write_refusal, write_reply};
 use crate::session::{Reply, Session};
 use rt_box::Capacity;
-use rt_check::{ByteReader, ByteWriter, ReadFault, WriteFault};
-use rt_sql::{Cutter, Piece, Refusal, parse};
+use rt_bytes::{ByteReader, ByteWriter, MOST_READS, READ_SIZE, RunFault, Status, WriteFault};
+use rt_cut::{Cutter, Piece};
+use rt_sql::{Refusal, parse};
 use std::alloc::{AllocError, Global};
-use thiserror::Error;
-
-/// How many bytes a read is given room for.
-pub const READ_SIZE: usize = 4096;
-
-/// The most reads of one run.
-pub const MOST_READS: u64 = 1 << 40;
 
 /// How a run goes.
 #[derive(Clone, Copy, PartialEq, Eq, Debug)]
@@ -28,62 +23,6 @@ pub struct Options {
     pub capacity: Capacity,
     /// The run ends after the first refusal.
     pub bail: bool,
-}
-
-/// Whether a run refused a piece.
-#[derive(Clone, Copy, PartialEq, Eq, Debug)]
-pub enum Status {
-    /// Each piece was carried out.
-    Clean,
-    /// A piece was refused.
-    Refused,
-}
-
-/// Why a run came to no end.
-#[derive(Clone, Copy, PartialEq, Eq, Debug, Error)]
-pub enum RunFault {
-    /// A read failed, or the input had not ended after 2^40 reads.
-    #[error("read fault")]
-    Read,
-    /// A write or the flush failed.
-    #[error("write fault")]
-    Write,
-    /// The start found no memory.
-    #[error("out of memory")]
-    Memory,
-}
-
-impl From<ReadFault> for RunFault {
-    ghost use Rattle.std.specs.Prelude.{◌≡◌};
-    ghost use Rattle.rt_shell.specs.declared.runner.RunFault.TheVariants.{Read};
-
-    ghost from_gives = { λ _ fault. fault ≡ Read };
-
-    fn from(_fault: ReadFault) -> RunFault {
-        RunFault::Read
-    }
-}
-
-impl From<WriteFault> for RunFault {
-    ghost use Rattle.std.specs.Prelude.{◌≡◌};
-    ghost use Rattle.rt_shell.specs.declared.runner.RunFault.TheVariants.{Write};
-
-    ghost from_gives = { λ _ fault. fault ≡ Write };
-
-    fn from(_fault: WriteFault) -> RunFault {
-        RunFault::Write
-    }
-}
-
-impl From<AllocError> for RunFault {
-    ghost use Rattle.std.specs.Prelude.{◌≡◌};
-    ghost use Rattle.rt_shell.specs.declared.runner.RunFault.TheVariants.{Memory};
-
-    ghost from_gives = { λ _ fault. fault ≡ Memory };
-
-    fn from(_error: AllocError) -> RunFault {
-        RunFault::Memory
-    }
 }
 
 /// Whether a run goes on.

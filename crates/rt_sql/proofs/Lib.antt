@@ -14,10 +14,6 @@ mod Transfer
 mod Words
 pub mod Complete
 pub mod CompleteForms
-pub mod CutterAtoms
-pub mod CutterFront
-pub mod CutterLaws
-pub mod CutterRuns
 pub mod Parses
 pub mod Sound
 pub mod SoundForms

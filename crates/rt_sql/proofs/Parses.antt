@@ -3,8 +3,8 @@ use Rattle.std.proofs.Common.{◌≡◌, ◌⊎◌, inl, inr, Bool, true, false,
 use Rattle.std.specs.Prelude.{unwrap_or}
 use lib.IntN.{pos}
 use Rattle.rt_sql.specs.declared.number.Numbers.TheVariants.{Within64Bits, AnySize}
-use Rattle.rt_sql.specs.declared.piece.Ending.{Ending}
-use Rattle.rt_sql.specs.declared.piece.Ending.TheVariants.{Whole, Incomplete, TooLong}
+use Rattle.rt_cut.specs.declared.piece.Ending.{Ending}
+use Rattle.rt_cut.specs.declared.piece.Ending.TheVariants.{Whole, Incomplete, TooLong}
 use Rattle.rt_sql.specs.declared.refusal.Refusal.{Refusal}
 use Rattle.rt_sql.specs.declared.refusal.Refusal.TheVariants as r
 use Rattle.rt_sql.specs.declared.statement.Stmt.{Stmt}
@@ -16,7 +16,7 @@ use Rattle.rt_sql.specs.Parse.{IsText, ParsesText, ParsesAs, Parses, is_unknown}
 use Rattle.rt_sql.specs.Word.{same_word}
 use Rattle.rt_sql.specs.declared.statement.Stmt.TheVariants as stmt
 use Rattle.rt_sql.specs.declared.token.Token.TheVariants as token
-use Rattle.rt_sql.specs.Piece.{PieceText}
+use Rattle.rt_cut.specs.Piece.{PieceText}
 use Rattle.rt_sql.specs.Reading as R
 use Rattle.rt_sql.specs.Reading.{Read}
 use Rattle.rt_sql.specs.Token.{Text}

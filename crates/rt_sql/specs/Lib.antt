@@ -1,14 +1,10 @@
 pub mod Class
 pub mod Cursor
-pub mod Cutter
-pub mod CutterStep
 pub mod Grammar
 pub mod Lex
 pub mod Name
 pub mod Number
 pub mod Parse
-pub mod Piece
-pub mod Pieces
 pub mod Reading
 pub mod Refusal
 pub mod Token

@@ -6,7 +6,7 @@ ghost use Rattle.rt_sql.specs.Reading as reading;
 
 use crate::grammar::{is_command, whole};
 use crate::number::Numbers;
-use crate::piece::{Ending, Piece};
+use rt_cut::{Ending, Piece};
 use crate::refusal::Refusal;
 use crate::statement::Stmt;
 use crate::token::Token;

@@ -1,6 +1,7 @@
 //! Each form of the grammar in several spellings, with the statement that it is.
 
-use crate::{Ending, Piece, Refusal, parse};
+use crate::{Refusal, parse};
+use rt_cut::{Ending, Piece};
 use std::alloc::{AllocError, Global};
 use std::process::Abort;
 

@@ -9,8 +9,9 @@ mod command;
 
 use clap::error::ErrorKind;
 use command::{Asked, asked_by, program};
-use rt_check::bytes::{ByteReader, ByteWriter, OverRead, OverWrite};
-use rt_shell::{RunFault, Status, run, run_check};
+use rt_bytes::{ByteReader, ByteWriter, OverRead, OverWrite, RunFault, Status};
+use rt_report::run_check;
+use rt_shell::run;
 use std::alloc::{AllocError, Global};
 use std::env;
 use std::fs::File;

@@ -1,5 +1,5 @@
 use Rattle.std.proofs.Common.{arith}
-use Rattle.rt_check.proofs.Writing.{WritesAll-part, WritesFront-part, Writes-failed}
+use Rattle.rt_bytes.proofs.Writing.{WritesAll-part, WritesFront-part, Writes-failed}
 use Rattle.rt_shell.specs.Lines.{row_line}
 use Rattle.rt_shell.proofs.reply.write_rows.Goals as goal
 

@@ -1,6 +1,6 @@
 use Rattle.std.proofs.Common.{take}
 use Rattle.std.specs.List.{flat_map}
-use Rattle.rt_check.specs.Bytes.{WritesAll}
+use Rattle.rt_bytes.specs.Bytes.{WritesAll}
 use Rattle.rt_shell.specs.Lines.{row_line}
 use Rattle.rt_shell.proofs.reply.write_rows.Given as goal
 

@@ -1,0 +1,3 @@
+pub mod Bytes
+pub mod Memory
+pub mod Devices

@@ -1,0 +1,24 @@
+//! What a program reads and writes: bytes, whose contracts know what is left, written and counted.
+//!
+//! - `ByteReader` and `ByteWriter`: readers and writers whose contracts know the bytes left and
+//!   written, and count reads and failures.
+//! - `OverRead` and `OverWrite` lay them over std's `Read` and `Write`.
+//! - `SliceReader` and `Sink` stand in memory; `FailingReader`, `FailingWriter`, `OneByteWriter` and
+//!   `UnflushableWriter` fail, for tests.
+//! - `write_whole` and `write_parts` write all that they are given, or a front of it.
+//! - `Status` and `RunFault`: how a run over a reader and a writer ends.
+#![tactic(auto)]
+
+mod device;
+mod failing;
+mod memory;
+mod outcome;
+mod over;
+mod whole;
+
+pub use device::{ByteReader, ByteWriter, ReadFault, WriteFault};
+pub use failing::{FailingReader, FailingWriter, OneByteWriter, UnflushableWriter};
+pub use memory::{Sink, SliceReader};
+pub use outcome::{MOST_READS, READ_SIZE, RunFault, Status};
+pub use over::{OverRead, OverWrite};
+pub use whole::{write_parts, write_whole};

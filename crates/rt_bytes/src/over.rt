@@ -1,0 +1,150 @@
+//! Readers and writers laid over those of std.
+
+ghost use Rattle.std.specs.Prelude.{◌≡◌};
+ghost use Rattle.rt_bytes.specs.Bytes.{one_more};
+
+use crate::device::{ByteReader, ByteWriter, ReadFault, WriteFault};
+use std::io::{Read, Write};
+
+/// A reader over one of std's: what it has left is what that one has left.
+#[derive(Drop)]
+pub struct OverRead<R> {
+    inner: R,
+    failures: u64,
+    reads: u64,
+}
+
+impl<R: Read> OverRead<R> {
+    /// Nothing is read and no failure counted yet.
+    pub fn new(inner: R) -> OverRead<R>
+        ensures left { ⟦<OverRead<R> as ByteReader>⟧.left result ≡ R.remaining inner }
+        ensures failures { ⟦<OverRead<R> as ByteReader>⟧.failures result ≡ 0 }
+        ensures reads { ⟦<OverRead<R> as ByteReader>⟧.reads result ≡ 0 }
+    {
+        OverRead {
+            inner,
+            failures: 0,
+            reads: 0,
+        }
+    }
+
+    /// The reader below.
+    pub fn into_inner(self) -> R
+        ensures { R.remaining result ≡ ⟦<OverRead<R> as ByteReader>⟧.left self }
+    {
+        let OverRead {
+            inner,
+            failures: _,
+            reads: _,
+        } = self;
+        inner
+    }
+
+    /// How many reads failed.
+    pub fn failures(&self) -> u64
+        ensures { result ≡ ⟦<OverRead<R> as ByteReader>⟧.failures self.now }
+    {
+        self.failures
+    }
+
+    /// How many reads there were.
+    pub fn reads(&self) -> u64
+        ensures { result ≡ ⟦<OverRead<R> as ByteReader>⟧.reads self.now }
+    {
+        self.reads
+    }
+}
+
+impl<R: Read> ByteReader for OverRead<R> {
+    ghost left = { λ r. R.remaining r.inner };
+
+    ghost failures = { λ r. r.failures };
+
+    ghost reads = { λ r. r.reads };
+
+    fn read(&mut self, buffer: &mut [u8]) -> Result<usize, ReadFault> {
+        self.reads = self.reads.saturating_add(1);
+        match self.inner.read(buffer) {
+            Ok(count) => Ok(count),
+            Err(_) => {
+                self.failures = self.failures.saturating_add(1);
+                Err(ReadFault)
+            }
+        }
+    }
+}
+
+/// A writer over one of std's: what is written is what that one holds.
+///
+/// A write of bytes that took none of them is an `Err`.
+#[derive(Drop)]
+pub struct OverWrite<W> {
+    inner: W,
+    faults: u64,
+    flushed: bool,
+}
+
+impl<W: Write> OverWrite<W> {
+    /// No fault is counted yet.
+    pub fn new(inner: W) -> OverWrite<W>
+        ensures written { ⟦<OverWrite<W> as ByteWriter>⟧.written result ≡ W.contents inner }
+        ensures faults { ⟦<OverWrite<W> as ByteWriter>⟧.faults result ≡ 0 }
+    {
+        OverWrite {
+            inner,
+            faults: 0,
+            flushed: false,
+        }
+    }
+
+    /// The writer below.
+    pub fn into_inner(self) -> W
+        ensures { W.contents result ≡ ⟦<OverWrite<W> as ByteWriter>⟧.written self }
+    {
+        let OverWrite {
+            inner,
+            faults: _,
+            flushed: _,
+        } = self;
+        inner
+    }
+
+    /// How many writes and flushes failed.
+    pub fn faults(&self) -> u64
+        ensures { result ≡ ⟦<OverWrite<W> as ByteWriter>⟧.faults self.now }
+    {
+        self.faults
+    }
+}
+
+impl<W: Write> ByteWriter for OverWrite<W> {
+    ghost written = { λ w. W.contents w.inner };
+
+    ghost faults = { λ w. w.faults };
+
+    ghost flushed = { λ w. w.flushed };
+
+    fn write(&mut self, bytes: &[u8]) -> Result<usize, WriteFault> {
+        self.flushed = false;
+        match self.inner.write(bytes) {
+            Ok(count) if count > 0 || bytes.is_empty() => Ok(count),
+            _ => {
+                self.faults = self.faults.saturating_add(1);
+                Err(WriteFault)
+            }
+        }
+    }
+
+    fn flush(&mut self) -> Result<(), WriteFault> {
+        match self.inner.flush() {
+            Ok(()) => {
+                self.flushed = true;
+                Ok(())
+            }
+            Err(_) => {
+                self.faults = self.faults.saturating_add(1);
+                Err(WriteFault)
+            }
+        }
+    }
+}

@@ -1,0 +1,10 @@
+pub mod Children
+pub mod Entries
+pub mod Growth
+pub mod Holders
+pub mod Covering
+pub mod Keys
+pub mod Lists
+pub mod Outliers
+pub mod Partings
+pub mod Sorted

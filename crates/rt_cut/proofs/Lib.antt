@@ -1,0 +1,4 @@
+pub mod CutterAtoms
+pub mod CutterRuns
+pub mod CutterFront
+pub mod CutterLaws

@@ -1,0 +1,397 @@
+ghost use Rattle.std.specs.Prelude.{◌≡◌, ℕ, ◌+◌, ◌<◌, ◌≤◌, ◌⊎◌, List, [], ◌∷◌, ◌++◌, length, take, IsTrue, IsSome, IsNone, IfSome, IfOk, MatchOption, Some};
+ghost use Rattle.rt_cut.specs.Piece.{PieceText};
+ghost use Rattle.rt_cut.specs.Pieces.{is_white, is_gap_byte, IsGap, IsWholePiece, IsLastPiece, CuttingIsDetermined, EveryTextIsCut};
+
+use crate::piece::{Ending, Piece};
+use std::alloc::{AllocError, Global};
+use std::marker::Model;
+
+/// The most bytes that a piece may have.
+const LONGEST_PIECE: usize = 65_536;
+
+/// A gap between pieces, or a statement.
+#[derive(Clone, Copy, PartialEq, Eq, Debug)]
+enum Part {
+    Gap,
+    Statement,
+}
+
+/// Where in a gap or a statement the bytes so far stop.
+#[derive(Clone, Copy, PartialEq, Eq, Debug)]
+enum Spot {
+    /// After a whole atom: a byte, a comment or what stands in quotes.
+    Between,
+    /// After a `-`, which may begin a comment.
+    AfterDash,
+    /// After a `/`, which may begin a comment.
+    AfterSlash,
+    /// In a `--` comment.
+    LineComment,
+    /// In a `/*` comment.
+    BlockComment,
+    /// In a `/*` comment, after a `*` that may begin its end.
+    AfterStar,
+}
+
+/// The kind of place at which the bytes so far stop.
+#[derive(Clone, Copy, PartialEq, Eq, Debug)]
+enum Place {
+    In(Part, Spot),
+    /// In a statement, behind this quote.
+    Quoted(u8),
+    DotLine,
+    /// At the end of a piece.
+    End,
+}
+
+impl Place {
+    ghost use Rattle.rt_cut.specs.Cutter.{ending_at};
+    ghost use Rattle.rt_cut.specs.CutterStep.{place_after, gap_after, statement_after};
+
+    /// The place after one more byte.
+    fn after(self, byte: u8) -> Place
+        ensures { result ≡ place_after self byte }
+    {
+        match self {
+            Place::In(part, spot) => Place::after_spot(part, spot, byte),
+            Place::Quoted(quote) if byte == quote => Place::In(Part::Statement, Spot::Between),
+            Place::DotLine if byte == b'\n' => Place::End,
+            Place::Quoted(_) | Place::DotLine | Place::End => self,
+        }
+    }
+
+    /// The place after one more byte in a gap or a statement.
+    fn after_spot(part: Part, spot: Spot, byte: u8) -> Place
+        ensures { result ≡ place_after (Place.In part spot) byte }
+    {
+        match (spot, byte) {
+            (Spot::AfterDash, b'-') => Place::In(part, Spot::LineComment),
+            (Spot::AfterSlash, b'*') => Place::In(part, Spot::BlockComment),
+            (Spot::LineComment, b'\n') | (Spot::AfterStar, b'/') => Place::In(part, Spot::Between),
+            (Spot::LineComment, _) => Place::In(part, Spot::LineComment),
+            (Spot::BlockComment | Spot::AfterStar, b'*') => Place::In(part, Spot::AfterStar),
+            (Spot::BlockComment | Spot::AfterStar, _) => Place::In(part, Spot::BlockComment),
+            (Spot::Between, _) if part == Part::Gap => Place::after_gap(byte),
+            (Spot::Between | Spot::AfterDash | Spot::AfterSlash, _) => Place::after_atom(byte),
+        }
+    }
+
+    /// How a piece ended here, if one has: by itself, or with the input.
+    fn ending(self, finished: bool) -> Option<Ending>
+        ensures { result ≡ ending_at self finished }
+    {
+        match self {
+            Place::End => Some(Ending::Whole),
+            _ if !finished => None,
+            Place::DotLine => Some(Ending::Whole),
+            Place::In(Part::Statement, _) | Place::Quoted(_) => Some(Ending::Incomplete),
+            Place::In(Part::Gap, Spot::AfterDash | Spot::AfterSlash) => Some(Ending::Incomplete),
+            Place::In(Part::Gap, _) => None,
+        }
+    }
+
+    /// The place after a byte between pieces.
+    fn after_gap(byte: u8) -> Place
+        ensures { result ≡ gap_after byte }
+    {
+        match byte {
+            b'.' => Place::DotLine,
+            b'-' => Place::In(Part::Gap, Spot::AfterDash),
+            b'/' => Place::In(Part::Gap, Spot::AfterSlash),
+            _ if is_gap_byte(byte) => Place::In(Part::Gap, Spot::Between),
+            _ => Place::after_atom(byte),
+        }
+    }
+
+    /// The place after a byte behind an atom of a statement, or at its beginning.
+    fn after_atom(byte: u8) -> Place
+        ensures { result ≡ statement_after byte }
+    {
+        match byte {
+            b';' => Place::End,
+            b'-' => Place::In(Part::Statement, Spot::AfterDash),
+            b'/' => Place::In(Part::Statement, Spot::AfterSlash),
+            b'\'' | b'"' => Place::Quoted(byte),
+            _ => Place::In(Part::Statement, Spot::Between),
+        }
+    }
+}
+
+fn is_white(byte: u8) -> bool
+    ensures { result ≡ is_white byte }
+{
+    matches!(byte, b'\t' | b'\n' | b'\x0c' | b'\r' | b' ')
+}
+
+fn is_gap_byte(byte: u8) -> bool
+    ensures { result ≡ is_gap_byte byte }
+{
+    is_white(byte) || byte == b';'
+}
+
+/// Cuts a script into its pieces, whatever parts of it are fed at a time.
+#[derive(Drop)]
+pub struct Cutter {
+    /// The bytes of the piece so far.
+    held: Vec<u8>,
+    /// The piece has more bytes than are held of one.
+    too_long: bool,
+    place: Place,
+    /// The input has ended.
+    finished: bool,
+}
+
+impl Model for Cutter {
+    ghost use Rattle.std.specs.Prelude.{◌≡◌, ◌≤◌, [], Some, None, IsTrue, vec_len, vec_capacity, if◌then◌else◌};
+    ghost use Rattle.rt_cut.specs.Cutter.{Front};
+
+    ghost Value = { Front };
+
+    ghost view = { λ c. record {
+      place = c.place;
+      held = if c.too_long then None else Some c.held.items;
+      finished = c.finished;
+    } };
+
+    ghost invariant = { λ c. (65536 ≤ vec_capacity c.held) × (vec_len c.held ≤ 65536) × (IsTrue c.too_long → c.held.items ≡ []) };
+}
+
+impl Cutter {
+    ghost use Rattle.rt_cut.specs.Cutter.{StandsAt, FinishedAt, ready_piece};
+    ghost use Rattle.rt_cut.specs.CutterStep.{front_after, with_byte};
+
+    /// A cutter at the start of a script. It takes the memory for the longest piece, and no other
+    /// call takes any.
+    pub fn new(alloc: Global) -> Result<Cutter, AllocError>
+        ensures { IfOk result (λ c. StandsAt c []) }
+    {
+        Ok(Cutter {
+            held: Vec::with_capacity(alloc, LONGEST_PIECE)?,
+            too_long: false,
+            place: Place::In(Part::Gap, Spot::Between),
+            finished: false,
+        })
+    }
+
+    /// Takes bytes up to the end of the first piece that ends in them, and says how many. With a
+    /// piece ready it takes none. Which piece comes of bytes after `finish` is left open.
+    pub fn feed(&mut self, bytes: &[u8]) -> usize
+        ensures taken { result ≤ length bytes.now }
+        ensures stands { (x : List ℕ) → StandsAt self.old x → StandsAt self.new (x ++ take result bytes.now) }
+        ensures stops { result < length bytes.now → IsSome (ready_piece self.new) }
+        ensures keeps { IsSome (ready_piece self.old) → (result ≡ 0) × (self.new ≡ self.old) }
+        ensures progress { IsNone (ready_piece self.old) → 0 < length bytes.now → 0 < result }
+    {
+        if self.ready().is_some() {
+            return 0;
+        }
+        for (i, byte) in bytes.iter().enumerate() {
+            self.take_byte(*byte);
+            if self.place == Place::End {
+                return i + 1;
+            }
+        }
+        bytes.len()
+    }
+
+    /// The input has ended.
+    pub fn finish(&mut self)
+        ensures { (x : List ℕ) → StandsAt self.old x → FinishedAt self.new x }
+    {
+        self.finished = true;
+    }
+
+    /// The piece that has ended: by itself, or with the input.
+    pub fn ready(&self) -> Option<Piece<'_>>
+        ensures value { result ≡ ready_piece self.now }
+        ensures whole { (x : List ℕ) → StandsAt self.now x
+            → MatchOption result (IsGap x ⊎ ((p : PieceText) × IsLastPiece x p)) (λ p. IsWholePiece x p) }
+        ensures last { (x : List ℕ) → FinishedAt self.now x
+            → MatchOption result (IsGap x) (λ p. IsWholePiece x p ⊎ IsLastPiece x p) }
+        ensures within { IfSome result (λ p. length p.text ≤ 65536) }
+    {
+        let ending = self.place.ending(self.finished)?;
+        let ending = if self.too_long {
+            Ending::TooLong
+        } else {
+            ending
+        };
+        Some(Piece::new(&self.held, ending))
+    }
+
+    /// Drops the piece, and starts anew.
+    pub fn clear(&mut self)
+        ensures { StandsAt self.new [] }
+    {
+        self.drop_held();
+        self.place = Place::In(Part::Gap, Spot::Between);
+        self.finished = false;
+    }
+
+    /// Takes one byte.
+    fn take_byte(&mut self, byte: u8)
+        ensures { self.new ≡ front_after self.old byte }
+    {
+        self.place = self.place.after(byte);
+        match self.place {
+            Place::In(_, Spot::AfterDash | Spot::AfterSlash) => self.hold(byte),
+            Place::In(Part::Gap, _) => self.drop_held(),
+            // The line feed that ends a dot line.
+            Place::End if byte == b'\n' => {}
+            _ => self.hold(byte),
+        }
+    }
+
+    /// Holds one more byte of the piece, or none where it has too many.
+    fn hold(&mut self, byte: u8)
+        ensures { self.new ≡ record self.old { held = with_byte self.old.held byte } }
+    {
+        if self.held.len() == LONGEST_PIECE {
+            self.held.clear();
+            self.too_long = true;
+        } else if !self.too_long {
+            // There is room, which `new` took.
+            let _ = self.held.push(byte);
+        }
+    }
+
+    /// Holds no byte, as where no piece has begun.
+    fn drop_held(&mut self)
+        ensures { self.new ≡ record self.old { held = Some [] } }
+    {
+        self.held.clear();
+        self.too_long = false;
+    }
+}
+
+/// No text is cut into pieces in two ways.
+pub fn cutting_is_determined()
+    ensures { CuttingIsDetermined }
+{}
+
+/// Each text is cut into pieces in some way.
+pub fn every_text_is_cut()
+    ensures { EveryTextIsCut }
+{}
+
+#[cfg(test)]
+mod tests {
+    use super::*;
+    use std::process::Abort;
+
+    fn shows(cutter: &Cutter, text: &[u8], ending: Ending) -> bool {
+        match cutter.ready() {
+            None => false,
+            Some(piece) => piece.text() == text && piece.ending() == ending,
+        }
+    }
+
+    #[test]
+    fn takes_bytes_up_to_the_end_of_a_piece(rt: HostRuntime) -> Result<(), AllocError> {
+        let mut cutter = Cutter::new(rt.alloc())?;
+        assert_eq!(rt; cutter.feed(b"SELECT 1;x"), 9);
+        assert!(rt; shows(&cutter, b"SELECT 1;", Ending::Whole));
+        assert_eq!(rt; cutter.feed(b"x"), 0);
+        cutter.clear();
+        assert!(rt; cutter.ready().is_none());
+        assert_eq!(rt; cutter.feed(b"x"), 1);
+        assert!(rt; cutter.ready().is_none());
+        cutter.finish();
+        assert!(rt; shows(&cutter, b"x", Ending::Incomplete));
+        cutter.clear();
+        assert!(rt; cutter.ready().is_none());
+        Ok(())
+    }
+
+    /// Feeds a script in two parts, cut after each byte in turn, and looks for one piece, the only
+    /// one of the script or its first.
+    fn cuts(
+        rt: &(impl AllocGlobal + Abort),
+        script: &[u8],
+        text: &[u8],
+        ending: Ending,
+    ) -> Result<(), AllocError> {
+        for at in 0..script.len() {
+            let mut cutter = Cutter::new(rt.alloc())?;
+            if cutter.feed(&script[..at]) == at {
+                cutter.feed(&script[at..]);
+            }
+            cutter.finish();
+            assert!(rt; shows(&cutter, text, ending), "cut after {at} bytes");
+        }
+        Ok(())
+    }
+
+    #[test]
+    fn cuts_wherever_a_read_ends(rt: HostRuntime) -> Result<(), AllocError> {
+        // What stands before a piece is no part of it.
+        cuts(
+            &rt,
+            b" ;\t\n\x0c\r-- x;\n;;/* z; */a b ; c",
+            b"a b ;",
+            Ending::Whole,
+        )?;
+        cuts(
+            &rt,
+            b"SELECT * FROM t -- y;\n; /* z; */ FOO;",
+            b"SELECT * FROM t -- y;\n;",
+            Ending::Whole,
+        )?;
+        // A quote that is left open, and quotes and comments that hide a `;`.
+        cuts(
+            &rt,
+            b"INSERT INTO t VALUES(1,0,1,'a;--",
+            b"INSERT INTO t VALUES(1,0,1,'a;--",
+            Ending::Incomplete,
+        )?;
+        cuts(
+            &rt,
+            b"a ';''\";' \"';\" /* ; */ --;'\n;b",
+            b"a ';''\";' \"';\" /* ; */ --;'\n;",
+            Ending::Whole,
+        )?;
+        // `/*/` closes no comment, and `**/` does.
+        cuts(&rt, b"a/*/;*/b;c", b"a/*/;*/b;", Ending::Whole)?;
+        cuts(&rt, b"/*/;*/a/**;**/b;c", b"a/**;**/b;", Ending::Whole)?;
+        // One `-` or `/` begins a piece.
+        cuts(&rt, b"-;", b"-;", Ending::Whole)?;
+        cuts(&rt, b"--\n/", b"/", Ending::Incomplete)?;
+        cuts(&rt, b"/-/-;", b"/-/-;", Ending::Whole)?;
+        // Dot lines end at their line feed, or with the input.
+        cuts(
+            &rt,
+            b" .view 'v; /* -- \nx",
+            b".view 'v; /* -- ",
+            Ending::Whole,
+        )?;
+        cuts(&rt, b".view v;", b".view v;", Ending::Whole)
+    }
+
+    #[test]
+    fn finds_no_piece_between_pieces(rt: HostRuntime) -> Result<(), AllocError> {
+        for script in [&b""[..], b" ;\n", b"-- x", b"/* x", b"/*/", b"/* x *"] {
+            let mut cutter = Cutter::new(rt.alloc())?;
+            assert_eq!(rt; cutter.feed(script), script.len());
+            cutter.finish();
+            assert!(rt; cutter.ready().is_none());
+        }
+        Ok(())
+    }
+
+    #[test]
+    fn passes_over_a_piece_that_is_too_long(rt: HostRuntime) -> Result<(), AllocError> {
+        let mut longest = vec![in rt.alloc(); b'a'; LONGEST_PIECE - 1]?;
+        longest.push(b';')?;
+        let mut cutter = Cutter::new(rt.alloc())?;
+        assert_eq!(rt; cutter.feed(&longest), LONGEST_PIECE);
+        assert!(rt; shows(&cutter, &longest, Ending::Whole));
+        cutter.clear();
+        assert_eq!(rt; cutter.feed(b"a"), 1);
+        assert_eq!(rt; cutter.feed(&longest), LONGEST_PIECE);
+        assert!(rt; shows(&cutter, b"", Ending::TooLong));
+        cutter.clear();
+        assert_eq!(rt; cutter.feed(b"b;"), 2);
+        assert!(rt; shows(&cutter, b"b;", Ending::Whole));
+        Ok(())
+    }
+}

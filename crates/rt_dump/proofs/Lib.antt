@@ -1,0 +1,15 @@
+pub mod DumpText
+pub mod Cuts
+pub mod Numerals
+pub mod Wording
+pub mod Ranges
+pub mod Spelled
+pub mod WrittenPieces
+pub mod WrittenNumbers
+pub mod WrittenLines
+pub mod Written
+pub mod WrittenText
+pub mod AcceptedWords
+pub mod AcceptedLines
+pub mod AcceptedSteps
+pub mod AcceptedText

@@ -1,0 +1,6 @@
+pub mod Dump
+pub mod Pieces
+pub mod Numbers
+pub mod Lines
+pub mod Reading
+pub mod InRange

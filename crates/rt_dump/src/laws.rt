@@ -1,0 +1,36 @@
+//! What reading and writing dumps have to do with each other, as laws of the definitions that the contracts
+//! cite. Each function changes nothing, and only looks at the shadows for what their types say of them: its
+//! contract is the law.
+
+ghost use Rattle.std.specs.Prelude.{◌≡◌, ℕ, List, Ok};
+ghost use Rattle.rt_dump.specs.declared.dump.AnyShadow.{AnyShadow};
+ghost use Rattle.rt_dump.specs.Dump.{any_text};
+ghost use Rattle.rt_dump.specs.Reading.{read_text};
+ghost use Rattle.rt_dump.specs.InRange.{IsAnyNumbered};
+
+use crate::dump::AnyShadow;
+use crate::looks::look_at;
+
+/// What is written of a shadow is read as that shadow, where the root, the nodes' numbers, the parents and
+/// the leaves are at least 1.
+pub fn written_is_read(shadow: &AnyShadow)
+    requires { IsAnyNumbered shadow.now }
+    ensures { read_text (any_text shadow.now) ≡ Ok shadow.now }
+{
+    look_at(shadow);
+}
+
+/// Shadows with the same text are the same, under the same premise.
+pub fn shadows_have_their_own_texts(a: &AnyShadow, b: &AnyShadow)
+    requires first { IsAnyNumbered a.now }
+    requires second { IsAnyNumbered b.now }
+    ensures { any_text a.now ≡ any_text b.now → a.now ≡ b.now }
+{
+    look_at(a);
+    look_at(b);
+}
+
+/// A text that is read is, byte for byte, the text of the shadow that is read.
+pub fn read_is_written()
+    ensures { (text : List ℕ) (shadow : AnyShadow) → read_text text ≡ Ok shadow → any_text shadow ≡ text }
+{}

@@ -1,0 +1,17 @@
+//! Dumps: a tree seen from outside as text, and back.
+//!
+//! - `write_dump` writes a shadow's text, or after a fault a front of it.
+//! - `read_dump` reads any bytes: as a shadow, or with the first faulty line and its first code.
+//! - `laws`: what is written is read again, and what is read is written back byte for byte.
+#![tactic(auto)]
+
+mod dump;
+pub mod laws;
+mod lines;
+mod looks;
+mod numbers;
+mod pieces;
+mod reading;
+
+pub use dump::{AnyShadow, write_dump};
+pub use reading::{DumpFault, read_dump};

@@ -1,0 +1,473 @@
+//! A dump read line by line.
+
+ghost use Rattle.std.specs.Prelude.{◌≡◌, ◌≤◌, ◌<◌, ◌-◌, ◌^◌, length};
+ghost use Rattle.rt_dump.specs.Lines.{words, kind_of, node_head, row_entry, raw_cell};
+ghost use Rattle.rt_dump.specs.Reading.{due, empty_node, after_head, after_cell, after_row, after_kind, after_line, Gives, is_nothing, is_end, read_rest, Reads, axes_of, capacity_of, header_of, start, read_body, read_kind, read_text};
+
+use crate::dump::AnyShadow;
+use rt_check::Items;
+use crate::lines::{LineKind, NodeHead, kind_of, node_head, raw_cell, row_entry};
+use rt_check::NodeRow;
+use crate::numbers::{byte_of, count_of, positive_of};
+use crate::pieces::Pieces;
+use rt_check::{Shadow, ShadowFault};
+use rt_box::Capacity;
+use std::alloc::Global;
+
+/// Why a line isn't taken: its code, or want of memory.
+#[derive(Clone, Copy)]
+pub(crate) enum LineFault {
+    Code(u8),
+    Memory,
+}
+
+/// A shadow of which some lines are read, and how many lines of each kind are to come.
+#[derive(Drop)]
+pub(crate) struct Progress<const D: usize> {
+    pub(crate) shadow: Shadow<D>,
+    pub(crate) nodes: u64,
+    pub(crate) rows: u64,
+    pub(crate) cells: u64,
+}
+
+/// The kind of line that is due.
+fn due<const D: usize>(progress: &Progress<D>) -> LineKind
+    ensures { result ≡ due progress.now }
+{
+    if progress.cells > 0 {
+        return LineKind::Cell;
+    }
+    if progress.nodes > 0 {
+        return LineKind::Node;
+    }
+    if progress.rows > 0 {
+        return LineKind::Row;
+    }
+    LineKind::End
+}
+
+fn empty_node<const D: usize>(alloc: Global, head: &NodeHead) -> NodeRow<D>
+    ensures { result ≡ empty_node head.now }
+{
+    NodeRow {
+        number: head.number,
+        level: head.level,
+        parent: head.parent,
+        cells: Items::new(alloc),
+    }
+}
+
+fn take_head<const D: usize>(
+    progress: &mut Progress<D>,
+    alloc: Global,
+    line: &[u8],
+) -> Result<(), LineFault>
+    ensures { Gives (after_head progress.old (node_head (words line.now))) result progress.new }
+{
+    let Some(head) = node_head(line) else {
+        return Err(LineFault::Code(4));
+    };
+    match progress.shadow.add_node(empty_node(alloc, &head)) {
+        Ok(()) => {}
+        Err(ShadowFault::Twice) => return Err(LineFault::Code(2)),
+        Err(ShadowFault::Memory) => return Err(LineFault::Memory),
+    }
+    progress.nodes = progress.nodes.saturating_sub(1);
+    progress.cells = head.cells;
+    Ok(())
+}
+
+fn take_cell<const D: usize>(progress: &mut Progress<D>, line: &[u8]) -> Result<(), LineFault>
+    requires { D ≤ 3 }
+    ensures { Gives (after_cell progress.old (raw_cell D (words line.now))) result progress.new }
+{
+    let Some(cell) = raw_cell(line) else {
+        return Err(LineFault::Code(4));
+    };
+    if progress.shadow.add_cell(cell).is_err() {
+        return Err(LineFault::Memory);
+    }
+    progress.cells = progress.cells.saturating_sub(1);
+    Ok(())
+}
+
+fn take_row<const D: usize>(progress: &mut Progress<D>, line: &[u8]) -> Result<(), LineFault>
+    ensures { Gives (after_row progress.old (row_entry (words line.now))) result progress.new }
+{
+    let Some(row) = row_entry(line) else {
+        return Err(LineFault::Code(4));
+    };
+    match progress.shadow.add_row(row) {
+        Ok(()) => {}
+        Err(ShadowFault::Twice) => return Err(LineFault::Code(2)),
+        Err(ShadowFault::Memory) => return Err(LineFault::Memory),
+    }
+    progress.rows = progress.rows.saturating_sub(1);
+    Ok(())
+}
+
+/// Takes a line of that kind where another may be due.
+fn take_kind<const D: usize>(
+    progress: &mut Progress<D>,
+    alloc: Global,
+    line: &[u8],
+    kind: LineKind,
+) -> Result<(), LineFault>
+    requires { D ≤ 3 }
+    ensures { Gives (after_kind progress.old (words line.now) (due progress.old) kind) result progress.new }
+{
+    match (due(progress), kind) {
+        (LineKind::Node, LineKind::Node) => take_head(progress, alloc, line),
+        (LineKind::Cell, LineKind::Cell) => take_cell(progress, line),
+        (LineKind::Row, LineKind::Row) => take_row(progress, line),
+        (LineKind::End, LineKind::End) => Ok(()),
+        _ => Err(LineFault::Code(3)),
+    }
+}
+
+/// Takes a line after the header.
+fn take_line<const D: usize>(
+    progress: &mut Progress<D>,
+    alloc: Global,
+    line: &[u8],
+) -> Result<(), LineFault>
+    requires { D ≤ 3 }
+    ensures { Gives (after_line progress.old line.now) result progress.new }
+{
+    match kind_of(line, D) {
+        Some(kind) => take_kind(progress, alloc, line, kind),
+        None => Err(LineFault::Code(1)),
+    }
+}
+
+/// Why bytes aren't read as a dump.
+#[derive(Clone, Copy, PartialEq, Eq, Debug)]
+pub enum DumpFault {
+    /// The first faulty line, counted from 1, and the first code that applies to it: 1 bad line,
+    /// 2 listed twice, 3 count wrong, 4 out of range, 5 truncated.
+    At {
+        /// The line's number.
+        line: u64,
+        /// The code.
+        code: u8,
+    },
+    /// No memory is left.
+    Memory,
+}
+
+/// Whether the last line is due.
+fn is_at_end<const D: usize>(progress: &Progress<D>) -> bool
+    ensures { result ≡ is_end (due progress.now) }
+{
+    match due(progress) {
+        LineKind::End => true,
+        LineKind::Header | LineKind::Node | LineKind::Cell | LineKind::Row => false,
+    }
+}
+
+/// Whether the text has ended.
+fn is_nothing(lines: &mut Pieces<'_>) -> bool
+    ensures { result ≡ is_nothing lines.old }
+{
+    match lines.next() {
+        Some(rest) => rest.is_empty() && lines.is_done(),
+        None => false,
+    }
+}
+
+/// Reads the lines after the header.
+fn read_rest<const D: usize>(
+    mut progress: Progress<D>,
+    alloc: Global,
+    lines: &mut Pieces<'_>,
+) -> Result<Shadow<D>, DumpFault>
+    requires axes { D ≤ 3 }
+    requires short { length lines.old < 2 ^ 64 - 2 }
+    ensures { Reads (read_rest lines.old progress.entry 2) result }
+{
+    let mut number = 2u64;
+    while let Some(line) = lines.next() {
+        if lines.is_done() {
+            return Err(DumpFault::At {
+                line: number,
+                code: 5,
+            });
+        }
+        let is_end = is_at_end(&progress);
+        match take_line(&mut progress, alloc, line) {
+            Ok(()) => {}
+            Err(LineFault::Code(code)) => return Err(DumpFault::At { line: number, code }),
+            Err(LineFault::Memory) => return Err(DumpFault::Memory),
+        }
+        if is_end {
+            if !is_nothing(lines) {
+                return Err(DumpFault::At {
+                    line: number + 1,
+                    code: 1,
+                });
+            }
+            return Ok(progress.shadow);
+        }
+        number += 1;
+    }
+    Err(DumpFault::At {
+        line: number,
+        code: 5,
+    })
+}
+
+/// What a header says.
+#[derive(Clone, Copy)]
+struct Heading {
+    axes: u8,
+    capacity: Capacity,
+    root: i64,
+    nodes: u64,
+    rows: u64,
+}
+
+/// One to three axes.
+fn axes_of(word: &[u8]) -> Option<u8>
+    ensures { result ≡ axes_of word.now }
+{
+    let axes = byte_of(word)?;
+    if axes >= 1 && axes <= 3 {
+        Some(axes)
+    } else {
+        None
+    }
+}
+
+/// A capacity from 5 to 51.
+fn capacity_of(word: &[u8]) -> Option<Capacity>
+    ensures { result ≡ capacity_of word.now }
+{
+    Capacity::new(byte_of(word)?)
+}
+
+/// What a header says, where its numbers are in range.
+fn header_of(line: &[u8]) -> Option<Heading>
+    ensures { result ≡ header_of (words line.now) }
+{
+    let mut words = Pieces::new(line, b' ');
+    let _kind = words.next()?;
+    let axes = words.next()?;
+    let capacity = words.next()?;
+    let root = words.next()?;
+    let nodes = words.next()?;
+    let rows = words.next()?;
+    let axes = axes_of(axes)?;
+    let capacity = capacity_of(capacity)?;
+    let root = positive_of(root)?;
+    let nodes = count_of(nodes)?;
+    let rows = count_of(rows)?;
+    Some(Heading {
+        axes,
+        capacity,
+        root,
+        nodes,
+        rows,
+    })
+}
+
+fn start<const D: usize>(alloc: Global, header: &Heading) -> Progress<D>
+    requires some { 1 ≤ D }
+    requires few { D ≤ 3 }
+    ensures { result ≡ start D header.now }
+{
+    Progress {
+        shadow: Shadow::new(alloc, header.capacity, header.root),
+        nodes: header.nodes,
+        rows: header.rows,
+        cells: 0,
+    }
+}
+
+/// Reads the lines after a header.
+fn read_body(
+    alloc: Global,
+    header: &Heading,
+    lines: &mut Pieces<'_>,
+) -> Result<AnyShadow, DumpFault>
+    requires { length lines.old < 2 ^ 64 - 2 }
+    ensures { Reads (read_body header.now lines.old) result }
+{
+    match header.axes {
+        1 => Ok(AnyShadow::One(read_rest(start(alloc, header), alloc, lines)?)),
+        2 => Ok(AnyShadow::Two(read_rest(start(alloc, header), alloc, lines)?)),
+        _ => Ok(AnyShadow::Three(read_rest(start(alloc, header), alloc, lines)?)),
+    }
+}
+
+/// Reads what comes after the first line, if that is a header.
+fn read_first(alloc: Global, line: &[u8], lines: &mut Pieces<'_>) -> Result<AnyShadow, DumpFault>
+    requires { length lines.old < 2 ^ 64 - 2 }
+    ensures { Reads (read_kind (kind_of 0 (words line.now)) (header_of (words line.now)) lines.old) result }
+{
+    let Some(kind) = kind_of(line, 0) else {
+        return Err(DumpFault::At { line: 1, code: 1 });
+    };
+    match kind {
+        LineKind::Header => {}
+        LineKind::Node | LineKind::Cell | LineKind::Row | LineKind::End => {
+            return Err(DumpFault::At { line: 1, code: 3 });
+        }
+    }
+    match header_of(line) {
+        Some(header) => read_body(alloc, &header, lines),
+        None => Err(DumpFault::At { line: 1, code: 4 }),
+    }
+}
+
+/// Reads a dump. Memory is taken as lines come, and none for counts alone.
+pub fn read_dump(alloc: Global, bytes: &[u8]) -> Result<AnyShadow, DumpFault>
+    ensures { Reads (read_text bytes.now) result }
+{
+    let mut lines = Pieces::new(bytes, b'\n');
+    let Some(line) = lines.next() else {
+        return Err(DumpFault::At { line: 1, code: 5 });
+    };
+    if lines.is_done() {
+        return Err(DumpFault::At { line: 1, code: 5 });
+    }
+    read_first(alloc, line, &mut lines)
+}
+
+#[cfg(test)]
+mod tests {
+    use super::*;
+    use rt_bytes::Sink;
+    use rt_check::{Problem, check};
+    use crate::dump::write_dump;
+    use std::alloc::AllocError;
+    use std::test::Fail;
+
+    const TWO_LEAVES: &str =
+        "rtree 1 5 1 3 6\nnode 1 1 - 2\ncell 2 0 2\ncell 3 10 12\nnode 2 0 1 3\ncell 1 0 0\ncell 2 1 1\ncell 3 2 2\nnode 3 0 1 3\ncell 4 10 10\ncell 5 11 11\ncell 6 12 12\nrow 1 2\nrow 2 2\nrow 3 2\nrow 4 3\nrow 5 3\nrow 6 3\nend\n";
+
+    const THREE_LEAVES: &str =
+        "rtree 1 5 1 4 9\nnode 1 1 - 3\ncell 2 0 1\ncell 3 10 12\ncell 4 2 5\nnode 2 0 1 2\ncell 1 0 0\ncell 2 1 1\nnode 3 0 1 3\ncell 4 10 10\ncell 5 11 11\ncell 6 12 12\nnode 4 0 1 4\ncell 3 2 2\ncell 7 3 3\ncell 8 4 4\ncell 9 5 5\nrow 1 2\nrow 2 2\nrow 3 4\nrow 4 3\nrow 5 3\nrow 6 3\nrow 7 4\nrow 8 4\nrow 9 4\nend\n";
+
+    const UNEVEN_LEAVES: &str =
+        "rtree 1 5 1 3 6\nnode 1 1 - 2\ncell 2 1 2\ncell 3 3 12\nnode 2 0 1 2\ncell 2 1 1\ncell 3 2 2\nnode 3 0 1 4\ncell 7 3 3\ncell 8 4 4\ncell 9 5 5\ncell 6 12 12\nrow 2 2\nrow 3 2\nrow 6 3\nrow 7 3\nrow 8 3\nrow 9 3\nend\n";
+
+    const THREE_AXES: &str =
+        "rtree 3 51 9223372036854775807 1 1\nnode 9223372036854775807 0 - 1\ncell -9223372036854775808 -2147483648 2147483647 5 -5 0 0\nrow -9223372036854775808 9223372036854775807\nend\n";
+
+    fn written(alloc: Global, shadow: &AnyShadow) -> Vec<u8> {
+        let mut sink = Sink::new(alloc);
+        let _ = write_dump(shadow, &mut sink);
+        sink.into_bytes()
+    }
+
+    /// The text with one line in the place of another.
+    fn replaced(alloc: Global, text: &str, line: usize, by: &str) -> Result<String, AllocError> {
+        let mut changed = String::new(alloc);
+        for (index, old) in text.lines().enumerate() {
+            changed.push_str(if index + 1 == line { by } else { old })?;
+            changed.push_str("\n")?;
+        }
+        Ok(changed)
+    }
+
+    fn fault_of(alloc: Global, bytes: &[u8]) -> Option<DumpFault> {
+        match read_dump(alloc, bytes) {
+            Ok(_) => None,
+            Err(fault) => Some(fault),
+        }
+    }
+
+    fn at(line: u64, code: u8) -> Option<DumpFault> {
+        Some(DumpFault::At { line, code })
+    }
+
+    fn problems(alloc: Global, text: &str) -> Result<Vec<Problem>, Fail> {
+        match read_dump(alloc, text.as_bytes()) {
+            Ok(AnyShadow::One(shadow)) => Ok(check(alloc, &shadow)?),
+            _ => Err(Fail::from("one axis")),
+        }
+    }
+
+    #[test]
+    fn dumps_are_read_and_written_again(rt: HostRuntime) -> Result<(), Fail> {
+        for text in [TWO_LEAVES, THREE_LEAVES, UNEVEN_LEAVES, THREE_AXES] {
+            match read_dump(rt.alloc(), text.as_bytes()) {
+                Ok(shadow) => {
+                    assert_eq!(rt; written(rt.alloc(), &shadow).as_slice(), text.as_bytes());
+                }
+                Err(fault) => assert_eq!(rt; Some(fault), None),
+            }
+        }
+        Ok(())
+    }
+
+    #[test]
+    fn trees_have_no_problem(rt: HostRuntime) -> Result<(), Fail> {
+        for text in [TWO_LEAVES, THREE_LEAVES, UNEVEN_LEAVES] {
+            assert_eq!(rt; problems(rt.alloc(), text)?.len(), 0);
+        }
+        Ok(())
+    }
+
+    #[test]
+    fn the_first_fault_is_found(rt: HostRuntime) -> Result<(), Fail> {
+        assert_eq!(rt; fault_of(rt.alloc(), b""), at(1, 5));
+        let changes = [
+            (4, "cell 3 010 12", at(4, 1)),
+            (4, "cell 3 10 2147483648", at(4, 4)),
+            (14, "row 1 2", at(14, 2)),
+            (1, "rtree 1 5 1 3 5", at(18, 3)),
+            (5, "node 1 0 1 3", at(5, 2)),
+            (4, "cell 3 10 12 0 0", at(4, 1)),
+            (4, "cell 3 -0 12", at(4, 1)),
+            (4, "cell 3  10 12", at(4, 1)),
+            (4, "cell 99999999999999999999 10 12", at(4, 4)),
+            (1, "rtree 4 5 1 3 6", at(1, 4)),
+            (1, "rtree 1 52 1 3 6", at(1, 4)),
+            (1, "row 1 2", at(1, 3)),
+            (1, "cell 3 0 0 0 0", at(1, 3)),
+            (1, "cell 3 0 0 0", at(1, 1)),
+            (5, "node 2 256 1 3", at(5, 4)),
+            (5, "node 2 0 -1 3", at(5, 4)),
+            (19, "end\nx", at(20, 1)),
+        ];
+        for (line, by, fault) in changes {
+            let text = replaced(rt.alloc(), TWO_LEAVES, line, by)?;
+            assert_eq!(rt; fault_of(rt.alloc(), text.as_bytes()), fault, "{by}");
+        }
+        Ok(())
+    }
+
+    #[test]
+    fn counts_take_no_room(rt: HostRuntime) {
+        let text = b"rtree 1 5 1 9223372036854775807 0\nend\n";
+        assert_eq!(rt; fault_of(rt.alloc(), text), at(2, 3));
+    }
+
+    #[test]
+    fn a_front_is_truncated(rt: HostRuntime) {
+        let bytes = TWO_LEAVES.as_bytes();
+        let mut line = 1u64;
+        for (index, byte) in bytes.iter().enumerate() {
+            assert_eq!(rt; fault_of(rt.alloc(), &bytes[..index]), at(line, 5));
+            if *byte == b'\n' {
+                line = line.saturating_add(1);
+            }
+        }
+    }
+
+    #[test]
+    fn a_changed_byte_is_a_fault_or_is_written_again(rt: HostRuntime) -> Result<(), Fail> {
+        let mut bytes = TWO_LEAVES.as_bytes().to_vec(rt.alloc())?;
+        for index in 0..bytes.len() {
+            for byte in 0u8..=255 {
+                let old = std::mem::replace(&mut bytes[index], byte);
+                if let Ok(shadow) = read_dump(rt.alloc(), bytes.as_slice()) {
+                    assert_eq!(rt; written(rt.alloc(), &shadow).as_slice(), bytes.as_slice());
+                }
+                bytes[index] = old;
+            }
+        }
+        Ok(())
+    }
+}

@@ -1,0 +1,85 @@
+//! The check of a dump.
+
+ghost use Rattle.std.specs.Prelude.{◌≡◌, ◌+◌, ◌^◌, ◌≤◌, IfOk, OnOk, Ok, Err, true};
+ghost use Rattle.rt_report.specs.CheckRun.{Source, ReadsAll, Reports, Checks, items_or_fault};
+ghost use Rattle.rt_report.specs.Report.{all_problems};
+ghost use Rattle.rt_bytes.specs.Devices.{Devices};
+
+use crate::report::{write_bad_dump, write_verdict};
+use rt_bytes::{ByteReader, ByteWriter, MOST_READS, READ_SIZE, RunFault, Status};
+use rt_check::{Problem, check};
+use rt_dump::{AnyShadow, DumpFault, read_dump};
+use std::alloc::{AllocError, Global};
+
+/// Reads all that there is.
+fn read_all<R: ByteReader>(alloc: Global, reader: &mut R) -> Result<Vec<u8>, RunFault>
+    ensures reads_all { ReadsAll
+        (record { left = R.left reader.old; failures = R.failures reader.old; reads = R.reads reader.old })
+        (record { left = R.left reader.new; failures = R.failures reader.new; reads = R.reads reader.new })
+        (items_or_fault result) }
+    ensures reads { R.reads reader.new ≤ R.reads reader.old + 2 ^ 40 }
+{
+    let mut bytes = Vec::new(alloc);
+    let mut buffer = [0; READ_SIZE];
+    for _turn in 0..MOST_READS {
+        let count = reader.read(&mut buffer)?;
+        if count == 0 {
+            return Ok(bytes);
+        }
+        bytes.extend_from_slice(&buffer[..count])?;
+    }
+    Err(RunFault::Read)
+}
+
+fn problems_of(alloc: Global, shadow: &AnyShadow) -> Result<Vec<Problem>, AllocError>
+    ensures { IfOk result (λ problems. problems.items ≡ all_problems shadow.now) }
+{
+    match shadow {
+        AnyShadow::One(shadow) => check(alloc, shadow),
+        AnyShadow::Two(shadow) => check(alloc, shadow),
+        AnyShadow::Three(shadow) => check(alloc, shadow),
+    }
+}
+
+/// Writes what is to be said of the bytes of a dump.
+fn report<W: ByteWriter>(alloc: Global, bytes: &[u8], writer: &mut W) -> Result<Status, RunFault>
+    ensures { Reports bytes.now (W.written writer.old) (W.written writer.new) (W.faults writer.old) (W.faults writer.new) result }
+{
+    match read_dump(alloc, bytes) {
+        Ok(shadow) => {
+            let problems = problems_of(alloc, &shadow)?;
+            write_verdict(&problems, writer)?;
+            Ok(if problems.is_empty() {
+                Status::Clean
+            } else {
+                Status::Refused
+            })
+        }
+        Err(DumpFault::At { line, code }) => {
+            write_bad_dump(&line, code, writer)?;
+            Ok(Status::Refused)
+        }
+        Err(DumpFault::Memory) => Err(RunFault::Memory),
+    }
+}
+
+/// Checks a dump: reads it whole, and writes `ok` where it is the text of a sound tree, else a line for
+/// each problem, or for its first fault. It reads at most 2^40 times, and flushes the writer once, at
+/// the end.
+pub fn run_check<R: ByteReader, W: ByteWriter>(
+    alloc: Global,
+    reader: &mut R,
+    writer: &mut W,
+) -> Result<Status, RunFault>
+    ensures checks { Checks
+        (record { left = R.left reader.old; failures = R.failures reader.old; reads = R.reads reader.old; written = W.written writer.old; faults = W.faults writer.old })
+        (record { left = R.left reader.new; failures = R.failures reader.new; reads = R.reads reader.new; written = W.written writer.new; faults = W.faults writer.new })
+        result }
+    ensures reads { R.reads reader.new ≤ R.reads reader.old + 2 ^ 40 }
+    ensures flushed { OnOk result (W.flushed writer.new ≡ true) }
+{
+    let bytes = read_all(alloc, reader)?;
+    let status = report(alloc, &bytes, writer)?;
+    writer.flush()?;
+    Ok(status)
+}

@@ -1,0 +1,10 @@
+//! The check of a dump: says whether it is the text of a sound tree.
+//!
+//! `run_check` reads a dump whole, and writes `ok`, a line for each problem of the tree, or the
+//! first fault of the text. Its contract names that report.
+#![tactic(auto)]
+
+mod checking;
+mod report;
+
+pub use checking::run_check;
