@@ -64,7 +64,10 @@ pub trait ByteWriter {
 #[cfg(test)]
 mod tests {
     use super::*;
-    use crate::{FailingReader, FailingWriter, OneByteWriter, OverRead, OverWrite, Sink, SliceReader, UnflushableWriter, write_parts, write_whole};
+    use crate::{
+        FailingReader, FailingWriter, OneByteWriter, OverRead, OverWrite, Sink, SliceReader,
+        UnflushableWriter, write_parts, write_whole,
+    };
     use std::io::Cursor;
     use std::test::Fail;
 
