@@ -45,4 +45,3 @@ Appends-kept None b c xs p q = tt
 Appends-kept (Some s) None c xs p q = absurd p
 Appends-kept (Some s) (Some t) None xs p q = absurd q
 Appends-kept (Some s) (Some t) (Some u) xs p q = q ∙ p
-
