@@ -3,10 +3,11 @@
 ghost use Rattle.std.specs.Prelude.{◌≡◌, ◌<◌, ◌&&◌, min, int_le};
 ghost use Rattle.std.specs.List.{list_any, list_all};
 ghost use Rattle.std.specs.Ordering.{int_eq};
-ghost use Rattle.rt_check.specs.Conditions.{coordinate, has_root, is_root, is_below, has_place, names_child, is_ordered, lies_in, holds_child, is_reached, is_hull, fits_child, is_filled, has_entry, has_cell, times_named, inner_cells, leaf_cells};
+ghost use Rattle.rt_check.specs.Conditions.{coordinate, has_root, is_root, is_below, has_place, names_child, is_ordered, lies_in, holds_child, is_reached, is_hull, fits_child, is_filled, has_entry, times_named, inner_cells};
 ghost use Rattle.rt_check.specs.CellConditions.{meets_condition};
 
-use crate::node::{NodeRow, RawCell, RowEntry};
+use crate::node::{NodeRow, RawCell};
+use crate::problem::Condition;
 use crate::shadow::Shadow;
 
 /// The conditions that speak of a cell.
@@ -21,22 +22,22 @@ pub(crate) enum CellCondition {
     /// C6: the cell is the hull of the cells of the node that it names.
     Fits,
     /// C8: the cell of a leaf has a row entry with its id and this leaf.
-    HasEntry,
+    Entered,
 }
 
 impl CellCondition {
-    ghost use Rattle.rt_check.specs.CellConditions.{condition_number};
+    ghost use Rattle.rt_check.specs.CellConditions.{condition_of};
 
-    /// The condition's number.
-    pub(crate) fn number(self) -> u8
-        ensures { result ≡ condition_number self }
+    /// The condition by its name among all.
+    pub(crate) fn condition(self) -> Condition
+        ensures { result ≡ condition_of self }
     {
         match self {
-            CellCondition::Names => 3,
-            CellCondition::Ordered => 4,
-            CellCondition::Holds => 5,
-            CellCondition::Fits => 6,
-            CellCondition::HasEntry => 8,
+            CellCondition::Names => Condition::NamesChild,
+            CellCondition::Ordered => Condition::IsOrdered,
+            CellCondition::Holds => Condition::HoldsChild,
+            CellCondition::Fits => Condition::FitsChild,
+            CellCondition::Entered => Condition::HasEntry,
         }
     }
 }
@@ -149,7 +150,7 @@ fn is_hull<const D: usize>(outer: &RawCell<D>, cells: &[RawCell<D>]) -> bool
 fn names_child<const D: usize>(shadow: &Shadow<D>, node: &NodeRow<D>, cell: &RawCell<D>) -> bool
     ensures { result ≡ names_child shadow.now node.now cell.now }
 {
-    match shadow.node(&cell.number) {
+    match shadow.node(cell.number) {
         Some(child) => child.parent == Some(node.number),
         None => false,
     }
@@ -159,7 +160,7 @@ fn names_child<const D: usize>(shadow: &Shadow<D>, node: &NodeRow<D>, cell: &Raw
 fn holds_child<const D: usize>(shadow: &Shadow<D>, cell: &RawCell<D>) -> bool
     ensures { result ≡ holds_child shadow.now cell.now }
 {
-    match shadow.node(&cell.number) {
+    match shadow.node(cell.number) {
         Some(child) => holds_all(cell, child.cells.as_slice()),
         None => true,
     }
@@ -169,7 +170,7 @@ fn holds_child<const D: usize>(shadow: &Shadow<D>, cell: &RawCell<D>) -> bool
 fn fits_child<const D: usize>(shadow: &Shadow<D>, cell: &RawCell<D>) -> bool
     ensures { result ≡ fits_child shadow.now cell.now }
 {
-    match shadow.node(&cell.number) {
+    match shadow.node(cell.number) {
         Some(child) => child.cells.len() == 0 || is_hull(cell, child.cells.as_slice()),
         None => true,
     }
@@ -179,7 +180,7 @@ fn fits_child<const D: usize>(shadow: &Shadow<D>, cell: &RawCell<D>) -> bool
 fn has_entry<const D: usize>(shadow: &Shadow<D>, node: &NodeRow<D>, cell: &RawCell<D>) -> bool
     ensures { result ≡ has_entry shadow.now node.now cell.now }
 {
-    match shadow.row(&cell.number) {
+    match shadow.row(cell.number) {
         Some(row) => row.leaf == node.number,
         None => false,
     }
@@ -200,7 +201,7 @@ pub(crate) fn meets<const D: usize>(
         CellCondition::Ordered => is_ordered(cell),
         CellCondition::Holds => is_leaf || holds_child(shadow, cell),
         CellCondition::Fits => is_leaf || fits_child(shadow, cell),
-        CellCondition::HasEntry => !is_leaf || has_entry(shadow, node, cell),
+        CellCondition::Entered => !is_leaf || has_entry(shadow, node, cell),
     }
 }
 
@@ -208,7 +209,7 @@ pub(crate) fn meets<const D: usize>(
 pub(crate) fn has_root<const D: usize>(shadow: &Shadow<D>) -> bool
     ensures { result ≡ has_root shadow.now }
 {
-    match shadow.node(&shadow.root()) {
+    match shadow.node(shadow.root()) {
         Some(root) => root.parent.is_none(),
         None => false,
     }
@@ -225,7 +226,7 @@ fn is_root<const D: usize>(shadow: &Shadow<D>, node: &NodeRow<D>) -> bool
 fn is_below<const D: usize>(shadow: &Shadow<D>, node: &NodeRow<D>) -> bool
     ensures { result ≡ is_below shadow.now node.now node.now.parent }
 {
-    let Some(number) = &node.parent else {
+    let Some(number) = node.parent else {
         return false;
     };
     match shadow.node(number) {
@@ -257,16 +258,4 @@ pub(crate) fn is_filled<const D: usize>(shadow: &Shadow<D>, node: &NodeRow<D>) -
         2
     };
     node.cells.len() <= capacity.greatest() && least <= node.cells.len()
-}
-
-/// C9: the entry's id is that of exactly one cell of the leaves.
-///
-/// `named` is how many cells of leaves name it, 2 standing for more.
-pub(crate) fn has_cell<const D: usize>(shadow: &Shadow<D>, row: &RowEntry, named: u8) -> bool
-    requires { named ≡ min 2 (times_named row.now.id (leaf_cells shadow.now.nodes)) }
-    ensures { result ≡ has_cell shadow.now row.now }
-{
-    let _ = shadow;
-    let _ = row;
-    named == 1
 }
