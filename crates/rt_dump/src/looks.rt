@@ -5,8 +5,7 @@ ghost use Rattle.std.specs.List.{All};
 ghost use Rattle.rt_dump.specs.InRange.{IsInt, IsCellInRange, IsNodeInRange, IsRowInRange, IsInRange, IsAnyInRange};
 
 use crate::dump::AnyShadow;
-use rt_check::{NodeRow, RawCell, RowEntry};
-use rt_check::Shadow;
+use rt_check::{NodeRow, RawCell, RowEntry, Shadow};
 
 /// Looks at a coordinate.
 fn look_at_coordinate(coordinate: &i32)
@@ -97,8 +96,6 @@ fn look_at_shadow<const D: usize>(shadow: &Shadow<D>)
 {
     let _greatest = shadow.capacity().greatest();
     let _root = shadow.root();
-    let _numbers = shadow.numbers().len();
-    let _ids = shadow.ids().len();
     look_at_nodes(shadow.nodes());
     look_at_rows(shadow.rows());
 }

@@ -1,8 +1,7 @@
 //! What a run has written when a read, a write or the flush fails.
 
 use rt_box::Capacity;
-use rt_bytes::{FailingReader, FailingWriter, Sink, SliceReader, UnflushableWriter};
-use rt_bytes::RunFault;
+use rt_bytes::{FailingReader, FailingWriter, RunFault, Sink, SliceReader, UnflushableWriter};
 use rt_shell::{Options, run};
 use std::test::Fail;
 

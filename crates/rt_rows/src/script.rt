@@ -3,8 +3,7 @@
 ghost use Rattle.std.specs.Prelude.{◌<◌};
 
 use rt_box::Capacity;
-use rt_bytes::{Sink, SliceReader};
-use rt_bytes::{RunFault, Status};
+use rt_bytes::{RunFault, Sink, SliceReader, Status};
 use rt_shell::{Options, run};
 use std::alloc::Global;
 use std::process::Abort;
