@@ -11,6 +11,7 @@ use crate::pieces::Pieces;
 use rt_box::Capacity;
 use rt_check::{Items, NodeRow, Shadow, ShadowFault};
 use std::alloc::Global;
+use std::hash::RandomState;
 
 /// Why a line isn't taken: its code, or want of memory.
 #[derive(Clone, Copy)]
@@ -268,13 +269,13 @@ fn header_of(line: &[u8]) -> Option<Heading>
     })
 }
 
-fn start<const D: usize>(alloc: Global, header: &Heading) -> Progress<D>
+fn start<const D: usize>(alloc: Global, keys: RandomState, header: &Heading) -> Progress<D>
     requires some { 1 ≤ D }
     requires few { D ≤ 3 }
     ensures { result ≡ start D header.now }
 {
     Progress {
-        shadow: Shadow::new(alloc, header.capacity, header.root),
+        shadow: Shadow::new(alloc, keys, header.capacity, header.root),
         nodes: header.nodes,
         rows: header.rows,
         cells: 0,
@@ -284,6 +285,7 @@ fn start<const D: usize>(alloc: Global, header: &Heading) -> Progress<D>
 /// Reads the lines after a header.
 fn read_body(
     alloc: Global,
+    keys: RandomState,
     header: &Heading,
     lines: &mut Pieces<'_>,
 ) -> Result<AnyShadow, DumpFault>
@@ -291,14 +293,19 @@ fn read_body(
     ensures { Reads (read_body header.now lines.old) result }
 {
     match header.axes {
-        1 => Ok(AnyShadow::One(read_rest(start(alloc, header), alloc, lines)?)),
-        2 => Ok(AnyShadow::Two(read_rest(start(alloc, header), alloc, lines)?)),
-        _ => Ok(AnyShadow::Three(read_rest(start(alloc, header), alloc, lines)?)),
+        1 => Ok(AnyShadow::One(read_rest(start(alloc, keys, header), alloc, lines)?)),
+        2 => Ok(AnyShadow::Two(read_rest(start(alloc, keys, header), alloc, lines)?)),
+        _ => Ok(AnyShadow::Three(read_rest(start(alloc, keys, header), alloc, lines)?)),
     }
 }
 
 /// Reads what comes after the first line, if that is a header.
-fn read_first(alloc: Global, line: &[u8], lines: &mut Pieces<'_>) -> Result<AnyShadow, DumpFault>
+fn read_first(
+    alloc: Global,
+    keys: RandomState,
+    line: &[u8],
+    lines: &mut Pieces<'_>,
+) -> Result<AnyShadow, DumpFault>
     requires { length lines.old < 2 ^ 64 - 2 }
     ensures { Reads (read_kind (kind_of 0 (words line.now)) (header_of (words line.now)) lines.old) result }
 {
@@ -312,13 +319,14 @@ fn read_first(alloc: Global, line: &[u8], lines: &mut Pieces<'_>) -> Result<AnyS
         }
     }
     match header_of(line) {
-        Some(header) => read_body(alloc, &header, lines),
+        Some(header) => read_body(alloc, keys, &header, lines),
         None => Err(DumpFault::At { line: 1, code: 4 }),
     }
 }
 
-/// Reads a dump. Memory is taken as lines come, and none for counts alone.
-pub fn read_dump(alloc: Global, bytes: &[u8]) -> Result<AnyShadow, DumpFault>
+/// Reads a dump. Memory is taken as lines come, and none for counts alone. Numbers and ids are looked
+/// up by `keys`.
+pub fn read_dump(alloc: Global, keys: RandomState, bytes: &[u8]) -> Result<AnyShadow, DumpFault>
     ensures { Reads (read_text bytes.now) result }
 {
     let mut lines = Pieces::new(bytes, b'\n');
@@ -328,7 +336,7 @@ pub fn read_dump(alloc: Global, bytes: &[u8]) -> Result<AnyShadow, DumpFault>
     if lines.is_done() {
         return Err(DumpFault::At { line: 1, code: 5 });
     }
-    read_first(alloc, line, &mut lines)
+    read_first(alloc, keys, line, &mut lines)
 }
 
 #[cfg(test)]
@@ -368,8 +376,11 @@ mod tests {
         Ok(changed)
     }
 
-    fn fault_of(alloc: Global, bytes: &[u8]) -> Option<DumpFault> {
-        match read_dump(alloc, bytes) {
+    fn fault_of(rt: &HostRuntime, bytes: &[u8]) -> Option<DumpFault> {
+        let Ok(keys) = RandomState::new(rt) else {
+            return None;
+        };
+        match read_dump(rt.alloc(), keys, bytes) {
             Ok(_) => None,
             Err(fault) => Some(fault),
         }
@@ -379,9 +390,9 @@ mod tests {
         Some(DumpFault::At { line, code })
     }
 
-    fn problems(alloc: Global, text: &str) -> Result<Vec<Problem>, Fail> {
-        match read_dump(alloc, text.as_bytes()) {
-            Ok(AnyShadow::One(shadow)) => Ok(check(alloc, &shadow)?),
+    fn problems(rt: &HostRuntime, text: &str) -> Result<Vec<Problem>, Fail> {
+        match read_dump(rt.alloc(), RandomState::new(rt)?, text.as_bytes()) {
+            Ok(AnyShadow::One(shadow)) => Ok(check(rt.alloc(), &shadow)?),
             _ => Err(Fail::from("one axis")),
         }
     }
@@ -389,7 +400,7 @@ mod tests {
     #[test]
     fn dumps_are_read_and_written_again(rt: HostRuntime) -> Result<(), Fail> {
         for text in [TWO_LEAVES, THREE_LEAVES, UNEVEN_LEAVES, THREE_AXES] {
-            match read_dump(rt.alloc(), text.as_bytes()) {
+            match read_dump(rt.alloc(), RandomState::new(&rt)?, text.as_bytes()) {
                 Ok(shadow) => {
                     assert_eq!(rt; written(rt.alloc(), &shadow).as_slice(), text.as_bytes());
                 }
@@ -402,14 +413,14 @@ mod tests {
     #[test]
     fn trees_have_no_problem(rt: HostRuntime) -> Result<(), Fail> {
         for text in [TWO_LEAVES, THREE_LEAVES, UNEVEN_LEAVES] {
-            assert_eq!(rt; problems(rt.alloc(), text)?.len(), 0);
+            assert_eq!(rt; problems(&rt, text)?.len(), 0);
         }
         Ok(())
     }
 
     #[test]
     fn the_first_fault_is_found(rt: HostRuntime) -> Result<(), Fail> {
-        assert_eq!(rt; fault_of(rt.alloc(), b""), at(1, 5));
+        assert_eq!(rt; fault_of(&rt, b""), at(1, 5));
         let changes = [
             (4, "cell 3 010 12", at(4, 1)),
             (4, "cell 3 10 2147483648", at(4, 4)),
@@ -431,7 +442,7 @@ mod tests {
         ];
         for (line, by, fault) in changes {
             let text = replaced(rt.alloc(), TWO_LEAVES, line, by)?;
-            assert_eq!(rt; fault_of(rt.alloc(), text.as_bytes()), fault, "{by}");
+            assert_eq!(rt; fault_of(&rt, text.as_bytes()), fault, "{by}");
         }
         Ok(())
     }
@@ -439,7 +450,7 @@ mod tests {
     #[test]
     fn counts_take_no_room(rt: HostRuntime) {
         let text = b"rtree 1 5 1 9223372036854775807 0\nend\n";
-        assert_eq!(rt; fault_of(rt.alloc(), text), at(2, 3));
+        assert_eq!(rt; fault_of(&rt, text), at(2, 3));
     }
 
     #[test]
@@ -447,7 +458,7 @@ mod tests {
         let bytes = TWO_LEAVES.as_bytes();
         let mut line = 1u64;
         for (index, byte) in bytes.iter().enumerate() {
-            assert_eq!(rt; fault_of(rt.alloc(), &bytes[..index]), at(line, 5));
+            assert_eq!(rt; fault_of(&rt, &bytes[..index]), at(line, 5));
             if *byte == b'\n' {
                 line = line.saturating_add(1);
             }
@@ -456,11 +467,12 @@ mod tests {
 
     #[test]
     fn a_changed_byte_is_a_fault_or_is_written_again(rt: HostRuntime) -> Result<(), Fail> {
+        let keys = RandomState::new(&rt)?;
         let mut bytes = TWO_LEAVES.as_bytes().to_vec(rt.alloc())?;
         for index in 0..bytes.len() {
             for byte in 0u8..=255 {
                 let old = std::mem::replace(&mut bytes[index], byte);
-                if let Ok(shadow) = read_dump(rt.alloc(), bytes.as_slice()) {
+                if let Ok(shadow) = read_dump(rt.alloc(), keys, bytes.as_slice()) {
                     assert_eq!(rt; written(rt.alloc(), &shadow).as_slice(), bytes.as_slice());
                 }
                 bytes[index] = old;
