@@ -7,6 +7,7 @@
 mod cutter;
 pub mod laws;
 mod piece;
+pub mod text;
 
 pub use cutter::Cutter;
 pub use piece::{Ending, Piece};

@@ -1,7 +1,7 @@
 //! Laws of the grammar. Each is the contract of a function that does nothing, so that it is proved,
 //! and a caller may cite it.
 
-ghost use Rattle.rt_sql.specs.Parse.{OneStatement, OneTokenList, OneAnswer, EveryTextHasTokens, EveryPieceHasAnAnswer};
+ghost use Rattle.rt_sql.specs.Parse.{OneStatement, OneTokenList, OneAnswer, EveryTextHasTokens, EveryPieceHasAnAnswer, QuotesAreAtoms};
 
 /// Law: no list of tokens spells two statements.
 pub fn tokens_spell_one_statement()
@@ -26,4 +26,9 @@ pub fn piece_has_one_answer()
 /// Law: each piece has an answer.
 pub fn every_piece_has_an_answer()
     ensures { EveryPieceHasAnAnswer }
+{}
+
+/// Law: what stands in quotes for the tokens does so for the cutting.
+pub fn quotes_are_atoms()
+    ensures { QuotesAreAtoms }
 {}

@@ -24,5 +24,6 @@ mod word;
 pub use name::Name;
 pub use parser::parse;
 pub use refusal::Refusal;
+pub use sqlite_items::Items;
 pub use statement::{ColumnDef, Compare, Cond, Op6, Rule, Source, Stmt, Test};
 pub use value::{Blob, Text, Value};
