@@ -1,6 +1,6 @@
 ghost use Rattle.std.specs.Prelude.{◌≡◌, ℕ, ◌+◌, ◌<◌, ◌≤◌, ◌⊎◌, List, [], ◌∷◌, ◌++◌, length, take, IsTrue, IsSome, IsNone, IfSome, IfOk, MatchOption, Some};
 ghost use Rattle.rt_cut.specs.Piece.{PieceText};
-ghost use Rattle.rt_cut.specs.Pieces.{is_white, is_gap_byte, IsGap, IsWholePiece, IsLastPiece, CuttingIsDetermined, EveryTextIsCut};
+ghost use Rattle.rt_cut.specs.Pieces.{is_white, is_gap_byte, IsGap, IsWholePiece, IsLastPiece};
 
 use crate::piece::{Ending, Piece};
 use std::alloc::{AllocError, Global};
@@ -263,16 +263,6 @@ impl Cutter {
         self.too_long = false;
     }
 }
-
-/// No text is cut into pieces in two ways.
-pub fn cutting_is_determined()
-    ensures { CuttingIsDetermined }
-{}
-
-/// Each text is cut into pieces in some way.
-pub fn every_text_is_cut()
-    ensures { EveryTextIsCut }
-{}
 
 #[cfg(test)]
 mod tests {

@@ -55,5 +55,11 @@ OneStatement = (tokens : List Token) (one other : Stmt) → Spells WritesAnySize
 abbrev pub OneTokenList : Type 0
 OneTokenList = (text : Text) (one other : List Token) → PieceTokens text one → PieceTokens text other → one ≡ other
 
+abbrev pub EveryTextHasTokens : Type 0
+EveryTextHasTokens = (text : Text) → (tokens : List Token) × PieceTokens text tokens
+
 abbrev pub OneAnswer : Type 0
 OneAnswer = (piece : PieceText) (one other : Result Stmt Refusal) → Parses piece one → Parses piece other → one ≡ other
+
+abbrev pub EveryPieceHasAnAnswer : Type 0
+EveryPieceHasAnAnswer = (piece : PieceText) → (answer : Result Stmt Refusal) × Parses piece answer

@@ -1,16 +1,16 @@
 ghost use Rattle.std.specs.Prelude.{◌≡◌, ◌⊎◌, Contains, MatchOption, None, Err};
 ghost use Rattle.rt_sql.specs.Lex.{piece_tokens};
 ghost use Rattle.rt_sql.specs.Number.{number_by};
-ghost use Rattle.rt_sql.specs.Parse.{IsText, ParsesText, ParsesUnlessMemory, OneStatement, OneTokenList, OneAnswer};
+ghost use Rattle.rt_sql.specs.Parse.{IsText, ParsesText, ParsesUnlessMemory};
 ghost use Rattle.rt_sql.specs.Reading as reading;
 
 use crate::grammar::{is_command, whole};
 use crate::number::Numbers;
-use rt_cut::{Ending, Piece};
 use crate::refusal::Refusal;
 use crate::statement::Stmt;
 use crate::token::Token;
 use crate::tokens::Tokens;
+use rt_cut::{Ending, Piece};
 use std::alloc::Global;
 
 /// The text, if it is UTF-8 with no zero byte.
@@ -80,21 +80,6 @@ pub fn parse(alloc: Global, piece: &Piece<'_>) -> Result<Stmt, Refusal>
         },
     }
 }
-
-/// Law: no list of tokens spells two statements.
-pub fn tokens_spell_one_statement()
-    ensures { OneStatement }
-{}
-
-/// Law: a piece has one list of tokens.
-pub fn text_has_one_list_of_tokens()
-    ensures { OneTokenList }
-{}
-
-/// Law: a piece has one answer.
-pub fn piece_has_one_answer()
-    ensures { OneAnswer }
-{}
 
 #[cfg(test)]
 mod tests {
