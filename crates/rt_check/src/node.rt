@@ -1,5 +1,7 @@
 //! What a shadow lists: nodes with their cells, and row entries.
 
+ghost use Rattle.std.specs.Prelude.{◌≡◌, length};
+
 use crate::items::Items;
 
 /// A cell of a node: the number of the child that it names, or a row's id in a leaf, and a range
@@ -12,6 +14,17 @@ pub struct RawCell<const D: usize> {
     pub lo: [i32; D],
     /// The greatest coordinate on each axis.
     pub hi: [i32; D],
+}
+
+impl<const D: usize> RawCell<D> {
+    /// The number of axes: as many as lo and hi have coordinates.
+    pub fn axes(&self) -> usize
+        ensures value { result ≡ D }
+        ensures lo { length self.now.lo ≡ D }
+        ensures hi { length self.now.hi ≡ D }
+    {
+        self.lo.len()
+    }
 }
 
 /// A node: leaves are on level 0.

@@ -7,10 +7,9 @@ ghost use Rattle.rt_bytes.specs.Bytes.{Writes};
 ghost use Rattle.rt_check.specs.Conditions.{coordinate};
 ghost use Rattle.rt_dump.specs.Dump.{header_line, node_line, cell_line, row_line, node_text, shadow_text, range_text, range_words, line_rest, end_line, any_text};
 
-use rt_bytes::{ByteWriter, WriteFault, write_parts, write_whole};
-use rt_check::{NodeRow, RawCell, RowEntry};
-use rt_check::Shadow;
 use itoa::Buffer;
+use rt_bytes::{ByteWriter, WriteFault, write_parts, write_whole};
+use rt_check::{NodeRow, RawCell, RowEntry, Shadow};
 
 /// A shadow of one, two or three axes.
 #[derive(Drop)]
@@ -45,15 +44,6 @@ fn write_range<const D: usize, W: ByteWriter>(
     )
 }
 
-/// The number of axes: as many as lo and hi have coordinates.
-fn axes_of<const D: usize>(cell: &RawCell<D>) -> usize
-    ensures value { result ≡ D }
-    ensures lo { length cell.now.lo ≡ D }
-    ensures hi { length cell.now.hi ≡ D }
-{
-    cell.lo.len()
-}
-
 fn write_ranges<const D: usize, W: ByteWriter>(
     writer: &mut W,
     cell: &RawCell<D>,
@@ -61,7 +51,7 @@ fn write_ranges<const D: usize, W: ByteWriter>(
     ensures { Writes (W.written writer.old) (W.written writer.new) (W.faults writer.old) (W.faults writer.new)
         result (flat_map range_text (zip cell.now.lo cell.now.hi)) }
 {
-    for axis in 0..axes_of(cell) {
+    for axis in 0..cell.axes() {
         write_range(writer, cell, axis)?;
     }
     Ok(())

@@ -3,11 +3,11 @@
 ghost use Rattle.std.specs.Prelude.{◌≡◌, ◌≤◌, codes, drop, OnSome};
 ghost use Rattle.rt_dump.specs.Lines.{are_numbers, words, is_plain, is_parent, is_node, is_cell, kind_of, node_head, row_entry, first_range, ranges_of, raw_cell};
 
-use rt_check::{RawCell, RowEntry};
 use crate::numbers::{
     byte_of, coordinate_of, count_of, is_number, number_of, parent_of, positive_of,
 };
 use crate::pieces::Pieces;
+use rt_check::{RawCell, RowEntry};
 
 /// The five kinds of lines.
 #[derive(Clone, Copy, PartialEq, Eq)]

@@ -5,8 +5,7 @@ ghost use Rattle.std.specs.List.{All};
 ghost use Rattle.rt_dump.specs.InRange.{IsInt, IsCellInRange, IsNodeInRange, IsRowInRange, IsInRange, IsAnyInRange};
 
 use crate::dump::AnyShadow;
-use rt_check::{NodeRow, RawCell, RowEntry};
-use rt_check::Shadow;
+use rt_check::{NodeRow, RawCell, RowEntry, Shadow};
 
 /// Looks at a coordinate.
 fn look_at_coordinate(coordinate: &i32)

@@ -5,13 +5,11 @@ ghost use Rattle.rt_dump.specs.Lines.{words, kind_of, node_head, row_entry, raw_
 ghost use Rattle.rt_dump.specs.Reading.{due, empty_node, after_head, after_cell, after_row, after_kind, after_line, Gives, is_nothing, is_end, read_rest, Reads, axes_of, capacity_of, header_of, start, read_body, read_kind, read_text};
 
 use crate::dump::AnyShadow;
-use rt_check::Items;
 use crate::lines::{LineKind, NodeHead, kind_of, node_head, raw_cell, row_entry};
-use rt_check::NodeRow;
 use crate::numbers::{byte_of, count_of, positive_of};
 use crate::pieces::Pieces;
-use rt_check::{Shadow, ShadowFault};
 use rt_box::Capacity;
+use rt_check::{Items, NodeRow, Shadow, ShadowFault};
 use std::alloc::Global;
 
 /// Why a line isn't taken: its code, or want of memory.
@@ -336,9 +334,9 @@ pub fn read_dump(alloc: Global, bytes: &[u8]) -> Result<AnyShadow, DumpFault>
 #[cfg(test)]
 mod tests {
     use super::*;
+    use crate::dump::write_dump;
     use rt_bytes::Sink;
     use rt_check::{Problem, check};
-    use crate::dump::write_dump;
     use std::alloc::AllocError;
     use std::test::Fail;
 

@@ -2,8 +2,7 @@
 
 ghost use Rattle.std.specs.Prelude.{◌<◌};
 
-use rt_bytes::{FailingReader, FailingWriter, Sink, SliceReader};
-use rt_bytes::{RunFault, Status};
+use rt_bytes::{FailingReader, FailingWriter, RunFault, Sink, SliceReader, Status};
 use rt_report::run_check;
 use std::alloc::Global;
 use std::process::Abort;

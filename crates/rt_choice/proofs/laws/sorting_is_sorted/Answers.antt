@@ -2,7 +2,7 @@ use Rattle.rt_choice.specs.Split.{along}
 use Rattle.rt_choice.specs.Sorting.{positions}
 use Rattle.rt_choice.proofs.Entries.{along-total}
 use Rattle.rt_choice.proofs.Sorted.{sort-permutes, sort-sorted}
-use Rattle.rt_choice.proofs.sorting_is_sorted.Goals as goal
+use Rattle.rt_choice.proofs.laws.sorting_is_sorted.Goals as goal
 
 pub returns : goal.returns
 returns c boxes axis upper =

@@ -2,7 +2,7 @@ use Rattle.rt_choice.specs.Split.{along}
 use Rattle.rt_choice.specs.Sorting.{positions}
 use Rattle.rt_choice.proofs.Entries.{along-total, along-tie}
 use Rattle.rt_choice.proofs.Sorted.{sorting-unique}
-use Rattle.rt_choice.proofs.sorting_is_unique.Goals as goal
+use Rattle.rt_choice.proofs.laws.sorting_is_unique.Goals as goal
 
 pub returns : goal.returns
 returns c boxes axis upper order moved sorted =

@@ -13,8 +13,8 @@ returns-in_err-write_range g c =
     let lo = c.args.cell.now.lo in
     let hi = c.args.cell.now.hi in
     let i = c.loop-axis.axis in
-    let low : i < length lo = omega (arith, c.axes_of-axis-end.ensures.lo, c.axes_of-axis-end.ensures.value, c.loop-axis-test.true) in
-    let high : i < length hi = omega (arith, c.axes_of-axis-end.ensures.hi, c.axes_of-axis-end.ensures.value, c.loop-axis-test.true) in
+    let low : i < length lo = omega (arith, c.axes-axis-end.ensures.lo, c.axes-axis-end.ensures.value, c.loop-axis-test.true) in
+    let high : i < length hi = omega (arith, c.axes-axis-end.ensures.hi, c.axes-axis-end.ensures.value, c.loop-axis-test.true) in
     let within : i < length (zip lo hi) = omega (arith, length-zip lo hi, low, high) in
     let this : (coordinate lo i, coordinate hi i) ≡ get_or (zip lo hi) i (pos 0, pos 0) = sym (get_or-zip lo hi i (pos 0, pos 0) low high) in
     let front : WritesFront (g.W.ByteWriter.written c.loop-axis.writer) (g.W.ByteWriter.written c.write_range.new.writer) (g.W.ByteWriter.faults c.loop-axis.writer)
@@ -29,8 +29,8 @@ loop-axis-preserved g c =
     let lo = c.args.cell.now.lo in
     let hi = c.args.cell.now.hi in
     let i = c.loop-axis.axis in
-    let low : i < length lo = omega (arith, c.axes_of-axis-end.ensures.lo, c.axes_of-axis-end.ensures.value, c.loop-axis-test.true) in
-    let high : i < length hi = omega (arith, c.axes_of-axis-end.ensures.hi, c.axes_of-axis-end.ensures.value, c.loop-axis-test.true) in
+    let low : i < length lo = omega (arith, c.axes-axis-end.ensures.lo, c.axes-axis-end.ensures.value, c.loop-axis-test.true) in
+    let high : i < length hi = omega (arith, c.axes-axis-end.ensures.hi, c.axes-axis-end.ensures.value, c.loop-axis-test.true) in
     let within : i < length (zip lo hi) = omega (arith, length-zip lo hi, low, high) in
     let this : (coordinate lo i, coordinate hi i) ≡ get_or (zip lo hi) i (pos 0, pos 0) = sym (get_or-zip lo hi i (pos 0, pos 0) low high) in
     let whole : WritesAll (g.W.ByteWriter.written c.loop-axis.writer) (g.W.ByteWriter.written c.write_range.new.writer) (g.W.ByteWriter.faults c.loop-axis.writer)
@@ -44,7 +44,7 @@ returns g c =
     let lo = c.args.cell.now.lo in
     let hi = c.args.cell.now.hi in
     let ended : length (zip lo hi) ≡ c.loop-axis.axis =
-    omega (arith, length-zip lo hi, c.axes_of-axis-end.ensures.lo, c.axes_of-axis-end.ensures.hi, c.axes_of-axis-end.ensures.value, c.loop-axis-test.false, c.loop-axis.auto.axis-end) in
+    omega (arith, length-zip lo hi, c.axes-axis-end.ensures.lo, c.axes-axis-end.ensures.hi, c.axes-axis-end.ensures.value, c.loop-axis-test.false, c.loop-axis.auto.axis-end) in
     let whole : take c.loop-axis.axis (zip lo hi) ≡ zip lo hi = ap (λ n. take n (zip lo hi)) (sym ended) ∙ take-length (zip lo hi) in
     subst (λ (rs : List (ℤ × ℤ)). WritesAll (g.W.ByteWriter.written c.args.writer.now) (g.W.ByteWriter.written c.loop-axis.writer)
     (g.W.ByteWriter.faults c.args.writer.now) (g.W.ByteWriter.faults c.loop-axis.writer) (flat_map range_text rs)) whole c.loop-axis.invariant
