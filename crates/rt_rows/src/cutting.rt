@@ -3,6 +3,7 @@
 use crate::script::{TABLE, expect, outcome};
 use rt_bytes::Status;
 use std::alloc::{AllocError, Global};
+use std::hash::RandomState;
 use std::test::Fail;
 
 /// The start, the filler so often, and the end.
@@ -82,7 +83,13 @@ fn dot_lines_end_with_the_line(rt: HostRuntime) -> Result<(), Fail> {
 fn a_read_may_end_after_any_byte(rt: HostRuntime) -> Result<(), Fail> {
     let script = format!(in rt.alloc(); "{TABLE}INSERT INTO t VALUES(1,0,1,'a;--")?;
     for most in 1..=script.len() {
-        let (bytes, status) = outcome(rt.alloc(), script.as_str(), most, false)?;
+        let (bytes, status) = outcome(
+            rt.alloc(),
+            RandomState::new(&rt)?,
+            script.as_str(),
+            most,
+            false,
+        )?;
         assert!(rt; bytes.as_slice() == b"refused 2 2: incomplete input\n".as_slice());
         assert!(rt; status == Status::Refused);
     }

@@ -2,6 +2,7 @@
 
 use crate::script::{TABLE, expect, outcome};
 use rt_bytes::Status;
+use std::hash::RandomState;
 use std::test::Fail;
 
 #[test]
@@ -48,7 +49,13 @@ fn a_sixty_fifth_table_is_refused(rt: HostRuntime) -> Result<(), Fail> {
 fn bail_ends_after_the_first_refusal(rt: HostRuntime) -> Result<(), Fail> {
     let script = format!(in rt.alloc(); "{TABLE}SELECT * FROM u; SELECT * FROM v;")?;
     for most in [4096, 1] {
-        let (bytes, status) = outcome(rt.alloc(), script.as_str(), most, true)?;
+        let (bytes, status) = outcome(
+            rt.alloc(),
+            RandomState::new(&rt)?,
+            script.as_str(),
+            most,
+            true,
+        )?;
         assert!(rt; bytes.as_slice() == b"refused 2 5: no such table\n".as_slice());
         assert!(rt; status == Status::Refused);
     }
