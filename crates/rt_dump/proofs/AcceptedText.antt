@@ -89,7 +89,7 @@ between : (before l after : List ℕ) → before ++ (l ++ 10 ∷ after) ≡ (bef
 between before l after =
     ap (λ k. before ++ k) (sym (append_assoc l (10 ∷ []) after)) ∙ sym (append_assoc before (l ++ 10 ∷ []) after)
 
-nothing : (l : List ℕ) (ls : List (List ℕ)) → is_nothing (l ∷ ls) ≡ true → joined (l ∷ ls) ≡ []
+pub nothing : (l : List ℕ) (ls : List (List ℕ)) → is_nothing (l ∷ ls) ≡ true → joined (l ∷ ls) ≡ []
 nothing l ls e =
     let parts = both (length l == 0) (length ls == 0) e in
     let first : length l ≡ 0 = grind (arith, parts.0) in

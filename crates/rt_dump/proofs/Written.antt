@@ -59,7 +59,7 @@ either : (a b : Bool) → a ≡ false → b ≡ false → (a || b) ≡ false
 either true b p q = p
 either false b p q = q
 
-apart : (x y : ℤ) → int_eq y x ≡ false → int_eq x y ≡ false
+pub apart : (x y : ℤ) → int_eq y x ≡ false → int_eq x y ≡ false
 apart x y other =
     let by_case : (b : Bool) → int_eq x y ≡ b → b ≡ false = elim [
       | true ↦ λ same.

@@ -4,3 +4,4 @@ pub mod Numbers
 pub mod Lines
 pub mod Reading
 pub mod InRange
+pub mod Faults
