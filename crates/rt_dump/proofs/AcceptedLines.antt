@@ -35,11 +35,11 @@ test_of-first false false false false true = refl
 test_of-first false false false false false = refl
 
 -- words of a kind are spelled as it
-abbrev pub spelled : ℕ → List (List ℕ) → LineKind → Bool
+abbrev pub spelled : Option ℕ → List (List ℕ) → LineKind → Bool
 spelled axes ws kind =
     test_of (is_plain (codes "rtree") 5 ws) (is_node ws) (is_cell axes ws) (is_plain (codes "row") 2 ws) (is_plain (codes "end") 0 ws) (Some kind)
 
-pub kind_spelled : (axes : ℕ) (ws : List (List ℕ)) (kind : LineKind) → kind_of axes ws ≡ Some kind → spelled axes ws kind ≡ true
+pub kind_spelled : (axes : Option ℕ) (ws : List (List ℕ)) (kind : LineKind) → kind_of axes ws ≡ Some kind → spelled axes ws kind ≡ true
 kind_spelled axes ws kind e =
     let header = is_plain (codes "rtree") 5 ws in
     let node = is_node ws in
@@ -154,13 +154,11 @@ cell-parts D (Some number) None c e = let no : ⊥ = cc in absurd no
 cell-parts D (Some number) (Some r) c e = (ap (option_map (λ (c : RawCell D). c.number)) e, ap (option_map (λ (c : RawCell D). (c.lo, c.hi))) e)
 
 -- a cell's line on one axis or more
-pub cell-text : (D : ℕ) (ws : List (List ℕ)) (c : RawCell D) → 0 < D → is_cell D ws ≡ true → raw_cell D ws ≡ Some c → ended ws ≡ cell_line c
+pub cell-text : (D : ℕ) (ws : List (List ℕ)) (c : RawCell D) → 0 < D → is_cell (Some D) ws ≡ true → raw_cell D ws ≡ Some c → ended ws ≡ cell_line c
 cell-text D ws c some kind e =
-    let other : (D == 0) ≡ false = grind (arith, some) in
     let next : 1 + 2 * D ≡ suc (2 * D) = omega arith in
     let plain : is_plain (codes "cell") (suc (2 * D)) ws ≡ true =
     ap (λ k. is_plain (codes "cell") k ws) (sym next)
-    ∙ ap (λ b. cond b (is_plain (codes "cell") 3 ws || (is_plain (codes "cell") 5 ws || is_plain (codes "cell") 7 ws)) (is_plain (codes "cell") (1 + 2 * D) ws)) (sym other)
     ∙ kind in
     by_words ws plain e
   where

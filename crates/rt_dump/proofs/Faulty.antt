@@ -30,18 +30,20 @@ use Rattle.rt_dump.proofs.WrittenText.{written-read}
 use Rattle.rt_dump.proofs.FrontLines.{AreUnbroken, pieces-unbroken, pieces-joined, first_lines-line, line_ends-line, line_ends-alone, first_lines-ended, IsBadAfter, IsCutAfter, IsFaultAfter, bad-cut, bad-once, bad-whole, fault-later}
 use Rattle.rt_dump.proofs.Fits.{Fits, line-step, kind-end, whole-fits, IsHeading, header-fits, start-fits}
 use Rattle.rt_dump.proofs.Completing.{completes}
+use Rattle.rt_dump.specs.declared.fault.LineFault.{LineFault}
+use Rattle.rt_dump.specs.declared.fault.LineFault.TheVariants.{Truncated, BadLine, CountWrong, OutOfRange, ListedTwice}
 
 -- the line and the code of a fault
-abbrev fault_of : {S : Type 0} → Result S (ℕ × ℕ) → ℕ × ℕ
-fault_of (Ok s) = (0, 0)
+abbrev fault_of : {S : Type 0} → Result S (ℕ × LineFault) → ℕ × LineFault
+fault_of (Ok s) = (0, Truncated)
 fault_of (Err fault) = fault
 
 -- a fault at a line
-abbrev pub failure : (S : Type 0) → ℕ → ℕ → Result S (ℕ × ℕ)
+abbrev pub failure : (S : Type 0) → ℕ → LineFault → Result S (ℕ × LineFault)
 failure S n c = Err (n, c)
 
-pub fault-parts : {S : Type 0} (n c k d : ℕ) → failure S n c ≡ failure S k d → (n ≡ k) × (c ≡ d)
-fault-parts {S} n c k d e = (ap (λ (r : Result S (ℕ × ℕ)). (fault_of r).0) e, ap (λ (r : Result S (ℕ × ℕ)). (fault_of r).1) e)
+pub fault-parts : {S : Type 0} (n : ℕ) (c : LineFault) (k : ℕ) (d : LineFault) → failure S n c ≡ failure S k d → (n ≡ k) × (c ≡ d)
+fault-parts {S} n c k d e = (ap (λ (r : Result S (ℕ × LineFault)). (fault_of r).0) e, ap (λ (r : Result S (ℕ × LineFault)). (fault_of r).1) e)
 
 module _ {D : ℕ} where
   -- a line before the end's is read, and then what follows it
@@ -53,11 +55,11 @@ module _ {D : ℕ} where
       onto : (ls : List (List ℕ)) → (ls ≡ [] → ⊥) → read_rest (l ∷ ls) p n ≡ read_rest ls q (n + 1)
       onto [] some = absurd (some refl)
       onto (m ∷ ms) some =
-          ap (λ (r : Result (Progress D) ℕ). at_line n r (λ q. cond (is_end (due p)) (cond {A = Result (ShadowLists D) (ℕ × ℕ)} (is_nothing (m ∷ ms)) (Ok q.shadow) (Err (n + 1, 1))) (read_rest (m ∷ ms) q (n + 1)))) after
-          ∙ ap (λ b. cond b (cond {A = Result (ShadowLists D) (ℕ × ℕ)} (is_nothing (m ∷ ms)) (Ok q.shadow) (Err (n + 1, 1))) (read_rest (m ∷ ms) q (n + 1))) more
+          ap (λ (r : Result (Progress D) LineFault). at_line n r (λ q. cond (is_end (due p)) (cond {A = Result (ShadowLists D) (ℕ × LineFault)} (is_nothing (m ∷ ms)) (Ok q.shadow) (Err (n + 1, BadLine))) (read_rest (m ∷ ms) q (n + 1)))) after
+          ∙ ap (λ b. cond b (cond {A = Result (ShadowLists D) (ℕ × LineFault)} (is_nothing (m ∷ ms)) (Ok q.shadow) (Err (n + 1, BadLine))) (read_rest (m ∷ ms) q (n + 1))) more
 
   -- a line that isn't taken
-  line-fails : (p : Progress D) (l rest : List ℕ) (n code : ℕ) → lacks 10 l ≡ true → after_line p l ≡ Err code
+  line-fails : (p : Progress D) (l rest : List ℕ) (n : ℕ) (code : LineFault) → lacks 10 l ≡ true → after_line p l ≡ Err code
       → read_rest (pieces 10 (l ++ 10 ∷ rest)) p n ≡ Err (n, code)
   line-fails p l rest n code whole fails =
       ap (λ ls. read_rest ls p n) (pieces-front 10 l rest whole) ∙ onto (pieces 10 rest) (pieces-some 10 rest)
@@ -65,28 +67,28 @@ module _ {D : ℕ} where
       onto : (ls : List (List ℕ)) → (ls ≡ [] → ⊥) → read_rest (l ∷ ls) p n ≡ Err (n, code)
       onto [] some = absurd (some refl)
       onto (m ∷ ms) some =
-          ap (λ (r : Result (Progress D) ℕ). at_line n r (λ q. cond (is_end (due p)) (cond {A = Result (ShadowLists D) (ℕ × ℕ)} (is_nothing (m ∷ ms)) (Ok q.shadow) (Err (n + 1, 1))) (read_rest (m ∷ ms) q (n + 1)))) fails
+          ap (λ (r : Result (Progress D) LineFault). at_line n r (λ q. cond (is_end (due p)) (cond {A = Result (ShadowLists D) (ℕ × LineFault)} (is_nothing (m ∷ ms)) (Ok q.shadow) (Err (n + 1, BadLine))) (read_rest (m ∷ ms) q (n + 1)))) fails
 
   -- the end's line, and what follows it
   end-onto : (p q : Progress D) (l rest : List ℕ) (n : ℕ) → lacks 10 l ≡ true → after_line p l ≡ Ok q → is_end (due p) ≡ true
-      → read_rest (pieces 10 (l ++ 10 ∷ rest)) p n ≡ cond (is_nothing (pieces 10 rest)) (Ok q.shadow) (Err (n + 1, 1))
+      → read_rest (pieces 10 (l ++ 10 ∷ rest)) p n ≡ cond (is_nothing (pieces 10 rest)) (Ok q.shadow) (Err (n + 1, BadLine))
   end-onto p q l rest n whole after more =
       ap (λ ls. read_rest ls p n) (pieces-front 10 l rest whole) ∙ onto (pieces 10 rest) (pieces-some 10 rest)
     where
-      onto : (ls : List (List ℕ)) → (ls ≡ [] → ⊥) → read_rest (l ∷ ls) p n ≡ cond (is_nothing ls) (Ok q.shadow) (Err (n + 1, 1))
+      onto : (ls : List (List ℕ)) → (ls ≡ [] → ⊥) → read_rest (l ∷ ls) p n ≡ cond (is_nothing ls) (Ok q.shadow) (Err (n + 1, BadLine))
       onto [] some = absurd (some refl)
       onto (m ∷ ms) some =
-          ap (λ (r : Result (Progress D) ℕ). at_line n r (λ q. cond (is_end (due p)) (cond {A = Result (ShadowLists D) (ℕ × ℕ)} (is_nothing (m ∷ ms)) (Ok q.shadow) (Err (n + 1, 1))) (read_rest (m ∷ ms) q (n + 1)))) after
-          ∙ ap (λ b. cond b (cond {A = Result (ShadowLists D) (ℕ × ℕ)} (is_nothing (m ∷ ms)) (Ok q.shadow) (Err (n + 1, 1))) (read_rest (m ∷ ms) q (n + 1))) more
+          ap (λ (r : Result (Progress D) LineFault). at_line n r (λ q. cond (is_end (due p)) (cond {A = Result (ShadowLists D) (ℕ × LineFault)} (is_nothing (m ∷ ms)) (Ok q.shadow) (Err (n + 1, BadLine))) (read_rest (m ∷ ms) q (n + 1)))) after
+          ∙ ap (λ b. cond b (cond {A = Result (ShadowLists D) (ℕ × LineFault)} (is_nothing (m ∷ ms)) (Ok q.shadow) (Err (n + 1, BadLine))) (read_rest (m ∷ ms) q (n + 1))) more
 
-  -- a line's code isn't 5
-  kind-code : (p : Progress D) (ws : List (List ℕ)) (wanted kind : LineKind) (code : ℕ) → after_kind p ws wanted kind ≡ Err code → code ≡ 5 → ⊥
+  -- a line that is there isn't truncated
+  kind-code : (p : Progress D) (ws : List (List ℕ)) (wanted kind : LineKind) (code : LineFault) → after_kind p ws wanted kind ≡ Err code → code ≡ Truncated → ⊥
   kind-code p ws Node Node code e five =
       let by_head : (o : Option NodeHead) → after_head p o ≡ Err code → ⊥ = elim [
-        | None ↦ λ e. let same : 4 ≡ code = cc in let no : ⊥ = omega (arith, same, five) in no
+        | None ↦ λ e. let same : OutOfRange ≡ code = cc in let no : ⊥ = cc in no
         | Some h ↦ λ e.
-            let by_case : (b : Bool) → cond {A = Result (Progress D) ℕ} b (Err 2) (Ok (with_head p h)) ≡ Err code → ⊥ = elim [
-              | true ↦ λ e. let same : 2 ≡ code = cc in let no : ⊥ = omega (arith, same, five) in no
+            let by_case : (b : Bool) → cond {A = Result (Progress D) LineFault} b (Err ListedTwice) (Ok (with_head p h)) ≡ Err code → ⊥ = elim [
+              | true ↦ λ e. let same : ListedTwice ≡ code = cc in let no : ⊥ = cc in no
               | false ↦ λ e. let no : ⊥ = cc in no
             ] in
             by_case (list_any (int_eq h.number) (numbers_of p.shadow.nodes)) e
@@ -94,31 +96,31 @@ module _ {D : ℕ} where
       by_head (node_head ws) e
   kind-code p ws Cell Cell code e five =
       let by_cell : (o : Option (RawCell D)) → after_cell p o ≡ Err code → ⊥ = elim [
-        | None ↦ λ e. let same : 4 ≡ code = cc in let no : ⊥ = omega (arith, same, five) in no
+        | None ↦ λ e. let same : OutOfRange ≡ code = cc in let no : ⊥ = cc in no
         | Some c ↦ λ e. let no : ⊥ = cc in no
       ] in
       by_cell (raw_cell D ws) e
   kind-code p ws Row Row code e five =
       let by_row : (o : Option RowEntry) → after_row p o ≡ Err code → ⊥ = elim [
-        | None ↦ λ e. let same : 4 ≡ code = cc in let no : ⊥ = omega (arith, same, five) in no
+        | None ↦ λ e. let same : OutOfRange ≡ code = cc in let no : ⊥ = cc in no
         | Some r ↦ λ e.
-            let by_case : (b : Bool) → cond {A = Result (Progress D) ℕ} b (Err 2) (Ok (record p { shadow = record p.shadow { rows = p.shadow.rows ++ r ∷ [] }; rows = p.rows - 1 })) ≡ Err code → ⊥ = elim [
-              | true ↦ λ e. let same : 2 ≡ code = cc in let no : ⊥ = omega (arith, same, five) in no
+            let by_case : (b : Bool) → cond {A = Result (Progress D) LineFault} b (Err ListedTwice) (Ok (record p { shadow = record p.shadow { rows = p.shadow.rows ++ r ∷ [] }; rows = p.rows - 1 })) ≡ Err code → ⊥ = elim [
+              | true ↦ λ e. let same : ListedTwice ≡ code = cc in let no : ⊥ = cc in no
               | false ↦ λ e. let no : ⊥ = cc in no
             ] in
             by_case (list_any (int_eq r.id) (ids_of p.shadow.rows)) e
       ] in
       by_row (row_entry ws) e
   kind-code p ws End End code e five = let no : ⊥ = cc in no
-  kind-code p ws wanted kind code e five = let same : 3 ≡ code = cc in let no : ⊥ = omega (arith, same, five) in no
+  kind-code p ws wanted kind code e five = let same : CountWrong ≡ code = cc in let no : ⊥ = cc in no
 
-  line-code : (p : Progress D) (l : List ℕ) (code : ℕ) → after_line p l ≡ Err code → code ≡ 5 → ⊥
+  line-code : (p : Progress D) (l : List ℕ) (code : LineFault) → after_line p l ≡ Err code → code ≡ Truncated → ⊥
   line-code p l code e five =
       let by_kind : (o : Option LineKind) → after_spelling p (words l) o ≡ Err code → ⊥ = elim [
-        | None ↦ λ e. let same : 1 ≡ code = cc in let no : ⊥ = omega (arith, same, five) in no
+        | None ↦ λ e. let same : BadLine ≡ code = cc in let no : ⊥ = cc in no
         | Some kind ↦ λ e. kind-code p (words l) (due p) kind code e five
       ] in
-      by_kind (kind_of D (words l)) e
+      by_kind (kind_of (Some D) (words l)) e
 
   -- a text that is read as a shadow from line n on
   abbrev pub Ends : Progress D → ℕ → List ℕ → Type 0
@@ -127,17 +129,17 @@ module _ {D : ℕ} where
   begun : (p : Progress D) (n : ℕ) → Fits p → (rest : List ℕ) × Ends p n rest
   begun p n fits = let c = completes p fits in (c.rest, (c.shadow, c.reads n))
 
-  cut-here : (p : Progress D) (n : ℕ) (l : List ℕ) → Fits p → lacks 10 l ≡ true → IsFaultAfter (Ends p n) l 0 5
+  cut-here : (p : Progress D) (n : ℕ) (l : List ℕ) → Fits p → lacks 10 l ≡ true → IsFaultAfter (Ends p n) l 0 Truncated
   cut-here p n l fits whole = record {
     bad = λ other. absurd (other refl);
     short = λ _. record {
       last = line_ends-alone l whole;
       before = begun p n fits;
-      unended = λ ends. let e : failure (ShadowLists D) n 5 ≡ Ok ends.0 = ends.1 in let no : ⊥ = cc in no;
+      unended = λ ends. let e : failure (ShadowLists D) n Truncated ≡ Ok ends.0 = ends.1 in let no : ⊥ = cc in no;
     };
   }
 
-  bad-here : (p : Progress D) (n code : ℕ) (l rest : List ℕ) → Fits p → lacks 10 l ≡ true → after_line p l ≡ Err code
+  bad-here : (p : Progress D) (n : ℕ) (code : LineFault) (l rest : List ℕ) → Fits p → lacks 10 l ≡ true → after_line p l ≡ Err code
       → IsFaultAfter (Ends p n) (l ++ 10 ∷ rest) 0 code
   bad-here p n code l rest fits whole fails = record {
     short = λ five. absurd (line-code p l code fails five);
@@ -155,12 +157,12 @@ module _ {D : ℕ} where
 
   -- something after the end
   after-end : (p q : Progress D) (n : ℕ) (l rest : List ℕ) → Fits p → lacks 10 l ≡ true → after_line p l ≡ Ok q → is_end (due p) ≡ true
-      → (rest ≡ [] → ⊥) → IsFaultAfter (Ends p n) (l ++ 10 ∷ rest) 1 1
+      → (rest ≡ [] → ⊥) → IsFaultAfter (Ends p n) (l ++ 10 ∷ rest) 1 BadLine
   after-end p q n l rest fits whole after last some =
       let lines : first_lines 1 (l ++ 10 ∷ rest) ≡ l ++ 10 ∷ [] = first_lines-line 0 l rest whole in
       let whole_here : Ends p n (l ++ 10 ∷ []) = (q.shadow, end-onto p q l [] n whole after last) in
       record {
-        short = λ five. let no : ⊥ = omega (arith, five) in absurd no;
+        short = λ five. let no : ⊥ = cc in absurd no;
         bad = λ _. record {
           before = ([], subst (Ends p n) (sym (append-nil (first_lines 1 (l ++ 10 ∷ rest)) ∙ lines)) whole_here);
           with_it = λ b.
@@ -168,7 +170,7 @@ module _ {D : ℕ} where
               let e : read_rest (pieces 10 (l ++ 10 ∷ text)) p n ≡ Ok (b.1).0 =
               ap (λ t. read_rest (pieces 10 t) p n) (sym (append_assoc l (10 ∷ first_lines 1 rest) b.0) ∙ ap (λ t. t ++ b.0) (sym (first_lines-line 1 l rest whole))) ∙ (b.1).1 in
               let f = sym (end-onto p q l text n whole after last) ∙ e in
-              let by_case : (c : Bool) → is_nothing (pieces 10 text) ≡ c → cond {A = Result (ShadowLists D) (ℕ × ℕ)} c (Ok q.shadow) (Err (n + 1, 1)) ≡ Ok (b.1).0 → ⊥ = elim [
+              let by_case : (c : Bool) → is_nothing (pieces 10 text) ≡ c → cond {A = Result (ShadowLists D) (ℕ × LineFault)} c (Ok q.shadow) (Err (n + 1, BadLine)) ≡ Ok (b.1).0 → ⊥ = elim [
                 | true ↦ λ is f. first-some rest b.0 some (sym (joined-pieces text) ∙ no-text (pieces 10 text) is)
                 | false ↦ λ is f. let no : ⊥ = cc in no
               ] in
@@ -186,15 +188,15 @@ module _ {D : ℕ} where
       first-some (b ∷ bs) more some e = let no : ⊥ = cc in no
 
   -- the first fault of the lines after the header
-  pub rest-fault : (ls : List (List ℕ)) (p : Progress D) (n k code : ℕ) → Fits p → AreUnbroken ls → read_rest ls p n ≡ Err (k, code)
+  pub rest-fault : (ls : List (List ℕ)) (p : Progress D) (n k : ℕ) (code : LineFault) → Fits p → AreUnbroken ls → read_rest ls p n ≡ Err (k, code)
       → (m : ℕ) × (k ≡ n + m) × IsFaultAfter (Ends p n) (joined ls) m code
   rest-fault [] p n k code fits each e =
-      let parts = fault-parts {S = ShadowLists D} n 5 k code e in
+      let parts = fault-parts {S = ShadowLists D} n Truncated k code e in
       let line = parts.0 in
       let five = parts.1 in
       (0, omega (arith, line), subst (IsFaultAfter (Ends p n) [] 0) five (cut-here p n [] fits refl))
   rest-fault (l ∷ []) p n k code fits each e =
-      let parts = fault-parts {S = ShadowLists D} n 5 k code e in
+      let parts = fault-parts {S = ShadowLists D} n Truncated k code e in
       let line = parts.0 in
       let five = parts.1 in
       (0, omega (arith, line), subst (IsFaultAfter (Ends p n) l 0) five (cut-here p n l fits each.0))
@@ -211,11 +213,11 @@ module _ {D : ℕ} where
             (λ t ends. (ends.0, sym (line-onto p q l t n each.0 taken more) ∙ ends.1)) after rest.0 code rest.2,
       ) in
       let ends : (q : Progress D) → after_line p l ≡ Ok q → is_end (due p) ≡ true
-      → cond {A = Result (ShadowLists D) (ℕ × ℕ)} (is_nothing (m ∷ ms)) (Ok q.shadow) (Err (n + 1, 1)) ≡ Err (k, code) → Fault = λ q taken last e.
-      let by_case : (b : Bool) → is_nothing (m ∷ ms) ≡ b → cond {A = Result (ShadowLists D) (ℕ × ℕ)} b (Ok q.shadow) (Err (n + 1, 1)) ≡ Err (k, code) → Fault = elim [
+      → cond {A = Result (ShadowLists D) (ℕ × LineFault)} (is_nothing (m ∷ ms)) (Ok q.shadow) (Err (n + 1, BadLine)) ≡ Err (k, code) → Fault = λ q taken last e.
+      let by_case : (b : Bool) → is_nothing (m ∷ ms) ≡ b → cond {A = Result (ShadowLists D) (ℕ × LineFault)} b (Ok q.shadow) (Err (n + 1, BadLine)) ≡ Err (k, code) → Fault = elim [
         | true ↦ λ is e. let no : ⊥ = cc in absurd no
         | false ↦ λ is e.
-            let parts = fault-parts {S = ShadowLists D} (n + 1) 1 k code e in
+            let parts = fault-parts {S = ShadowLists D} (n + 1) BadLine k code e in
             let line = parts.0 in
             let one = parts.1 in
             let some : after ≡ [] → ⊥ = λ none.
@@ -226,8 +228,8 @@ module _ {D : ℕ} where
             (1, sym line, subst (IsFaultAfter (Ends p n) (l ++ 10 ∷ after) 1) one (after-end p q n l after fits each.0 taken last some))
       ] in
       by_case (is_nothing (m ∷ ms)) refl e in
-      let by_line : (r : Result (Progress D) ℕ) → after_line p l ≡ r
-      → at_line n r (λ q. cond (is_end (due p)) (cond {A = Result (ShadowLists D) (ℕ × ℕ)} (is_nothing (m ∷ ms)) (Ok q.shadow) (Err (n + 1, 1))) (read_rest (m ∷ ms) q (n + 1))) ≡ Err (k, code)
+      let by_line : (r : Result (Progress D) LineFault) → after_line p l ≡ r
+      → at_line n r (λ q. cond (is_end (due p)) (cond {A = Result (ShadowLists D) (ℕ × LineFault)} (is_nothing (m ∷ ms)) (Ok q.shadow) (Err (n + 1, BadLine))) (read_rest (m ∷ ms) q (n + 1))) ≡ Err (k, code)
       → Fault = elim [
         | Err c ↦ λ is e.
             let parts = fault-parts {S = ShadowLists D} n c k code e in
@@ -236,7 +238,7 @@ module _ {D : ℕ} where
             (0, omega (arith, line), subst (IsFaultAfter (Ends p n) (l ++ 10 ∷ after) 0) same (bad-here p n c l after fits each.0 is))
         | Ok q ↦ λ is e.
             let by_end : (b : Bool) → is_end (due p) ≡ b
-            → cond b (cond {A = Result (ShadowLists D) (ℕ × ℕ)} (is_nothing (m ∷ ms)) (Ok q.shadow) (Err (n + 1, 1))) (read_rest (m ∷ ms) q (n + 1)) ≡ Err (k, code) → Fault = elim [
+            → cond b (cond {A = Result (ShadowLists D) (ℕ × LineFault)} (is_nothing (m ∷ ms)) (Ok q.shadow) (Err (n + 1, BadLine))) (read_rest (m ∷ ms) q (n + 1)) ≡ Err (k, code) → Fault = elim [
               | true ↦ λ last e. ends q is last e
               | false ↦ λ more e. goes_on q is more e
             ] in
@@ -257,23 +259,23 @@ module _ {D : ℕ} where
   rest-fits (l ∷ []) p n s fits e = let no : ⊥ = cc in absurd no
   rest-fits (l ∷ m ∷ ms) p n s fits e =
       let ends : (q : Progress D) → after_line p l ≡ Ok q → is_end (due p) ≡ true
-      → cond {A = Result (ShadowLists D) (ℕ × ℕ)} (is_nothing (m ∷ ms)) (Ok q.shadow) (Err (n + 1, 1)) ≡ Ok s → IsInRange s × IsNumbered s = λ q taken last e.
-      let by_case : (b : Bool) → cond {A = Result (ShadowLists D) (ℕ × ℕ)} b (Ok q.shadow) (Err (n + 1, 1)) ≡ Ok s → IsInRange s × IsNumbered s = elim [
+      → cond {A = Result (ShadowLists D) (ℕ × LineFault)} (is_nothing (m ∷ ms)) (Ok q.shadow) (Err (n + 1, BadLine)) ≡ Ok s → IsInRange s × IsNumbered s = λ q taken last e.
+      let by_case : (b : Bool) → cond {A = Result (ShadowLists D) (ℕ × LineFault)} b (Ok q.shadow) (Err (n + 1, BadLine)) ≡ Ok s → IsInRange s × IsNumbered s = elim [
         | true ↦ λ e.
             let shadow : q.shadow ≡ s = cc in
-            let parts = due-end (due p) p q (words l) (kind_of D (words l)) (due-counts p) refl last taken in
+            let parts = due-end (due p) p q (words l) (kind_of (Some D) (words l)) (due-counts p) refl last taken in
             let same : p.shadow ≡ s = ap (λ (p : Progress D). p.shadow) parts.0 ∙ shadow in
             subst (λ s. IsInRange s × IsNumbered s) same (whole-fits p fits parts.1 parts.2 parts.3)
         | false ↦ λ e. let no : ⊥ = cc in absurd no
       ] in
       by_case (is_nothing (m ∷ ms)) e in
-      let by_line : (r : Result (Progress D) ℕ) → after_line p l ≡ r
-      → at_line n r (λ q. cond (is_end (due p)) (cond {A = Result (ShadowLists D) (ℕ × ℕ)} (is_nothing (m ∷ ms)) (Ok q.shadow) (Err (n + 1, 1))) (read_rest (m ∷ ms) q (n + 1))) ≡ Ok s
+      let by_line : (r : Result (Progress D) LineFault) → after_line p l ≡ r
+      → at_line n r (λ q. cond (is_end (due p)) (cond {A = Result (ShadowLists D) (ℕ × LineFault)} (is_nothing (m ∷ ms)) (Ok q.shadow) (Err (n + 1, BadLine))) (read_rest (m ∷ ms) q (n + 1))) ≡ Ok s
       → IsInRange s × IsNumbered s = elim [
         | Err c ↦ λ is e. let no : ⊥ = cc in absurd no
         | Ok q ↦ λ is e.
             let by_end : (b : Bool) → is_end (due p) ≡ b
-            → cond b (cond {A = Result (ShadowLists D) (ℕ × ℕ)} (is_nothing (m ∷ ms)) (Ok q.shadow) (Err (n + 1, 1))) (read_rest (m ∷ ms) q (n + 1)) ≡ Ok s → IsInRange s × IsNumbered s = elim [
+            → cond b (cond {A = Result (ShadowLists D) (ℕ × LineFault)} (is_nothing (m ∷ ms)) (Ok q.shadow) (Err (n + 1, BadLine))) (read_rest (m ∷ ms) q (n + 1)) ≡ Ok s → IsInRange s × IsNumbered s = elim [
               | true ↦ λ last e. ends q is last e
               | false ↦ λ more e. rest-fits (m ∷ ms) q (n + 1) s (line-step p q l fits is) e
             ] in

@@ -22,6 +22,8 @@ use Rattle.rt_dump.proofs.WrittenText.{written-read}
 use Rattle.rt_dump.proofs.FrontLines.{AreUnbroken, pieces-unbroken, first_lines-line, line_ends-line, line_ends-alone, first_lines-ended, Begins, IsBadAfter, IsCutAfter, IsFaultAfter, bad-cut, bad-once, bad-whole, fault-later}
 use Rattle.rt_dump.proofs.Fits.{IsHeading, header-fits, start-fits}
 use Rattle.rt_dump.proofs.Faulty.{failure, fault-parts, Ends, rest-fault, rest-fits}
+use Rattle.rt_dump.specs.declared.fault.LineFault.{LineFault}
+use Rattle.rt_dump.specs.declared.fault.LineFault.TheVariants.{Truncated, BadLine, CountWrong, OutOfRange, ListedTwice}
 
 -- what is read after a header of one, two or three axes
 pub record Body (h : Heading) : Type 0 where
@@ -68,12 +70,12 @@ body-of h head =
     by_one (h.axes == 1) refl
 
 -- a shadow that comes of the lines after a header
-made : {S : Type 0} (make : S → AnyShadow) (r : Result S (ℕ × ℕ)) (a : AnyShadow) → any_shadow make r ≡ Ok a → (s : S) × (r ≡ Ok s) × (make s ≡ a)
+made : {S : Type 0} (make : S → AnyShadow) (r : Result S (ℕ × LineFault)) (a : AnyShadow) → any_shadow make r ≡ Ok a → (s : S) × (r ≡ Ok s) × (make s ≡ a)
 made make (Ok s) a e = let same : make s ≡ a = cc in (s, refl, same)
 made make (Err fault) a e = let no : ⊥ = cc in absurd no
 
 -- a fault in them
-failed : {S : Type 0} (make : S → AnyShadow) (r : Result S (ℕ × ℕ)) (k code : ℕ) → any_shadow make r ≡ Err (k, code) → r ≡ Err (k, code)
+failed : {S : Type 0} (make : S → AnyShadow) (r : Result S (ℕ × LineFault)) (k : ℕ) (code : LineFault) → any_shadow make r ≡ Err (k, code) → r ≡ Err (k, code)
 failed make (Ok s) k code e = let no : ⊥ = cc in absurd no
 failed {S} make (Err fault) k code e =
     let parts = fault-parts {S = AnyShadow} fault.0 fault.1 k code e in
@@ -100,7 +102,7 @@ text-fits text a e = by_lines (pieces 10 text) e
     by_lines : (ls : List (List ℕ)) → read_lines ls ≡ Ok a → IsAnyInRange a × IsAnyNumbered a
     by_lines [] e = let no : ⊥ = cc in absurd no
     by_lines (l ∷ []) e = let no : ⊥ = cc in absurd no
-    by_lines (l ∷ m ∷ ms) e = kind-fits (words l) (m ∷ ms) a (kind_of 0 (words l)) e
+    by_lines (l ∷ m ∷ ms) e = kind-fits (words l) (m ∷ ms) a (kind_of None (words l)) e
 
 abbrev Reads : List ℕ → Type 0
 Reads text = (a : AnyShadow) × (read_text text ≡ Ok a)
@@ -113,20 +115,20 @@ some-dump : Begins Reads []
 some-dump = (least_text, (One (record { capacity = 5; root = pos 1; nodes = []; rows = [] }), refl))
 
 nothing-unread : Reads [] → ⊥
-nothing-unread r = let e : failure AnyShadow 1 5 ≡ Ok r.0 = r.1 in let no : ⊥ = cc in no
+nothing-unread r = let e : failure AnyShadow 1 Truncated ≡ Ok r.0 = r.1 in let no : ⊥ = cc in no
 
-cut-at-once : (l : List ℕ) → lacks 10 l ≡ true → IsFaultAfter Reads l 0 5
+cut-at-once : (l : List ℕ) → lacks 10 l ≡ true → IsFaultAfter Reads l 0 Truncated
 cut-at-once l whole = record {
   bad = λ other. absurd (other refl);
   short = λ _. record { last = line_ends-alone l whole; before = some-dump; unended = nothing-unread };
 }
 
 module _ (l : List ℕ) (whole : lacks 10 l ≡ true) where
-  first-read : (rest : List ℕ) → read_text (l ++ 10 ∷ rest) ≡ read_kind (kind_of 0 (words l)) (header_of (words l)) (pieces 10 rest)
+  first-read : (rest : List ℕ) → read_text (l ++ 10 ∷ rest) ≡ read_kind (kind_of None (words l)) (header_of (words l)) (pieces 10 rest)
   first-read rest = ap read_lines (pieces-front 10 l rest whole) ∙ read_lines-first l (pieces 10 rest) (pieces-some 10 rest)
 
   -- no text begins with the line
-  bad-first : (code : ℕ) (rest : List ℕ) → (code ≡ 5 → ⊥) → ((ls : List (List ℕ)) → read_kind (kind_of 0 (words l)) (header_of (words l)) ls ≡ Err (1, code))
+  bad-first : (code : LineFault) (rest : List ℕ) → (code ≡ Truncated → ⊥) → ((ls : List (List ℕ)) → read_kind (kind_of None (words l)) (header_of (words l)) ls ≡ Err (1, code))
       → IsFaultAfter Reads (l ++ 10 ∷ rest) 0 code
   bad-first code rest other fails = record {
     short = λ five. absurd (other five);
@@ -142,10 +144,10 @@ module _ (l : List ℕ) (whole : lacks 10 l ≡ true) where
     };
   }
 
-  abbrev Fault : List ℕ → ℕ → ℕ → Type 0
+  abbrev Fault : List ℕ → ℕ → LineFault → Type 0
   Fault text k code = (m : ℕ) × (k ≡ 1 + m) × IsFaultAfter Reads text m code
 
-  at-first : (k code found : ℕ) (rest : List ℕ) → (found ≡ 5 → ⊥) → ((ls : List (List ℕ)) → read_kind (kind_of 0 (words l)) (header_of (words l)) ls ≡ Err (1, found))
+  at-first : (k : ℕ) (code found : LineFault) (rest : List ℕ) → (found ≡ Truncated → ⊥) → ((ls : List (List ℕ)) → read_kind (kind_of None (words l)) (header_of (words l)) ls ≡ Err (1, found))
       → failure AnyShadow 1 found ≡ failure AnyShadow k code → Fault (l ++ 10 ∷ rest) k code
   at-first k code found rest other fails e =
       let parts = fault-parts {S = AnyShadow} 1 found k code e in
@@ -153,7 +155,7 @@ module _ (l : List ℕ) (whole : lacks 10 l ≡ true) where
       (0, omega (arith, line), subst (IsFaultAfter Reads (l ++ 10 ∷ rest) 0) parts.1 (bad-first found rest other fails))
 
   -- after a header
-  body-fault : (h : Heading) (m : List ℕ) (ms : List (List ℕ)) (k code : ℕ) → AreUnbroken (m ∷ ms) → kind_of 0 (words l) ≡ Some Header → header_of (words l) ≡ Some h
+  body-fault : (h : Heading) (m : List ℕ) (ms : List (List ℕ)) (k : ℕ) (code : LineFault) → AreUnbroken (m ∷ ms) → kind_of None (words l) ≡ Some Header → header_of (words l) ≡ Some h
       → read_body h (m ∷ ms) ≡ Err (k, code) → Fault (l ++ 10 ∷ joined (m ∷ ms)) k code
   body-fault h m ms k code each kind says e =
       let head = header-fits (words l) h says in
@@ -172,44 +174,44 @@ module _ (l : List ℕ) (whole : lacks 10 l ≡ true) where
             (λ t r. let m = made b.make (read_rest (pieces 10 t) p 2) r.0 (sym (body t) ∙ r.1) in (m.0, m.1)) (joined (m ∷ ms)) rest.0 code rest.2,
       )
 
-  line-fault : (m : List ℕ) (ms : List (List ℕ)) (k code : ℕ) → AreUnbroken (m ∷ ms) → (o : Option LineKind) → kind_of 0 (words l) ≡ o
+  line-fault : (m : List ℕ) (ms : List (List ℕ)) (k : ℕ) (code : LineFault) → AreUnbroken (m ∷ ms) → (o : Option LineKind) → kind_of None (words l) ≡ o
       → read_kind o (header_of (words l)) (m ∷ ms) ≡ Err (k, code) → Fault (l ++ 10 ∷ joined (m ∷ ms)) k code
   line-fault m ms k code each (Some Header) kind e =
       let by_heading : (o : Option Heading) → header_of (words l) ≡ o → read_heading o (m ∷ ms) ≡ Err (k, code) → Fault (l ++ 10 ∷ joined (m ∷ ms)) k code = elim [
-        | None ↦ λ says e. at-first k code 4 (joined (m ∷ ms)) (λ five. let no : ⊥ = omega (arith, five) in no)
+        | None ↦ λ says e. at-first k code OutOfRange (joined (m ∷ ms)) (λ five. let no : ⊥ = cc in no)
             (λ ls. ap (λ (o : Option LineKind). read_kind o (header_of (words l)) ls) kind ∙ ap (λ (o : Option Heading). read_heading o ls) says) e
         | Some h ↦ λ says e. body-fault h m ms k code each kind says e
       ] in
       by_heading (header_of (words l)) refl e
   line-fault m ms k code each None kind e =
-      at-first k code 1 (joined (m ∷ ms)) (λ five. let no : ⊥ = omega (arith, five) in no)
+      at-first k code BadLine (joined (m ∷ ms)) (λ five. let no : ⊥ = cc in no)
       (λ ls. ap (λ (o : Option LineKind). read_kind o (header_of (words l)) ls) kind) e
   line-fault m ms k code each (Some Node) kind e =
-      at-first k code 3 (joined (m ∷ ms)) (λ five. let no : ⊥ = omega (arith, five) in no)
+      at-first k code CountWrong (joined (m ∷ ms)) (λ five. let no : ⊥ = cc in no)
       (λ ls. ap (λ (o : Option LineKind). read_kind o (header_of (words l)) ls) kind) e
   line-fault m ms k code each (Some Cell) kind e =
-      at-first k code 3 (joined (m ∷ ms)) (λ five. let no : ⊥ = omega (arith, five) in no)
+      at-first k code CountWrong (joined (m ∷ ms)) (λ five. let no : ⊥ = cc in no)
       (λ ls. ap (λ (o : Option LineKind). read_kind o (header_of (words l)) ls) kind) e
   line-fault m ms k code each (Some Row) kind e =
-      at-first k code 3 (joined (m ∷ ms)) (λ five. let no : ⊥ = omega (arith, five) in no)
+      at-first k code CountWrong (joined (m ∷ ms)) (λ five. let no : ⊥ = cc in no)
       (λ ls. ap (λ (o : Option LineKind). read_kind o (header_of (words l)) ls) kind) e
   line-fault m ms k code each (Some End) kind e =
-      at-first k code 3 (joined (m ∷ ms)) (λ five. let no : ⊥ = omega (arith, five) in no)
+      at-first k code CountWrong (joined (m ∷ ms)) (λ five. let no : ⊥ = cc in no)
       (λ ls. ap (λ (o : Option LineKind). read_kind o (header_of (words l)) ls) kind) e
 
-lines-fault : (ls : List (List ℕ)) (k code : ℕ) → AreUnbroken ls → read_lines ls ≡ Err (k, code) → (m : ℕ) × (k ≡ 1 + m) × IsFaultAfter Reads (joined ls) m code
+lines-fault : (ls : List (List ℕ)) (k : ℕ) (code : LineFault) → AreUnbroken ls → read_lines ls ≡ Err (k, code) → (m : ℕ) × (k ≡ 1 + m) × IsFaultAfter Reads (joined ls) m code
 lines-fault [] k code each e =
-    let parts = fault-parts {S = AnyShadow} 1 5 k code e in
+    let parts = fault-parts {S = AnyShadow} 1 Truncated k code e in
     let line : 1 ≡ k = parts.0 in
     (0, omega (arith, line), subst (IsFaultAfter Reads [] 0) parts.1 (cut-at-once [] refl))
 lines-fault (l ∷ []) k code each e =
-    let parts = fault-parts {S = AnyShadow} 1 5 k code e in
+    let parts = fault-parts {S = AnyShadow} 1 Truncated k code e in
     let line : 1 ≡ k = parts.0 in
     (0, omega (arith, line), subst (IsFaultAfter Reads l 0) parts.1 (cut-at-once l each.0))
-lines-fault (l ∷ m ∷ ms) k code each e = line-fault l each.0 m ms k code each.1 (kind_of 0 (words l)) refl e
+lines-fault (l ∷ m ∷ ms) k code each e = line-fault l each.0 m ms k code each.1 (kind_of None (words l)) refl e
 
 -- the fault that is read is the first
-text-fault : (text : List ℕ) (k code : ℕ) → read_text text ≡ Err (k, code) → (m : ℕ) × (k ≡ 1 + m) × IsFaultAfter Reads text m code
+text-fault : (text : List ℕ) (k : ℕ) (code : LineFault) → read_text text ≡ Err (k, code) → (m : ℕ) × (k ≡ 1 + m) × IsFaultAfter Reads text m code
 text-fault text k code e =
     let f = lines-fault (pieces 10 text) k code (pieces-unbroken text) e in
     (f.0, f.1, subst (λ t. IsFaultAfter Reads t f.0 code) (joined-pieces text) f.2)
@@ -313,32 +315,31 @@ cut-of text n short =
       },
     )
 
--- whether a code is 5
-is-five : (code : ℕ) → (code ≡ 5) ⊎ (code ≡ 5 → ⊥)
-is-five code =
-    let by_case : (b : Bool) → (code == 5) ≡ b → (code ≡ 5) ⊎ (code ≡ 5 → ⊥) = elim [
-      | true ↦ λ e. inl (grind (arith, e))
-      | false ↦ λ e. inr (λ five. let no : ⊥ = grind (arith, e, five) in no)
-    ] in
-    by_case (code == 5) refl
+-- whether a fault is that of a text that is cut
+is-cut : (fault : LineFault) → (fault ≡ Truncated) ⊎ (fault ≡ Truncated → ⊥)
+is-cut Truncated = inl refl
+is-cut BadLine = inr (λ e. let no : ⊥ = cc in no)
+is-cut CountWrong = inr (λ e. let no : ⊥ = cc in no)
+is-cut OutOfRange = inr (λ e. let no : ⊥ = cc in no)
+is-cut ListedTwice = inr (λ e. let no : ⊥ = cc in no)
 
 -- the law of truncated texts
 pub truncated-found : TruncatedTextsAreFound
 truncated-found text n = (
-  λ e. let f = text-fault text n 5 e in truncated text n f.0 f.1 ((f.2).short refl),
+  λ e. let f = text-fault text n Truncated e in truncated text n f.0 f.1 ((f.2).short refl),
   λ short. let c = cut-of text n short in by_read c.0 c.1 c.2 (read_text text) refl,
 )
   where
-    by_read : (m : ℕ) → n ≡ 1 + m → IsCutAfter Reads text m → (r : Result AnyShadow (ℕ × ℕ)) → read_text text ≡ r → r ≡ Err (n, 5)
+    by_read : (m : ℕ) → n ≡ 1 + m → IsCutAfter Reads text m → (r : Result AnyShadow (ℕ × LineFault)) → read_text text ≡ r → r ≡ Err (n, Truncated)
     by_read m line short (Ok a) is = absurd (cut-whole text m (a, is) short)
     by_read m line short (Err fault) is =
         let f = text-fault text fault.0 fault.1 is in
         let at : fault.0 ≡ 1 + f.0 = f.1 in
-        elim (is-five fault.1) as (λ s. failure AnyShadow fault.0 fault.1 ≡ failure AnyShadow n 5) [
-          | inl five ↦
-              let other = (f.2).short five in
+        elim (is-cut fault.1) as (λ s. failure AnyShadow fault.0 fault.1 ≡ failure AnyShadow n Truncated) [
+          | inl cut ↦
+              let other = (f.2).short cut in
               let same : fault.0 ≡ n = omega (arith, at, line, other.last, short.last) in
-              ap (λ k. Err (k, fault.1)) same ∙ ap (λ c. Err (n, c)) five
+              ap (λ k. Err (k, fault.1)) same ∙ ap (λ c. Err (n, c)) cut
           | inr other ↦ absurd (bad-cut Reads text f.0 m ((f.2).bad other) short)
         ]
 
@@ -349,14 +350,14 @@ bad-found text n = (
   λ bad. let b = line-bad text n bad in by_read b.0 b.1 b.2 (read_text text) refl,
 )
   where
-    by_read : (m : ℕ) → n ≡ 1 + m → IsBadAfter Reads text m → (r : Result AnyShadow (ℕ × ℕ)) → read_text text ≡ r
-        → (code : ℕ) × (code ≡ 5 → ⊥) × (r ≡ Err (n, code))
+    by_read : (m : ℕ) → n ≡ 1 + m → IsBadAfter Reads text m → (r : Result AnyShadow (ℕ × LineFault)) → read_text text ≡ r
+        → (code : LineFault) × (code ≡ Truncated → ⊥) × (r ≡ Err (n, code))
     by_read m line bad (Ok a) is = absurd (bad-whole Reads text m (a, is) bad)
     by_read m line bad (Err fault) is =
         let f = text-fault text fault.0 fault.1 is in
         let at : fault.0 ≡ 1 + f.0 = f.1 in
-        elim (is-five fault.1) as (λ s. (code : ℕ) × (code ≡ 5 → ⊥) × (failure AnyShadow fault.0 fault.1 ≡ failure AnyShadow n code)) [
-          | inl five ↦ absurd (bad-cut Reads text m f.0 bad ((f.2).short five))
+        elim (is-cut fault.1) as (λ s. (code : LineFault) × (code ≡ Truncated → ⊥) × (failure AnyShadow fault.0 fault.1 ≡ failure AnyShadow n code)) [
+          | inl cut ↦ absurd (bad-cut Reads text m f.0 bad ((f.2).short cut))
           | inr other ↦
               let once : m ≡ f.0 = bad-once Reads text m f.0 bad ((f.2).bad other) in
               let same : fault.0 ≡ n = omega (arith, at, line, once) in
@@ -367,18 +368,18 @@ bad-found text n = (
 pub dump-or-faulty : IsDumpOrFaulty
 dump-or-faulty text = by_read (read_text text) refl
   where
-    by_read : (r : Result AnyShadow (ℕ × ℕ)) → read_text text ≡ r → IsDump text ⊎ ((n : ℕ) × IsFirstFault text n)
+    by_read : (r : Result AnyShadow (ℕ × LineFault)) → read_text text ≡ r → IsDump text ⊎ ((n : ℕ) × IsFirstFault text n)
     by_read (Ok a) is = inl (dump-of text (a, is))
     by_read (Err fault) is =
-        inr (fault.0, elim (is-five fault.1) as (λ s. IsFirstFault text fault.0) [
-          | inl five ↦ inr ((truncated-found text fault.0).0 (is ∙ ap (λ c. Err (fault.0, c)) five))
+        inr (fault.0, elim (is-cut fault.1) as (λ s. IsFirstFault text fault.0) [
+          | inl cut ↦ inr ((truncated-found text fault.0).0 (is ∙ ap (λ c. Err (fault.0, c)) cut))
           | inr other ↦ inl ((bad-found text fault.0).0 (fault.1, other, is))
         ])
 
 -- what is read where a text has a fault
-fault-read : (text : List ℕ) (n : ℕ) → IsFirstFault text n → (code : ℕ) × (read_text text ≡ Err (n, code))
+fault-read : (text : List ℕ) (n : ℕ) → IsFirstFault text n → (code : LineFault) × (read_text text ≡ Err (n, code))
 fault-read text n (inl bad) = let f = (bad-found text n).1 bad in (f.0, f.2)
-fault-read text n (inr short) = (5, (truncated-found text n).1 short)
+fault-read text n (inr short) = (Truncated, (truncated-found text n).1 short)
 
 pub one-answer : OneAnswer
 one-answer text n fault =

@@ -28,6 +28,8 @@ use Rattle.rt_dump.proofs.AcceptedLines.{head-parts, row-parts, range-parts, cel
 use Rattle.rt_dump.proofs.AcceptedSteps.{Due, due-counts, with_added}
 use Rattle.rt_dump.proofs.Written.{with_last-end}
 use Rattle.rt_dump.proofs.Fresh.{IsNumber, distinct-push}
+use Rattle.rt_dump.specs.declared.fault.LineFault.{LineFault}
+use Rattle.rt_dump.specs.declared.fault.LineFault.TheVariants.{ListedTwice}
 
 -- what is read of a word fits
 long-tested : (n : ℕ) (z : ℤ) → cond (nat_lt n (2 ^ 63)) (Some (pos n)) None ≡ Some z → IsLong z
@@ -305,7 +307,7 @@ module _ {D : ℕ} where
       let by_head : (o : Option NodeHead) → node_head ws ≡ o → after_head p o ≡ Ok q → Fits q = elim [
         | None ↦ λ is e. let no : ⊥ = cc in absurd no
         | Some h ↦ λ is e.
-            let by_case : (b : Bool) → list_any (int_eq h.number) (numbers_of p.shadow.nodes) ≡ b → cond {A = Result (Progress D) ℕ} b (Err 2) (Ok (with_head p h)) ≡ Ok q → Fits q = elim [
+            let by_case : (b : Bool) → list_any (int_eq h.number) (numbers_of p.shadow.nodes) ≡ b → cond {A = Result (Progress D) LineFault} b (Err ListedTwice) (Ok (with_head p h)) ≡ Ok q → Fits q = elim [
               | true ↦ λ lack e. let no : ⊥ = cc in absurd no
               | false ↦ λ lack e. let same : with_head p h ≡ q = cc in subst Fits same (node-step p h fits (head-fits ws h is) counts.0 counts.1 lack)
             ] in
@@ -326,7 +328,7 @@ module _ {D : ℕ} where
         | None ↦ λ is e. let no : ⊥ = cc in absurd no
         | Some r ↦ λ is e.
             let new : Progress D = record p { shadow = record p.shadow { rows = p.shadow.rows ++ r ∷ [] }; rows = p.rows - 1 } in
-            let by_case : (b : Bool) → list_any (int_eq r.id) (ids_of p.shadow.rows) ≡ b → cond {A = Result (Progress D) ℕ} b (Err 2) (Ok new) ≡ Ok q → Fits q = elim [
+            let by_case : (b : Bool) → list_any (int_eq r.id) (ids_of p.shadow.rows) ≡ b → cond {A = Result (Progress D) LineFault} b (Err ListedTwice) (Ok new) ≡ Ok q → Fits q = elim [
               | true ↦ λ lack e. let no : ⊥ = cc in absurd no
               | false ↦ λ lack e. let same : new ≡ q = cc in subst Fits same (row-step p r fits (row-fits ws r is) counts.0 counts.1 counts.2 lack)
             ] in
@@ -342,7 +344,7 @@ module _ {D : ℕ} where
         | None ↦ λ e. let no : ⊥ = cc in absurd no
         | Some kind ↦ λ e. kind-step p q (words l) (due p) kind fits (due-counts p) e
       ] in
-      by_kind (kind_of D (words l)) e
+      by_kind (kind_of (Some D) (words l)) e
 
   -- the end's line changes nothing
   pub kind-end : (p q : Progress D) (ws : List (List ℕ)) (kind : LineKind) → after_kind p ws End kind ≡ Ok q → p ≡ q

@@ -5,6 +5,8 @@ use Rattle.rt_dump.specs.Pieces.{pieces, onto_first}
 use Rattle.rt_dump.specs.Faults.{first_lines, line_ends}
 use Rattle.rt_dump.proofs.AcceptedWords.{joined}
 use Rattle.rt_dump.proofs.WrittenPieces.{lacks, pieces-front, pieces-alone}
+use Rattle.rt_dump.specs.declared.fault.LineFault.{LineFault}
+use Rattle.rt_dump.specs.declared.fault.LineFault.TheVariants.{Truncated}
 
 -- lines without a byte 10
 abbrev pub AreUnbroken : List (List ℕ) → Type 0
@@ -177,10 +179,10 @@ module _ (Whole : List ℕ → Type 0) where
   pub bad-whole : (text : List ℕ) (m : ℕ) → Whole text → IsBadAfter text m → ⊥
   bad-whole text m whole bad = let front = lines-of (suc m) text in bad.with_it (front.0, subst Whole front.1 whole)
 
-  -- a fault by its code: 5 where the text is cut
-  pub record IsFaultAfter (text : List ℕ) (n code : ℕ) : Type 0 where
-    pub bad : (code ≡ 5 → ⊥) → IsBadAfter text n
-    pub short : code ≡ 5 → IsCutAfter text n
+  -- a fault: the text is cut, or a line is bad
+  pub record IsFaultAfter (text : List ℕ) (n : ℕ) (fault : LineFault) : Type 0 where
+    pub bad : (fault ≡ Truncated → ⊥) → IsBadAfter text n
+    pub short : fault ≡ Truncated → IsCutAfter text n
 
 -- what is known of a text after its first line is known of the text
 module _ (Whole After : List ℕ → Type 0) (l : List ℕ) (one : lacks 10 l ≡ true) (onto : (t : List ℕ) → After t → Whole (l ++ 10 ∷ t))
@@ -213,8 +215,8 @@ module _ (Whole After : List ℕ → Type 0) (l : List ℕ) (one : lacks 10 l �
         unended = λ whole. short.unended (off (first_lines n text) (subst Whole lines whole));
       }
 
-  pub fault-later : (text : List ℕ) (n code : ℕ) → IsFaultAfter After text n code → IsFaultAfter Whole (l ++ 10 ∷ text) (suc n) code
-  fault-later text n code fault = record {
+  pub fault-later : (text : List ℕ) (n : ℕ) (what : LineFault) → IsFaultAfter After text n what → IsFaultAfter Whole (l ++ 10 ∷ text) (suc n) what
+  fault-later text n what fault = record {
     bad = λ other. bad-later text n (fault.bad other);
-    short = λ five. cut-later text n (fault.short five);
+    short = λ cut. cut-later text n (fault.short cut);
   }

@@ -5,6 +5,8 @@ use Rattle.rt_dump.specs.declared.dump.AnyShadow.{AnyShadow}
 use Rattle.rt_dump.specs.Dump.{any_text}
 use Rattle.rt_dump.specs.InRange.{IsAnyInRange, IsAnyNumbered}
 use Rattle.rt_dump.specs.Reading.{read_text}
+use Rattle.rt_dump.specs.declared.fault.LineFault.{LineFault}
+use Rattle.rt_dump.specs.declared.fault.LineFault.TheVariants.{Truncated}
 
 -- the text of a shadow whose numbers fit their types and count from 1
 pub record IsTextOf (shadow : AnyShadow) (text : List ℕ) : Type 0 where
@@ -51,10 +53,10 @@ abbrev pub DumpsAreRead : Type 0
 DumpsAreRead = (text : List ℕ) (shadow : AnyShadow) → (read_text text ≡ Ok shadow) ↔ IsTextOf shadow text
 
 abbrev pub TruncatedTextsAreFound : Type 0
-TruncatedTextsAreFound = (text : List ℕ) (n : ℕ) → (read_text text ≡ Err (n, 5)) ↔ IsTruncated text n
+TruncatedTextsAreFound = (text : List ℕ) (n : ℕ) → (read_text text ≡ Err (n, Truncated)) ↔ IsTruncated text n
 
 abbrev pub BadLinesAreFound : Type 0
-BadLinesAreFound = (text : List ℕ) (n : ℕ) → ((code : ℕ) × (code ≡ 5 → ⊥) × (read_text text ≡ Err (n, code))) ↔ IsBadLine text n
+BadLinesAreFound = (text : List ℕ) (n : ℕ) → ((fault : LineFault) × (fault ≡ Truncated → ⊥) × (read_text text ≡ Err (n, fault))) ↔ IsBadLine text n
 
 -- a text is a dump or has a first fault, and not both, nor two
 abbrev pub IsDumpOrFaulty : Type 0

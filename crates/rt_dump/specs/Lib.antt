@@ -5,3 +5,4 @@ pub mod Lines
 pub mod Reading
 pub mod InRange
 pub mod Faults
+pub mod Codes

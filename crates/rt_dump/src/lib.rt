@@ -6,6 +6,7 @@
 #![tactic(auto)]
 
 mod dump;
+mod fault;
 pub mod laws;
 mod lines;
 mod looks;
@@ -14,4 +15,5 @@ mod pieces;
 mod reading;
 
 pub use dump::{AnyShadow, write_dump};
-pub use reading::{DumpFault, read_dump};
+pub use fault::{DumpFault, LineFault};
+pub use reading::read_dump;
