@@ -1,6 +1,6 @@
 -- The laws of dumps and of faulty texts.
 use Rattle.std.proofs.Common.{◌≡◌, ◌⊎◌, inl, inr, ℕ, zero, suc, ◌+◌, ◌-◌, ◌<◌, ◌≤◌, List, [], ◌∷◌, ◌++◌, Bool, true, false, cond, Option, Some, None, Result, Ok, Err, refl, sym, subst, ◌∙◌, ap, arith, codes, append_assoc}
-use Rattle.std.specs.Prelude.{◌==◌, pos}
+use Rattle.std.specs.Prelude.{◌==◌, pos, IfOk}
 use Rattle.std.specs.List.{flat_map}
 use Rattle.rt_check.specs.Shadow.{ShadowLists}
 use Rattle.rt_dump.specs.declared.lines.LineKind.{LineKind}
@@ -12,7 +12,7 @@ use Rattle.rt_dump.specs.Pieces.{pieces}
 use Rattle.rt_dump.specs.Lines.{words, kind_of}
 use Rattle.rt_dump.specs.Dump.{node_text, row_line, header_line, shadow_text, any_text}
 use Rattle.rt_dump.specs.InRange.{IsInRange, IsNumbered, IsAnyInRange, IsAnyNumbered}
-use Rattle.rt_dump.specs.Reading.{read_rest, start, header_of, any_shadow, read_body, read_heading, read_kind, read_lines, read_text}
+use Rattle.rt_dump.specs.Reading.{read_rest, start, header_of, any_shadow, read_body, read_heading, read_kind, read_lines, read_text, Reads as IsReading}
 use Rattle.rt_dump.specs.Faults.{IsTextOf, IsDump, BeginsDump, first_lines, line_ends, IsBadLine, IsTruncated, IsFirstFault, DumpsAreRead, TruncatedTextsAreFound, BadLinesAreFound, IsDumpOrFaulty, OneAnswer}
 use Rattle.rt_dump.proofs.Cuts.{pieces-some, read_lines-first}
 use Rattle.rt_dump.proofs.AcceptedWords.{joined, joined-pieces}
@@ -22,6 +22,7 @@ use Rattle.rt_dump.proofs.WrittenText.{written-read}
 use Rattle.rt_dump.proofs.FrontLines.{AreUnbroken, pieces-unbroken, first_lines-line, line_ends-line, line_ends-alone, first_lines-ended, Begins, IsBadAfter, IsCutAfter, IsFaultAfter, bad-cut, bad-once, bad-whole, fault-later}
 use Rattle.rt_dump.proofs.Fits.{IsHeading, header-fits, start-fits}
 use Rattle.rt_dump.proofs.Faulty.{failure, fault-parts, Ends, rest-fault, rest-fits}
+use Rattle.rt_dump.specs.declared.fault.DumpFault.{DumpFault}
 use Rattle.rt_dump.specs.declared.fault.LineFault.{LineFault}
 use Rattle.rt_dump.specs.declared.fault.LineFault.TheVariants.{Truncated, BadLine, CountWrong, OutOfRange, ListedTwice}
 
@@ -247,6 +248,11 @@ dumps-read text a = (
   λ e. let fits = text-fits text a e in record { in_range = fits.0; numbered = fits.1; same = text-accepted text a e },
   λ t. ap read_text (sym t.same) ∙ written-read a t.in_range t.numbered,
 )
+
+-- so a shadow that is read is that of the text
+pub told : (text : List ℕ) (result : Result AnyShadow DumpFault) → IsReading (read_text text) result → IfOk result (λ shadow. IsTextOf shadow text)
+told text (Ok a) e = (dumps-read text a).0 e
+told text (Err fault) e = tt
 
 dump-of : (text : List ℕ) → Reads text → IsDump text
 dump-of text r = (r.0, (dumps-read text r.0).0 r.1)

@@ -241,7 +241,16 @@ fn write_shadow<const D: usize, W: ByteWriter>(
     write_body(writer, shadow)
 }
 
-/// Writes a shadow's text. After a fault a front of it is written. Takes no memory.
+/// Writes a shadow's text, a line each for the shadow, its nodes, their cells and the row entries. After a
+/// fault a front of it is written. Takes no memory.
+///
+/// ```text
+/// rtree 1 5 1 1 1       axes, capacity, root, counts of nodes and rows
+/// node 1 0 - 1          number, level, parent, count of cells
+/// cell 7 0 2            number, and lo and hi on each axis
+/// row 7 1               id, leaf
+/// end
+/// ```
 pub fn write_dump<W: ByteWriter>(shadow: &AnyShadow, writer: &mut W) -> Result<(), WriteFault>
     ensures { WritesTo W.ByteWriter writer.old writer.new result (any_text shadow.now) }
 {

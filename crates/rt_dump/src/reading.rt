@@ -1,8 +1,9 @@
 //! A dump read line by line.
 
-ghost use Rattle.std.specs.Prelude.{◌≡◌, ◌≤◌, ◌<◌, ◌-◌, ◌^◌, length};
+ghost use Rattle.std.specs.Prelude.{◌≡◌, ◌≤◌, ◌<◌, ◌-◌, ◌^◌, IfOk, length};
 ghost use Rattle.rt_dump.specs.Lines.{words, kind_of, node_head, row_entry, raw_cell};
 ghost use Rattle.rt_dump.specs.Reading.{due, empty_node, after_head, after_cell, after_row, after_kind, after_line, Gives, is_nothing, is_end, read_rest, Reads, axes_of, capacity_of, header_of, start, read_body, read_kind, read_text};
+ghost use Rattle.rt_dump.specs.Faults.{IsTextOf};
 
 use crate::dump::AnyShadow;
 use crate::fault::{DumpFault, LineFault};
@@ -315,10 +316,21 @@ fn read_first(
     }
 }
 
-/// Reads a dump. Memory is taken as lines come, and none for counts alone. Numbers and ids are looked
-/// up by `keys`.
+/// Reads a dump: the shadow that the bytes are the text of, or the first faulty line. Memory is taken as
+/// lines come, and none for counts alone. Numbers and ids are looked up by `keys`, which are to be random
+/// where others choose the bytes.
+///
+/// ```text
+/// let bytes = b"rtree 1 5 1 1 1\nnode 1 0 - 1\ncell 7 0 2\nrow 7 1\nend\n";
+/// match read_dump(rt.alloc(), RandomState::new(&rt)?, bytes) {
+///     Ok(shadow) => write_dump(&shadow, &mut writer)?,
+///     Err(DumpFault::At { line, fault }) => println!(rt; "line {line}: {fault}")?,
+///     Err(DumpFault::Memory) => println!(rt; "out of memory")?,
+/// }
+/// ```
 pub fn read_dump(alloc: Global, keys: RandomState, bytes: &[u8]) -> Result<AnyShadow, DumpFault>
-    ensures { Reads (read_text bytes.now) result }
+    ensures reads { Reads (read_text bytes.now) result }
+    ensures same { IfOk result (λ shadow. IsTextOf shadow bytes.now) }
 {
     let mut lines = Pieces::new(bytes, b'\n');
     let Some(line) = lines.next() else {
