@@ -15,6 +15,7 @@ use rt_shell::run;
 use std::alloc::{AllocError, Global};
 use std::env;
 use std::fs::File;
+use std::hash::RandomState;
 use std::io::{self, BufWriter, IsTerminal};
 use std::process::ExitCode;
 use thiserror::Error;
