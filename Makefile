@@ -28,7 +28,7 @@ test: tools
 	rt ci
 
 bench: tools
-	@cd crates/rt_bench && rt run -- laws 2> /dev/null
+	@cd crates/rt_bench && rt run -- choices 2> /dev/null
 
 tools:
 	@command -v rt > /dev/null || { echo "juicedelta: the command rt (the Rattle toolchain) is missing" >&2; exit 1; }
