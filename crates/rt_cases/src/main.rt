@@ -12,6 +12,7 @@ mod outcome;
 use anyhow::{Context, bail};
 use case::Case;
 use outcome::{Outcome, Parts, outcome_of};
+use std::hash::RandomState;
 use std::process::ExitCode;
 use std::{env, fs};
 
@@ -49,6 +50,7 @@ fn first_difference(
     case: &Case<'_>,
 ) -> anyhow::Result<Option<Parts>> {
     let alloc = rt.alloc();
+    let keys = RandomState::new(rt)?;
     let path = format!(in alloc; "{folder}/{}.{}", case.name, case.command.extension())?;
     let input = case.filled(alloc, fs::read(rt, path.as_str())?.as_slice())?;
     let path = format!(in alloc; "{folder}/{}.out", case.name)?;
@@ -57,14 +59,14 @@ fn first_difference(
         status: case.status,
     };
     for parts in [Parts::OfAtMost(4096), Parts::OfAtMost(1)] {
-        if outcome_of(alloc, &case.command, input.as_slice(), parts)? != wanted {
+        if outcome_of(alloc, keys, &case.command, input.as_slice(), parts)? != wanted {
             return Ok(Some(parts));
         }
     }
     if case.cuts {
         for place in 1..input.len() {
             let parts = Parts::CutAfter(place);
-            if outcome_of(alloc, &case.command, input.as_slice(), parts)? != wanted {
+            if outcome_of(alloc, keys, &case.command, input.as_slice(), parts)? != wanted {
                 return Ok(Some(parts));
             }
         }

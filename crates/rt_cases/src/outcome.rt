@@ -6,6 +6,7 @@ use rt_report::run_check;
 use rt_shell::run;
 use std::alloc::Global;
 use std::fmt;
+use std::hash::RandomState;
 use std::io::{Cursor, Read};
 
 /// How a reader gives its bytes.
@@ -36,6 +37,7 @@ pub struct Outcome {
 /// The outcome of a command, from an input that is read in these parts.
 pub fn outcome_of(
     alloc: Global,
+    keys: RandomState,
     command: &Command,
     input: &[u8],
     parts: Parts,
@@ -45,13 +47,13 @@ pub fn outcome_of(
     if let Command::CheckFronts = command {
         for length in 0..input.len() {
             let front = &input[..length];
-            let checked = print(alloc, &Command::Check, front, parts, &mut printed)?;
+            let checked = print(alloc, keys, &Command::Check, front, parts, &mut printed)?;
             if checked == Status::Refused {
                 status = checked;
             }
         }
     } else {
-        status = print(alloc, command, input, parts, &mut printed)?;
+        status = print(alloc, keys, command, input, parts, &mut printed)?;
     }
     Ok(Outcome {
         printed: printed.into_bytes(),
@@ -61,6 +63,7 @@ pub fn outcome_of(
 
 fn print(
     alloc: Global,
+    keys: RandomState,
     command: &Command,
     input: &[u8],
     parts: Parts,
@@ -69,24 +72,25 @@ fn print(
     match parts {
         Parts::OfAtMost(most) => {
             let mut reader = SliceReader::new(input, most.max(1));
-            carry_out(alloc, command, &mut reader, printed)
+            carry_out(alloc, keys, command, &mut reader, printed)
         }
         Parts::CutAfter(place) => {
             let (first, second) = input.split_at(place.min(input.len()));
             let mut reader = OverRead::new(Cursor::new(first).chain(Cursor::new(second)));
-            carry_out(alloc, command, &mut reader, printed)
+            carry_out(alloc, keys, command, &mut reader, printed)
         }
     }
 }
 
 fn carry_out<R: ByteReader>(
     alloc: Global,
+    keys: RandomState,
     command: &Command,
     reader: &mut R,
     printed: &mut Sink,
 ) -> Result<Status, RunFault> {
     match command {
-        Command::Run(options) => run(alloc, reader, printed, options),
-        Command::Check | Command::CheckFronts => run_check(alloc, reader, printed),
+        Command::Run(options) => run(alloc, keys, reader, printed, options),
+        Command::Check | Command::CheckFronts => run_check(alloc, keys, reader, printed),
     }
 }

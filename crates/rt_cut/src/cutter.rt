@@ -1,8 +1,9 @@
 ghost use Rattle.std.specs.Prelude.{◌≡◌, ℕ, ◌+◌, ◌<◌, ◌≤◌, ◌⊎◌, List, [], ◌∷◌, ◌++◌, length, take, IsTrue, IsSome, IsNone, IfSome, IfOk, MatchOption, Some};
 ghost use Rattle.rt_cut.specs.Piece.{PieceText};
-ghost use Rattle.rt_cut.specs.Pieces.{is_white, is_gap_byte, IsGap, IsWholePiece, IsLastPiece, CuttingIsDetermined, EveryTextIsCut};
+ghost use Rattle.rt_cut.specs.Pieces.{is_gap_byte, IsGap, IsWholePiece, IsLastPiece};
 
 use crate::piece::{Ending, Piece};
+use crate::text::is_white;
 use std::alloc::{AllocError, Global};
 use std::marker::Model;
 
@@ -117,12 +118,6 @@ impl Place {
     }
 }
 
-fn is_white(byte: u8) -> bool
-    ensures { result ≡ is_white byte }
-{
-    matches!(byte, b'\t' | b'\n' | b'\x0c' | b'\r' | b' ')
-}
-
 fn is_gap_byte(byte: u8) -> bool
     ensures { result ≡ is_gap_byte byte }
 {
@@ -130,6 +125,26 @@ fn is_gap_byte(byte: u8) -> bool
 }
 
 /// Cuts a script into its pieces, whatever parts of it are fed at a time.
+///
+/// A piece is a statement up to and with its `;`, or a line that begins with `.`, without its line
+/// feed. What stands between pieces, white space, comments and `;`, belongs to none.
+///
+/// ```
+/// let mut cutter = Cutter::new(alloc)?;
+/// for read in [&b"SELECT * FROM t; -- b"[..], b"oth\n.view v\nSEL"] {
+///     let mut rest = read;
+///     while !rest.is_empty() {
+///         let taken = cutter.feed(rest);
+///         rest = &rest[taken..];
+///         if let Some(piece) = cutter.ready() {
+///             // `SELECT * FROM t;`, and then `.view v`, both whole
+///             cutter.clear();
+///         }
+///     }
+/// }
+/// cutter.finish();
+/// // now `SEL` is ready, which is incomplete
+/// ```
 #[derive(Drop)]
 pub struct Cutter {
     /// The bytes of the piece so far.
@@ -160,8 +175,11 @@ impl Cutter {
     ghost use Rattle.rt_cut.specs.Cutter.{StandsAt, FinishedAt, ready_piece};
     ghost use Rattle.rt_cut.specs.CutterStep.{front_after, with_byte};
 
-    /// A cutter at the start of a script. It takes the memory for the longest piece, and no other
-    /// call takes any.
+    /// A cutter at the start of a script.
+    ///
+    /// # Errors
+    ///
+    /// Fails where there is no memory for the longest piece. No other call takes any.
     pub fn new(alloc: Global) -> Result<Cutter, AllocError>
         ensures { IfOk result (λ c. StandsAt c []) }
     {
@@ -194,7 +212,7 @@ impl Cutter {
         bytes.len()
     }
 
-    /// The input has ended.
+    /// The input has ended. What has begun is then the last piece, until `clear`.
     pub fn finish(&mut self)
         ensures { (x : List ℕ) → StandsAt self.old x → FinishedAt self.new x }
     {
@@ -219,7 +237,7 @@ impl Cutter {
         Some(Piece::new(&self.held, ending))
     }
 
-    /// Drops the piece, and starts anew.
+    /// Drops what was fed so far, the piece that is ready among it, and starts anew.
     pub fn clear(&mut self)
         ensures { StandsAt self.new [] }
     {
@@ -263,16 +281,6 @@ impl Cutter {
         self.too_long = false;
     }
 }
-
-/// No text is cut into pieces in two ways.
-pub fn cutting_is_determined()
-    ensures { CuttingIsDetermined }
-{}
-
-/// Each text is cut into pieces in some way.
-pub fn every_text_is_cut()
-    ensures { EveryTextIsCut }
-{}
 
 #[cfg(test)]
 mod tests {

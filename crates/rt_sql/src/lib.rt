@@ -1,11 +1,15 @@
 //! SQL statements: what statement a piece of a script spells.
 //!
-//! - `parser`: `parse` makes of a piece the statement that its tokens spell, or says by a `Refusal`
-//!   why there is none.
-//! - `statement`, `name` and `value`: statements, as plain data.
+//! - `parse` makes of a piece the statement that its tokens spell, or says by a `Refusal` why there
+//!   is none.
+//! - `Stmt` and what it is made of, in `statement`, `Name` and `Value` are plain data. Lists in them
+//!   are `Items`, which contracts see as lists.
+//! - `Refusal` has the number and the words that each refusal prints, those of tables and views too.
+//! - `laws`: tokens spell at most one statement, and each piece has one answer.
 #![tactic(auto)]
 
 mod grammar;
+pub mod laws;
 mod lexer;
 mod literals;
 pub mod name;
@@ -21,9 +25,8 @@ pub mod value;
 mod word;
 
 pub use name::Name;
-pub use parser::{
-    parse, piece_has_one_answer, text_has_one_list_of_tokens, tokens_spell_one_statement,
-};
+pub use parser::parse;
 pub use refusal::Refusal;
+pub use sqlite_items::Items;
 pub use statement::{ColumnDef, Compare, Cond, Op6, Rule, Source, Stmt, Test};
 pub use value::{Blob, Text, Value};

@@ -1,7 +1,7 @@
 ghost use Rattle.std.specs.Prelude.{◌≡◌, ◌⊎◌, Contains, MatchOption, None, Err};
 ghost use Rattle.rt_sql.specs.Lex.{piece_tokens};
 ghost use Rattle.rt_sql.specs.Number.{number_by};
-ghost use Rattle.rt_sql.specs.Parse.{IsText, ParsesText, ParsesUnlessMemory, OneStatement, OneTokenList, OneAnswer};
+ghost use Rattle.rt_sql.specs.Parse.{IsText, ParsesText, ParsesUnlessMemory};
 ghost use Rattle.rt_sql.specs.Reading as reading;
 
 use crate::grammar::{is_command, whole};
@@ -63,11 +63,19 @@ fn parse_text(alloc: Global, text: &str) -> Result<Stmt, Refusal>
 
 /// The statement that a piece of a script spells.
 ///
+/// ```
+/// let piece = Piece::new(b"DROP TABLE \"t\";", Ending::Whole);
+/// match parse(alloc, &piece)? {
+///     Stmt::Drop { table, if_there } => {} // `table` is the name t, and `if_there` is false
+///     _ => {}
+/// }
+/// ```
+///
 /// # Errors
 ///
 /// Refuses a piece that is too long, incomplete, no UTF-8 text without zero bytes, a dot line
 /// with an unknown word, no statement, or a statement with an integer outside 64 bits; the first
-/// that applies.
+/// that applies. In place of any answer memory may run out, which is `Refusal::OutOfMemory`.
 pub fn parse(alloc: Global, piece: &Piece<'_>) -> Result<Stmt, Refusal>
     ensures { ParsesUnlessMemory piece.now result }
 {
@@ -80,21 +88,6 @@ pub fn parse(alloc: Global, piece: &Piece<'_>) -> Result<Stmt, Refusal>
         },
     }
 }
-
-/// Law: no list of tokens spells two statements.
-pub fn tokens_spell_one_statement()
-    ensures { OneStatement }
-{}
-
-/// Law: a piece has one list of tokens.
-pub fn text_has_one_list_of_tokens()
-    ensures { OneTokenList }
-{}
-
-/// Law: a piece has one answer.
-pub fn piece_has_one_answer()
-    ensures { OneAnswer }
-{}
 
 #[cfg(test)]
 mod tests {

@@ -1,5 +1,0 @@
-use Rattle.rt_sql.proofs.Parses.{one_answer}
-use Rattle.rt_sql.proofs.parser.piece_has_one_answer.Goals as goal
-
-pub returns : goal.returns
-returns c = one_answer
