@@ -24,6 +24,7 @@ fn main(rt: HostRuntime) -> anyhow::Result<ExitCode> {
     let folder = folder.as_str();
     let list = format!(in rt.alloc(); "{folder}/cases.txt")?;
     let list = fs::read_to_string(&rt, list.as_str()).context("cases.txt")?;
+    let keys = RandomState::new(&rt)?;
     let mut status = ExitCode::SUCCESS;
     for line in list.as_str().lines() {
         if line.is_empty() || line.starts_with('#') {
@@ -32,7 +33,7 @@ fn main(rt: HostRuntime) -> anyhow::Result<ExitCode> {
         let Some(case) = Case::read(line) else {
             bail!("cases.txt: {line}");
         };
-        match first_difference(&rt, folder, &case).context(format_args!("{}", case.name))? {
+        match first_difference(&rt, keys, folder, &case).context(format_args!("{}", case.name))? {
             None => println!(rt; "{}: as it must be", case.name)?,
             Some(parts) => {
                 println!(rt; "{}: DIFFERS, {parts}", case.name)?;
@@ -46,11 +47,11 @@ fn main(rt: HostRuntime) -> anyhow::Result<ExitCode> {
 /// How the input was parted where the case first gave something else than it must.
 fn first_difference(
     rt: &HostRuntime,
+    keys: RandomState,
     folder: &str,
     case: &Case<'_>,
 ) -> anyhow::Result<Option<Parts>> {
     let alloc = rt.alloc();
-    let keys = RandomState::new(rt)?;
     let path = format!(in alloc; "{folder}/{}.{}", case.name, case.command.extension())?;
     let input = case.filled(alloc, fs::read(rt, path.as_str())?.as_slice())?;
     let path = format!(in alloc; "{folder}/{}.out", case.name)?;
