@@ -1,7 +1,7 @@
 //! The run of a whole script.
 
 ghost use Rattle.std.specs.Prelude.{◌≡◌, ℕ, ◌+◌, ◌-◌, ◌<◌, ◌^◌, true, length, None, IfOk, OnOk, ◌≤◌};
-ghost use Rattle.rt_shell.specs.Engine.{IsFresh, GivesAnswer, AnswersNext, AnswersReady, TakesAll, Finishes};
+ghost use Rattle.rt_shell.specs.Engine.{IsFresh, GivesAnswer, AnswersNext, AnswersReady, TakesAll, Finishes, flow_of};
 ghost use Rattle.rt_shell.specs.Run.{Pumps, Runs};
 ghost use Rattle.rt_cut.specs.Cutter.{ready_piece};
 ghost use Rattle.rt_bytes.specs.Devices.{WritesTo, devices_of};
@@ -65,6 +65,17 @@ fn write_answer<W: ByteWriter>(
     }
 }
 
+/// With bail a run stops at a refusal.
+fn flow_after(bail: bool, answer: &Result<Reply, Refusal>) -> Flow
+    ensures { result ≡ flow_of bail (Some answer.now) }
+{
+    if bail && answer.is_err() {
+        Flow::Stops
+    } else {
+        Flow::Goes
+    }
+}
+
 impl Engine {
     fn new(alloc: Global, keys: RandomState, options: &Options) -> Result<Engine, AllocError>
         ensures { IfOk result (λ engine. IsFresh engine options.now) }
@@ -101,11 +112,7 @@ impl Engine {
             return Ok(Flow::Goes);
         };
         write_answer(&self.pieces, &answer, writer)?;
-        Ok(if self.options.bail && answer.is_err() {
-            Flow::Stops
-        } else {
-            Flow::Goes
-        })
+        Ok(flow_after(self.options.bail, &answer))
     }
 
     // Takes all of the bytes and answers the pieces that end in them.

@@ -59,7 +59,8 @@ impl Model for Session {
 }
 
 impl Session {
-    /// A session with no table. It takes no memory.
+    /// A session with no table, which takes no memory. The capacity is that of each table's nodes, and
+    /// the keys are those of the hashes of ids.
     pub fn new(alloc: Global, keys: RandomState, capacity: Capacity) -> Session
         ensures { result ≡ empty capacity }
     {

@@ -133,6 +133,6 @@ fn read_and_write<R: ByteReader, W: ByteWriter>(
 ) -> Result<Status, RunFault> {
     match asked {
         Asked::Run(options, _) => run(alloc, keys, reader, writer, options),
-        Asked::Check(_) => run_check(alloc, reader, writer),
+        Asked::Check(_) => run_check(alloc, keys, reader, writer),
     }
 }
