@@ -116,6 +116,8 @@ fn time_outliers<R: Clock>(rt: &R, shape: Shape, capacity: Capacity) -> io::Resu
 fn report_shape(rt: &HostRuntime, name: &str, shape: Shape) -> io::Result<()> {
     let (above, sum) = time_choices(rt, shape, true, shape.size)?;
     println!(rt; "{name}: choice above leaves {above} ns ({sum})")?;
+    let (point, sum) = time_choices(rt, shape, true, 0)?;
+    println!(rt; "{name}: choice for a point {point} ns ({sum})")?;
     let (elsewhere, sum) = time_choices(rt, shape, false, shape.size)?;
     println!(rt; "{name}: choice elsewhere {elsewhere} ns ({sum})")?;
     if let Some(capacity) = Capacity::new(51) {

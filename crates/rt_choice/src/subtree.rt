@@ -49,6 +49,7 @@ fn overlap_growth<const D: usize>(boxes: &[Rect<D>], position: usize, new_box: &
     ensures { result ≡ overlap_enlargement boxes.now new_box.now position }
 {
     let own = &boxes[position];
+    // For the proof: both are boxes of D axes, so the union holds both.
     let _ = own.axes();
     let _ = new_box.axes();
     let widened = own.union(new_box);
@@ -145,6 +146,7 @@ fn overlap_growth_within<const D: usize>(
         (λ growth. growth ≡ overlap_enlargement boxes.now new_box.now position) }
 {
     let own = &boxes[position];
+    // For the proof: both are boxes of D axes, so the union holds both.
     let _ = own.axes();
     let _ = new_box.axes();
     let widened = own.union(new_box);
