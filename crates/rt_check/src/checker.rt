@@ -4,10 +4,12 @@ ghost use Rattle.std.specs.Prelude.{◌≡◌, ◌++◌, IfOk, OnOk};
 ghost use Rattle.rt_check.specs.Shadow.{numbers_of, ids_of};
 ghost use Rattle.rt_check.specs.Conditions.{has_place, is_filled, has_cell, inner_cells, leaf_cells, node_problems, cell_problems, cell_problems_of, row_problems, root_problems, problems_of};
 ghost use Rattle.rt_check.specs.CellConditions.{condition_of, meets_condition};
+ghost use Rattle.rt_check.specs.Fits.{AllFit};
 ghost use Rattle.rt_check.specs.Tally.{tallies};
 
 use crate::conditions::{CellCondition, has_place, has_root, is_filled, meets};
-use crate::node::{NodeRow, RowEntry};
+use crate::fits::fitting_cells;
+use crate::node::{NodeRow, RawCell, RowEntry};
 use crate::problem::{Condition, Problem};
 use crate::shadow::Shadow;
 use crate::tally::{Named, tally};
@@ -61,14 +63,16 @@ fn row_problem(row: &RowEntry, position: u64) -> Problem
 fn list_cells_of<const D: usize>(
     problems: &mut Vec<Problem>,
     shadow: &Shadow<D>,
+    fits: &[Option<RawCell<D>>],
     condition: CellCondition,
     node: &NodeRow<D>,
 ) -> Result<(), AllocError>
+    requires { AllFit shadow.now.nodes fits.now }
     ensures { OnOk result (problems.new.items ≡ problems.old.items
         ++ cell_problems_of (condition_of condition) (meets_condition shadow.now condition) node.now) }
 {
     for (index, cell) in node.cells.as_slice().iter().enumerate() {
-        if meets(shadow, condition, node, cell) {
+        if meets(shadow, fits, condition, node, cell) {
             continue;
         }
         problems.push(node_problem(condition.condition(), node, index as u64 + 1))?;
@@ -80,13 +84,15 @@ fn list_cells_of<const D: usize>(
 fn list_cells<const D: usize>(
     problems: &mut Vec<Problem>,
     shadow: &Shadow<D>,
+    fits: &[Option<RawCell<D>>],
     condition: CellCondition,
 ) -> Result<(), AllocError>
+    requires { AllFit shadow.now.nodes fits.now }
     ensures { OnOk result (problems.new.items ≡ problems.old.items
         ++ cell_problems (condition_of condition) (meets_condition shadow.now condition) shadow.now.nodes) }
 {
     for node in shadow.nodes() {
-        list_cells_of(problems, shadow, condition, node)?;
+        list_cells_of(problems, shadow, fits, condition, node)?;
     }
     Ok(())
 }
@@ -153,15 +159,17 @@ pub fn check<const D: usize>(alloc: Global, shadow: &Shadow<D>) -> Result<Vec<Pr
     ensures { IfOk result (λ problems. problems.items ≡ problems_of shadow.now) }
 {
     let named = tally(alloc, shadow, Named::Nodes)?;
+    let fits = fitting_cells(alloc, shadow.nodes())?;
+    let fits = fits.as_slice();
     let mut problems = Vec::new(alloc);
     list_root(&mut problems, shadow)?;
     list_misplaced(&mut problems, shadow, named.as_slice())?;
-    list_cells(&mut problems, shadow, CellCondition::Names)?;
-    list_cells(&mut problems, shadow, CellCondition::Ordered)?;
-    list_cells(&mut problems, shadow, CellCondition::Holds)?;
-    list_cells(&mut problems, shadow, CellCondition::Fits)?;
+    list_cells(&mut problems, shadow, fits, CellCondition::Names)?;
+    list_cells(&mut problems, shadow, fits, CellCondition::Ordered)?;
+    list_cells(&mut problems, shadow, fits, CellCondition::Holds)?;
+    list_cells(&mut problems, shadow, fits, CellCondition::Fits)?;
     list_unfilled(&mut problems, shadow)?;
-    list_cells(&mut problems, shadow, CellCondition::Entered)?;
+    list_cells(&mut problems, shadow, fits, CellCondition::Entered)?;
     let named = tally(alloc, shadow, Named::Rows)?;
     list_rows(&mut problems, shadow, named.as_slice())?;
     Ok(problems)

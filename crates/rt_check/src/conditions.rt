@@ -1,11 +1,11 @@
 //! The tests of the nine conditions.
 
 ghost use Rattle.std.specs.Prelude.{◌≡◌, ◌<◌, ◌&&◌, min, int_le};
-ghost use Rattle.std.specs.List.{list_any, list_all};
-ghost use Rattle.std.specs.Ordering.{int_eq};
-ghost use Rattle.rt_check.specs.Conditions.{coordinate, has_root, is_root, is_below, has_place, names_child, is_ordered, lies_in, holds_child, is_reached, is_hull, fits_child, is_filled, has_entry, times_named, inner_cells};
+ghost use Rattle.rt_check.specs.Conditions.{coordinate, has_root, is_root, is_below, has_place, names_child, is_ordered, lies_in, holds_child, fits_child, is_filled, has_entry, times_named, inner_cells};
 ghost use Rattle.rt_check.specs.CellConditions.{meets_condition};
+ghost use Rattle.rt_check.specs.Fits.{AllFit};
 
+use crate::fits::fit_of;
 use crate::node::{NodeRow, RawCell};
 use crate::problem::Condition;
 use crate::shadow::Shadow;
@@ -81,71 +81,6 @@ fn lies_in<const D: usize>(inner: &RawCell<D>, outer: &RawCell<D>) -> bool
     true
 }
 
-/// Whether all of the cells lie in the outer one.
-fn holds_all<const D: usize>(outer: &RawCell<D>, cells: &[RawCell<D>]) -> bool
-    ensures { result ≡ list_all (λ x. lies_in x outer.now) cells.now }
-{
-    for cell in cells {
-        if !lies_in(cell, outer) {
-            return false;
-        }
-    }
-    true
-}
-
-/// Whether some of the cells reaches down to the outer one's lo on that axis.
-fn reaches_lo<const D: usize>(outer: &RawCell<D>, cells: &[RawCell<D>], axis: usize) -> bool
-    requires { axis < D }
-    ensures { result ≡ list_any (λ x. int_eq (coordinate x.lo axis) (coordinate outer.now.lo axis)) cells.now }
-{
-    for cell in cells {
-        if cell.lo[axis] == outer.lo[axis] {
-            return true;
-        }
-    }
-    false
-}
-
-/// Whether some of the cells reaches up to the outer one's hi on that axis.
-fn reaches_hi<const D: usize>(outer: &RawCell<D>, cells: &[RawCell<D>], axis: usize) -> bool
-    requires { axis < D }
-    ensures { result ≡ list_any (λ x. int_eq (coordinate x.hi axis) (coordinate outer.now.hi axis)) cells.now }
-{
-    for cell in cells {
-        if cell.hi[axis] == outer.hi[axis] {
-            return true;
-        }
-    }
-    false
-}
-
-/// Whether the cells reach both ends of the outer one's range on that axis.
-fn is_reached_on<const D: usize>(outer: &RawCell<D>, cells: &[RawCell<D>], axis: usize) -> bool
-    requires { axis < D }
-    ensures { result ≡ (list_any (λ x. int_eq (coordinate x.lo axis) (coordinate outer.now.lo axis)) cells.now
-        && list_any (λ x. int_eq (coordinate x.hi axis) (coordinate outer.now.hi axis)) cells.now) }
-{
-    reaches_lo(outer, cells, axis) && reaches_hi(outer, cells, axis)
-}
-
-/// Whether the cells reach both ends of the outer one's range on each axis.
-fn is_reached<const D: usize>(outer: &RawCell<D>, cells: &[RawCell<D>]) -> bool
-    ensures { result ≡ is_reached outer.now cells.now }
-{
-    for axis in 0..D {
-        if !is_reached_on(outer, cells, axis) {
-            return false;
-        }
-    }
-    true
-}
-
-fn is_hull<const D: usize>(outer: &RawCell<D>, cells: &[RawCell<D>]) -> bool
-    ensures { result ≡ is_hull outer.now cells.now }
-{
-    holds_all(outer, cells) && is_reached(outer, cells)
-}
-
 /// C3: the cell names a listed node whose parent is this node.
 fn names_child<const D: usize>(shadow: &Shadow<D>, node: &NodeRow<D>, cell: &RawCell<D>) -> bool
     ensures { result ≡ names_child shadow.now node.now cell.now }
@@ -157,21 +92,31 @@ fn names_child<const D: usize>(shadow: &Shadow<D>, node: &NodeRow<D>, cell: &Raw
 }
 
 /// C5: the cells of the node that the cell names lie in it.
-fn holds_child<const D: usize>(shadow: &Shadow<D>, cell: &RawCell<D>) -> bool
+fn holds_child<const D: usize>(
+    shadow: &Shadow<D>,
+    fits: &[Option<RawCell<D>>],
+    cell: &RawCell<D>,
+) -> bool
+    requires { AllFit shadow.now.nodes fits.now }
     ensures { result ≡ holds_child shadow.now cell.now }
 {
-    match shadow.node(cell.number) {
-        Some(child) => holds_all(cell, child.cells.as_slice()),
+    match fit_of(shadow, fits, cell) {
+        Some(fit) => lies_in(fit, cell),
         None => true,
     }
 }
 
 /// C6: the cell is the hull of the cells of the node that it names.
-fn fits_child<const D: usize>(shadow: &Shadow<D>, cell: &RawCell<D>) -> bool
+fn fits_child<const D: usize>(
+    shadow: &Shadow<D>,
+    fits: &[Option<RawCell<D>>],
+    cell: &RawCell<D>,
+) -> bool
+    requires { AllFit shadow.now.nodes fits.now }
     ensures { result ≡ fits_child shadow.now cell.now }
 {
-    match shadow.node(cell.number) {
-        Some(child) => child.cells.len() == 0 || is_hull(cell, child.cells.as_slice()),
+    match fit_of(shadow, fits, cell) {
+        Some(fit) => lies_in(fit, cell) && lies_in(cell, fit),
         None => true,
     }
 }
@@ -187,20 +132,24 @@ fn has_entry<const D: usize>(shadow: &Shadow<D>, node: &NodeRow<D>, cell: &RawCe
 }
 
 /// Whether a cell of a node meets the condition.
+///
+/// `fits` is for each node of the shadow the cell that fits it.
 pub(crate) fn meets<const D: usize>(
     shadow: &Shadow<D>,
+    fits: &[Option<RawCell<D>>],
     condition: CellCondition,
     node: &NodeRow<D>,
     cell: &RawCell<D>,
 ) -> bool
+    requires { AllFit shadow.now.nodes fits.now }
     ensures { result ≡ meets_condition shadow.now condition node.now cell.now }
 {
     let is_leaf = node.level == 0;
     match condition {
         CellCondition::Names => is_leaf || names_child(shadow, node, cell),
         CellCondition::Ordered => is_ordered(cell),
-        CellCondition::Holds => is_leaf || holds_child(shadow, cell),
-        CellCondition::Fits => is_leaf || fits_child(shadow, cell),
+        CellCondition::Holds => is_leaf || holds_child(shadow, fits, cell),
+        CellCondition::Fits => is_leaf || fits_child(shadow, fits, cell),
         CellCondition::Entered => !is_leaf || has_entry(shadow, node, cell),
     }
 }

@@ -6,6 +6,7 @@
 
 mod checker;
 mod conditions;
+mod fits;
 mod node;
 mod problem;
 mod shadow;

@@ -1,6 +1,6 @@
 //! A tree seen from outside.
 
-ghost use Rattle.std.specs.Prelude.{◌≡◌, ◌≤◌, ◌↔◌, [], ◌∷◌, ◌++◌, Contains, IsErrOf, OnOk, OnErr};
+ghost use Rattle.std.specs.Prelude.{◌≡◌, ◌≤◌, ◌↔◌, [], ◌∷◌, ◌++◌, Contains, position, IsErrOf, OnOk, OnErr};
 ghost use Rattle.std.specs.Option.{option_copied};
 ghost use Rattle.std.specs.List.{IsDistinct};
 ghost use Rattle.std.specs.Ordering.{int_eq};
@@ -160,6 +160,13 @@ impl<const D: usize> Shadow<D> {
         ensures { result.now.keys ≡ ids_of self.now.rows }
     {
         &self.ids
+    }
+
+    /// Where in the list of nodes the node of that number stands, counted from 0.
+    pub(crate) fn place_of(&self, number: i64) -> Option<usize>
+        ensures { result ≡ position (int_eq number) (numbers_of self.now.nodes) }
+    {
+        self.numbers.get_index_of(&number)
     }
 
     /// The node of that number, where it is listed.
