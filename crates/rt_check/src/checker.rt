@@ -155,6 +155,17 @@ fn list_rows<const D: usize>(
 
 /// Lists all problems of a shadow, each once: by condition, and then in the order of its lists.
 /// The list is empty exactly where the shadow is sound.
+///
+/// ```
+/// let keys = RandomState::new(&rt)?;
+/// let capacity = Capacity::new(51).ok_or("a capacity")?;
+/// let mut shadow: Shadow<2> = Shadow::new(rt.alloc(), keys, capacity, 1);
+/// let root = NodeRow { number: 1, level: 0, parent: None, cells: Items::new(rt.alloc()) };
+/// shadow.add_node(root)?;
+/// shadow.add_cell(RawCell { number: 7, lo: [0, 0], hi: [3, 4] })?;
+/// shadow.add_row(RowEntry { id: 7, leaf: 1 })?;
+/// assert!(rt; check(rt.alloc(), &shadow)?.is_empty());
+/// ```
 pub fn check<const D: usize>(alloc: Global, shadow: &Shadow<D>) -> Result<Vec<Problem>, AllocError>
     ensures { IfOk result (λ problems. problems.items ≡ problems_of shadow.now) }
 {

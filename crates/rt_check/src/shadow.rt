@@ -113,6 +113,7 @@ impl<const D: usize> Shadow<D> {
         if self.numbers.reserve(1).is_err() || self.nodes.reserve(1).is_err() {
             return Err(ShadowFault::Memory);
         }
+        // There is room for one more, so that neither finds no memory.
         let _ = self.numbers.insert(node.number);
         let _ = self.nodes.push(node);
         Ok(())
@@ -130,12 +131,14 @@ impl<const D: usize> Shadow<D> {
         if self.ids.reserve(1).is_err() || self.rows.reserve(1).is_err() {
             return Err(ShadowFault::Memory);
         }
+        // There is room for one more, so that neither finds no memory.
         let _ = self.ids.insert(row.id);
         let _ = self.rows.push(row);
         Ok(())
     }
 
-    /// Gives the last node one cell more. After an `AllocError` nothing has changed.
+    /// Gives the last node one cell more; where no node is listed, nothing changes. After an
+    /// `AllocError` nothing has changed.
     pub fn add_cell(&mut self, cell: RawCell<D>) -> Result<(), AllocError>
         ensures ok { OnOk result (self.new ≡ with_cell self.old cell.entry) }
         ensures err { OnErr result (self.new ≡ self.old) }

@@ -40,6 +40,7 @@ fn count_cell<const D: usize>(
     ensures { (cells : List (Cell D)) → counts.old ≡ tallies numbers.now.keys cells
         → counts.new ≡ tallies numbers.now.keys (cells ++ cell.now ∷ []) }
 {
+    // The contract of `len` says that no number stands twice in the set.
     let _ = numbers.len();
     if let Some(at) = numbers.get_index_of(&cell.number) {
         counts[at] = counts[at].saturating_add(1).min(2);
