@@ -9,7 +9,10 @@ use Rattle.rt_bytes.specs.declared.device.ByteWriter.{Ghosts as WriterMembers}
 use Rattle.rt_bytes.specs.declared.outcome.Status.{Status}
 use Rattle.rt_bytes.specs.declared.outcome.RunFault.{RunFault}
 use Rattle.rt_bytes.specs.declared.outcome.RunFault.TheVariants.{Read, Write, Memory}
-use Rattle.rt_report.specs.Report.{report_on, report_status}
+use Rattle.rt_bytes.specs.declared.outcome.Status.TheVariants.{Refused}
+use Rattle.rt_dump.specs.declared.fault.DumpFault.{DumpFault}
+use Rattle.rt_dump.specs.declared.fault.DumpFault.TheVariants.{At, Memory as NoMemory}
+use Rattle.rt_report.specs.Report.{fault_line, report_on, report_status}
 use Rattle.rt_bytes.specs.Devices.{Source, Devices, most_reads, Held}
 
 -- a read failed, or the last read was made
@@ -28,6 +31,15 @@ ReadsAll old new (Ok bytes) = AllRead old new bytes
 ReadsAll old new (Err Read) = NoEnd old new
 ReadsAll old new (Err Write) = ⊥
 ReadsAll old new (Err Memory) = new.failures ≡ old.failures
+
+-- a dump's fault was written, or after a fault of the writer a front of its line; nothing for want of memory
+abbrev pub ReportsFault : {W : Type 0} → WriterMembers W → DumpFault → W → W → Result Status RunFault → Type 0
+ReportsFault w (At line fault) old new (Ok status) =
+    WritesAll (w.written old) (w.written new) (w.faults old) (w.faults new) (fault_line line fault) × (status ≡ Refused)
+ReportsFault w (At line fault) old new (Err Write) = WritesFront (w.written old) (w.written new) (w.faults old) (w.faults new) (fault_line line fault)
+ReportsFault w (At line fault) old new (Err Read) = ⊥
+ReportsFault w (At line fault) old new (Err Memory) = ⊥
+ReportsFault w NoMemory old new result = (result ≡ Err Memory) × (w.written new ≡ w.written old) × (w.faults new ≡ w.faults old)
 
 -- the report on the bytes was written, or after a fault a front of it, or nothing for want of memory
 abbrev pub Reports : {W : Type 0} → WriterMembers W → List ℕ → W → W → Result Status RunFault → Type 0

@@ -1,8 +1,8 @@
 //! The check of a dump.
 
 ghost use Rattle.std.specs.Prelude.{◌≡◌, ◌+◌, ◌^◌, ◌≤◌, IfOk, OnOk, Ok, Err, true};
-ghost use Rattle.rt_report.specs.CheckRun.{ReadsAll, Reports, Checks, items_or_fault};
-ghost use Rattle.rt_report.specs.Report.{all_problems};
+ghost use Rattle.rt_report.specs.CheckRun.{ReadsAll, ReportsFault, Reports, Checks, items_or_fault};
+ghost use Rattle.rt_report.specs.Report.{all_problems, verdict_status};
 ghost use Rattle.rt_bytes.specs.Devices.{source_of, devices_of};
 
 use crate::report::{write_bad_dump, write_verdict};
@@ -39,6 +39,29 @@ fn problems_of(alloc: Global, shadow: &AnyShadow) -> Result<Vec<Problem>, AllocE
     }
 }
 
+fn status_of(problems: &[Problem]) -> Status
+    ensures { result ≡ verdict_status problems.now }
+{
+    if problems.is_empty() {
+        Status::Clean
+    } else {
+        Status::Refused
+    }
+}
+
+/// Writes what is to be said of bytes that weren't read as a dump.
+fn report_fault<W: ByteWriter>(fault: &DumpFault, writer: &mut W) -> Result<Status, RunFault>
+    ensures { ReportsFault W.ByteWriter fault.now writer.old writer.new result }
+{
+    match fault {
+        DumpFault::At { line, fault } => {
+            write_bad_dump(line, *fault, writer)?;
+            Ok(Status::Refused)
+        }
+        DumpFault::Memory => Err(RunFault::Memory),
+    }
+}
+
 /// Writes what is to be said of the bytes of a dump.
 fn report<W: ByteWriter>(
     alloc: Global,
@@ -52,17 +75,9 @@ fn report<W: ByteWriter>(
         Ok(shadow) => {
             let problems = problems_of(alloc, &shadow)?;
             write_verdict(&problems, writer)?;
-            Ok(if problems.is_empty() {
-                Status::Clean
-            } else {
-                Status::Refused
-            })
+            Ok(status_of(&problems))
         }
-        Err(DumpFault::At { line, fault }) => {
-            write_bad_dump(&line, fault, writer)?;
-            Ok(Status::Refused)
-        }
-        Err(DumpFault::Memory) => Err(RunFault::Memory),
+        Err(fault) => report_fault(&fault, writer),
     }
 }
 
