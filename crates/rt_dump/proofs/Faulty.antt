@@ -205,8 +205,7 @@ module _ {D : ℕ} where
       let Fault : Type 0 = (j : ℕ) × (k ≡ n + j) × IsFaultAfter (Ends p n) (l ++ 10 ∷ after) j code in
       let goes_on : (q : Progress D) → after_line p l ≡ Ok q → is_end (due p) ≡ false → read_rest (m ∷ ms) q (n + 1) ≡ Err (k, code) → Fault = λ q taken more e.
       let rest = rest-fault (m ∷ ms) q (n + 1) k code (line-step p q l fits taken) each.1 e in
-      let line : k ≡ (n + 1) + rest.0 = rest.1 in
-      (
+      let line : k ≡ (n + 1) + rest.0 = rest.1 in (
         suc rest.0,
         omega (arith, line),
         fault-later (Ends p n) (Ends q (n + 1)) l each.0 (λ t ends. (ends.0, line-onto p q l t n each.0 taken more ∙ ends.1))

@@ -39,33 +39,33 @@ body-of h head =
     let range = head.axes in
     let by_two : (b : Bool) → (h.axes == 1) ≡ false → (h.axes == 2) ≡ b → Body h = elim [
       | true ↦ λ one two. record {
-          D = 2;
-          make = Two;
-          axes = grind (arith, two);
-          reads = λ ls.
-              ap (λ b. cond b (any_shadow One (read_rest ls (start 1 h) 2)) (cond (h.axes == 2) (any_shadow Two (read_rest ls (start 2 h) 2)) (any_shadow Three (read_rest ls (start 3 h) 2)))) one
-              ∙ ap (λ b. cond b (any_shadow Two (read_rest ls (start 2 h) 2)) (any_shadow Three (read_rest ls (start 3 h) 2))) two;
-          fits = λ s f. f;
-        }
+        D = 2;
+        make = Two;
+        axes = grind (arith, two);
+        reads = λ ls.
+            ap (λ b. cond b (any_shadow One (read_rest ls (start 1 h) 2)) (cond (h.axes == 2) (any_shadow Two (read_rest ls (start 2 h) 2)) (any_shadow Three (read_rest ls (start 3 h) 2)))) one
+            ∙ ap (λ b. cond b (any_shadow Two (read_rest ls (start 2 h) 2)) (any_shadow Three (read_rest ls (start 3 h) 2))) two;
+        fits = λ s f. f;
+      }
       | false ↦ λ one two. record {
-          D = 3;
-          make = Three;
-          axes = grind (arith, one, two, range.0, range.1);
-          reads = λ ls.
-              ap (λ b. cond b (any_shadow One (read_rest ls (start 1 h) 2)) (cond (h.axes == 2) (any_shadow Two (read_rest ls (start 2 h) 2)) (any_shadow Three (read_rest ls (start 3 h) 2)))) one
-              ∙ ap (λ b. cond b (any_shadow Two (read_rest ls (start 2 h) 2)) (any_shadow Three (read_rest ls (start 3 h) 2))) two;
-          fits = λ s f. f;
-        }
+        D = 3;
+        make = Three;
+        axes = grind (arith, one, two, range.0, range.1);
+        reads = λ ls.
+            ap (λ b. cond b (any_shadow One (read_rest ls (start 1 h) 2)) (cond (h.axes == 2) (any_shadow Two (read_rest ls (start 2 h) 2)) (any_shadow Three (read_rest ls (start 3 h) 2)))) one
+            ∙ ap (λ b. cond b (any_shadow Two (read_rest ls (start 2 h) 2)) (any_shadow Three (read_rest ls (start 3 h) 2))) two;
+        fits = λ s f. f;
+      }
     ] in
     let by_one : (b : Bool) → (h.axes == 1) ≡ b → Body h = elim [
       | true ↦ λ one. record {
-          D = 1;
-          make = One;
-          axes = grind (arith, one);
-          reads = λ ls.
-              ap (λ b. cond b (any_shadow One (read_rest ls (start 1 h) 2)) (cond (h.axes == 2) (any_shadow Two (read_rest ls (start 2 h) 2)) (any_shadow Three (read_rest ls (start 3 h) 2)))) one;
-          fits = λ s f. f;
-        }
+        D = 1;
+        make = One;
+        axes = grind (arith, one);
+        reads = λ ls.
+            ap (λ b. cond b (any_shadow One (read_rest ls (start 1 h) 2)) (cond (h.axes == 2) (any_shadow Two (read_rest ls (start 2 h) 2)) (any_shadow Three (read_rest ls (start 3 h) 2)))) one;
+        fits = λ s f. f;
+      }
       | false ↦ λ one. by_two (h.axes == 2) one refl
     ] in
     by_one (h.axes == 1) refl
@@ -167,8 +167,7 @@ module _ (l : List ℕ) (whole : lacks 10 l ≡ true) where
       let line : k ≡ 2 + rest.0 = rest.1 in
       let body : (t : List ℕ) → read_text (l ++ 10 ∷ t) ≡ any_shadow b.make (read_rest (pieces 10 t) p 2) = λ t.
       first-read t ∙ ap (λ (o : Option LineKind). read_kind o (header_of (words l)) (pieces 10 t)) kind
-      ∙ ap (λ (o : Option Heading). read_heading o (pieces 10 t)) says ∙ b.reads (pieces 10 t) in
-      (
+      ∙ ap (λ (o : Option Heading). read_heading o (pieces 10 t)) says ∙ b.reads (pieces 10 t) in (
         suc rest.0,
         omega (arith, line),
         fault-later Reads (Ends p 2) l whole (λ t ends. (b.make ends.0, body t ∙ ap (any_shadow b.make) ends.1))
@@ -222,8 +221,7 @@ shadow-ended : {D : ℕ} (s : ShadowLists D) → (bs : List ℕ) × (shadow_text
 shadow-ended s =
     let nodes = flat_map node_text s.nodes in
     let rows = flat_map row_line s.rows in
-    let last : List ℕ = 10 ∷ [] in
-    (
+    let last : List ℕ = 10 ∷ [] in (
       header_line s ++ (nodes ++ (rows ++ codes "end")),
       sym (append_assoc (header_line s) (nodes ++ (rows ++ codes "end")) last
           ∙ ap (λ l. header_line s ++ l) (append_assoc nodes (rows ++ codes "end") last ∙ ap (λ l. nodes ++ l) (append_assoc rows (codes "end") last))),
@@ -284,8 +282,7 @@ line-bad text zero bad =
     let none : zero - 1 ≡ 0 = omega arith in
     absurd (bad.with_it (subst (λ k. BeginsDump (first_lines k text)) none bad.before))
 line-bad text (suc m) bad =
-    let one : suc m - 1 ≡ m = omega arith in
-    (
+    let one : suc m - 1 ≡ m = omega arith in (
       m,
       omega arith,
       record {
@@ -310,8 +307,7 @@ truncated text n m line short =
 cut-of : (text : List ℕ) (n : ℕ) → IsTruncated text n → (m : ℕ) × (n ≡ 1 + m) × IsCutAfter Reads text m
 cut-of text n short =
     let m = line_ends text in
-    let one : n - 1 ≡ m = omega (arith, short.last) in
-    (
+    let one : n - 1 ≡ m = omega (arith, short.last) in (
       m,
       omega (arith, short.last),
       record {
@@ -377,10 +373,13 @@ dump-or-faulty text = by_read (read_text text) refl
     by_read : (r : Result AnyShadow (ℕ × LineFault)) → read_text text ≡ r → IsDump text ⊎ ((n : ℕ) × IsFirstFault text n)
     by_read (Ok a) is = inl (dump-of text (a, is))
     by_read (Err fault) is =
-        inr (fault.0, elim (is-cut fault.1) as (λ s. IsFirstFault text fault.0) [
-          | inl cut ↦ inr ((truncated-found text fault.0).0 (is ∙ ap (λ c. Err (fault.0, c)) cut))
-          | inr other ↦ inl ((bad-found text fault.0).0 (fault.1, other, is))
-        ])
+        inr (
+          fault.0,
+          elim (is-cut fault.1) as (λ s. IsFirstFault text fault.0) [
+            | inl cut ↦ inr ((truncated-found text fault.0).0 (is ∙ ap (λ c. Err (fault.0, c)) cut))
+            | inr other ↦ inl ((bad-found text fault.0).0 (fault.1, other, is))
+          ],
+        )
 
 -- what is read where a text has a fault
 fault-read : (text : List ℕ) (n : ℕ) → IsFirstFault text n → (code : LineFault) × (read_text text ≡ Err (n, code))
@@ -389,8 +388,7 @@ fault-read text n (inr short) = (Truncated, (truncated-found text n).1 short)
 
 pub one-answer : OneAnswer
 one-answer text n fault =
-    let f = fault-read text n fault in
-    (
+    let f = fault-read text n fault in (
       λ d. let e = (read-of text d).1 in let g = f.1 in let no : ⊥ = cc in no,
       λ m other. let g = fault-read text m other in (fault-parts {S = AnyShadow} m g.0 n f.0 (sym g.1 ∙ f.1)).0,
     )

@@ -302,17 +302,26 @@ fn read_first(
     ensures { Reads (read_kind (kind_of None (words line.now)) (header_of (words line.now)) lines.old) result }
 {
     let Some(kind) = kind_of(line, None) else {
-        return Err(DumpFault::At { line: 1, fault: LineFault::BadLine });
+        return Err(DumpFault::At {
+            line: 1,
+            fault: LineFault::BadLine,
+        });
     };
     match kind {
         LineKind::Header => {}
         LineKind::Node | LineKind::Cell | LineKind::Row | LineKind::End => {
-            return Err(DumpFault::At { line: 1, fault: LineFault::CountWrong });
+            return Err(DumpFault::At {
+                line: 1,
+                fault: LineFault::CountWrong,
+            });
         }
     }
     match header_of(line) {
         Some(header) => read_body(alloc, keys, &header, lines),
-        None => Err(DumpFault::At { line: 1, fault: LineFault::OutOfRange }),
+        None => Err(DumpFault::At {
+            line: 1,
+            fault: LineFault::OutOfRange,
+        }),
     }
 }
 
@@ -334,10 +343,16 @@ pub fn read_dump(alloc: Global, keys: RandomState, bytes: &[u8]) -> Result<AnySh
 {
     let mut lines = Pieces::new(bytes, b'\n');
     let Some(line) = lines.next() else {
-        return Err(DumpFault::At { line: 1, fault: LineFault::Truncated });
+        return Err(DumpFault::At {
+            line: 1,
+            fault: LineFault::Truncated,
+        });
     };
     if lines.is_done() {
-        return Err(DumpFault::At { line: 1, fault: LineFault::Truncated });
+        return Err(DumpFault::At {
+            line: 1,
+            fault: LineFault::Truncated,
+        });
     }
     read_first(alloc, keys, line, &mut lines)
 }
@@ -434,7 +449,11 @@ mod tests {
             (4, "cell 3 10 12 0 0", at(4, LineFault::BadLine)),
             (4, "cell 3 -0 12", at(4, LineFault::BadLine)),
             (4, "cell 3  10 12", at(4, LineFault::BadLine)),
-            (4, "cell 99999999999999999999 10 12", at(4, LineFault::OutOfRange)),
+            (
+                4,
+                "cell 99999999999999999999 10 12",
+                at(4, LineFault::OutOfRange),
+            ),
             (1, "rtree 4 5 1 3 6", at(1, LineFault::OutOfRange)),
             (1, "rtree 1 52 1 3 6", at(1, LineFault::OutOfRange)),
             (1, "row 1 2", at(1, LineFault::CountWrong)),
@@ -462,7 +481,10 @@ mod tests {
         let bytes = TWO_LEAVES.as_bytes();
         let mut line = 1u64;
         for (index, byte) in bytes.iter().enumerate() {
-            assert_eq!(rt; fault_of(&rt, &bytes[..index]), at(line, LineFault::Truncated));
+            assert_eq!(rt;
+                fault_of(&rt, &bytes[..index]),
+                at(line, LineFault::Truncated)
+            );
             if *byte == b'\n' {
                 line = line.saturating_add(1);
             }
