@@ -1,7 +1,6 @@
 -- What is read so far begins a dump: the lines that are still to come can come.
-use Rattle.std.proofs.Common.{◌≡◌, ℕ, zero, suc, ◌+◌, ◌<◌, ◌≤◌, ◌^◌, ℤ, pos, List, [], ◌∷◌, ◌++◌, Option, Some, None, Ok, refl, sym, subst, ◌∙◌, ap, length, map, replicate, arith, append-nil}
-use Rattle.std.specs.Prelude.{int_le}
-use Rattle.std.specs.List.{All, flat_map, IsDistinct}
+use Rattle.std.proofs.Common.{◌≡◌, ℕ, zero, suc, ◌+◌, ◌<◌, ◌≤◌, ◌^◌, ℤ, pos, List, [], ◌∷◌, ◌++◌, None, refl, sym, subst, ◌∙◌, ap, length, map, replicate, arith}
+use Rattle.std.specs.List.{flat_map, IsDistinct}
 use Rattle.std.specs.Ordering.{int_eq}
 use Rattle.std.proofs.lemmas.List.{length_push, length-map, length-replicate}
 use Rattle.std.proofs.lemmas.List.Elements.{All-nil, All-map, All-weaker, All-replicate}
@@ -13,8 +12,8 @@ use Rattle.rt_dump.specs.declared.reading.Progress.{Progress}
 use Rattle.rt_dump.specs.Dump.{cell_line, node_text, row_line, end_line}
 use Rattle.rt_dump.specs.InRange.{IsInt, IsPositive, IsCellInRange, IsRowInRange, IsNodeInRange, IsNodeNumbered}
 use Rattle.rt_dump.proofs.Written.{ReadsTo, shadow_with, at_row, at_cell, at_node, rows-read, cells-read, nodes-read}
-use Rattle.rt_dump.proofs.Fresh.{IsNumber, More, fresh}
-use Rattle.rt_dump.proofs.Fits.{HasLast, Fits, map-push}
+use Rattle.rt_dump.proofs.Fresh.{IsNumber, fresh}
+use Rattle.rt_dump.proofs.Fits.{Fits, map-push}
 
 module _ {X : Type 0} (key : X → ℤ) (make : ℤ → X) (says : (z : ℤ) → key (make z) ≡ z) where
   -- the keys of elements that are made of numbers

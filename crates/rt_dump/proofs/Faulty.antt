@@ -1,34 +1,26 @@
 -- Where a text goes wrong: the first faulty line that is read is the first that fits no dump.
-use Rattle.std.proofs.Common.{◌≡◌, ◌⊎◌, inl, inr, ℕ, zero, suc, ◌+◌, ◌-◌, ◌<◌, ◌≤◌, List, [], ◌∷◌, ◌++◌, Bool, true, false, ◌&&◌, cond, Option, Some, None, Result, Ok, Err, refl, sym, subst, ◌∙◌, ap, length, arith, codes, append_assoc, append-nil}
-use Rattle.std.specs.Prelude.{◌==◌, ◌↔◌, pos}
-use Rattle.std.specs.List.{flat_map, list_any, IsDistinct}
+use Rattle.std.proofs.Common.{◌≡◌, inl, inr, ℕ, suc, ◌+◌, ◌-◌, List, [], ◌∷◌, ◌++◌, Bool, true, false, cond, Option, Some, None, Result, Ok, Err, refl, sym, subst, ◌∙◌, ap, arith, append_assoc, append-nil}
+use Rattle.std.specs.List.{list_any}
 use Rattle.std.specs.Ordering.{int_eq}
-use Rattle.std.proofs.lemmas.List.{nil_from_length}
 use Rattle.rt_check.specs.declared.node.RawCell.{RawCell}
 use Rattle.rt_check.specs.declared.node.RowEntry.{RowEntry}
 use Rattle.rt_check.specs.Shadow.{ShadowLists, numbers_of, ids_of}
 use Rattle.rt_dump.specs.declared.lines.LineKind.{LineKind}
-use Rattle.rt_dump.specs.declared.lines.LineKind.TheVariants.{Header, Node, Cell, Row, End}
+use Rattle.rt_dump.specs.declared.lines.LineKind.TheVariants.{Node, Cell, Row, End}
 use Rattle.rt_dump.specs.declared.lines.NodeHead.{NodeHead}
-use Rattle.rt_dump.specs.declared.dump.AnyShadow.{AnyShadow}
-use Rattle.rt_dump.specs.declared.dump.AnyShadow.TheVariants.{One, Two, Three}
-use Rattle.rt_dump.specs.declared.reading.Heading.{Heading}
 use Rattle.rt_dump.specs.declared.reading.Progress.{Progress}
 use Rattle.rt_dump.specs.Pieces.{pieces}
 use Rattle.rt_dump.specs.Lines.{words, kind_of, node_head, row_entry, raw_cell}
-use Rattle.rt_dump.specs.Dump.{node_text, row_line, end_line, header_line, shadow_text, any_text}
-use Rattle.rt_dump.specs.InRange.{IsInRange, IsNumbered, IsAnyInRange, IsAnyNumbered}
-use Rattle.rt_dump.specs.Reading.{due, with_head, after_head, after_cell, after_row, after_kind, after_spelling, after_line, at_line, is_nothing, is_end, read_rest, start, header_of, any_shadow, read_body, read_heading, read_kind, read_lines, read_text}
-use Rattle.rt_dump.specs.Faults.{IsTextOf, IsDump, BeginsDump, first_lines, line_ends, IsBadLine, IsTruncated, IsFirstFault}
-use Rattle.rt_dump.proofs.Cuts.{pieces-some, read_lines-first}
-use Rattle.rt_dump.proofs.AcceptedWords.{joined, joined-pieces, both}
+use Rattle.rt_dump.specs.InRange.{IsInRange, IsNumbered}
+use Rattle.rt_dump.specs.Reading.{due, with_head, after_head, after_cell, after_row, after_kind, after_spelling, after_line, at_line, is_nothing, is_end, read_rest}
+use Rattle.rt_dump.specs.Faults.{first_lines}
+use Rattle.rt_dump.proofs.Cuts.{pieces-some}
+use Rattle.rt_dump.proofs.AcceptedWords.{joined, joined-pieces}
 use Rattle.rt_dump.proofs.AcceptedSteps.{Due, due-counts}
-use Rattle.rt_dump.proofs.AcceptedText.{text-accepted, nothing}
-use Rattle.rt_dump.proofs.Written.{ReadsTo}
+use Rattle.rt_dump.proofs.AcceptedText.{nothing}
 use Rattle.rt_dump.proofs.WrittenPieces.{lacks, pieces-front}
-use Rattle.rt_dump.proofs.WrittenText.{written-read}
-use Rattle.rt_dump.proofs.FrontLines.{AreUnbroken, pieces-unbroken, pieces-joined, first_lines-line, line_ends-line, line_ends-alone, first_lines-ended, IsBadAfter, IsCutAfter, IsFaultAfter, bad-cut, bad-once, bad-whole, fault-later}
-use Rattle.rt_dump.proofs.Fits.{Fits, line-step, kind-end, whole-fits, IsHeading, header-fits, start-fits}
+use Rattle.rt_dump.proofs.FrontLines.{AreUnbroken, pieces-joined, first_lines-line, line_ends-line, line_ends-alone, IsFaultAfter, fault-later}
+use Rattle.rt_dump.proofs.Fits.{Fits, line-step, kind-end, whole-fits}
 use Rattle.rt_dump.proofs.Completing.{completes}
 use Rattle.rt_dump.specs.declared.fault.LineFault.{LineFault}
 use Rattle.rt_dump.specs.declared.fault.LineFault.TheVariants.{Truncated, BadLine, CountWrong, OutOfRange, ListedTwice}

@@ -1,22 +1,20 @@
 -- What is true of a dump that is read so far: its numbers fit their types and count from 1, and the lines that
 -- are still to come could come.
-use Rattle.std.proofs.Common.{◌≡◌, ℕ, zero, suc, ◌+◌, ◌-◌, ◌*◌, ◌<◌, ◌≤◌, ◌^◌, ℤ, pos, negsuc, List, [], ◌∷◌, ◌++◌, Bool, true, false, ◌&&◌, cond, Option, Some, None, Result, Ok, Err, refl, sym, subst, ◌∙◌, ap, length, map, arith, codes, bytes_eq, option_map, option_and_then, neg_ℤ}
+use Rattle.std.proofs.Common.{◌≡◌, ℕ, zero, suc, ◌+◌, ◌-◌, ◌<◌, ◌≤◌, ◌^◌, ℤ, pos, negsuc, List, [], ◌∷◌, ◌++◌, Bool, true, false, ◌&&◌, cond, Option, Some, None, Result, Ok, Err, refl, sym, subst, ◌∙◌, ap, length, map, arith, bytes_eq, option_map, option_and_then, neg_ℤ}
 use Rattle.std.specs.Prelude.{nat_lt, nat_le, int_le, ◌==◌}
-use Rattle.std.specs.Int.Signed.{mag}
 use Rattle.std.specs.List.{All, list_any, IsDistinct}
 use Rattle.std.specs.Option.{IfSome}
 use Rattle.std.specs.Ordering.{int_eq}
 use Rattle.std.proofs.lemmas.List.{length_push}
-use Rattle.std.proofs.lemmas.List.Elements.{All-nil, All-cons, All-push, All-append, All-head}
+use Rattle.std.proofs.lemmas.List.Elements.{All-nil, All-cons, All-push, All-head}
 use Rattle.rt_box.specs.Capacity.{IsCapacity}
 use Rattle.rt_check.specs.declared.node.NodeRow.{NodeRow}
 use Rattle.rt_check.specs.declared.node.RawCell.{RawCell}
 use Rattle.rt_check.specs.declared.node.RowEntry.{RowEntry}
-use Rattle.rt_check.specs.Shadow.{ShadowLists, numbers_of, ids_of, with_last, with_cell}
+use Rattle.rt_check.specs.Shadow.{numbers_of, ids_of, with_last, with_cell}
 use Rattle.rt_dump.specs.declared.lines.LineKind.{LineKind}
-use Rattle.rt_dump.specs.declared.lines.LineKind.TheVariants.{Header, Node, Cell, Row, End}
+use Rattle.rt_dump.specs.declared.lines.LineKind.TheVariants.{Node, Cell, Row, End}
 use Rattle.rt_dump.specs.declared.lines.NodeHead.{NodeHead}
-use Rattle.rt_dump.specs.declared.lines.Range.{Range}
 use Rattle.rt_dump.specs.declared.reading.Heading.{Heading}
 use Rattle.rt_dump.specs.declared.reading.Progress.{Progress}
 use Rattle.rt_dump.specs.Numbers.{number_of, number_after, positive_of, count_of, byte_of, coordinate_of, parent_of}

@@ -1,6 +1,5 @@
 -- Numbers that a list lacks: for each count there are so many, as small as the list is short.
 use Rattle.std.proofs.Common.{◌≡◌, ℕ, zero, suc, ◌+◌, ◌<◌, ◌≤◌, ◌^◌, ℤ, pos, List, [], ◌∷◌, ◌++◌, Bool, true, false, not, ◌||◌, cond, refl, sym, subst, ◌∙◌, ap, length, arith, append_assoc, append-nil}
-use Rattle.std.specs.Prelude.{int_le}
 use Rattle.std.specs.List.{All, filter, list_any, IsDistinct, AllByRecursion}
 use Rattle.std.specs.Ordering.{int_eq}
 use Rattle.std.proofs.lemmas.List.{length_push}

@@ -1,6 +1,6 @@
 -- What is written of a shadow is read as that shadow.
 use Rattle.std.proofs.Common.{◌≡◌, ℕ, ◌+◌, ◌-◌, ◌<◌, ◌≤◌, ℤ, List, [], ◌∷◌, ◌++◌, Bool, true, false, ◌||◌, cond, refl, sym, ◌∙◌, ap, length, map, arith, Option, Some, Result, Ok, Err, append_assoc, append-nil}
-use Rattle.std.specs.Prelude.{◌==◌, codes, nat_lt, slice_get, slice_set}
+use Rattle.std.specs.Prelude.{codes, nat_lt, slice_get, slice_set}
 use Rattle.std.specs.List.{All, flat_map, list_any, IsDistinct, AllByRecursion}
 use Rattle.std.specs.Ordering.{int_eq}
 use Rattle.std.specs.Option.{option_map_or}

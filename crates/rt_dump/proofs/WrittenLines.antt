@@ -1,6 +1,6 @@
 -- Lemmas on the lines that are written: their words, their kind, and what they say.
-use Rattle.std.proofs.Common.{◌≡◌, ℕ, zero, suc, ◌+◌, ◌*◌, ◌<◌, ◌≤◌, ◌^◌, ℤ, List, [], ◌∷◌, Bool, true, false, ◌&&◌, ◌||◌, cond, refl, ◌∙◌, ap, length, arith, Option, Some, None}
-use Rattle.std.specs.Prelude.{◌==◌, codes, nat_le, decimal}
+use Rattle.std.proofs.Common.{◌≡◌, ℕ, zero, suc, ◌+◌, ◌*◌, ◌<◌, ◌≤◌, ◌^◌, ℤ, List, [], ◌∷◌, Bool, true, false, ◌&&◌, cond, refl, ◌∙◌, ap, length, arith, Option, Some, None}
+use Rattle.std.specs.Prelude.{codes, nat_le, decimal}
 use Rattle.std.specs.List.{All, flat_map, zip}
 use Rattle.std.specs.Option.{option_and_then, option_map, IfSome}
 use Rattle.std.specs.Fmt.{signed_decimal}
