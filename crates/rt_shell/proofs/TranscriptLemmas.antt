@@ -12,7 +12,7 @@ use Rattle.rt_sql.specs.declared.statement.Stmt.{Stmt}
 use Rattle.rt_sql.specs.declared.refusal.Refusal.{Refusal}
 use Rattle.rt_sql.specs.declared.refusal.Refusal.TheVariants.{OutOfMemory}
 use Rattle.rt_shell.specs.declared.runner.Options.{Options}
-use Rattle.rt_shell.specs.Session.{State, Outcome, Shadow, NoTree, answer, Answers}
+use Rattle.rt_session.specs.Session.{State, Outcome, Shadow, NoTree, answer, Answers}
 use Rattle.rt_shell.specs.Transcript.{Marks, Progress, start, AnswersParsed, MayGive, after, lines_of, status_of, Prints}
 use Rattle.rt_shell.specs.Laws.{TranscriptIsDetermined, EveryScriptHasATranscript}
 

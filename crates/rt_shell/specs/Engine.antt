@@ -7,14 +7,14 @@ use Rattle.rt_cut.specs.Piece.{PieceText}
 use Rattle.rt_cut.specs.Pieces.{IsGap, IsWholePiece, IsLastPiece, Pieces, EndedPieces}
 use Rattle.rt_cut.specs.Cutter.{StandsAt, FinishedAt, ready_piece}
 use Rattle.rt_sql.specs.declared.refusal.Refusal.{Refusal}
-use Rattle.rt_shell.specs.declared.session.Reply.{Reply}
+use Rattle.rt_session.specs.declared.session.Reply.{Reply}
 use Rattle.rt_shell.specs.declared.runner.Engine.{Engine}
 use Rattle.rt_shell.specs.declared.runner.Flow.{Flow}
 use Rattle.rt_shell.specs.declared.runner.Flow.TheVariants.{Goes, Stops}
 use Rattle.rt_bytes.specs.declared.outcome.Status.{Status}
 use Rattle.rt_bytes.specs.declared.outcome.Status.TheVariants.{Refused}
 use Rattle.rt_shell.specs.declared.runner.Options.{Options}
-use Rattle.rt_shell.specs.Session.{State, Outcome, state_after}
+use Rattle.rt_session.specs.Session.{State, Outcome, state_after}
 use Rattle.rt_shell.specs.Lines.{answer_lines}
 use Rattle.rt_shell.specs.Transcript.{Marks, Progress, start, MayGive, after, Prints}
 

@@ -1,8 +1,3 @@
-pub mod Put
-pub mod Rows
-pub mod Session
-pub mod SessionInside
-pub mod Steps
 pub mod Lines
 pub mod Engine
 pub mod Transcript

@@ -4,9 +4,9 @@ use Rattle.std.specs.Fmt.{signed_decimal}
 use Rattle.std.specs.List.{flat_map}
 use Rattle.rt_sql.specs.Refusal.{code_of, text_of}
 use Rattle.rt_sql.specs.declared.refusal.Refusal.{Refusal}
-use Rattle.rt_shell.specs.declared.rows.Row.{Row}
-use Rattle.rt_shell.specs.declared.session.Reply.{Reply}
-use Rattle.rt_shell.specs.declared.session.Reply.TheVariants.{Nothing, Rows}
+use Rattle.rt_session.specs.declared.rows.Row.{Row}
+use Rattle.rt_session.specs.declared.session.Reply.{Reply}
+use Rattle.rt_session.specs.declared.session.Reply.TheVariants.{Nothing, Rows}
 
 -- a row's numbers with bars between them
 abbrev pub row_line : Row → List ℕ

@@ -4,8 +4,7 @@ ghost use Rattle.std.specs.List.{flat_map};
 ghost use Rattle.rt_bytes.specs.Devices.{WritesTo};
 ghost use Rattle.rt_shell.specs.Lines.{row_line, reply_lines, refusal_line};
 
-use crate::rows::Row;
-use crate::session::Reply;
+use rt_session::{Reply, Row};
 use itoa::Buffer;
 use rt_bytes::{ByteWriter, WriteFault, write_parts};
 use rt_sql::Refusal;

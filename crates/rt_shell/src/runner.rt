@@ -8,7 +8,7 @@ ghost use Rattle.rt_bytes.specs.Devices.{WritesTo, devices_of};
 ghost use Rattle.rt_shell.specs.Lines.{answer_lines};
 
 use crate::reply::{write_refusal, write_reply};
-use crate::session::{Reply, Session};
+use rt_session::{Reply, Session};
 use rt_box::Capacity;
 use rt_bytes::{ByteReader, ByteWriter, MOST_READS, READ_SIZE, RunFault, Status, WriteFault};
 use rt_cut::{Cutter, Piece};

@@ -1,5 +1,5 @@
 use Rattle.std.proofs.Common.{false, ap, refl}
-use Rattle.rt_shell.specs.Session.{State}
+use Rattle.rt_session.specs.Session.{State}
 use Rattle.rt_shell.specs.Transcript.{Progress}
 use Rattle.rt_shell.proofs.runner.Engine.new.Goals as goal
 
