@@ -1,0 +1,9 @@
+pub mod Node
+pub mod NodeInside
+pub mod Places
+pub mod Sound
+pub mod Whole
+pub mod Changes
+pub mod Path
+pub mod Homes
+pub mod Settles
