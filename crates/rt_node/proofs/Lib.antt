@@ -1,1 +1,5 @@
 pub mod Paired
+pub mod Counts
+pub mod Places
+pub mod Links
+pub mod Homes
