@@ -3,3 +3,5 @@ pub mod Counts
 pub mod Places
 pub mod Links
 pub mod Homes
+pub mod Sums
+pub mod Fitted

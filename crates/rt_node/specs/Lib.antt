@@ -7,3 +7,4 @@ pub mod Changes
 pub mod Path
 pub mod Homes
 pub mod Settles
+pub mod Open
