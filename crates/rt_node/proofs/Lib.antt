@@ -5,3 +5,4 @@ pub mod Links
 pub mod Homes
 pub mod Sums
 pub mod Fitted
+pub mod Many
