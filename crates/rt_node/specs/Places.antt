@@ -1,5 +1,5 @@
 -- What stands at the keys of a slab of nodes.
-use Rattle.std.specs.Prelude.{ℕ, zero, suc, ◌+◌, Bool, ℤ, List, [], ◌∷◌, ◌++◌, Option, None, Some, map, count_by, sum_by, nat_eq, unsigned_abs}
+use Rattle.std.specs.Prelude.{ℕ, zero, suc, ◌+◌, Bool, ℤ, List, [], ◌∷◌, ◌++◌, Option, None, Some, map, count_by, sum_by, nat_eq, unsigned_abs, pos, slice_index_or}
 use Rattle.std.specs.Ordering.{int_eq}
 use Rattle.std.specs.Option.{option_map_or}
 use Rattle.std.specs.List.{flat_map}
@@ -20,6 +20,13 @@ module _ {D : ℕ} where
 
   abbrev pub numbers : List (Cell D) → List ℤ
   numbers cells = map (λ c. c.number) cells
+
+  -- the cells at some positions, in the order of the positions; `no_cell` is read past the end alone
+  abbrev pub no_cell : Cell D
+  no_cell = record { number = pos 0; rect = [] }
+
+  abbrev pub picked : List (Cell D) → List ℕ → List (Cell D)
+  picked cells positions = map (λ p. slice_index_or cells p no_cell) positions
 
   -- how many of the cells name the node at the key
   abbrev pub times_named : ℕ → List (Cell D) → ℕ

@@ -1,8 +1,10 @@
 //! Reading and writing one node of a slab.
 
-ghost use Rattle.std.specs.Prelude.{◌≡◌, ◌<◌, ◌≤◌, Some, IsSome, [], ◌∷◌, ◌++◌, length, slice_set, remove};
+ghost use Rattle.std.specs.Prelude.{◌≡◌, ◌+◌, ◌<◌, ◌≤◌, All, Some, IsSome, [], ◌∷◌, ◌++◌, length, slice_set, remove};
 ghost use Rattle.slab.specs.Slab.{get, ContainsKey};
-ghost use Rattle.rt_node.specs.Places.{cells_at};
+ghost use Rattle.rt_box.specs.Rect.{IsBox};
+ghost use Rattle.rt_choice.specs.Hull.{hull};
+ghost use Rattle.rt_node.specs.Places.{cells_at, hull_at, picked};
 ghost use Rattle.rt_node.specs.Changes.{Changes};
 ghost use Rattle.std.specs.Ordering.{int_eq};
 ghost use Rattle.indexmap.specs.IndexMap.{get as leaf_of};
@@ -11,8 +13,10 @@ ghost use Rattle.rt_node.specs.Homes.{Moves};
 use crate::cell::Cell;
 use crate::node::Node;
 use indexmap::IndexMap;
+use rt_box::Rect;
 use slab::Slab;
 use std::hash::RandomState;
+use std::mem;
 
 /// The node at a key.
 #[inline]
@@ -79,4 +83,53 @@ pub fn set_leaf(leaves: &mut IndexMap<i64, usize, RandomState>, id: &i64, leaf: 
     if let Some(place) = leaves.get_mut(id) {
         *place = leaf;
     }
+}
+
+/// Takes out all cells: answers the node as it was, and leaves one without cells in its place.
+pub fn take_cells<const D: usize>(nodes: &mut Slab<Node<D>>, key: usize) -> Node<D>
+    requires present { ContainsKey nodes.old key }
+    requires some { 1 ≤ length (cells_at nodes.old key) }
+    ensures node { get nodes.old key ≡ Some result }
+    ensures emptied { Changes (λ n. record n { cells = [] }) nodes.old nodes.new key }
+    ensures few { length result.cells ≤ 52 }
+{
+    let node = &mut nodes[key];
+    let _ = node.len();
+    let empty = node.without_cells();
+    mem::replace(node, empty)
+}
+
+/// Appends the cells of another node at some positions, in the order of the positions.
+pub fn add_cells<const D: usize>(nodes: &mut Slab<Node<D>>, key: usize, from: &Node<D>, positions: &[usize])
+    requires present { ContainsKey nodes.old key }
+    requires within { All (λ p. p < length from.now.cells) positions.now }
+    requires room { length (cells_at nodes.old key) + length positions.now ≤ 52 }
+    ensures { Changes (λ n. record n { cells = n.cells ++ picked from.now.cells positions.now }) nodes.old nodes.new key }
+{
+    let node = &mut nodes[key];
+    node.add_from(from, positions);
+}
+
+/// The least box around the cells of the node.
+pub fn hull_at<const D: usize>(nodes: &Slab<Node<D>>, key: usize) -> Rect<D>
+    requires present { ContainsKey nodes.now key }
+    requires some { 1 ≤ length (cells_at nodes.now key) }
+    ensures value { result ≡ hull_at nodes.now key }
+    ensures is_box { IsBox D result }
+{
+    let hull = hull_of(node_at(nodes, key).boxes());
+    let _ = hull.axes();
+    hull
+}
+
+/// The least box that holds all of them.
+fn hull_of<const D: usize>(boxes: &[Rect<D>]) -> Rect<D>
+    requires { 1 ≤ length boxes.now }
+    ensures { result ≡ hull boxes.now }
+{
+    let mut hull = boxes[0];
+    for place in 1..boxes.len() {
+        hull = hull.union(&boxes[place]);
+    }
+    hull
 }

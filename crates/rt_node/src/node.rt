@@ -1,4 +1,6 @@
-ghost use Rattle.std.specs.Prelude.{◌≡◌, ◌+◌, ◌<◌, ◌≤◌, [], ◌∷◌, ◌++◌, map, length, slice_index_or, slice_set, remove};
+ghost use Rattle.std.specs.Prelude.{◌≡◌, ◌≢◌, ℕ, pos, All, ◌+◌, ◌<◌, ◌≤◌, [], ◌∷◌, ◌++◌, map, length, slice_index_or, slice_set, remove};
+ghost use Rattle.rt_node.specs.declared.cell.Cell.{Cell};
+ghost use Rattle.rt_node.specs.Places.{picked};
 
 use crate::cell::Cell;
 use arrayvec::ArrayVec;
@@ -179,4 +181,46 @@ impl<const D: usize> Node<D> {
         self.numbers.clear();
         self.boxes.clear();
     }
+
+    /// A node of the same level and parent that has no cells.
+    pub(crate) fn without_cells(&self) -> Node<D>
+        requires { 1 ≤ length self.now.cells }
+        ensures { result ≡ record self.now { cells = [] } }
+    {
+        Node::new(self.level(), self.parent(), &self.cell(0).rect)
+    }
+
+    /// Appends the cells of another node at some positions, in the order of the positions.
+    pub(crate) fn add_from(&mut self, from: &Node<D>, positions: &[usize])
+        requires within { All (λ p. p < length from.now.cells) positions.now }
+        requires room { length self.old.cells + length positions.now ≤ 52 }
+        ensures { self.new ≡ record self.old { cells = self.old.cells ++ picked from.now.cells positions.now } }
+    {
+        for at in positions {
+            self.add(&from.cell(*at));
+        }
+    }
+
+    /// The position of the first cell with that number, or the number of cells where none has it.
+    pub fn position(&self, number: &i64) -> usize
+        ensures within { result ≤ length self.now.cells }
+        ensures found { (d : Cell D) → result < length self.now.cells → (slice_index_or self.now.cells result d).number ≡ number.now }
+        ensures first { (k : ℕ) (d : Cell D) → k < result → (slice_index_or self.now.cells k d).number ≢ number.now }
+    {
+        position_in(self.numbers(), number)
+    }
+}
+
+/// The position of the first such number, or the length where it isn't there.
+fn position_in(numbers: &[i64], number: &i64) -> usize
+    ensures within { result ≤ length numbers.now }
+    ensures found { result < length numbers.now → slice_index_or numbers.now result (pos 0) ≡ number.now }
+    ensures first { (k : ℕ) → k < result → slice_index_or numbers.now k (pos 0) ≢ number.now }
+{
+    for (at, other) in numbers.iter().enumerate() {
+        if *other == *number {
+            return at;
+        }
+    }
+    numbers.len()
 }
