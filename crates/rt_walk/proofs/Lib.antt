@@ -1,0 +1,4 @@
+pub mod Totals
+pub mod Taking
+pub mod Reaching
+pub mod Progress
