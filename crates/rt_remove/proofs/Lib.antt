@@ -1,0 +1,6 @@
+pub mod Changed
+pub mod Sums
+pub mod Dissolved
+pub mod Refitted
+pub mod Climbs
+pub mod Condenses

@@ -1,0 +1,6 @@
+//! Removal of a row from an R*-tree.
+#![tactic(auto)]
+
+mod condense;
+mod find;
+mod refit;
