@@ -1,6 +1,7 @@
 //! What stands in a node, and what waits to be placed.
 
 ghost use Rattle.std.specs.Prelude.{◌≡◌, ◌^◌, ◌<◌, pos, unsigned_abs};
+ghost use Rattle.rt_node.specs.Places.{key_of as key_in};
 
 use rt_box::Rect;
 
@@ -12,6 +13,16 @@ pub struct Cell<const D: usize> {
     pub number: i64,
     /// The box.
     pub rect: Rect<D>,
+}
+
+impl<const D: usize> Cell<D> {
+    /// The key of the node that a cell above the leaves names.
+    #[inline]
+    pub fn key(&self) -> usize
+        ensures { result ≡ key_in self.now }
+    {
+        key_of(self.number)
+    }
 }
 
 /// A cell that waits to be placed in a node of a level.

@@ -1,0 +1,3 @@
+pub mod WayDown
+pub mod Attached
+pub mod Regroup
