@@ -34,7 +34,7 @@ module _ {D : ℕ} (a b : Slab (NodeCells D)) (key : ℕ) (n : NodeCells D) (cs 
   changed-cells = ap cells_of puts.updates.changed
 
 module _ {D : ℕ} where
-  cell-number : (cs : List (Cell D)) (ns : List ℤ) (at : ℕ) (d : Cell D) → ns ≡ map (λ c. c.number) cs → at < length ns →
+  pub cell-number : (cs : List (Cell D)) (ns : List ℤ) (at : ℕ) (d : Cell D) → ns ≡ map (λ c. c.number) cs → at < length ns →
       (get_or cs at d).number ≡ get_or ns at d.number
   cell-number cs ns at d is within =
       let long = length-map cs (λ c. c.number) in

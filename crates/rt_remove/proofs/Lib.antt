@@ -4,3 +4,5 @@ pub mod Dissolved
 pub mod Refitted
 pub mod Climbs
 pub mod Condenses
+pub mod WayGiven
+pub mod Taken

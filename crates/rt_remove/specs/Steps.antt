@@ -1,6 +1,9 @@
 -- The steps of a removal, and the trees between them.
-use Rattle.std.specs.Prelude.{◌≡◌, ◌≢◌, ℕ, suc, ◌+◌, ◌-◌, ◌*◌, ◌<◌, ◌≤◌, Bool, List, length, map, remove, slice_set, slice_index_or, None, Some, All, Contains, vec_capacity}
+use Rattle.std.specs.Prelude.{◌≡◌, ◌≢◌, ℕ, suc, ◌+◌, ◌-◌, ◌*◌, ◌<◌, ◌≤◌, Bool, ℤ, List, length, map, remove, slice_get, slice_set, slice_index_or, if◌then◌else◌, None, Some, All, Contains, vec_capacity}
+use Rattle.std.specs.Ordering.{int_eq}
 use Rattle.slab.specs.Slab.{Slab, get}
+use Rattle.indexmap.specs.IndexMap.{IndexMap, get as leaf_of, spare, index_map_len}
+use Rattle.rt_box.specs.declared.interval.Interval.{Interval}
 use Rattle.rt_box.specs.Capacity.{least_fill}
 use Rattle.rt_box.specs.Rect.{IsBox}
 use Rattle.rt_node.specs.declared.arena.Arena.{Arena}
@@ -8,10 +11,18 @@ use Rattle.rt_node.specs.declared.cell.Cell.{Cell}
 use Rattle.rt_node.specs.declared.cell.Waiting.{Waiting}
 use Rattle.rt_node.specs.Node.{NodeCells}
 use Rattle.rt_node.specs.Places.{key_of, cells_at, level_at, parent_at, hull_at, count_rows}
-use Rattle.rt_node.specs.Whole.{IsSound, IsWhole}
+use Rattle.rt_node.specs.Whole.{IsSound, IsWhole, IsBranched}
 use Rattle.rt_node.specs.Changes.{Changes}
 use Rattle.rt_node.specs.Path.{KeepsShape}
 use Rattle.rt_remove.specs.Above.{way_up}
+
+module _ {S : Type 0} where
+  -- the map lost the id, and leads each other one to where it led
+  pub record Forgets (old new : IndexMap ℤ ℕ S) (id : ℤ) : Type 0 where
+    pub gone : leaf_of int_eq new id ≡ None
+    pub others : (other : ℤ) → other ≢ id → leaf_of int_eq new other ≡ leaf_of int_eq old other
+    pub len : index_map_len new + 1 ≡ index_map_len old
+    pub room : spare old ≤ spare new
 
 module _ {D : ℕ} where
   -- the position of a cell that names the node at the key
@@ -108,3 +119,31 @@ module _ {D : ℕ} where
     pub few : length new.waiting.items ≤ (least_fill new.capacity - 1) * new.level
     pub waiting : IsRoomy old leaf → new.waiting.items ≡ old.waiting.items
     pub shape : IsRoomy old leaf → (k : ℕ) → KeepsShape old.nodes new.nodes (way_up old.nodes old.level leaf) k
+
+  -- the root gave way to its only child, if it had but one; nothing waits
+  pub record GivesWay (old new : Arena D) : Type 0 where
+    pub whole : IsWhole new
+    pub branched : IsBranched new
+    pub waiting : new.waiting ≡ old.waiting
+    pub rows : (test : Cell D → Bool) →
+        count_rows test new.nodes new.waiting.items ≡ count_rows test old.nodes old.waiting.items
+    pub leaves : new.leaves ≡ old.leaves
+    pub capacity : new.capacity ≡ old.capacity
+    pub room : new.nodes.capacity ≡ old.nodes.capacity
+    pub still : IsBranched old → new ≡ old
+
+  -- the row with the id left its leaf, and its id the map of leaves
+  pub record Takes (old new : Arena D) (id : ℤ) (leaf at : ℕ) (rect : List Interval) : Type 0 where
+    pub but : IsSoundBut new leaf
+    pub home : leaf_of int_eq old.leaves id ≡ Some leaf
+    pub bottom : level_at old.nodes leaf ≡ Some 0
+    pub cell : slice_get (cells_at old.nodes leaf) at ≡ Some record { number = id; rect = rect }
+    pub change : Changes (λ n. record n { cells = remove n.cells at }) old.nodes new.nodes leaf
+    pub forgets : Forgets old.leaves new.leaves id
+    pub rows : (test : Cell D → Bool) →
+        count_rows test new.nodes new.waiting.items + (if test record { number = id; rect = rect } then 1 else 0)
+        ≡ count_rows test old.nodes old.waiting.items
+    pub waiting : new.waiting ≡ old.waiting
+    pub root : new.root ≡ old.root
+    pub level : new.level ≡ old.level
+    pub capacity : new.capacity ≡ old.capacity

@@ -3,4 +3,6 @@
 
 mod condense;
 mod find;
+mod give_way;
 mod refit;
+mod take;
