@@ -1,3 +1,4 @@
 pub mod WayDown
 pub mod Attached
 pub mod Regroup
+pub mod Positions

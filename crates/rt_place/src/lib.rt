@@ -4,5 +4,6 @@
 
 mod attach;
 mod descent;
+mod reinsertion;
 
 pub use descent::choose_node;
