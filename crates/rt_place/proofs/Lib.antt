@@ -2,3 +2,5 @@ pub mod WayDown
 pub mod Attached
 pub mod Regroup
 pub mod Positions
+pub mod Refitted
+pub mod Adopted

@@ -1,18 +1,21 @@
 -- What the parts of a placement do.
-use Rattle.std.specs.Prelude.{◌≡◌, ◌≢◌, ℕ, suc, ◌+◌, ◌≤◌, Bool, List, [], ◌∷◌, ◌++◌, Some, length, slice_get, map, All, vec_capacity}
+use Rattle.std.specs.Prelude.{◌≡◌, ◌≢◌, ℕ, suc, ◌+◌, ◌≤◌, Bool, List, [], ◌∷◌, ◌++◌, Some, length, slice_get, slice_set, slice_index_or, map, All, vec_capacity, IsSome, ℤ, pos, ◌<◌}
+use Rattle.rt_box.specs.Rect.{IsBox}
 use Rattle.std.specs.List.Sorted.{IsPermutation}
 use Rattle.rt_box.specs.Capacity.{reinsertion_share}
-use Rattle.slab.specs.Slab.{Slab, get}
+use Rattle.slab.specs.Slab.{Slab, get, slab_len}
+use Rattle.indexmap.specs.IndexMap.{IndexMap, get as leaf_of}
+use Rattle.std.specs.Ordering.{int_eq}
 use Rattle.rt_box.specs.declared.interval.Interval.{Interval}
 use Rattle.rt_choice.specs.Subtree.{IsBestChild}
 use Rattle.rt_node.specs.declared.arena.Arena.{Arena}
 use Rattle.rt_node.specs.declared.cell.Cell.{Cell}
 use Rattle.rt_node.specs.declared.cell.Waiting.{Waiting}
 use Rattle.rt_node.specs.Node.{NodeCells}
-use Rattle.rt_node.specs.Places.{key_of, rects, cells_at, level_at, parent_at}
-use Rattle.rt_node.specs.Sound.{NamesChild}
+use Rattle.rt_node.specs.Places.{key_of, times_named, waiting_nodes, rects, no_cell, hull_at, cells_at, level_at, parent_at}
+use Rattle.rt_node.specs.Sound.{NamesChild, IsLinked}
 use Rattle.rt_node.specs.Changes.{Puts, Changes}
-use Rattle.rt_node.specs.Homes.{Moves}
+use Rattle.rt_node.specs.Homes.{Moves, KeepsIds}
 
 module _ {D : ℕ} where
   -- cells as they wait for a node of a level
@@ -49,3 +52,38 @@ module _ {D : ℕ} where
     pub waiting : new.waiting.items ≡ old.waiting.items ++ waiting_at n.level far
     pub waiting_room : vec_capacity old.waiting ≤ vec_capacity new.waiting
     pub rest : new ≡ record old { nodes = new.nodes; waiting = new.waiting }
+
+  -- the cell at the position names the node at the key
+  abbrev pub IsNamedAt : List (Cell D) → ℕ → ℕ → Type 0
+  IsNamedAt cells at key = (at < length cells) × ((slice_index_or cells at no_cell).number ≡ pos key)
+
+  -- the parent's cell that names the node has the least box around the node's cells
+  pub record Refits (old new : Slab (NodeCells D)) (parent key : ℕ) (n : NodeCells D) : Type 0 where
+    pub at : ℕ
+    pub cell : Cell D
+    pub within : at < length n.cells
+    pub number_is : cell.number ≡ pos key
+    pub same_number : cell.number ≡ (slice_index_or n.cells at cell).number
+    pub rect_is : cell.rect ≡ hull_at old key
+    pub is_box : IsBox D cell.rect
+    pub nodes : Puts old new parent (record n { cells = slice_set n.cells at cell })
+
+  -- the nodes that the cells name have that parent now; levels and cells are the same everywhere, and every other
+  -- node is the same. Where these nodes waited, all hang together as before
+  pub record Adopts (old new : Slab (NodeCells D)) (key : ℕ) (cs : List (Cell D)) : Type 0 where
+    pub parents : All (λ c. parent_at new (key_of c) ≡ Some key) cs
+    pub levels : (x : ℕ) → level_at new x ≡ level_at old x
+    pub cells : (x : ℕ) → cells_at new x ≡ cells_at old x
+    pub others : (x : ℕ) → All (λ c. key_of c ≢ x) cs → get new x ≡ get old x
+    pub linked : (root level : ℕ) (ws : List (Waiting D)) → IsLinked old root level ws →
+        All (λ c. 0 < times_named (key_of c) (waiting_nodes ws)) cs → IsLinked new root level ws
+    pub len : slab_len new ≡ slab_len old
+    pub room : new.capacity ≡ old.capacity
+
+module _ {D : ℕ} {S : Type 0} where
+  -- the rows of the cells lie in that leaf now, and each other one where it lay
+  pub record Rehouses (old new : IndexMap ℤ ℕ S) (leaf : ℕ) (cs : List (Cell D)) : Type 0 where
+    pub keeps : KeepsIds old new
+    pub here : All (λ c. leaf_of int_eq new c.number ≡ Some leaf) cs
+    pub known : (id : ℤ) → IsSome (leaf_of int_eq old id) → IsSome (leaf_of int_eq new id)
+    pub others : (id : ℤ) → All (λ c. id ≢ c.number) cs → leaf_of int_eq new id ≡ leaf_of int_eq old id

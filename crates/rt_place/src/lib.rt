@@ -4,6 +4,8 @@
 
 mod attach;
 mod descent;
+mod refit;
 mod reinsertion;
+mod split;
 
 pub use descent::choose_node;
