@@ -2,3 +2,9 @@ pub mod Totals
 pub mod Taking
 pub mod Reaching
 pub mod Progress
+pub mod Due
+pub mod Numbering
+pub mod Listed
+pub mod Ints
+pub mod Rising
+pub mod Numbered

@@ -1,7 +1,7 @@
 -- How far a search has come.
-use Rattle.std.proofs.Common.{◌≡◌, ◌≢◌, ℕ, zero, suc, ◌+◌, ◌<◌, ◌≤◌, Bool, true, false, List, [], ◌∷◌, ◌++◌, length, Contains, Option, Some, None, is_some, IsSome, cond, nat_eq, arith, refl, ap, sym, ◌∙◌, subst, inl, inr}
+use Rattle.std.proofs.Common.{◌≡◌, ◌≢◌, ℕ, suc, ◌+◌, ◌<◌, ◌≤◌, Bool, true, false, List, [], ◌∷◌, ◌++◌, length, Contains, Option, Some, None, is_some, IsSome, cond, nat_eq, arith, refl, ap, sym, ◌∙◌, subst, inl, inr}
 use Rattle.std.specs.List.{All, count_by, sum_by}
-use Rattle.std.proofs.lemmas.Bool.{cases_eq, cases_lt}
+use Rattle.std.proofs.lemmas.Bool.{cases_lt}
 use Rattle.std.proofs.lemmas.Option.{same_Some, none-some}
 use Rattle.std.proofs.lemmas.List.{get_or_past, length_push}
 use Rattle.std.proofs.lemmas.List.Elements.{All-nil, All-append}
@@ -13,7 +13,7 @@ use Rattle.rt_box.specs.Window.{Admits}
 use Rattle.rt_node.specs.declared.arena.Arena.{Arena}
 use Rattle.rt_node.specs.declared.cell.Cell.{Cell}
 use Rattle.rt_node.specs.Node.{NodeCells}
-use Rattle.rt_node.specs.Places.{key_of, times_named, cells_at, leaf_cells_of, leaf_cells_at, inner_cells_at, level_at, parent_at, cells_above, count_rows, level_of}
+use Rattle.rt_node.specs.Places.{times_named, cells_at, leaf_cells_of, leaf_cells_at, inner_cells_at, level_at, parent_at, count_rows, level_of}
 use Rattle.rt_node.specs.Sound.{IsLinked, NamesChild}
 use Rattle.rt_node.specs.Whole.{IsWhole}
 use Rattle.rt_node.proofs.Counts.{count-append}
@@ -22,8 +22,8 @@ use Rattle.rt_node.proofs.Places.{inner-at_inner}
 use Rattle.rt_walk.specs.declared.searching.Row.{Row}
 use Rattle.rt_walk.specs.Search.{times, row_of, LeadsInto, AsksAdmitted, IsReached, Finds}
 use Rattle.rt_walk.specs.Visits.{Visits}
-use Rattle.rt_walk.proofs.Totals.{times-append, times-one, times-other, times-is, upto, sum-listed, sum-listed_le, upto-le, upto-list}
-use Rattle.rt_walk.proofs.Reaching.{All_contained, IsInner, inner-level, leaf-level, hull-contained, counted-contained, reached-up}
+use Rattle.rt_walk.proofs.Totals.{times-append, times-one, times-is, upto, sum-listed, sum-listed_le, upto-le, upto-list}
+use Rattle.rt_walk.proofs.Reaching.{All_contained, inner-level, leaf-level, hull-contained, counted-contained, reached-up}
 
 module _ {D : ℕ} where
   -- the nodes that the search went into are listed, and those still to come; both are reached, and each once
@@ -45,7 +45,7 @@ module _ {D : ℕ} where
     pub whole : IsWhole t
     pub none : t.waiting.items ≡ []
 
-  settled-linked : (t : Arena D) → IsSettled t → IsLinked t.nodes t.root t.level []
+  pub settled-linked : (t : Arena D) → IsSettled t → IsLinked t.nodes t.root t.level []
   settled-linked t s = subst (IsLinked t.nodes t.root t.level) s.none s.whole.linked
 
   -- ---- where the search starts
@@ -80,7 +80,7 @@ module _ {D : ℕ} where
       by None e = absurd (none-some l e)
       by (Some n) e = refl
 
-  level-within : (a : Slab (NodeCells D)) (k l : ℕ) → level_at a k ≡ Some l → k < length a.slots
+  pub level-within : (a : Slab (NodeCells D)) (k l : ℕ) → level_at a k ≡ Some l → k < length a.slots
   level-within a k l lev = elim (cases_lt k (length a.slots)) [
     | inl h ↦ h
     | inr past ↦ absurd (none-some l (sym (ap level_of (get_or_past a.slots k None past)) ∙ lev))

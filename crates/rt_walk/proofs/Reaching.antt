@@ -1,5 +1,5 @@
 -- An admitted row's leaf is reached: its box lies in the cell of each node above it.
-use Rattle.std.proofs.Common.{◌≡◌, ◌≢◌, ℕ, zero, suc, ◌+◌, ◌<◌, ◌≤◌, Bool, true, List, [], ◌∷◌, length, map, fold, get_or, take, Contains, Option, Some, None, arith, refl, ap, sym, ◌∙◌, subst, inl, inr}
+use Rattle.std.proofs.Common.{◌≡◌, ◌≢◌, ℕ, zero, suc, ◌+◌, ◌<◌, Bool, true, List, [], ◌∷◌, length, fold, get_or, Contains, Option, Some, None, arith, refl, ap, sym, ◌∙◌, subst, inl, inr}
 use Rattle.std.specs.List.{All, count_by}
 use Rattle.std.proofs.lemmas.Bool.{cases_eq}
 use Rattle.std.proofs.lemmas.Option.{same_Some, none-some}
@@ -10,18 +10,17 @@ use Rattle.rt_box.specs.declared.interval.Interval.{Interval}
 use Rattle.rt_box.specs.Rect.{IsBox, Holds, union_box}
 use Rattle.rt_box.specs.Window.{Admits}
 use Rattle.rt_box.proofs.Holding.{Holds_refl, Holds_trans, Holds-union_left, Holds-union_right}
-use Rattle.rt_box.proofs.Measures.{length-paired}
 use Rattle.rt_choice.specs.Hull.{hull}
 use Rattle.rt_node.specs.declared.arena.Arena.{Arena}
 use Rattle.rt_node.specs.declared.cell.Cell.{Cell}
 use Rattle.rt_node.specs.Node.{NodeCells}
-use Rattle.rt_node.specs.Places.{key_of, rects, times_named, level_of, inner_part, leaf_part, cells_of, inner_cells_of, leaf_cells_of, cells_at, inner_cells_at, leaf_cells_at, level_at, parent_at, cells_above, hull_at, waiting_nodes}
+use Rattle.rt_node.specs.Places.{key_of, rects, times_named, level_of, inner_part, leaf_part, cells_of, inner_cells_of, leaf_cells_of, cells_at, inner_cells_at, leaf_cells_at, level_at, parent_at, cells_above, hull_at}
 use Rattle.rt_node.specs.Sound.{IsLinked, NamesChild}
 use Rattle.rt_node.specs.Whole.{IsWhole}
 use Rattle.rt_node.proofs.Counts.{count-find}
 use Rattle.rt_node.proofs.Places.{names_key, named-find}
 use Rattle.rt_node.proofs.Links.{above-some, above-none}
-use Rattle.rt_walk.specs.Search.{LeadsInto, IsReached}
+use Rattle.rt_walk.specs.Search.{IsReached}
 
 -- what holds of all holds of what is there
 pub All_contained : {X : Type 0} (P : X → Type 0) (xs : List X) (x : X) → All P xs → Contains xs x → P x

@@ -1,6 +1,6 @@
 -- What a search takes from a node, cell by cell.
-use Rattle.std.proofs.Common.{◌≡◌, ◌≢◌, ℕ, ◌+◌, ◌<◌, ◌≤◌, Bool, true, false, cond, List, [], ◌∷◌, ◌++◌, length, map, get_or, take, Contains, nat_eq, append_assoc, append-nil, arith, refl, ap, sym, ◌∙◌, subst, inl, inr}
-use Rattle.std.specs.List.{All, count_by}
+use Rattle.std.proofs.Common.{◌≡◌, ℕ, ◌+◌, ◌<◌, List, [], ◌∷◌, ◌++◌, length, map, get_or, take, append_assoc, append-nil, arith, refl, ap, sym, ◌∙◌, subst, inl, inr}
+use Rattle.std.specs.List.{count_by}
 use Rattle.std.proofs.lemmas.Bool.{cases_Bool, cases_eq}
 use Rattle.std.proofs.lemmas.List.{take_more, get_or_default, get_or-map}
 use Rattle.std.proofs.lemmas.List.Elements.{All-nil, All-push, Contains-append_left, Contains-push, Contains-push_cases}
@@ -8,10 +8,10 @@ use Rattle.rt_box.specs.declared.interval.Interval.{Interval}
 use Rattle.rt_box.specs.Window.{Admits, MayHold}
 use Rattle.rt_node.specs.declared.cell.Cell.{Cell}
 use Rattle.rt_node.specs.Places.{key_of, times_named}
-use Rattle.rt_node.proofs.Counts.{count-append, count-one_yes, count-one_no}
-use Rattle.rt_node.proofs.Places.{named-one, named-other, names_key}
+use Rattle.rt_node.proofs.Counts.{count-append, count-one_no}
+use Rattle.rt_node.proofs.Places.{names_key}
 use Rattle.rt_walk.specs.declared.searching.Row.{Row}
-use Rattle.rt_walk.specs.Search.{times, row_of, LeadsInto, AsksAdmitted}
+use Rattle.rt_walk.specs.Search.{times, row_of, LeadsInto}
 use Rattle.rt_walk.specs.Visits.{TakesRows, TakesChildren}
 use Rattle.rt_walk.proofs.Totals.{times-append, times-one, times-other}
 

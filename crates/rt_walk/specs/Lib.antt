@@ -1,2 +1,4 @@
 pub mod Search
 pub mod Visits
+pub mod Preorder
+pub mod Outside

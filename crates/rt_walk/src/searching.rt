@@ -42,7 +42,7 @@ fn row_of<const D: usize>(cell: &Cell<D>) -> Row<D>
 
 /// The key of the child that a cell names.
 #[inline]
-fn child_of<const D: usize>(cell: &Cell<D>) -> usize
+pub(crate) fn child_of<const D: usize>(cell: &Cell<D>) -> usize
     ensures { result ≡ key_of cell.now }
 {
     key_of(cell.number)

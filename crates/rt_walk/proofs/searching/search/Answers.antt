@@ -1,4 +1,4 @@
-use Rattle.std.proofs.Common.{◌≡◌, ℕ, ◌≤◌, ◌<◌, List, [], ◌∷◌, ◌++◌, ◌-◌, length, take, append-nil, rules, arith, ap, sym, ◌∙◌, subst}
+use Rattle.std.proofs.Common.{◌≡◌, ℕ, ◌≤◌, List, [], ◌∷◌, ◌++◌, ◌-◌, take, append-nil, rules, arith, ap, sym, ◌∙◌, subst}
 use Rattle.rt_walk.specs.declared.searching.Row.{Row}
 use Rattle.slab.specs.Slab.{ContainsKey}
 use Rattle.rt_walk.proofs.Progress.{level-some, Progress, IsSettled, Progress-start, Progress-step, Progress-end, visited-few, key-there}
