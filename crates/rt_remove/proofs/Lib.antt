@@ -6,3 +6,6 @@ pub mod Climbs
 pub mod Condenses
 pub mod WayGiven
 pub mod Taken
+pub mod Placed
+pub mod Reordered
+pub mod Removed

@@ -236,7 +236,7 @@ module _ {D : ℕ} (t : Arena D) (id : ℤ) (leaf : ℕ) (whole : IsWhole t) (id
     takes branched u forgets rect cell change = record {
       but = taken-but branched u forgets.gone forgets.others;
       home = home;
-      bottom = leaf-level;
+      bottom = levels leaf ∙ leaf-level;
       cell = slice_get-get_or (cells_at t.nodes leaf) at c within ∙ ap Some (c_is c ∙ cell);
       change = change;
       forgets = forgets;

@@ -1,5 +1,5 @@
 -- The steps of a removal, and the trees between them.
-use Rattle.std.specs.Prelude.{◌≡◌, ◌≢◌, ℕ, suc, ◌+◌, ◌-◌, ◌*◌, ◌<◌, ◌≤◌, Bool, ℤ, List, length, map, remove, slice_get, slice_set, slice_index_or, if◌then◌else◌, None, Some, All, Contains, vec_capacity}
+use Rattle.std.specs.Prelude.{◌≡◌, ◌≢◌, ℕ, suc, ◌+◌, ◌-◌, ◌*◌, ◌<◌, ◌≤◌, Bool, ℤ, List, length, map, remove, slice_get, slice_set, slice_index_or, if◌then◌else◌, None, Some, All, Contains, vec_len, vec_capacity}
 use Rattle.std.specs.Ordering.{int_eq}
 use Rattle.slab.specs.Slab.{Slab, get}
 use Rattle.indexmap.specs.IndexMap.{IndexMap, get as leaf_of, spare, index_map_len}
@@ -13,6 +13,7 @@ use Rattle.rt_node.specs.Node.{NodeCells}
 use Rattle.rt_node.specs.Places.{key_of, cells_at, level_at, parent_at, hull_at, count_rows}
 use Rattle.rt_node.specs.Whole.{IsSound, IsWhole, IsBranched}
 use Rattle.rt_node.specs.Changes.{Changes}
+use Rattle.rt_node.specs.Homes.{KeepsIds}
 use Rattle.rt_node.specs.Path.{KeepsShape}
 use Rattle.rt_remove.specs.Above.{way_up}
 
@@ -136,7 +137,7 @@ module _ {D : ℕ} where
   pub record Takes (old new : Arena D) (id : ℤ) (leaf at : ℕ) (rect : List Interval) : Type 0 where
     pub but : IsSoundBut new leaf
     pub home : leaf_of int_eq old.leaves id ≡ Some leaf
-    pub bottom : level_at old.nodes leaf ≡ Some 0
+    pub bottom : level_at new.nodes leaf ≡ Some 0
     pub cell : slice_get (cells_at old.nodes leaf) at ≡ Some record { number = id; rect = rect }
     pub change : Changes (λ n. record n { cells = remove n.cells at }) old.nodes new.nodes leaf
     pub forgets : Forgets old.leaves new.leaves id
@@ -147,3 +148,16 @@ module _ {D : ℕ} where
     pub root : new.root ≡ old.root
     pub level : new.level ≡ old.level
     pub capacity : new.capacity ≡ old.capacity
+
+  -- some of the waiting cells were placed, the last first
+  pub record Places (old new : Arena D) : Type 0 where
+    pub whole : IsWhole new
+    pub rows : (test : Cell D → Bool) →
+        count_rows test new.nodes new.waiting.items ≡ count_rows test old.nodes old.waiting.items
+    pub ids : KeepsIds old.leaves new.leaves
+    pub capacity : new.capacity ≡ old.capacity
+    pub room : new.nodes.capacity ≡ old.nodes.capacity
+    pub waiting_room : vec_capacity old.waiting ≤ vec_capacity new.waiting
+    pub fewer : vec_len new.waiting ≤ vec_len old.waiting
+    pub branched : IsBranched old → IsBranched new
+    pub still : vec_len old.waiting ≡ 0 → new ≡ old
