@@ -64,7 +64,7 @@ module _ {D : ℕ} where
         let u = (parts.3 n has_mid).updates in
         let waits : 0 < times_named (key_of w.cell) (waiting_nodes (xs ++ w ∷ ys)) =
         (let step = nodes-middle (names_key (key_of w.cell)) xs w ys in let one = named-one (key_of w.cell) w.cell refl in
-          let part = ap (λ i. times_named (key_of w.cell) (inner_part i (w.cell ∷ []))) inner in omega arith) in
+        let part = ap (λ i. times_named (key_of w.cell) (inner_part i (w.cell ∷ []))) inner in omega arith) in
         let linked_mid : IsLinked mid old.root old.level (xs ++ w ∷ ys) =
         reparented old.nodes old.root old.level (xs ++ w ∷ ys) was.linked mid (key_of w.cell) l m (Some key) child.1 waits first in
         let fitted_mid = fitted-reparented E old.capacity old.nodes mid old.root (xs ++ w ∷ ys) (key_of w.cell) m (Some key) was.fitted child.1 first in

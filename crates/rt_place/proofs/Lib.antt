@@ -4,3 +4,4 @@ pub mod Regroup
 pub mod Positions
 pub mod Refitted
 pub mod Adopted
+pub mod Groups

@@ -136,10 +136,10 @@ module _ {D : ℕ} where
                     ]))
                 | inr q ↦ subst (All (λ c. Some parent ≢ Some (key_of c) → c.rect ≡ hull_at b (key_of c))) (sym (others x q))
                     (λ j d within other.
-                      let c = get_or (cells_at a x) j d in
-                      let away : key_of c ≢ parent = λ same. other (ap Some (sym same)) in
-                      let p : key_of c ≢ key = λ same. q (same_Some x parent (sym (linked.children x i (sym (lv x) ∙ e) j d within).parent_is ∙ ap (parent_at a) same ∙ up)) in
-                      old j d within (no-odd (key_of c) p away) ∙ hull_same (key_of c) away)
+                    let c = get_or (cells_at a x) j d in
+                    let away : key_of c ≢ parent = λ same. other (ap Some (sym same)) in
+                    let p : key_of c ≢ key = λ same. q (same_Some x parent (sym (linked.children x i (sym (lv x) ∙ e) j d within).parent_is ∙ ap (parent_at a) same ∙ up)) in
+                    old j d within (no-odd (key_of c) p away) ∙ hull_same (key_of c) away)
               ];
           waiting_boxes = fitted.waiting_boxes;
           waiting_hulls = λ j d within i e.

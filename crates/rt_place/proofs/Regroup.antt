@@ -49,12 +49,12 @@ module _ {D : ℕ} (a b : Slab (NodeCells D)) (root level : ℕ) (ws : List (Wai
       let shaped = subst (IsLinked mid root level) split-waiting order in
       linked-more mid b root level ws near (waiting_at n.level far) k (record n { cells = [] }) shaped first.changed
       (λ l e j d within.
-          let level_k : level_at a k ≡ Some (suc l) = ap level_of has ∙ ap Some e in
-          let children = subst (All (NamesChild a l k)) (ap cells_of has) (linked.children k l level_k) in
-          let is = All-left (NamesChild a l k) near far (All-permutation (NamesChild a l k) n.cells (near ++ far) moved children) j d within in
-          let c = get_or near j d in
-          let apart : key_of c ≢ k = λ same. let differ = same_Some l (suc l) (sym is.names.level_is ∙ ap (level_at a) same ∙ level_k) in absurd (omega arith) in
-          (apart, same-at parent_of a mid k n (record n { cells = [] }) has first refl (key_of c) ∙ is.parent_is))
+      let level_k : level_at a k ≡ Some (suc l) = ap level_of has ∙ ap Some e in
+      let children = subst (All (NamesChild a l k)) (ap cells_of has) (linked.children k l level_k) in
+      let is = All-left (NamesChild a l k) near far (All-permutation (NamesChild a l k) n.cells (near ++ far) moved children) j d within in
+      let c = get_or near j d in
+      let apart : key_of c ≢ k = λ same. let differ = same_Some l (suc l) (sym is.names.level_is ∙ ap (level_at a) same ∙ level_k) in absurd (omega arith) in
+      (apart, same-at parent_of a mid k n (record n { cells = [] }) has first refl (key_of c) ∙ is.parent_is))
       second
 
   pub regrouped-fitted : (E : ℕ → Type 0) (M : ℕ) → ((x : ℕ) → E x ⊎ (E x → ⊥)) → E k → IsFittedBut E M a root ws →
@@ -74,24 +74,24 @@ module _ {D : ℕ} (a b : Slab (NodeCells D)) (root level : ℕ) (ws : List (Wai
       by : (l : ℕ) → n.level ≡ l → HasHomes f b (ws ++ waiting_at n.level far)
       by zero e = homes-more f f mid b ws near (waiting_at n.level far) k (record n { cells = [] }) shaped first.changed e
           (λ j d within.
-              let c = get_or near j d in
-              let listed : 0 < count_by (has_id c.number) near = count-some (has_id c.number) near j d within ((Decides-int_eq c.number c.number).1 refl) in
-              let more = count-append (has_id c.number) near far in
-              let same = sum_by-IsPermutation (λ q. cond (has_id c.number q) 1 0) n.cells (near ++ far) moved in
-              let here = ap (times_listed c.number) (ap leaf_cells_of has) in
-              let part = ap (λ i. times_listed c.number (leaf_part i n.cells)) e in
-              homes.home k c.number (omega arith))
+          let c = get_or near j d in
+          let listed : 0 < count_by (has_id c.number) near = count-some (has_id c.number) near j d within ((Decides-int_eq c.number c.number).1 refl) in
+          let more = count-append (has_id c.number) near far in
+          let same = sum_by-IsPermutation (λ q. cond (has_id c.number q) 1 0) n.cells (near ++ far) moved in
+          let here = ap (times_listed c.number) (ap leaf_cells_of has) in
+          let part = ap (λ i. times_listed c.number (leaf_part i n.cells)) e in
+          homes.home k c.number (omega arith))
           (λ id apart. refl) second
       by (suc l) e = homes-waiting f b (ws ++ (waiting_at n.level near ++ waiting_at n.level far)) (ws ++ waiting_at n.level far)
           (λ id.
-              let p = ap (λ vs. count_by (has_id id) (waiting_rows vs)) (sym split-waiting) in
-              let q = rows-joined (has_id id) ws n.level (near ++ far) in
-              let r = rows-joined (has_id id) ws n.level far in
-              let s = ap (λ i. count_by (has_id id) (leaf_part i (near ++ far))) e in
-              let t = ap (λ i. count_by (has_id id) (leaf_part i far)) e in omega arith)
+          let p = ap (λ vs. count_by (has_id id) (waiting_rows vs)) (sym split-waiting) in
+          let q = rows-joined (has_id id) ws n.level (near ++ far) in
+          let r = rows-joined (has_id id) ws n.level far in
+          let s = ap (λ i. count_by (has_id id) (leaf_part i (near ++ far))) e in
+          let t = ap (λ i. count_by (has_id id) (leaf_part i far)) e in omega arith)
           (homes-same f mid b (ws ++ (waiting_at n.level near ++ waiting_at n.level far))
           (λ key id. ap (times_listed id) (same-at leaf_cells_of mid b k (record n { cells = [] }) (record n { cells = [] ++ near }) first.changed second
-            (ap (λ i. leaf_part i near) e ∙ sym (ap (λ i. leaf_part i []) e)) key)) shaped)
+          (ap (λ i. leaf_part i near) e ∙ sym (ap (λ i. leaf_part i []) e)) key)) shaped)
 
   pub regrouped-rows : (test : Cell D → Bool) → count_rows test b (ws ++ waiting_at n.level far) ≡ count_rows test a ws
   regrouped-rows test =

@@ -46,8 +46,18 @@ module _ {D : ℕ} where
       let is = way.children k l e at c (slice_get_within (cells_at a k) at c best.3) in
       let named : NamesChild a l k c = subst (NamesChild a l k) (get_or_from_slice_get (cells_at a k) at c c best.3) is in (
         ap (level_at a) (sym best.4) ∙ named.names.level_is,
-        λ leaf rest below. (k ∷ rest, (at, c, rest, subst (λ b. IsBestChild b (rects (cells_at a k)) rect at) (above-leaves l) best.2, best.3, refl,
-          subst (λ y. LeadsTo a l y rect leaf rest) (sym best.4) below)),
+        λ leaf rest below. (
+          k ∷ rest,
+          (
+            at,
+            c,
+            rest,
+            subst (λ b. IsBestChild b (rects (cells_at a k)) rect at) (above-leaves l) best.2,
+            best.3,
+            refl,
+            subst (λ y. LeadsTo a l y rect leaf rest) (sym best.4) below,
+          ),
+        ),
       )
 
   pub descent-step : (a : Slab (NodeCells D)) (root level k h : ℕ) (rect : List Interval) (child : ℕ) → IsPassable a root level → level_at a k ≡ Some h → 0 < h →

@@ -1,9 +1,11 @@
 -- What the parts of a placement do.
-use Rattle.std.specs.Prelude.{◌≡◌, ◌≢◌, ℕ, suc, ◌+◌, ◌≤◌, Bool, List, [], ◌∷◌, ◌++◌, Some, length, slice_get, slice_set, slice_index_or, map, All, vec_capacity, IsSome, ℤ, pos, ◌<◌}
+use Rattle.std.specs.Prelude.{◌≡◌, ◌≢◌, ℕ, suc, ◌+◌, ◌≤◌, Bool, List, [], ◌∷◌, ◌++◌, Some, None, length, slice_get, slice_set, slice_index_or, map, All, vec_capacity, IsSome, ℤ, pos, ◌<◌}
 use Rattle.rt_box.specs.Rect.{IsBox}
 use Rattle.std.specs.List.Sorted.{IsPermutation}
 use Rattle.rt_box.specs.Capacity.{reinsertion_share}
-use Rattle.slab.specs.Slab.{Slab, get, slab_len}
+use Rattle.slab.specs.Slab.{Slab, get, slab_len, Updates}
+use Rattle.rt_choice.specs.declared.split.Cut.{Cut}
+use Rattle.rt_choice.specs.Split.{IsBestCut, first_group, second_group}
 use Rattle.indexmap.specs.IndexMap.{IndexMap, get as leaf_of}
 use Rattle.std.specs.Ordering.{int_eq}
 use Rattle.rt_box.specs.declared.interval.Interval.{Interval}
@@ -12,7 +14,7 @@ use Rattle.rt_node.specs.declared.arena.Arena.{Arena}
 use Rattle.rt_node.specs.declared.cell.Cell.{Cell}
 use Rattle.rt_node.specs.declared.cell.Waiting.{Waiting}
 use Rattle.rt_node.specs.Node.{NodeCells}
-use Rattle.rt_node.specs.Places.{key_of, times_named, waiting_nodes, rects, no_cell, hull_at, cells_at, level_at, parent_at}
+use Rattle.rt_node.specs.Places.{key_of, picked, times_named, waiting_nodes, rects, no_cell, hull_at, cells_at, level_at, parent_at}
 use Rattle.rt_node.specs.Sound.{NamesChild, IsLinked}
 use Rattle.rt_node.specs.Changes.{Puts, Changes}
 use Rattle.rt_node.specs.Homes.{Moves, KeepsIds}
@@ -87,3 +89,27 @@ module _ {D : ℕ} {S : Type 0} where
     pub here : All (λ c. leaf_of int_eq new c.number ≡ Some leaf) cs
     pub known : (id : ℤ) → IsSome (leaf_of int_eq old id) → IsSome (leaf_of int_eq new id)
     pub others : (id : ℤ) → All (λ c. id ≢ c.number) cs → leaf_of int_eq new id ≡ leaf_of int_eq old id
+
+module _ {D : ℕ} where
+  -- what the cells name stands in another node now: a row's entry leads there, a child's parent is that node
+  pub record TakesOver (old new : Arena D) (key level : ℕ) (cs : List (Cell D)) : Type 0 where
+    pub rest : new ≡ record old { nodes = new.nodes; leaves = new.leaves }
+    pub rows : level ≡ 0 → Rehouses old.leaves new.leaves key cs × (new.nodes ≡ old.nodes)
+    pub children : 1 ≤ level → Adopts old.nodes new.nodes key cs × (new.leaves ≡ old.leaves)
+
+  -- the node keeps the first group of its cells, and the second one stands in a new node
+  pub record Splits (old new : Arena D) (key : ℕ) (n : NodeCells D) (sibling : ℕ) : Type 0 where
+    pub cut : Cut
+    pub best : IsBestCut D (rects n.cells) old.capacity cut
+    pub kept : Slab (NodeCells D)
+    pub made : Slab (NodeCells D)
+    pub moved : Arena D
+    pub keeps : Puts old.nodes kept key (record n { cells = picked n.cells (first_group (rects n.cells) cut) })
+    pub vacant : get kept sibling ≡ None
+    pub makes : Updates kept made sibling (Some record { level = n.level; parent = n.parent; cells = [] })
+    pub made_len : slab_len made ≡ slab_len kept + 1
+    pub made_room : made.capacity ≡ kept.capacity
+    pub key_fits : sibling < made.capacity
+    pub takes : TakesOver (record old { nodes = made }) moved sibling n.level (picked n.cells (second_group (rects n.cells) cut))
+    pub gives : Changes (λ m. record m { cells = m.cells ++ picked n.cells (second_group (rects n.cells) cut) }) moved.nodes new.nodes sibling
+    pub rest : new ≡ record moved { nodes = new.nodes }

@@ -10,7 +10,12 @@ use rt_node::{Node, node_at};
 use slab::Slab;
 
 /// The child that the box goes into.
-fn best_child<const D: usize>(nodes: &Slab<Node<D>>, key: usize, above_leaves: bool, rect: &Rect<D>) -> usize
+fn best_child<const D: usize>(
+    nodes: &Slab<Node<D>>,
+    key: usize,
+    above_leaves: bool,
+    rect: &Rect<D>,
+) -> usize
     requires present { ContainsKey nodes.now key }
     requires some { 1 ≤ length (cells_at nodes.now key) }
     ensures { IsBestAt nodes.now key above_leaves rect.now result }

@@ -51,7 +51,11 @@ pub(crate) fn others(positions: &[usize], len: usize) -> ArrayVec<usize, MOST_CE
 }
 
 /// Has the cells at the positions wait, so that the one at the first position is placed first.
-pub(crate) fn wait_for<const D: usize>(waiting: &mut Vec<Waiting<D>>, from: &Node<D>, positions: &[usize])
+pub(crate) fn wait_for<const D: usize>(
+    waiting: &mut Vec<Waiting<D>>,
+    from: &Node<D>,
+    positions: &[usize],
+)
     requires within { All (λ p. p < length from.now.cells) positions.now }
     requires room { vec_len waiting.old + length positions.now ≤ vec_capacity waiting.old }
     ensures items { waiting.new.items ≡ waiting.old.items ++ waiting_at from.now.level (picked from.now.cells (reverse positions.now)) }

@@ -67,13 +67,19 @@ returns g c n has =
     let moved : IsPermutation (range_with_len 0 (length old.cells)) (c.as_slice-3.result.now ++ c.as_slice-2.result.now) =
     subst (λ l. IsPermutation (range_with_len 0 l) (c.as_slice-3.result.now ++ c.as_slice-2.result.now)) c.len.ensures.value
     (subst (λ xs. IsPermutation (range_with_len 0 c.len.result) (xs ++ c.as_slice-2.result.now)) first
-      (subst (λ xs. IsPermutation (range_with_len 0 c.len.result) (c.as_slice.result.now ++ xs)) (sym c.as_slice-2.ensures.value) c.others-near.ensures)) in
+    (subst (λ xs. IsPermutation (range_with_len 0 c.len.result) (c.as_slice.result.now ++ xs)) (sym c.as_slice-2.ensures.value) c.others-near.ensures)) in
     let boxes = c.boxes.result.now in
     let long = ap length c.boxes.ensures.value ∙ length-map old.cells (λ q. q.rect) in
     let full = ap (λ s. length (cells_of s)) c.take_cells-old.ensures.node in
     let share = length-far boxes c.args.tree.now.capacity (omega (arith, long, full, c.requires.full)) in
-    subst (λ m. GivesUp c.args.tree.now record { nodes = c.add_cells.new.nodes; leaves = c.args.tree.now.leaves; waiting = c.wait_for.new.waiting;
-        root = c.args.tree.now.root; level = c.args.tree.now.level; capacity = c.args.tree.now.capacity } c.args.key m) same record {
+    subst (λ m. GivesUp c.args.tree.now record {
+      nodes = c.add_cells.new.nodes;
+      leaves = c.args.tree.now.leaves;
+      waiting = c.wait_for.new.waiting;
+      root = c.args.tree.now.root;
+      level = c.args.tree.now.level;
+      capacity = c.args.tree.now.capacity;
+    } c.args.key m) same record {
       near = picked old.cells c.as_slice-2.result.now;
       far = picked old.cells (reverse c.as_slice-3.result.now);
       moved = picked-parted old.cells c.as_slice-3.result.now c.as_slice-2.result.now moved;
