@@ -8,3 +8,8 @@ pub mod Listed
 pub mod Ints
 pub mod Rising
 pub mod Numbered
+pub mod Judging
+pub mod Sides
+pub mod Judged
+pub mod Fitting
+pub mod Flawless

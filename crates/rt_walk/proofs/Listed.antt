@@ -69,7 +69,7 @@ module _ {D : ℕ} (t : Arena D) (s : IsSettled t) where
           named,
         )
 
-    named-here : (j l : ℕ) → level_at t.nodes j ≡ Some (suc l) → times_named k (cells_at t.nodes j) ≡ times p (j ∷ [])
+    pub named-here : (j l : ℕ) → level_at t.nodes j ≡ Some (suc l) → times_named k (cells_at t.nodes j) ≡ times p (j ∷ [])
     named-here j l e = elim (cases_eq j p) [
       | inl is ↦
           let same = ap (times_named k) (above-some t.nodes k p up ∙ ap (inner_cells_at t.nodes) (sym is) ∙ inner-at_inner t.nodes j l e) in

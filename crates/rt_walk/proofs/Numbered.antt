@@ -64,7 +64,7 @@ module _ (f g : ℕ → ℤ) where
 
 module _ {D : ℕ} (t : Arena D) (s : IsSettled t) where
   -- ---- the keys that a node names
-  held : (k : ℕ) → HasNode t s k → (n : NodeCells D) × (get t.nodes k ≡ Some n)
+  pub held : (k : ℕ) → HasNode t s k → (n : NodeCells D) × (get t.nodes k ≡ Some n)
   held k h = by (get t.nodes k) refl
     where
       by : (o : Option (NodeCells D)) → get t.nodes k ≡ o → (n : NodeCells D) × (get t.nodes k ≡ Some n)
@@ -97,7 +97,7 @@ module _ {D : ℕ} (t : Arena D) (s : IsSettled t) where
             (l, (here j d h).names.level_is)
 
   -- the leaf of a row is a node
-  leaf-node : (id : ℤ) → ForSome (leaf_of int_eq t.leaves id) (HasNode t s)
+  pub leaf-node : (id : ℤ) → ForSome (leaf_of int_eq t.leaves id) (HasNode t s)
   leaf-node id key e =
       let h = s.whole.homes.there key id e in
       let none = ap (λ ws. times_listed id (waiting_rows ws)) s.none in

@@ -19,14 +19,14 @@ pub record AreNoted (order : List ℕ) (bound : ℕ) (numbers : List ℕ) (back 
 abbrev pub nothing : ℕ
 nothing = 0
 
-contained-cons : (x key : ℕ) (xs : List ℕ) → x ≢ key → Contains (x ∷ xs) key → Contains xs key
+pub contained-cons : (x key : ℕ) (xs : List ℕ) → x ≢ key → Contains (x ∷ xs) key → Contains xs key
 contained-cons x key xs ne (zero, h, is) = absurd (ne is)
 contained-cons x key xs ne (suc k, h, is) = (k, omega arith, is)
 
-place-here : (x key : ℕ) (xs : List ℕ) → x ≡ key → place (x ∷ xs) key ≡ 0
+pub place-here : (x key : ℕ) (xs : List ℕ) → x ≡ key → place (x ∷ xs) key ≡ 0
 place-here x key xs e = ap (λ b. cond (not b) (1 + place xs key) 0) (eq-eqb x key e)
 
-place-later : (x key : ℕ) (xs : List ℕ) → x ≢ key → place (x ∷ xs) key ≡ 1 + place xs key
+pub place-later : (x key : ℕ) (xs : List ℕ) → x ≢ key → place (x ∷ xs) key ≡ 1 + place xs key
 place-later x key xs ne = ap (λ b. cond (not b) (1 + place xs key) 0) (ne_eqb x key ne)
 
 pub AreNoted-start : (order : List ℕ) (bound : ℕ) (numbers : List ℕ) → numbers ≡ replicate bound nothing → AreNoted order bound numbers 0

@@ -31,7 +31,7 @@ pub counted-contained : {X : Type 0} (test : X → Bool) (xs : List X) → 0 < c
 counted-contained test xs some = let r = count-find test (Contains xs) xs (All-contains_itself xs) some in (r.0, r.2, r.1)
 
 -- ---- hulls
-union-long : (n : ℕ) (a b : List Interval) → length a ≡ n → length b ≡ n → length (union_box a b) ≡ n
+pub union-long : (n : ℕ) (a b : List Interval) → length a ≡ n → length b ≡ n → length (union_box a b) ≡ n
 union-long zero [] b e f = refl
 union-long zero (x ∷ a) b e f = absurd (omega arith)
 union-long (suc n) [] b e f = absurd (omega arith)
@@ -64,7 +64,7 @@ module _ (n : ℕ) where
   hull-holds (b ∷ bs) all (suc k) d h = folded-rest b bs (All-head (λ x. length x ≡ n) b bs all) (All-tail (λ x. length x ≡ n) b bs all) k d (omega arith)
 
 module _ {D : ℕ} where
-  boxes-long : (cells : List (Cell D)) → All (λ c. IsBox D c.rect) cells → All (λ b. length b ≡ D) (rects cells)
+  pub boxes-long : (cells : List (Cell D)) → All (λ c. IsBox D c.rect) cells → All (λ b. length b ≡ D) (rects cells)
   boxes-long [] all = λ k d h. absurd (omega arith)
   boxes-long (c ∷ cs) all =
       All-cons (λ b. length b ≡ D) c.rect (rects cs) (All-head (λ x. IsBox D x.rect) c cs all).axes_are

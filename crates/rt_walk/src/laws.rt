@@ -1,0 +1,18 @@
+//! What holds of a tree from outside. Each function does nothing: its contract is the law.
+
+ghost use Rattle.std.specs.Prelude.{◌≡◌, []};
+ghost use Rattle.rt_check.specs.Conditions.{IsSound};
+ghost use Rattle.rt_node.specs.Whole.{IsWhole, IsBranched};
+ghost use Rattle.rt_walk.specs.Outside.{outside};
+
+use rt_node::Arena;
+
+/// The checker finds no problem in a whole tree, whose inner root has two cells at least.
+pub fn outside_is_sound<const D: usize>(tree: &Arena<D>)
+    requires whole { IsWhole tree.now }
+    requires settled { tree.now.waiting.items ≡ [] }
+    requires branched { IsBranched tree.now }
+    ensures { IsSound (outside tree.now) }
+{
+    let _ = tree;
+}
