@@ -5,3 +5,4 @@ pub mod Positions
 pub mod Refitted
 pub mod Adopted
 pub mod Groups
+pub mod Way
