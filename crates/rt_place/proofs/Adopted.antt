@@ -1,5 +1,5 @@
 -- Nodes that get another parent, and rows that get another leaf, one after another.
-use Rattle.std.proofs.Common.{◌≡◌, ◌≢◌, ◌⊎◌, ℕ, ◌+◌, ◌<◌, ◌≤◌, ℤ, List, [], ◌∷◌, ◌++◌, length, get_or, map, take, Option, Some, None, is_some, IsSome, arith, refl, ap, ◌∙◌, sym, subst, inl, inr}
+use Rattle.std.proofs.Common.{◌≡◌, ◌≢◌, ℕ, ◌+◌, ◌<◌, ℤ, List, [], ◌∷◌, ◌++◌, length, get_or, take, Option, Some, None, is_some, IsSome, arith, refl, ap, ◌∙◌, sym, subst, inl, inr}
 use Rattle.std.specs.Ordering.{int_eq}
 use Rattle.std.specs.List.{All}
 use Rattle.std.proofs.lemmas.Bool.{cases_eq, true≢false}
@@ -7,14 +7,12 @@ use Rattle.std.proofs.lemmas.Option.{none-some}
 use Rattle.std.proofs.lemmas.List.{map_more, get_or_read, get_or-map, length-map}
 use Rattle.std.proofs.lemmas.List.Elements.{All-push, All-weaker}
 use Rattle.indexmap.specs.IndexMap.{IndexMap, get as leaf_of}
-use Rattle.slab.specs.Slab.{Slab, get, Updates}
+use Rattle.slab.specs.Slab.{Slab, get}
 use Rattle.rt_node.specs.declared.cell.Cell.{Cell}
-use Rattle.rt_node.specs.declared.cell.Waiting.{Waiting}
 use Rattle.rt_node.specs.Node.{NodeCells}
 use Rattle.rt_node.specs.Places.{key_of, picked, no_cell, times_named, cells_of, level_of, parent_of, parent_at, waiting_nodes}
-use Rattle.rt_node.specs.Sound.{IsLinked}
-use Rattle.rt_node.specs.Changes.{Puts, Changes}
-use Rattle.rt_node.specs.Homes.{KeepsIds, Moves}
+use Rattle.rt_node.specs.Changes.{Puts}
+use Rattle.rt_node.specs.Homes.{Moves}
 use Rattle.rt_node.proofs.Links.{same-at, reparented, All-left, All-right}
 use Rattle.rt_node.proofs.Homes.{same-id}
 use Rattle.rt_place.specs.Steps.{Adopts, Rehouses}

@@ -1,7 +1,6 @@
 -- An arena after a waiting cell was appended to an odd node.
-use Rattle.std.proofs.Common.{◌≡◌, ◌≢◌, ◌⊎◌, ℕ, zero, suc, ◌+◌, ◌<◌, ◌≤◌, Bool, ℤ, List, [], ◌∷◌, ◌++◌, length, Option, Some, None, count_by, arith, refl, ap, ◌∙◌, sym, subst, inl, inr}
+use Rattle.std.proofs.Common.{◌≡◌, ◌≢◌, ◌⊎◌, ℕ, zero, suc, ◌+◌, ◌<◌, ◌≤◌, Bool, List, [], ◌∷◌, ◌++◌, Some, count_by, arith, refl, ap, ◌∙◌, sym, subst}
 use Rattle.std.specs.Ordering.{int_eq}
-use Rattle.std.specs.List.{All}
 use Rattle.std.proofs.lemmas.Option.{same_Some}
 use Rattle.indexmap.specs.IndexMap.{get as leaf_of}
 use Rattle.slab.specs.Slab.{Slab, get, Updates}
@@ -9,7 +8,7 @@ use Rattle.rt_node.specs.declared.arena.Arena.{Arena}
 use Rattle.rt_node.specs.declared.cell.Cell.{Cell}
 use Rattle.rt_node.specs.declared.cell.Waiting.{Waiting}
 use Rattle.rt_node.specs.Node.{NodeCells}
-use Rattle.rt_node.specs.Places.{key_of, times_named, times_listed, leaf_part, inner_part, leaf_cells_of, inner_cells_of, level_of, parent_of, level_at, parent_at, leaf_cells_at, waiting_rows, waiting_nodes, count_rows}
+use Rattle.rt_node.specs.Places.{key_of, times_named, times_listed, leaf_part, inner_part, leaf_cells_of, level_of, parent_of, level_at, waiting_rows, waiting_nodes, count_rows}
 use Rattle.rt_node.specs.Sound.{Names, IsLinked, HasHomes}
 use Rattle.rt_node.specs.Open.{IsFittedBut, IsOpen}
 use Rattle.rt_node.proofs.Places.{nodes-middle, rows-middle, count-leaf_push, names_key, has_id, named-one}

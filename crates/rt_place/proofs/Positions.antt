@@ -1,5 +1,5 @@
 -- Positions of cells: all of them, some of them, and the others.
-use Rattle.std.proofs.Common.{◌≡◌, ◌≢◌, ℕ, suc, ◌+◌, ◌-◌, ◌<◌, ◌≤◌, Bool, cond, List, [], ◌∷◌, ◌++◌, length, get_or, map, take, reverse, count_by, nat_eq, eq-eqb, ne_eqb, arith, refl, ap, ◌∙◌, sym, subst, inl, inr}
+use Rattle.std.proofs.Common.{◌≡◌, ◌≢◌, ℕ, ◌+◌, ◌-◌, ◌<◌, ◌≤◌, Bool, cond, List, [], ◌∷◌, ◌++◌, length, get_or, map, take, reverse, count_by, nat_eq, eq-eqb, ne_eqb, arith, refl, ap, ◌∙◌, sym, subst, inl, inr}
 use Rattle.std.specs.List.{All, range_with_len, remove}
 use Rattle.std.specs.List.Sorted.{IsPermutation}
 use Rattle.std.proofs.lemmas.Bool.{cases_lt}
@@ -13,10 +13,9 @@ use Rattle.rt_choice.specs.Sorting.{sort_by}
 use Rattle.rt_choice.specs.Reinsertion.{by_distance, farthest_positions}
 use Rattle.rt_choice.proofs.Sorted.{sort-permutes, length-sort}
 use Rattle.rt_node.specs.declared.cell.Cell.{Cell}
-use Rattle.rt_node.specs.declared.cell.Waiting.{Waiting}
 use Rattle.rt_node.specs.Places.{picked, no_cell}
 use Rattle.rt_place.specs.Steps.{waiting_at}
-use Rattle.rt_node.proofs.Counts.{count-append, count-zero, count-one_yes}
+use Rattle.rt_node.proofs.Counts.{count-append, count-zero}
 
 pub range-more : (i : ℕ) → range_with_len 0 (i + 1) ≡ range_with_len 0 i ++ i ∷ []
 range-more i = sym (map-id (range_with_len 0 (i + 1))) ∙ map-range_with_len_more (λ x. x) 0 i i (omega arith) ∙ ap (λ xs. xs ++ i ∷ []) (map-id (range_with_len 0 i))

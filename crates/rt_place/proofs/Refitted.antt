@@ -1,11 +1,10 @@
 -- An arena after a cell was given the least box: the node that it names is in shape, and its parent may be odd.
-use Rattle.std.proofs.Common.{◌≡◌, ◌≢◌, ◌⊎◌, ℕ, zero, suc, ◌+◌, ◌<◌, ◌≤◌, cond, pos, unsigned_abs, List, [], ◌∷◌, length, get_or, set, Option, Some, None, nat_eq, eq-eqb, arith, refl, ap, ◌∙◌, sym, subst, inl, inr}
+use Rattle.std.proofs.Common.{◌≡◌, ◌≢◌, ◌⊎◌, ℕ, zero, suc, ◌<◌, ◌≤◌, cond, unsigned_abs, List, [], ◌∷◌, length, get_or, set, Some, nat_eq, eq-eqb, arith, refl, ap, ◌∙◌, sym, subst, inl, inr}
 use Rattle.std.specs.List.{All}
 use Rattle.std.proofs.lemmas.Bool.{cases_eq, cases_order}
 use Rattle.std.proofs.lemmas.Option.{same_Some}
 use Rattle.std.proofs.lemmas.List.{get_or_default, length-set, get_or-set_same, get_or-set_other}
 use Rattle.std.proofs.lemmas.List.Elements.{All-set}
-use Rattle.std.proofs.lemmas.List.Sums.{sum_by-cons}
 use Rattle.slab.specs.Slab.{Slab, get, Updates}
 use Rattle.rt_box.specs.Capacity.{least_fill}
 use Rattle.rt_box.specs.Rect.{IsBox}
@@ -13,7 +12,7 @@ use Rattle.rt_choice.specs.Hull.{hull}
 use Rattle.rt_node.specs.declared.cell.Cell.{Cell}
 use Rattle.rt_node.specs.declared.cell.Waiting.{Waiting}
 use Rattle.rt_node.specs.Node.{NodeCells}
-use Rattle.rt_node.specs.Places.{key_of, rects, times_named, cells_of, level_of, parent_of, inner_part, cells_at, inner_cells_at, level_at, parent_at, hull_at, cells_above, waiting_nodes}
+use Rattle.rt_node.specs.Places.{key_of, rects, times_named, cells_of, level_of, inner_part, cells_at, level_at, parent_at, hull_at, waiting_nodes}
 use Rattle.rt_node.specs.Sound.{IsLinked, IsFitted}
 use Rattle.rt_node.specs.Open.{IsFittedBut}
 use Rattle.rt_node.proofs.Counts.{count-some, count-cons}

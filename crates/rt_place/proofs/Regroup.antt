@@ -1,11 +1,9 @@
 -- An arena after a node gave up some of its cells.
-use Rattle.std.proofs.Common.{◌≡◌, ◌≢◌, ◌⊎◌, ℕ, zero, suc, ◌+◌, ◌<◌, ◌≤◌, Bool, cond, ℤ, List, [], ◌∷◌, ◌++◌, length, get_or, map, Option, Some, None, count_by, is_some, append_assoc, arith, refl, ap, ◌∙◌, sym, subst, inl, inr}
-use Rattle.std.specs.Ordering.{int_eq}
+use Rattle.std.proofs.Common.{◌≡◌, ◌≢◌, ◌⊎◌, ℕ, zero, suc, ◌+◌, ◌<◌, Bool, cond, ℤ, List, [], ◌++◌, get_or, Option, Some, count_by, is_some, arith, refl, ap, ◌∙◌, sym, subst}
 use Rattle.std.specs.List.{All}
 use Rattle.std.specs.List.Sorted.{IsPermutation}
 use Rattle.std.proofs.lemmas.Option.{same_Some}
 use Rattle.std.proofs.lemmas.List.{map-append}
-use Rattle.std.proofs.lemmas.List.Elements.{All-weaker}
 use Rattle.std.proofs.lemmas.List.Sorted.{All-permutation, sum_by-IsPermutation}
 use Rattle.std.proofs.lemmas.Bool.Decides.{Decides-int_eq}
 use Rattle.slab.specs.Slab.{Slab, get, Updates, with_value}
@@ -13,7 +11,7 @@ use Rattle.slab.proofs.SlabLemmas.{Updates-with_value}
 use Rattle.rt_node.specs.declared.cell.Cell.{Cell}
 use Rattle.rt_node.specs.declared.cell.Waiting.{Waiting}
 use Rattle.rt_node.specs.Node.{NodeCells}
-use Rattle.rt_node.specs.Places.{key_of, times_listed, cells_of, leaf_part, leaf_cells_of, leaf_cells_at, level_of, parent_of, cells_at, level_at, parent_at, waiting_rows, count_rows}
+use Rattle.rt_node.specs.Places.{key_of, times_listed, cells_of, leaf_part, leaf_cells_of, level_of, parent_of, level_at, waiting_rows, count_rows}
 use Rattle.rt_node.specs.Sound.{NamesChild, IsLinked, HasHomes}
 use Rattle.rt_node.specs.Open.{IsFittedBut}
 use Rattle.rt_node.proofs.Counts.{count-append, count-some}

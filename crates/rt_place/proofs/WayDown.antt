@@ -1,13 +1,12 @@
 -- One step down by the best child.
-use Rattle.std.proofs.Common.{◌≡◌, ◌≢◌, ℕ, zero, suc, ◌+◌, ◌-◌, ◌<◌, ◌≤◌, List, [], ◌∷◌, length, get_or, Option, Some, None, nat_eq, eq-eqb, ne_eqb, IsSome, slice_get, arith, refl, ap, ◌∙◌, sym, subst, inl, inr}
+use Rattle.std.proofs.Common.{◌≡◌, ℕ, zero, suc, ◌-◌, ◌<◌, ◌≤◌, List, ◌∷◌, length, Option, Some, None, nat_eq, eq-eqb, ne_eqb, IsSome, arith, refl, ap, ◌∙◌, sym, subst, inl, inr}
 use Rattle.std.proofs.lemmas.Option.{none-some, same_Some, slice_get_within, get_or_from_slice_get}
 use Rattle.std.proofs.lemmas.Bool.{cases_eq}
 use Rattle.slab.specs.Slab.{Slab, get, ContainsKey}
 use Rattle.rt_box.specs.declared.interval.Interval.{Interval}
 use Rattle.rt_choice.specs.Subtree.{IsBestChild}
-use Rattle.rt_node.specs.declared.cell.Cell.{Cell}
 use Rattle.rt_node.specs.Node.{NodeCells}
-use Rattle.rt_node.specs.Places.{key_of, rects, level_of, cells_at, level_at}
+use Rattle.rt_node.specs.Places.{rects, level_of, cells_at, level_at}
 use Rattle.rt_node.specs.Sound.{NamesChild}
 use Rattle.rt_node.specs.Path.{LeadsTo}
 use Rattle.rt_place.specs.Steps.{IsPassable, IsBestAt}

@@ -1,4 +1,4 @@
-use Rattle.std.proofs.Common.{◌≡◌, ◌<◌, ◌≤◌, [], ◌∷◌, length, arith, refl, subst, rules}
+use Rattle.std.proofs.Common.{◌≡◌, ◌≤◌, [], ◌∷◌, length, arith, refl, subst, rules}
 use Rattle.slab.specs.Slab.{ContainsKey}
 use Rattle.rt_node.specs.Places.{cells_at}
 use Rattle.rt_node.specs.Path.{LeadsTo}

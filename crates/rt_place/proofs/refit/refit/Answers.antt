@@ -1,7 +1,6 @@
-use Rattle.std.proofs.Common.{◌≡◌, ◌<◌, ◌≤◌, ◌^◌, ℕ, pos, Some, get_or, length, arith, ap, ◌∙◌, sym, subst, inl, inr, rules}
+use Rattle.std.proofs.Common.{◌≡◌, ◌<◌, ◌^◌, get_or, length, arith, ap, ◌∙◌, sym, subst, inl, inr, rules}
 use Rattle.std.proofs.lemmas.Bool.{cases_lt}
 use Rattle.std.proofs.lemmas.Option.{same_Some}
-use Rattle.slab.specs.Slab.{get, ContainsKey}
 use Rattle.slab.proofs.SlabLemmas.{ContainsKey-within}
 use Rattle.rt_node.specs.Places.{cells_of, cells_at, no_cell}
 use Rattle.rt_box.specs.Rect.{IsBox}

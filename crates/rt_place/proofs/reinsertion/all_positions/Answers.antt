@@ -1,4 +1,4 @@
-use Rattle.std.proofs.Common.{◌≡◌, ◌<◌, [], ◌∷◌, ◌++◌, length, arith, ap, ◌∙◌, sym, rules}
+use Rattle.std.proofs.Common.{◌<◌, [], ◌∷◌, ◌++◌, length, arith, ap, ◌∙◌, sym, rules}
 use Rattle.std.proofs.lemmas.List.FromFn.{length-range_with_len}
 use Rattle.rt_place.proofs.Positions.{range-more}
 use Rattle.rt_place.proofs.reinsertion.all_positions.Goals as goal

@@ -1,4 +1,4 @@
-use Rattle.std.proofs.Common.{◌≡◌, ◌+◌, ◌<◌, ◌++◌, length, get_or, take, arith, ap, ◌∙◌, sym, subst, rules}
+use Rattle.std.proofs.Common.{◌+◌, ◌<◌, ◌++◌, length, get_or, take, arith, ap, ◌∙◌, sym, subst, rules}
 use Rattle.std.specs.List.{range_with_len}
 use Rattle.std.specs.List.Sorted.{IsPermutation}
 use Rattle.rt_place.proofs.Positions.{still-left, others-more}

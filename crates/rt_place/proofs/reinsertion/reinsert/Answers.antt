@@ -1,16 +1,12 @@
-use Rattle.std.proofs.Common.{◌≡◌, ℕ, [], get_or, ◌+◌, ◌<◌, ◌≤◌, ◌++◌, List, Some, is_some, count_by, nat_eq, length, map, reverse, arith, refl, ap, ◌∙◌, sym, subst, rules, vec_len, vec_capacity}
+use Rattle.std.proofs.Common.{◌≡◌, [], get_or, ◌+◌, ◌<◌, ◌≤◌, ◌++◌, is_some, count_by, nat_eq, length, reverse, arith, refl, ap, ◌∙◌, sym, subst, rules, vec_len, vec_capacity}
 use Rattle.std.specs.List.{All, range_with_len}
 use Rattle.std.specs.List.Sorted.{IsPermutation}
 use Rattle.std.proofs.lemmas.List.{length-map, length-reverse}
 use Rattle.std.proofs.lemmas.Option.{same_Some}
-use Rattle.slab.specs.Slab.{get, ContainsKey}
-use Rattle.rt_box.specs.Capacity.{reinsertion_share}
-use Rattle.rt_choice.specs.Reinsertion.{farthest_positions}
-use Rattle.rt_node.specs.Node.{NodeCells}
+use Rattle.slab.specs.Slab.{ContainsKey}
 use Rattle.rt_node.specs.Places.{cells_of, cells_at, picked, no_cell}
 use Rattle.rt_node.proofs.Links.{All-left, All-right}
-use Rattle.rt_node.specs.Changes.{Puts}
-use Rattle.rt_place.specs.Steps.{GivesUp, waiting_at}
+use Rattle.rt_place.specs.Steps.{GivesUp}
 use Rattle.rt_place.proofs.Positions.{picked-parted, parted-within, parted-lengths, far-distinct, length-far}
 use Rattle.rt_place.proofs.reinsertion.reinsert.Goals as goal
 

@@ -1,4 +1,4 @@
-use Rattle.std.proofs.Common.{◌≡◌, ℕ, [], ◌∷◌, ◌++◌, append_assoc, arith, ap, ◌∙◌, sym}
+use Rattle.std.proofs.Common.{ℕ, [], ◌∷◌, ◌++◌, append_assoc, arith, ap, ◌∙◌, sym}
 use Rattle.rt_node.specs.declared.cell.Waiting.{Waiting}
 use Rattle.rt_place.proofs.Positions.{waits-more}
 use Rattle.rt_place.proofs.reinsertion.wait_for.Goals as goal

@@ -1,4 +1,4 @@
-use Rattle.std.proofs.Common.{◌≡◌, Some, take, arith, ap, ◌∙◌, sym, subst, rules}
+use Rattle.std.proofs.Common.{Some, take, arith, ap, ◌∙◌, sym, subst, rules}
 use Rattle.slab.specs.Slab.{get, ContainsKey}
 use Rattle.rt_node.specs.Places.{key_of, picked}
 use Rattle.rt_node.specs.Changes.{Puts}

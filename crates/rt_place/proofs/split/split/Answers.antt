@@ -1,11 +1,10 @@
-use Rattle.std.proofs.Common.{◌≡◌, ◌≢◌, ℕ, suc, ◌+◌, ◌<◌, ◌≤◌, [], ◌++◌, List, Some, None, is_some, IsSome, length, take, drop, arith, refl, ap, ◌∙◌, sym, subst, rules}
+use Rattle.std.proofs.Common.{◌≡◌, ◌≢◌, ◌+◌, ◌<◌, ◌≤◌, [], ◌++◌, Some, is_some, IsSome, length, take, drop, arith, refl, ap, ◌∙◌, sym, subst, rules}
 use Rattle.std.specs.List.{All}
 use Rattle.std.specs.Ordering.{int_eq}
 use Rattle.std.proofs.lemmas.List.{length-map, length-take, length-drop}
-use Rattle.std.proofs.lemmas.Option.{same_Some, none-some}
+use Rattle.std.proofs.lemmas.Option.{same_Some}
 use Rattle.indexmap.specs.IndexMap.{get as leaf_of}
-use Rattle.slab.specs.Slab.{get, ContainsKey, Updates}
-use Rattle.rt_box.specs.Capacity.{least_fill}
+use Rattle.slab.specs.Slab.{ContainsKey, Updates}
 use Rattle.rt_choice.specs.Split.{sorting, first_group, second_group, IsBestCut}
 use Rattle.rt_node.specs.declared.arena.Arena.{Arena}
 use Rattle.rt_node.specs.Node.{NodeCells}
