@@ -50,8 +50,14 @@ module _ {X Y : Type 0} (test : Y → Bool) (part : X → List Y) where
   count-middle xs w ys =
       let a = ap (count_by test) (flat_map-append part xs (w ∷ ys)) in
       let b = ap (count_by test) (flat_map-append part xs ys) in
-      omega (arith, a, b, count-append test (flat_map part xs) (part w ++ flat_map part ys), count-append test (part w) (flat_map part ys),
-      count-append test (flat_map part xs) (flat_map part ys))
+      omega (
+        arith,
+        a,
+        b,
+        count-append test (flat_map part xs) (part w ++ flat_map part ys),
+        count-append test (part w) (flat_map part ys),
+        count-append test (flat_map part xs) (flat_map part ys),
+      )
 
   pub count-joined : (xs ys : List X) → count_by test (flat_map part (xs ++ ys)) ≡ count_by test (flat_map part xs) + count_by test (flat_map part ys)
   count-joined xs ys = ap (count_by test) (flat_map-append part xs ys) ∙ count-append test (flat_map part xs) (flat_map part ys)

@@ -126,10 +126,10 @@ module _ {D : ℕ} where
               let is = linked.children x i (sym (lv x) ∙ e) k d within in
               let c = get_or (cells_at a x) k d in
               let free : key_of c ≢ j = λ same.
-                  let inner = inner-at_inner a x i (sym (lv x) ∙ e) in
-                  let none = unnamed-waiting x j n.level level_j waits in
-                  let counted : 0 < times_named j (cells_at a x) = count-some (names_key j) (cells_at a x) k d within (eq-eqb _ _ same) in
-                  let both = ap (times_named j) inner in omega arith in
+              let inner = inner-at_inner a x i (sym (lv x) ∙ e) in
+              let none = unnamed-waiting x j n.level level_j waits in
+              let counted : 0 < times_named j (cells_at a x) = count-some (names_key j) (cells_at a x) k d within (eq-eqb _ _ same) in
+              let both = ap (times_named j) inner in omega arith in
               NamesChild-same a b i x c (lv (key_of c)) (pr (key_of c) free) is);
           named = λ x i e other. elim (cases_eq x j) [
             | inl same ↦
@@ -289,8 +289,8 @@ module _ {D : ℕ} where
             (λ v is l e. Names-same a b l v.cell (lv (key_of v.cell)) (is l e)) ws linked.waiting_named)
             (All-map (λ v. (l : ℕ) → v.level ≡ suc l → Names b l v.cell) (λ c. record { level = n.level; cell = c }) n.cells
             (λ j d within l e.
-                let is = subst (All (NamesChild a l k)) cells_k (linked.children k l (level_k ∙ ap Some e)) j d within in
-                Names-same a b l (get_or n.cells j d) (lv (key_of (get_or n.cells j d))) is.names));
+            let is = subst (All (NamesChild a l k)) cells_k (linked.children k l (level_k ∙ ap Some e)) j d within in
+            Names-same a b l (get_or n.cells j d) (lv (key_of (get_or n.cells j d))) is.names));
       }
     where
       no-cells : (l : ℕ) → inner_part {D = D} l [] ≡ []
@@ -350,7 +350,7 @@ module _ {D : ℕ} where
         waiting_named = All-append (λ v. (i : ℕ) → v.level ≡ suc i → Names b i v.cell) ws (record { level = suc l; cell = c } ∷ [])
             (All-weaker (λ v. (i : ℕ) → v.level ≡ suc i → Names a i v.cell) (λ v. (i : ℕ) → v.level ≡ suc i → Names b i v.cell)
             (λ v is i e. let named : Names a i v.cell = is i e in
-                Names-same a b i v.cell (ap level_of (u.others (key_of v.cell) (present-other (key_of v.cell) i named.level_is))) named) ws linked.waiting_named)
+            Names-same a b i v.cell (ap level_of (u.others (key_of v.cell) (present-other (key_of v.cell) i named.level_is))) named) ws linked.waiting_named)
             (All-cons (λ v. (i : ℕ) → v.level ≡ suc i → Names b i v.cell) record { level = suc l; cell = c } []
             (λ i e. let same : l ≡ i = omega arith in subst (λ y. Names b y c) same new-names)
             (All-nil (λ v. (i : ℕ) → v.level ≡ suc i → Names b i v.cell)));
@@ -382,8 +382,10 @@ module _ {D : ℕ} where
       let level_b : level_at b k ≡ Some (suc level) = ap level_of u.changed in
       let waits = λ (x : ℕ). nodes-joined (names_key x) ws (suc level) (c ∷ []) in
       let differs_root : root ≢ k = present-other root level linked.root_level in
-      let new-names : Names b level c = record { number_is = number_is ∙ ap pos (sym key_is);
-          level_is = ap (level_at b) key_is ∙ ap level_of (u.others root differs_root) ∙ linked.root_level } in
+      let new-names : Names b level c = record {
+        number_is = number_is ∙ ap pos (sym key_is);
+        level_is = ap (level_at b) key_is ∙ ap level_of (u.others root differs_root) ∙ linked.root_level;
+      } in
       record {
         root_level = level_b;
         root_parent = ap parent_of u.changed;
@@ -425,7 +427,7 @@ module _ {D : ℕ} where
         waiting_named = All-append (λ v. (i : ℕ) → v.level ≡ suc i → Names b i v.cell) ws (record { level = suc level; cell = c } ∷ [])
             (All-weaker (λ v. (i : ℕ) → v.level ≡ suc i → Names a i v.cell) (λ v. (i : ℕ) → v.level ≡ suc i → Names b i v.cell)
             (λ v is i e. let named : Names a i v.cell = is i e in
-                Names-same a b i v.cell (ap level_of (u.others (key_of v.cell) (present-other (key_of v.cell) i named.level_is))) named) ws linked.waiting_named)
+            Names-same a b i v.cell (ap level_of (u.others (key_of v.cell) (present-other (key_of v.cell) i named.level_is))) named) ws linked.waiting_named)
             (All-cons (λ v. (i : ℕ) → v.level ≡ suc i → Names b i v.cell) record { level = suc level; cell = c } []
             (λ i e. let same : level ≡ i = omega arith in subst (λ y. Names b y c) same new-names)
             (All-nil (λ v. (i : ℕ) → v.level ≡ suc i → Names b i v.cell)));

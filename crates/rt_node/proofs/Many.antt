@@ -168,8 +168,8 @@ module _ {D : ℕ} where
       (λ l e. (All-head (λ q. (key_of q ≢ k) × (parent_at a (key_of q) ≡ Some k)) c cs (child l e)).1) first)
       first.changed
       (λ l e j d within.
-          let is = All-tail (λ q. (key_of q ≢ k) × (parent_at a (key_of q) ≡ Some k)) c cs (child l e) j d within in
-          (is.0, pr (key_of (get_or cs j d)) ∙ is.1))
+      let is = All-tail (λ q. (key_of q ≢ k) × (parent_at a (key_of q) ≡ Some k)) c cs (child l e) j d within in
+      (is.0, pr (key_of (get_or cs j d)) ∙ is.1))
       (updates-rest a b k n c cs has u)
 
   pub fitted-more : (E : ℕ → Type 0) (M : ℕ) (a b : Slab (NodeCells D)) (root : ℕ) (xs : List (Waiting D)) (cs : List (Cell D)) (ys : List (Waiting D)) (k : ℕ) (n : NodeCells D) →

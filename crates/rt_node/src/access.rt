@@ -100,7 +100,12 @@ pub fn take_cells<const D: usize>(nodes: &mut Slab<Node<D>>, key: usize) -> Node
 }
 
 /// Appends the cells of another node at some positions, in the order of the positions.
-pub fn add_cells<const D: usize>(nodes: &mut Slab<Node<D>>, key: usize, from: &Node<D>, positions: &[usize])
+pub fn add_cells<const D: usize>(
+    nodes: &mut Slab<Node<D>>,
+    key: usize,
+    from: &Node<D>,
+    positions: &[usize],
+)
     requires present { ContainsKey nodes.old key }
     requires within { All (λ p. p < length from.now.cells) positions.now }
     requires room { length (cells_at nodes.old key) + length positions.now ≤ 52 }
