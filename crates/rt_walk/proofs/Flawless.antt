@@ -56,7 +56,7 @@ module _ {D : ℕ} where
   keys-first a (suc l) key = place-here key key (flat_map (λ c. keys_in a l (key_of c)) (cells_at a key)) refl
 
   -- the tree's keys and their places are a numbering
-  numbering : (t : Arena D) (s : IsSettled t) → IsNumbering t s (tree_keys t) (number_in (tree_keys t))
+  pub numbering : (t : Arena D) (s : IsSettled t) → IsNumbering t s (tree_keys t) (number_in (tree_keys t))
   numbering t s = record {
     there = listed-there t s;
     once = listed-once t s;

@@ -13,3 +13,4 @@ pub mod Sides
 pub mod Judged
 pub mod Fitting
 pub mod Flawless
+pub mod Subtrees

@@ -32,7 +32,7 @@ module _ {D : ℕ} (t : Arena D) (s : IsSettled t) where
   links : IsLinked t.nodes t.root t.level []
   links = settled-linked t s
 
-  levels-below : (j l : ℕ) → level_at t.nodes j ≡ Some (suc l) → All (λ c. level_at t.nodes (key_of c) ≡ Some l) (cells_at t.nodes j)
+  pub levels-below : (j l : ℕ) → level_at t.nodes j ≡ Some (suc l) → All (λ c. level_at t.nodes (key_of c) ≡ Some l) (cells_at t.nodes j)
   levels-below j l e = All-weaker (NamesChild t.nodes l j) (λ c. level_at t.nodes (key_of c) ≡ Some l) (λ c is. is.names.level_is) (cells_at t.nodes j) (links.children j l e)
 
   abbrev pub HasNode : ℕ → Type 0

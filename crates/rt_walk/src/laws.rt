@@ -3,6 +3,7 @@
 ghost use Rattle.std.specs.Prelude.{◌≡◌, []};
 ghost use Rattle.rt_check.specs.Conditions.{IsSound};
 ghost use Rattle.rt_node.specs.Whole.{IsWhole, IsBranched};
+ghost use Rattle.rt_walk.specs.InOrder.{IsPreorder};
 ghost use Rattle.rt_walk.specs.Outside.{outside};
 
 use rt_node::Arena;
@@ -13,6 +14,15 @@ pub fn outside_is_sound<const D: usize>(tree: &Arena<D>)
     requires settled { tree.now.waiting.items ≡ [] }
     requires branched { IsBranched tree.now }
     ensures { IsSound (outside tree.now) }
+{
+    let _ = tree;
+}
+
+/// The nodes are listed in preorder.
+pub fn outside_is_in_preorder<const D: usize>(tree: &Arena<D>)
+    requires whole { IsWhole tree.now }
+    requires settled { tree.now.waiting.items ≡ [] }
+    ensures { IsPreorder (outside tree.now) }
 {
     let _ = tree;
 }
