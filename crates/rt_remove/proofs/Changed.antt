@@ -2,9 +2,7 @@
 use Rattle.std.proofs.Common.{◌≡◌, ◌≢◌, ℕ, ◌<◌, ℤ, List, length, map, set, get_or, None, Some, ap, sym, subst, ◌∙◌, inl, inr, arith}
 use Rattle.std.specs.Prelude.{unsigned_abs}
 use Rattle.std.proofs.lemmas.List.{length-map, get_or-map, get_or_read}
-use Rattle.rt_box.specs.declared.interval.Interval.{Interval}
 use Rattle.rt_box.specs.Rect.{IsBox}
-use Rattle.rt_choice.specs.Hull.{hull}
 use Rattle.rt_remove.specs.Steps.{IsNamedAt, Refits, Dissolves}
 use Rattle.std.proofs.lemmas.Bool.{cases_eq}
 use Rattle.std.specs.List.{remove}
@@ -12,7 +10,7 @@ use Rattle.slab.specs.Slab.{Slab, get, Updates}
 use Rattle.rt_node.specs.declared.cell.Cell.{Cell}
 use Rattle.rt_node.specs.Node.{NodeCells}
 use Rattle.rt_node.specs.Changes.{Puts, Changes}
-use Rattle.rt_node.specs.Places.{cells_of, level_of, parent_of, cells_at, level_at, parent_at}
+use Rattle.rt_node.specs.Places.{cells_of, level_of, parent_of, cells_at, level_at, parent_at, hull_at}
 
 module _ {D : ℕ} (a b : Slab (NodeCells D)) (key : ℕ) (n : NodeCells D) (cs : List (Cell D)) (was : get a key ≡ Some n) (puts : Puts a b key (record n { cells = cs })) where
   pub changed-levels : (k : ℕ) → level_at b k ≡ level_at a k
@@ -52,20 +50,19 @@ module _ {D : ℕ} where
         names = λ d. ap unsigned_abs (cell-number cs ns at d is within) ∙ names d.number;
       }
 
-  pub refits-from : (a b : Slab (NodeCells D)) (key parent at : ℕ) (n p : NodeCells D) (ns : List ℤ) (bs : List (List Interval)) (c cell : Cell D) →
-      get a key ≡ Some n → get a parent ≡ Some p → ns ≡ map (λ x. x.number) p.cells → at < length ns →
+  pub refits-from : (a b : Slab (NodeCells D)) (key parent at : ℕ) (p : NodeCells D) (ns : List ℤ) (c cell : Cell D) →
+      get a parent ≡ Some p → ns ≡ map (λ x. x.number) p.cells → at < length ns →
       ((d : ℤ) → unsigned_abs (get_or ns at d) ≡ key) → c ≡ get_or p.cells at c → cell.number ≡ c.number →
-      bs ≡ map (λ x. x.rect) n.cells → cell.rect ≡ hull bs → IsBox D cell.rect →
+      cell.rect ≡ hull_at a key → IsBox D cell.rect →
       Changes (λ m. record m { cells = set m.cells at cell }) a b parent → Refits a b key parent at
-  refits-from a b key parent at n p ns bs c cell here above ns_is within names c_is number rect_is rect is_box change =
+  refits-from a b key parent at p ns c cell above ns_is within names c_is number rect is_box change =
       let cells : cells_at a parent ≡ p.cells = ap cells_of above in
-      let own : cells_at a key ≡ n.cells = ap cells_of here in
       let place = named-at p.cells ns key at ns_is within names in
       record {
         place = subst (λ (xs : List (Cell D)). IsNamedAt xs key at) (sym cells) place;
         cell = cell;
         number = λ d. number ∙ ap (λ x. x.number) (get_or_read p.cells at c place.within c_is d) ∙ ap (λ xs. (get_or xs at d).number) (sym cells);
-        rect = rect ∙ ap hull rect_is ∙ ap (λ xs. hull (map (λ x. x.rect) xs)) (sym own);
+        rect = rect;
         is_box = is_box;
         change = change;
       }

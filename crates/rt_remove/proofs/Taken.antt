@@ -1,11 +1,11 @@
 -- A row that left its leaf.
-use Rattle.std.proofs.Common.{◌≡◌, ◌≢◌, ℕ, zero, suc, ◌+◌, ◌<◌, ◌≤◌, Bool, true, false, cond, ℤ, pos, List, [], ◌∷◌, length, map, get_or, Option, Some, None, count_by, arith, refl, ap, sym, subst, ◌∙◌, inl, inr}
+use Rattle.std.proofs.Common.{◌≡◌, ◌≢◌, ℕ, zero, suc, ◌+◌, ◌<◌, ◌≤◌, Bool, true, false, cond, ℤ, pos, List, [], ◌∷◌, length, get_or, Option, Some, None, count_by, arith, refl, ap, sym, subst, ◌∙◌, inl, inr}
 use Rattle.std.specs.List.{All, remove}
 use Rattle.std.specs.Ordering.{int_eq}
-use Rattle.std.proofs.lemmas.Bool.{cases_eq}
+use Rattle.std.proofs.lemmas.Bool.{cases_eq, cases_lt, false_from_ne_true}
 use Rattle.std.proofs.lemmas.Bool.Decides.{Decides-int_eq}
 use Rattle.std.proofs.lemmas.Option.{same_Some, none-some, slice_get-get_or}
-use Rattle.std.proofs.lemmas.List.{get_or_read, length-map}
+use Rattle.std.proofs.lemmas.List.{get_or_read}
 use Rattle.std.proofs.lemmas.List.Edits.{length-remove}
 use Rattle.std.proofs.lemmas.List.Elements.{All-nil}
 use Rattle.std.proofs.lemmas.List.Sums.{sum_by-remove}
@@ -21,12 +21,12 @@ use Rattle.rt_node.specs.Changes.{Puts, Changes}
 use Rattle.rt_node.specs.Places.{key_of, rects, times_named, times_listed, cells_of, leaf_cells_of, leaf_part, level_of, cells_at, inner_cells_at, leaf_cells_at, level_at, parent_at, hull_at, waiting_rows, waiting_nodes, count_rows}
 use Rattle.rt_node.specs.Sound.{NamesChild, IsLinked, IsFitted, HasHomes}
 use Rattle.rt_node.specs.Whole.{IsWhole, IsBranched}
-use Rattle.rt_node.proofs.Counts.{count-cons}
+use Rattle.rt_node.proofs.Counts.{count-zero}
 use Rattle.rt_node.proofs.Places.{inner-at_leaf, leaf-at_leaf, has_id}
 use Rattle.rt_node.proofs.Links.{same-above, Names-same, NamesChild-same}
 use Rattle.rt_node.proofs.Homes.{same-id}
 use Rattle.rt_remove.specs.Steps.{IsSoundBut, Forgets, Takes}
-use Rattle.rt_remove.proofs.Changed.{cell-number, changed-levels, changed-parents, changed-others, changed-cells}
+use Rattle.rt_remove.proofs.Changed.{changed-levels, changed-parents, changed-others, changed-cells}
 use Rattle.rt_remove.proofs.Dissolved.{All-remove, parent-named, inner-same, leaf-same}
 use Rattle.rt_remove.proofs.Sums.{sums-but}
 
@@ -39,11 +39,6 @@ module _ {D : ℕ} where
       by zero e = ap Some e
       by (suc l) e =
           let none = ap (λ i. times_listed id (leaf_part i n.cells)) e in absurd (omega arith)
-
-  pub count-numbers : (id : ℤ) (cs : List (Cell D)) → count_by (λ n. int_eq id n) (map (λ c. c.number) cs) ≡ times_listed id cs
-  count-numbers id [] = refl
-  count-numbers id (c ∷ cs) =
-      omega (arith, count-cons (λ n. int_eq id n) c.number (map (λ x. x.number) cs), count-cons (has_id id) c cs, count-numbers id cs)
 
   listed-some : (id : ℤ) (cs : List (Cell D)) → 0 < times_listed id cs → 0 < length cs
   listed-some id [] some = absurd (omega arith)
@@ -248,16 +243,23 @@ module _ {D : ℕ} (t : Arena D) (id : ℤ) (leaf : ℕ) (whole : IsWhole t) (id
     }
 
 module _ {D : ℕ} where
-  -- the cell that was found among the numbers
-  pub row-found : (a : Slab (NodeCells D)) (leaf at : ℕ) (n : NodeCells D) (ns : List ℤ) (id : ℤ) (c : Cell D) → get a leaf ≡ Some n → ns ≡ map (λ x. x.number) n.cells →
-      at < length ns → ((d : ℤ) → get_or ns at d ≡ id) → c ≡ get_or n.cells at c →
+  -- the position of a row that is listed
+  pub listed-place : (id : ℤ) (cs : List (Cell D)) (at : ℕ) → times_listed id cs ≡ 1 → ((k : ℕ) (d : Cell D) → k < at → (get_or cs k d).number ≢ id) → at < length cs
+  listed-place id cs at once first = elim (cases_lt at (length cs)) [
+    | inl within ↦ within
+    | inr past ↦
+        let none : times_listed id cs ≡ 0 = count-zero (has_id id) cs (λ k d within.
+        false_from_ne_true (has_id id (get_or cs k d)) (λ e. first k d (omega arith) (sym ((Decides-int_eq id (get_or cs k d).number).0 e)))) in
+        absurd (omega arith)
+  ]
+
+  -- the cell that was found at it
+  pub row-found : (a : Slab (NodeCells D)) (leaf at : ℕ) (n : NodeCells D) (id : ℤ) (c : Cell D) → get a leaf ≡ Some n → at < length n.cells →
+      ((d : Cell D) → at < length n.cells → (get_or n.cells at d).number ≡ id) → c ≡ get_or n.cells at c →
       (at < length (cells_at a leaf)) × ((d : Cell D) → get_or (cells_at a leaf) at d ≡ c) × (c.number ≡ id)
-  row-found a leaf at n ns id c has is within has_id c_is =
-      let long = length-map n.cells (λ x. x.number) in
-      let same = ap length is in
-      let own = ap (λ s. length (cells_of s)) has in
-      let inside : at < length n.cells = omega arith in (
+  row-found a leaf at n id c has within found c_is =
+      let own = ap (λ s. length (cells_of s)) has in (
         (omega arith),
-        (λ d. ap (λ s. get_or (cells_of s) at d) has ∙ sym (get_or_read n.cells at c inside c_is d)),
-        ap (λ x. x.number) c_is ∙ cell-number n.cells ns at c is within ∙ has_id c.number,
+        (λ d. ap (λ s. get_or (cells_of s) at d) has ∙ sym (get_or_read n.cells at c within c_is d)),
+        ap (λ x. x.number) c_is ∙ found c within,
       )

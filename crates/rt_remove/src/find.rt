@@ -1,10 +1,7 @@
-//! The place of a cell among the cells of a node, and the least box around them.
+//! The place of the cell that names a node.
 
-ghost use Rattle.std.specs.Prelude.{◌≡◌, ℕ, ◌<◌, ℤ, pos, nat_eq, unsigned_abs, count_by, length, slice_index_or};
-ghost use Rattle.std.specs.Ordering.{int_eq};
-ghost use Rattle.rt_choice.specs.Hull.{hull};
+ghost use Rattle.std.specs.Prelude.{◌≡◌, ◌<◌, ℤ, nat_eq, unsigned_abs, count_by, length, slice_index_or};
 
-use rt_box::Rect;
 use rt_node::key_of;
 
 /// The place of the first cell that names the node at the key.
@@ -19,30 +16,4 @@ pub(crate) fn place_of_child(numbers: &[i64], key: usize) -> usize
         }
     }
     0
-}
-
-/// The place of the first cell of the row with the id.
-pub(crate) fn place_of_row(numbers: &[i64], id: &i64) -> usize
-    requires { 0 < count_by (λ n. int_eq id.now n) numbers.now }
-    ensures within { result < length numbers.now }
-    ensures has_id { (d : ℤ) → slice_index_or numbers.now result d ≡ id.now }
-{
-    for (place, number) in numbers.iter().enumerate() {
-        if *number == *id {
-            return place;
-        }
-    }
-    0
-}
-
-/// The least box that holds all of them.
-pub(crate) fn hull_of<const D: usize>(boxes: &[Rect<D>]) -> Rect<D>
-    requires { 0 < length boxes.now }
-    ensures { result ≡ hull boxes.now }
-{
-    let mut hull = boxes[0];
-    for place in 1..boxes.len() {
-        hull = hull.union(&boxes[place]);
-    }
-    hull
 }

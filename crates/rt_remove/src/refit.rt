@@ -6,8 +6,8 @@ ghost use Rattle.rt_box.specs.Capacity.{least_fill};
 ghost use Rattle.rt_node.specs.Places.{times_named, cells_at, parent_at};
 ghost use Rattle.rt_remove.specs.Steps.{Refits, Dissolves, IsSoundBut, Climbs, waiting_at};
 
-use crate::find::{hull_of, place_of_child};
-use rt_node::{Arena, Node, Waiting, node_at, remove_cell, set_cell};
+use crate::find::place_of_child;
+use rt_node::{Arena, Node, Waiting, hull_at, node_at, remove_cell, set_cell};
 use slab::Slab;
 
 /// Gives the parent's cell for the node the least box around the node's cells.
@@ -18,8 +18,7 @@ pub(crate) fn refit<const D: usize>(nodes: &mut Slab<Node<D>>, key: usize, paren
     requires some { 0 < length (cells_at nodes.old key) }
     ensures { (at : ℕ) × Refits nodes.old nodes.new key parent at }
 {
-    let rect = hull_of(node_at(nodes, key).boxes());
-    let _ = rect.axes();
+    let rect = hull_at(nodes, key);
     let above = node_at(nodes, parent);
     let at = place_of_child(above.numbers(), key);
     let mut cell = above.cell(at);

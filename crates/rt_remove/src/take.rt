@@ -6,7 +6,6 @@ ghost use Rattle.indexmap.specs.IndexMap.{get as leaf_of};
 ghost use Rattle.rt_node.specs.Whole.{IsWhole, IsBranched};
 ghost use Rattle.rt_remove.specs.Steps.{Forgets, Takes};
 
-use crate::find::place_of_row;
 use indexmap::IndexMap;
 use rt_box::Rect;
 use rt_node::{Arena, node_at, remove_cell};
@@ -39,7 +38,7 @@ pub(crate) fn take_row<const D: usize>(tree: &mut Arena<D>, id: &i64) -> Taken<D
 {
     let leaf = forget(&mut tree.leaves, id);
     let node = node_at(&tree.nodes, leaf);
-    let at = place_of_row(node.numbers(), id);
+    let at = node.position(id);
     let rect = node.cell(at).rect;
     remove_cell(&mut tree.nodes, leaf, at);
     Taken { leaf, rect }
