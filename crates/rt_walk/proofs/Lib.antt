@@ -14,3 +14,4 @@ pub mod Judged
 pub mod Fitting
 pub mod Flawless
 pub mod Subtrees
+pub mod Rows
