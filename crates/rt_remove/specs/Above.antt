@@ -1,4 +1,4 @@
--- The nodes above a node.
+-- The nodes above a node (own).
 use Rattle.std.specs.Prelude.{ℕ, zero, suc, List, [], ◌∷◌}
 use Rattle.std.specs.Option.{option_map_or}
 use Rattle.slab.specs.Slab.{Slab}

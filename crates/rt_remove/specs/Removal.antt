@@ -1,4 +1,4 @@
--- What a removal comes to.
+-- What a removal comes to (own).
 use Rattle.std.specs.Prelude.{◌≡◌, ◌≢◌, ◌↔◌, ℕ, suc, ◌+◌, ◌≤◌, Bool, ℤ, List, [], length, remove, slice_get, if◌then◌else◌, None, Some, IsSome, vec_capacity}
 use Rattle.std.specs.Ordering.{int_eq}
 use Rattle.indexmap.specs.IndexMap.{IndexMap, get as leaf_of, spare, index_map_len}

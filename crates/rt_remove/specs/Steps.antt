@@ -1,4 +1,6 @@
--- The steps of a removal, and the trees between them.
+-- The steps of a removal, and the trees between them: a cell leaves its leaf, nodes that are too thin then leave
+-- the tree and their cells wait, and a root with one child gives way (Guttman 1984, section 3.3; that the waiting
+-- cells are placed before the root gives way is own).
 use Rattle.std.specs.Prelude.{◌≡◌, ◌≢◌, ℕ, suc, ◌+◌, ◌-◌, ◌*◌, ◌<◌, ◌≤◌, Bool, ℤ, List, length, map, remove, slice_get, slice_set, slice_index_or, if◌then◌else◌, None, Some, All, Contains, vec_len, vec_capacity}
 use Rattle.std.specs.Ordering.{int_eq}
 use Rattle.slab.specs.Slab.{Slab, get}

@@ -1,4 +1,5 @@
-//! Removal of a row from an R*-tree.
+//! Removal of a row from an R*-tree (Guttman 1984, section 3.3): the cell leaves its leaf, nodes with too few cells
+//! leave the tree from there up and their cells are placed again, and an inner root with one child gives way to it.
 #![tactic(auto)]
 
 mod condense;
