@@ -6,3 +6,5 @@ pub mod Refitted
 pub mod Adopted
 pub mod Groups
 pub mod Way
+pub mod Created
+pub mod Divided
