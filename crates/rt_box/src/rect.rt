@@ -3,6 +3,7 @@ ghost use Rattle.std.specs.List.{AllZip};
 ghost use Rattle.rt_box.specs.Rect.{IsBox, los, his, area, margin, overlap, union_box, Holds, centre_distance};
 
 use crate::interval::Interval;
+use std::default::MadeWith;
 use std::marker::Model;
 
 /// The area of two sides. In 64 bits the product is one instruction, in 128 bits several.
@@ -35,6 +36,13 @@ impl<const D: usize> Model for Rect<D> {
     ghost invariant = { λ r. IsBox D r.sides };
 
     ghost inverse = { λ b. record { sides = b } };
+}
+
+// No box is a default one, so an array of boxes is filled with copies of one that is at hand.
+impl<const D: usize> MadeWith<Rect<D>> for Rect<D> {
+    fn made_with(rect: Rect<D>) -> Rect<D> {
+        rect
+    }
 }
 
 impl<const D: usize> Rect<D> {

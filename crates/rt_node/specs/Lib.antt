@@ -1,0 +1,10 @@
+pub mod Node
+pub mod NodeInside
+pub mod Places
+pub mod Sound
+pub mod Whole
+pub mod Changes
+pub mod Path
+pub mod Homes
+pub mod Settles
+pub mod Open

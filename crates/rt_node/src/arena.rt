@@ -1,0 +1,35 @@
+use crate::cell::Waiting;
+use crate::node::Node;
+use indexmap::IndexMap;
+use rt_box::Capacity;
+use slab::Slab;
+use std::alloc::Global;
+use std::hash::RandomState;
+
+/// The nodes of a tree, and what goes with them.
+#[derive(Drop)]
+pub struct Arena<const D: usize> {
+    /// The nodes by key.
+    pub nodes: Slab<Node<D>>,
+    /// The key of the leaf that each row lies in, by the row's id.
+    pub leaves: IndexMap<i64, usize, RandomState>,
+    /// The cells that wait to be placed; the last is placed first.
+    pub waiting: Vec<Waiting<D>>,
+    /// The key of the root.
+    pub root: usize,
+    /// The level of the root, from 0 where it is a leaf.
+    pub level: u8,
+    /// The greatest number of cells in a node.
+    pub capacity: Capacity,
+}
+
+/// What an insertion took.
+#[derive(Clone, Copy, PartialEq, Eq, Debug)]
+pub struct Work {
+    /// The cells that were placed: the row's own, and each that was inserted again.
+    pub placements: u32,
+    /// The nodes that were split.
+    pub splits: u32,
+    /// The nodes that gave up cells to be inserted again.
+    pub reinsertions: u32,
+}

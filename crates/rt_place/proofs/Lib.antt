@@ -1,0 +1,10 @@
+pub mod WayDown
+pub mod Attached
+pub mod Regroup
+pub mod Positions
+pub mod Refitted
+pub mod Adopted
+pub mod Groups
+pub mod Way
+pub mod Created
+pub mod Divided

@@ -1,0 +1,115 @@
+-- What the parts of a placement do.
+use Rattle.std.specs.Prelude.{◌≡◌, ◌≢◌, ℕ, suc, ◌+◌, ◌≤◌, Bool, List, [], ◌∷◌, ◌++◌, Some, None, length, slice_get, slice_set, slice_index_or, map, All, vec_capacity, IsSome, ℤ, pos, ◌<◌}
+use Rattle.rt_box.specs.Rect.{IsBox}
+use Rattle.std.specs.List.Sorted.{IsPermutation}
+use Rattle.rt_box.specs.Capacity.{reinsertion_share}
+use Rattle.slab.specs.Slab.{Slab, get, slab_len, Updates}
+use Rattle.rt_choice.specs.declared.split.Cut.{Cut}
+use Rattle.rt_choice.specs.Split.{IsBestCut, first_group, second_group}
+use Rattle.indexmap.specs.IndexMap.{IndexMap, get as leaf_of}
+use Rattle.std.specs.Ordering.{int_eq}
+use Rattle.rt_box.specs.declared.interval.Interval.{Interval}
+use Rattle.rt_choice.specs.Subtree.{IsBestChild}
+use Rattle.rt_node.specs.declared.arena.Arena.{Arena}
+use Rattle.rt_node.specs.declared.cell.Cell.{Cell}
+use Rattle.rt_node.specs.declared.cell.Waiting.{Waiting}
+use Rattle.rt_node.specs.Node.{NodeCells}
+use Rattle.rt_node.specs.Places.{key_of, picked, times_named, waiting_nodes, rects, no_cell, hull_at, cells_at, level_at, parent_at}
+use Rattle.rt_node.specs.Sound.{NamesChild, IsLinked}
+use Rattle.rt_node.specs.Changes.{Puts, Changes}
+use Rattle.rt_node.specs.Homes.{Moves, KeepsIds}
+
+module _ {D : ℕ} where
+  -- cells as they wait for a node of a level
+  abbrev pub waiting_at : ℕ → List (Cell D) → List (Waiting D)
+  waiting_at l cs = map (λ c. record { level = l; cell = c }) cs
+
+  -- the way down from the root: each inner node has a cell, and each of its cells names a child
+  pub record IsPassable (a : Slab (NodeCells D)) (root level : ℕ) : Type 0 where
+    pub root_level : level_at a root ≡ Some level
+    pub some : (key l : ℕ) → level_at a key ≡ Some (suc l) → 1 ≤ length (cells_at a key)
+    pub children : (key l : ℕ) → level_at a key ≡ Some (suc l) → All (NamesChild a l key) (cells_at a key)
+
+  -- the node that the best cell for the box names
+  abbrev pub IsBestAt : Slab (NodeCells D) → ℕ → Bool → List Interval → ℕ → Type 0
+  IsBestAt a key above_leaves rect child =
+      (at : ℕ) × (c : Cell D) × IsBestChild above_leaves (rects (cells_at a key)) rect at × (slice_get (cells_at a key) at ≡ Some c) × (key_of c ≡ child)
+
+  -- the cell is the node's last now; a row's entry leads there, a child's parent is that node
+  pub record Attaches (old new : Arena D) (key : ℕ) (w : Waiting D) : Type 0 where
+    pub rest : new ≡ record old { nodes = new.nodes; leaves = new.leaves }
+    pub row : w.level ≡ 0 → Moves old.leaves new.leaves w.cell.number key
+        × Changes (λ n. record n { cells = n.cells ++ w.cell ∷ [] }) old.nodes new.nodes key
+    pub child : 1 ≤ w.level → (new.leaves ≡ old.leaves)
+        × (mid : Slab (NodeCells D)) × Changes (λ n. record n { parent = Some key }) old.nodes mid (key_of w.cell)
+        × Changes (λ n. record n { cells = n.cells ++ w.cell ∷ [] }) mid new.nodes key
+
+  -- the node keeps some of its cells, and the others wait, as many as are inserted again
+  pub record GivesUp (old new : Arena D) (key : ℕ) (n : NodeCells D) : Type 0 where
+    pub near : List (Cell D)
+    pub far : List (Cell D)
+    pub moved : IsPermutation n.cells (near ++ far)
+    pub share : length far ≡ reinsertion_share old.capacity
+    pub nodes : Puts old.nodes new.nodes key (record n { cells = near })
+    pub waiting : new.waiting.items ≡ old.waiting.items ++ waiting_at n.level far
+    pub waiting_room : vec_capacity old.waiting ≤ vec_capacity new.waiting
+    pub rest : new ≡ record old { nodes = new.nodes; waiting = new.waiting }
+
+  -- the cell at the position names the node at the key
+  abbrev pub IsNamedAt : List (Cell D) → ℕ → ℕ → Type 0
+  IsNamedAt cells at key = (at < length cells) × ((slice_index_or cells at no_cell).number ≡ pos key)
+
+  -- the parent's cell that names the node has the least box around the node's cells
+  pub record Refits (old new : Slab (NodeCells D)) (parent key : ℕ) (n : NodeCells D) : Type 0 where
+    pub at : ℕ
+    pub cell : Cell D
+    pub within : at < length n.cells
+    pub number_is : cell.number ≡ pos key
+    pub same_number : cell.number ≡ (slice_index_or n.cells at cell).number
+    pub rect_is : cell.rect ≡ hull_at old key
+    pub is_box : IsBox D cell.rect
+    pub nodes : Puts old new parent (record n { cells = slice_set n.cells at cell })
+
+  -- the nodes that the cells name have that parent now; levels and cells are the same everywhere, and every other
+  -- node is the same. Where these nodes waited, all hang together as before
+  pub record Adopts (old new : Slab (NodeCells D)) (key : ℕ) (cs : List (Cell D)) : Type 0 where
+    pub parents : All (λ c. parent_at new (key_of c) ≡ Some key) cs
+    pub levels : (x : ℕ) → level_at new x ≡ level_at old x
+    pub cells : (x : ℕ) → cells_at new x ≡ cells_at old x
+    pub others : (x : ℕ) → All (λ c. key_of c ≢ x) cs → get new x ≡ get old x
+    pub linked : (root level : ℕ) (ws : List (Waiting D)) → IsLinked old root level ws →
+        All (λ c. 0 < times_named (key_of c) (waiting_nodes ws)) cs → IsLinked new root level ws
+    pub len : slab_len new ≡ slab_len old
+    pub room : new.capacity ≡ old.capacity
+
+module _ {D : ℕ} {S : Type 0} where
+  -- the rows of the cells lie in that leaf now, and each other one where it lay
+  pub record Rehouses (old new : IndexMap ℤ ℕ S) (leaf : ℕ) (cs : List (Cell D)) : Type 0 where
+    pub keeps : KeepsIds old new
+    pub here : All (λ c. leaf_of int_eq new c.number ≡ Some leaf) cs
+    pub known : (id : ℤ) → IsSome (leaf_of int_eq old id) → IsSome (leaf_of int_eq new id)
+    pub others : (id : ℤ) → All (λ c. id ≢ c.number) cs → leaf_of int_eq new id ≡ leaf_of int_eq old id
+
+module _ {D : ℕ} where
+  -- what the cells name stands in another node now: a row's entry leads there, a child's parent is that node
+  pub record TakesOver (old new : Arena D) (key level : ℕ) (cs : List (Cell D)) : Type 0 where
+    pub rest : new ≡ record old { nodes = new.nodes; leaves = new.leaves }
+    pub rows : level ≡ 0 → Rehouses old.leaves new.leaves key cs × (new.nodes ≡ old.nodes)
+    pub children : 1 ≤ level → Adopts old.nodes new.nodes key cs × (new.leaves ≡ old.leaves)
+
+  -- the node keeps the first group of its cells, and the second one stands in a new node
+  pub record Splits (old new : Arena D) (key : ℕ) (n : NodeCells D) (sibling : ℕ) : Type 0 where
+    pub cut : Cut
+    pub best : IsBestCut D (rects n.cells) old.capacity cut
+    pub kept : Slab (NodeCells D)
+    pub made : Slab (NodeCells D)
+    pub moved : Arena D
+    pub keeps : Puts old.nodes kept key (record n { cells = picked n.cells (first_group (rects n.cells) cut) })
+    pub vacant : get kept sibling ≡ None
+    pub makes : Updates kept made sibling (Some record { level = n.level; parent = n.parent; cells = [] })
+    pub made_len : slab_len made ≡ slab_len kept + 1
+    pub made_room : made.capacity ≡ kept.capacity
+    pub key_fits : sibling < made.capacity
+    pub takes : TakesOver (record old { nodes = made }) moved sibling n.level (picked n.cells (second_group (rects n.cells) cut))
+    pub gives : Changes (λ m. record m { cells = m.cells ++ picked n.cells (second_group (rects n.cells) cut) }) moved.nodes new.nodes sibling
+    pub rest : new ≡ record moved { nodes = new.nodes }

@@ -1,0 +1,39 @@
+ghost use Rattle.std.specs.Prelude.{◌≡◌, ℕ, ◌^◌, ◌<◌, ◌≤◌, Some, pos, length};
+ghost use Rattle.slab.specs.Slab.{get, ContainsKey};
+ghost use Rattle.rt_node.specs.Node.{NodeCells};
+ghost use Rattle.rt_node.specs.Places.{cells_at};
+ghost use Rattle.rt_place.specs.Steps.{IsNamedAt, Refits};
+
+use rt_box::Rect;
+use rt_node::{Cell, Node, hull_at, node_at, number_of, set_cell};
+use slab::Slab;
+
+/// The cell that names a node and has this box.
+pub(crate) fn cell_for<const D: usize>(key: usize, rect: &Rect<D>) -> Cell<D>
+    requires { key < 2 ^ 63 }
+    ensures number { result.number ≡ pos key }
+    ensures rect { result.rect ≡ rect.now }
+{
+    Cell {
+        number: number_of(key),
+        rect: *rect,
+    }
+}
+
+/// Gives the parent's cell that names the node the least box around the node's cells.
+pub(crate) fn refit<const D: usize>(nodes: &mut Slab<Node<D>>, parent: usize, key: usize)
+    requires few { D ≤ 3 }
+    requires keys { nodes.old.capacity ≤ 2 ^ 62 }
+    requires present { ContainsKey nodes.old key }
+    requires some { 1 ≤ length (cells_at nodes.old key) }
+    requires above { ContainsKey nodes.old parent }
+    requires named { (at : ℕ) × IsNamedAt (cells_at nodes.old parent) at key }
+    ensures { (n : NodeCells D) → get nodes.old parent ≡ Some n → Refits nodes.old nodes.new parent key n }
+{
+    let _ = nodes.capacity();
+    let hull = hull_at(nodes, key);
+    let cell = cell_for(key, &hull);
+    let node = node_at(nodes, parent);
+    let at = node.position(&cell.number);
+    set_cell(nodes, parent, at, &cell);
+}

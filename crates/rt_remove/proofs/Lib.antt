@@ -1,0 +1,11 @@
+pub mod Changed
+pub mod Sums
+pub mod Dissolved
+pub mod Refitted
+pub mod Climbs
+pub mod Condenses
+pub mod WayGiven
+pub mod Taken
+pub mod Placed
+pub mod Reordered
+pub mod Removed

@@ -1,0 +1,3 @@
+pub mod Above
+pub mod Steps
+pub mod Removal

@@ -1,0 +1,17 @@
+pub mod Totals
+pub mod Taking
+pub mod Reaching
+pub mod Progress
+pub mod Due
+pub mod Numbering
+pub mod Listed
+pub mod Ints
+pub mod Rising
+pub mod Numbered
+pub mod Judging
+pub mod Sides
+pub mod Judged
+pub mod Fitting
+pub mod Flawless
+pub mod Subtrees
+pub mod Rows

@@ -1,0 +1,5 @@
+pub mod Search
+pub mod Visits
+pub mod Preorder
+pub mod Outside
+pub mod InOrder

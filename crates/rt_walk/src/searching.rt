@@ -1,0 +1,135 @@
+//! Searches: the rows whose boxes a window admits.
+
+ghost use Rattle.std.specs.Prelude.{◌≡◌, ◌≤◌, [], IfOk, OnOk};
+ghost use Rattle.slab.specs.Slab.{ContainsKey};
+ghost use Rattle.rt_node.specs.Whole.{IsWhole};
+ghost use Rattle.rt_node.specs.Places.{key_of};
+ghost use Rattle.rt_walk.specs.Search.{row_of, Finds};
+ghost use Rattle.rt_walk.specs.Visits.{TakesRows, TakesChildren, Visits};
+
+use rt_box::{Rect, Window};
+use rt_node::{Arena, Cell, Node, key_of, node_at};
+use std::alloc::{AllocError, Global};
+
+/// A row that a search found.
+#[derive(Clone, Copy, Debug)]
+pub struct Row<const D: usize> {
+    /// The row's id.
+    pub id: i64,
+    /// The row's box.
+    pub rect: Rect<D>,
+}
+
+/// What a search found.
+#[derive(Drop)]
+pub struct Found<const D: usize> {
+    /// The rows whose boxes the window admits, each once, in no stated order.
+    pub rows: Vec<Row<D>>,
+    /// The number of nodes that the search went into.
+    pub visited: u64,
+}
+
+/// The row of a leaf's cell.
+#[inline]
+fn row_of<const D: usize>(cell: &Cell<D>) -> Row<D>
+    ensures { result ≡ row_of cell.now }
+{
+    Row {
+        id: cell.number,
+        rect: cell.rect,
+    }
+}
+
+/// The key of the child that a cell names.
+#[inline]
+pub(crate) fn child_of<const D: usize>(cell: &Cell<D>) -> usize
+    ensures { result ≡ key_of cell.now }
+{
+    key_of(cell.number)
+}
+
+/// Takes the rows of a leaf that the window admits.
+fn take_rows<const D: usize>(
+    rows: &mut Vec<Row<D>>,
+    node: &Node<D>,
+    window: &Window<D>,
+) -> Result<(), AllocError>
+    ensures { OnOk result (TakesRows window.now node.now.cells rows.old.items rows.new.items) }
+{
+    let boxes = node.boxes();
+    for at in 0..boxes.len() {
+        if window.admits(&boxes[at]) {
+            rows.push(row_of(&node.cell(at)))?;
+        }
+    }
+    Ok(())
+}
+
+/// Takes the children in which a box may lie that the window admits.
+fn take_children<const D: usize>(
+    keys: &mut Vec<usize>,
+    node: &Node<D>,
+    window: &Window<D>,
+) -> Result<(), AllocError>
+    ensures { OnOk result (TakesChildren window.now node.now.cells keys.old.items keys.new.items) }
+{
+    let boxes = node.boxes();
+    for at in 0..boxes.len() {
+        if window.may_hold(&boxes[at]) {
+            keys.push(child_of(&node.cell(at)))?;
+        }
+    }
+    Ok(())
+}
+
+/// Goes into the node at the key: takes a leaf's rows, or another node's children.
+fn visit<const D: usize>(
+    rows: &mut Vec<Row<D>>,
+    keys: &mut Vec<usize>,
+    tree: &Arena<D>,
+    key: usize,
+    window: &Window<D>,
+) -> Result<(), AllocError>
+    requires present { ContainsKey tree.now.nodes key }
+    requires few { D ≤ 3 }
+    ensures { OnOk result (Visits tree.now.nodes window.now key rows.old.items rows.new.items keys.old.items keys.new.items) }
+{
+    let node = node_at(&tree.nodes, key);
+    if node.level() == 0 {
+        take_rows(rows, node, window)
+    } else {
+        take_children(keys, node, window)
+    }
+}
+
+/// Finds the rows whose boxes the window admits.
+///
+/// The search goes into the root, and from a node into each child in whose box one may lie that the
+/// window admits.
+///
+/// # Errors
+///
+/// `AllocError` where no memory is left for what is found or is still to be visited.
+pub fn search<const D: usize>(
+    alloc: Global,
+    tree: &Arena<D>,
+    window: &Window<D>,
+) -> Result<Found<D>, AllocError>
+    requires whole { IsWhole tree.now }
+    requires settled { tree.now.waiting.items ≡ [] }
+    requires few { D ≤ 3 }
+    ensures { IfOk result (λ found. Finds tree.now window.now found.rows.items found.visited) }
+{
+    let mut found = Found {
+        rows: Vec::new(alloc),
+        visited: 0,
+    };
+    let mut keys = Vec::new(alloc);
+    keys.push(tree.root)?;
+    let _ = tree.nodes.capacity();
+    while let Some(key) = keys.pop() {
+        visit(&mut found.rows, &mut keys, tree, key, window)?;
+        found.visited += 1;
+    }
+    Ok(found)
+}
