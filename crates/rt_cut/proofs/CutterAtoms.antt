@@ -3,7 +3,8 @@ use Rattle.std.proofs.Common.{◌≡◌, ◌≢◌, ℕ, ◌<◌, ◌≤◌, Lis
 use Rattle.std.proofs.lemmas.Bool.{cases_lt, cases_eq, lt-ltb, le-ltb, le-leb, lt-leb, cond-true, cond-false}
 use Rattle.std.proofs.lemmas.List.{length_push}
 use Rattle.std.proofs.lemmas.List.Elements.{All-push}
-use Rattle.rt_cut.specs.Pieces.{HasClose, BeginsComment, Atom, Byte, Line, Block, Quoted, spelled, spelled_all, IsComment, IsGapAtom, IsClosedGap, IsAtom, AreAtoms, held_of}
+use Rattle.rt_cut.specs.Pieces.{Atom, Byte, Line, Block, Quoted, spelled, spelled_all, IsComment, IsGapAtom, IsClosedGap, IsAtom, AreAtoms, held_of}
+use Rattle.rt_cut.specs.Text.{HasClose, BeginsComment}
 use Rattle.rt_cut.specs.Cutter.{IsOpen}
 use Rattle.rt_cut.specs.CutterStep.{with_byte}
 use Rattle.rt_cut.specs.declared.cutter.Spot.TheVariants.{LineComment, BlockComment, AfterStar}

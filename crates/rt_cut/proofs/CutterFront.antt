@@ -5,7 +5,8 @@ use Rattle.std.proofs.lemmas.List.{take_more}
 use Rattle.std.proofs.lemmas.List.Elements.{All-nil, All-push}
 use Rattle.std.specs.Option.{option_map}
 use Rattle.rt_cut.specs.Piece.{PieceText}
-use Rattle.rt_cut.specs.Pieces.{Atom, Byte, Quoted as QuotedAtom, spelled, spelled_all, IsClosedGap, IsGap, IsOpenComment, IsAtom, AreAtoms, is_gap_byte, is_quote, BeginsStatement, IsOpenQuote, IsWholePiece, IsLastPiece, held_of, piece_of}
+use Rattle.rt_cut.specs.Pieces.{Atom, Byte, Quoted as QuotedAtom, spelled, spelled_all, IsClosedGap, IsGap, IsOpenComment, IsAtom, AreAtoms, is_gap_byte, BeginsStatement, IsOpenQuote, IsWholePiece, IsLastPiece, held_of, piece_of}
+use Rattle.rt_cut.specs.Text.{is_quote}
 use Rattle.rt_cut.specs.Cutter.{Front, IsOpen, undecided, StopsInGap, StopsInStatement, StopsInDotLine, StopsAt, StandsAt, FinishedAt, last_ending, ending_at, ready_piece}
 use Rattle.rt_cut.specs.CutterStep.{place_after, gap_after, statement_after, held_after, held_in, with_byte, front_after}
 use Rattle.rt_cut.proofs.CutterAtoms.{spelled_all-push, AreAtoms-push, IsClosedGap-push, comment_in_gap, comment_in_statement, no_comment, dash_alone, slash_alone, line_grows, block_grows, block_to_star, star_to_star, star_to_block, nothing_closes, no_close_in_front, IsClosedBy, line_closes, star_closes, held_of-push}

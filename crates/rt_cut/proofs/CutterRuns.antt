@@ -3,7 +3,8 @@ use Rattle.std.proofs.Common.{◌≡◌, ◌≢◌, ℕ, Bool, true, false, cond
 use Rattle.std.proofs.lemmas.Bool.{cases_eq, eqb-true, eq-eqb, ne_eqb, or_cases, cond-true, cond-false, true≢false}
 use Rattle.std.proofs.lemmas.List.Elements.{All-head, All-tail}
 use Rattle.rt_cut.specs.Piece.{PieceText}
-use Rattle.rt_cut.specs.Pieces.{Lacks, BeginsComment, Atom, Byte, Line, Block, Quoted as QuotedAtom, spelled, spelled_all, IsComment, IsOpenComment, IsGapAtom, IsClosedGap, IsGap, IsAtom, AreAtoms, is_gap_byte, is_quote, IsOpenQuote, BeginsStatement, IsOpenStatement, IsStatement, IsDotLine, IsWholePiece, IsLastPiece, seen}
+use Rattle.rt_cut.specs.Pieces.{Atom, Byte, Line, Block, Quoted as QuotedAtom, spelled, spelled_all, IsComment, IsOpenComment, IsGapAtom, IsClosedGap, IsGap, IsAtom, AreAtoms, is_gap_byte, IsOpenQuote, BeginsStatement, IsOpenStatement, IsStatement, IsDotLine, IsWholePiece, IsLastPiece, seen}
+use Rattle.rt_cut.specs.Text.{Lacks, BeginsComment, is_quote}
 use Rattle.rt_cut.specs.Cutter.{last_ending}
 use Rattle.rt_cut.specs.CutterStep.{place_after, gap_after, statement_after}
 use Rattle.rt_cut.proofs.CutterAtoms.{IsUnclosed, IsUnclosed-from}

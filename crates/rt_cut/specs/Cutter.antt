@@ -3,7 +3,8 @@
 use Rattle.std.specs.Prelude.{◌≡◌, ℕ, Bool, true, false, List, [], ◌∷◌, ◌++◌, Option, Some, None}
 use Rattle.std.specs.Option.{option_map}
 use Rattle.rt_cut.specs.Piece.{PieceText}
-use Rattle.rt_cut.specs.Pieces.{Lacks, HasClose, Atom, spelled_all, IsClosedGap, AreAtoms, IsOpenQuote, BeginsStatement, IsDotLine, held_of, piece_of, IsWholePiece}
+use Rattle.rt_cut.specs.Pieces.{Atom, spelled_all, IsClosedGap, AreAtoms, IsOpenQuote, BeginsStatement, IsDotLine, held_of, piece_of, IsWholePiece}
+use Rattle.rt_cut.specs.Text.{Lacks, HasClose, IsLineText, IsBlockText}
 use Rattle.rt_cut.specs.declared.piece.Ending.{Ending}
 use Rattle.rt_cut.specs.declared.piece.Ending.TheVariants.{Whole, Incomplete}
 use Rattle.rt_cut.specs.declared.cutter.Part.TheVariants.{Gap, Statement}
@@ -24,10 +25,10 @@ abbrev pub IsOpen : Spot → List ℕ → Type 0
 IsOpen Between tail = tail ≡ []
 IsOpen AfterDash tail = tail ≡ 45 ∷ []
 IsOpen AfterSlash tail = tail ≡ 47 ∷ []
-IsOpen LineComment tail = (text : List ℕ) × (tail ≡ 45 ∷ 45 ∷ text) × Lacks 10 text
+IsOpen LineComment tail = (text : List ℕ) × (tail ≡ 45 ∷ 45 ∷ text) × IsLineText text
 IsOpen BlockComment tail = (text : List ℕ) × (tail ≡ 47 ∷ 42 ∷ text) × ¬ HasClose (text ++ 47 ∷ [])
 IsOpen AfterStar tail =
-    (text : List ℕ) × (tail ≡ 47 ∷ 42 ∷ (text ++ 42 ∷ [])) × ¬ HasClose (text ++ 42 ∷ [])
+    (text : List ℕ) × (tail ≡ 47 ∷ 42 ∷ (text ++ 42 ∷ [])) × IsBlockText text
 
 -- the bytes in a gap that may turn out to begin a statement
 abbrev pub undecided : Spot → List ℕ

@@ -1,7 +1,8 @@
 -- What one byte does to a cutter, for the contracts of its private steps alone. That these steps cut a
 -- text as Pieces says is proved of them.
 use Rattle.std.specs.Prelude.{◌==◌, ℕ, List, [], ◌∷◌, ◌++◌, length, Option, Some, None, nat_lt, if◌then◌else◌}
-use Rattle.rt_cut.specs.Pieces.{is_gap_byte, is_quote}
+use Rattle.rt_cut.specs.Pieces.{is_gap_byte}
+use Rattle.rt_cut.specs.Text.{is_quote}
 use Rattle.rt_cut.specs.Cutter.{Front}
 use Rattle.rt_cut.specs.declared.cutter.Part.{Part}
 use Rattle.rt_cut.specs.declared.cutter.Part.TheVariants.{Gap, Statement}

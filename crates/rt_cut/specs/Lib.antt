@@ -1,4 +1,5 @@
 pub mod Piece
 pub mod Pieces
+pub mod Text
 pub mod Cutter
 pub mod CutterStep

@@ -3,34 +3,13 @@
 -- line feed, 34 `"`, 39 `'`, 42 `*`, 45 `-`, 46 `.`, 47 `/` and 59 `;`.
 use Rattle.std.specs.Prelude.{◌≡◌, ◌≢◌, ℕ, Bool, false, ◌||◌, ◌==◌, nat_le, if◌then◌else◌, IsTrue, List, [], ◌∷◌, ◌++◌, length, ◌⊎◌, All, Option, Some, None}
 use Rattle.rt_cut.specs.Piece.{PieceText}
+use Rattle.rt_cut.specs.Text.{is_white, is_quote, Lacks, BeginsComment, IsLineText, IsBlockText, IsOpenBlockText}
 use Rattle.rt_cut.specs.declared.piece.Ending.{Ending}
 use Rattle.rt_cut.specs.declared.piece.Ending.TheVariants.{Whole, Incomplete, TooLong}
-
--- a tab, a line feed, a form feed, a carriage return or a space
-abbrev pub is_white : ℕ → Bool
-is_white b = b == 9 || b == 10 || b == 12 || b == 13 || b == 32
 
 -- a byte that may stand between pieces: white, or `;`
 abbrev pub is_gap_byte : ℕ → Bool
 is_gap_byte b = is_white b || b == 59
-
--- `'` or `"`
-abbrev pub is_quote : ℕ → Bool
-is_quote b = b == 39 || b == 34
-
--- the byte isn't among these
-abbrev pub Lacks : ℕ → List ℕ → Type 0
-Lacks b text = All (λ c. c ≢ b) text
-
--- `*/` is among these bytes
-abbrev pub HasClose : List ℕ → Type 0
-HasClose text = (front rest : List ℕ) × (text ≡ front ++ 42 ∷ 47 ∷ rest)
-
--- a comment begins here: `--` or `/*`
-abbrev pub BeginsComment : List ℕ → Type 0
-BeginsComment [] = ⊥
-BeginsComment (a ∷ []) = ⊥
-BeginsComment (a ∷ b ∷ rest) = ((a ≡ 45) × (b ≡ 45)) ⊎ ((a ≡ 47) × (b ≡ 42))
 
 -- a part of a text that is read as one: a byte, a `--` comment with the line feed that ends it, a
 -- `/*` comment, or what stands in quotes
@@ -55,15 +34,15 @@ spelled_all (atom ∷ atoms) = spelled atom ++ spelled_all atoms
 -- a comment, which ends at the first line feed, or at the first `*/` after its `/*`
 abbrev pub IsComment : Atom → Type 0
 IsComment (Byte b) = ⊥
-IsComment (Line text) = Lacks 10 text
-IsComment (Block text) = ¬ HasClose (text ++ 42 ∷ [])
+IsComment (Line text) = IsLineText text
+IsComment (Block text) = IsBlockText text
 IsComment (Quoted quote text) = ⊥
 
 -- a comment that doesn't end
 abbrev pub IsOpenComment : List ℕ → Type 0
 IsOpenComment x =
-    ((text : List ℕ) × (x ≡ 45 ∷ 45 ∷ text) × Lacks 10 text)
-    ⊎ ((text : List ℕ) × (x ≡ 47 ∷ 42 ∷ text) × ¬ HasClose text)
+    ((text : List ℕ) × (x ≡ 45 ∷ 45 ∷ text) × IsLineText text)
+    ⊎ ((text : List ℕ) × (x ≡ 47 ∷ 42 ∷ text) × IsOpenBlockText text)
 
 -- an atom that may stand between pieces
 abbrev pub IsGapAtom : Atom → Type 0

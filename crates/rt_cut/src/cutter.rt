@@ -1,8 +1,9 @@
 ghost use Rattle.std.specs.Prelude.{◌≡◌, ℕ, ◌+◌, ◌<◌, ◌≤◌, ◌⊎◌, List, [], ◌∷◌, ◌++◌, length, take, IsTrue, IsSome, IsNone, IfSome, IfOk, MatchOption, Some};
 ghost use Rattle.rt_cut.specs.Piece.{PieceText};
-ghost use Rattle.rt_cut.specs.Pieces.{is_white, is_gap_byte, IsGap, IsWholePiece, IsLastPiece, CuttingIsDetermined, EveryTextIsCut};
+ghost use Rattle.rt_cut.specs.Pieces.{is_gap_byte, IsGap, IsWholePiece, IsLastPiece};
 
 use crate::piece::{Ending, Piece};
+use crate::text::is_white;
 use std::alloc::{AllocError, Global};
 use std::marker::Model;
 
@@ -115,12 +116,6 @@ impl Place {
             _ => Place::In(Part::Statement, Spot::Between),
         }
     }
-}
-
-fn is_white(byte: u8) -> bool
-    ensures { result ≡ is_white byte }
-{
-    matches!(byte, b'\t' | b'\n' | b'\x0c' | b'\r' | b' ')
 }
 
 fn is_gap_byte(byte: u8) -> bool
@@ -263,16 +258,6 @@ impl Cutter {
         self.too_long = false;
     }
 }
-
-/// No text is cut into pieces in two ways.
-pub fn cutting_is_determined()
-    ensures { CuttingIsDetermined }
-{}
-
-/// Each text is cut into pieces in some way.
-pub fn every_text_is_cut()
-    ensures { EveryTextIsCut }
-{}
 
 #[cfg(test)]
 mod tests {

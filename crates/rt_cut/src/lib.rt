@@ -5,7 +5,9 @@
 #![tactic(auto)]
 
 mod cutter;
+pub mod laws;
 mod piece;
+pub mod text;
 
-pub use cutter::{Cutter, cutting_is_determined, every_text_is_cut};
+pub use cutter::Cutter;
 pub use piece::{Ending, Piece};

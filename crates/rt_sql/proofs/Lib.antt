@@ -1,11 +1,13 @@
 mod Basics
 mod Closings
+mod Comments
 mod Cursor
 mod Cuts
 mod Doubling
 mod Lexing
 mod Numbers
 mod PieceLists
+mod QuoteAtoms
 mod Quotes
 mod Separated
 mod Shorter

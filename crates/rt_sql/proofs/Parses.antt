@@ -1,6 +1,11 @@
 -- From what is read to what a text spells.
-use Rattle.std.proofs.Common.{◌≡◌, ◌⊎◌, inl, inr, Bool, true, false, List, [], ◌∷◌, Some, None, Result, Ok, Err, ◌||◌, codes, refl, ap, ◌∙◌, sym}
+use Rattle.std.proofs.Common.{◌≡◌, ◌⊎◌, inl, inr, ℕ, suc, Bool, true, false, ◌==◌, List, [], ◌∷◌, Some, None, Result, Ok, Err, ◌||◌, codes, refl, ap, ◌∙◌, sym, arith}
+use Rattle.std.proofs.lemmas.Bool.Decides.{nat_tests}
+use Rattle.std.proofs.lemmas.List.Folds.{list_any_at}
+use Rattle.std.proofs.lemmas.Str.{IsUtf8-from_is_utf8, is_utf8-from_IsUtf8}
+use Rattle.std.specs.List.{Contains, list_any}
 use Rattle.std.specs.Prelude.{unwrap_or}
+use Rattle.std.specs.Str.{is_utf8}
 use lib.IntN.{pos}
 use Rattle.rt_sql.specs.declared.number.Numbers.TheVariants.{Within64Bits, AnySize}
 use Rattle.rt_cut.specs.declared.piece.Ending.{Ending}
@@ -18,12 +23,12 @@ use Rattle.rt_sql.specs.declared.statement.Stmt.TheVariants as stmt
 use Rattle.rt_sql.specs.declared.token.Token.TheVariants as token
 use Rattle.rt_cut.specs.Piece.{PieceText}
 use Rattle.rt_sql.specs.Reading as R
-use Rattle.rt_sql.specs.Reading.{Read}
+use Rattle.rt_sql.specs.Reading.{Outcome, Read}
 use Rattle.rt_sql.specs.Token.{Text}
 use Rattle.rt_sql.specs.Tokens.{PieceTokens}
 use Rattle.rt_sql.proofs.CompleteForms.{complete_whole, head_word}
 use Rattle.rt_sql.proofs.Numbers.{fits_signed, fits_from_signed}
-use Rattle.rt_sql.proofs.Basics.{test, none}
+use Rattle.rt_sql.proofs.Basics.{cases, test, none}
 use Rattle.rt_sql.proofs.Sound.{TakesOnly, TakesEach, same}
 use Rattle.rt_sql.proofs.SoundForms.{sound_whole}
 use Rattle.rt_sql.proofs.PieceLists.{piece_tokens_are, are_piece_tokens}
@@ -250,3 +255,60 @@ one_answer piece one other g h = one_answer_as piece.ending piece.text one other
 
 pub parses_no_text : (piece : PieceText) → Whole ≡ piece.ending → ¬ IsText piece.text → Parses piece (Err r.NotUtf8)
 parses_no_text piece e h = rw (← e) (inr (h, refl))
+
+-- ---- each text has tokens, and each piece an answer
+
+pub some_tokens : (text : Text) → (tokens : List Token) × PieceTokens text tokens
+some_tokens text = (piece_tokens text, are_piece_tokens text)
+
+abbrev Answer : Text → Type 0
+Answer text = (answer : Result Stmt Refusal) × ParsesText text answer
+
+abbrev reading : Read → Text → Outcome Stmt
+reading read text = R.whole read (piece_tokens text)
+
+refused : (text : Text) → reading (number_by Within64Bits) text ≡ None → Answer text
+refused text none_within =
+    test (R.unknown_in (R.first (piece_tokens text)))
+    (λ unknown. (Err r.UnknownCommand, parses_unknown text unknown))
+    (λ known.
+    cases (reading (number_by AnySize) text)
+    (λ no_form. (Err r.SyntaxError, parses_none text known no_form))
+    (λ found is. (Err r.IntegerOutOfRange, parses_outside text found.0 found.1 none_within is)))
+
+text_answer : (text : Text) → Answer text
+text_answer text =
+    cases (reading (number_by Within64Bits) text) (refused text) (λ found is. (Ok found.0, parses_ok text found.0 found.1 is))
+
+zero_is : (b : ℕ) → (b == 0) ≡ true → b ≡ 0
+zero_is b h = grind (arith, nat_tests)
+
+zero_found : (text : Text) → list_any (λ b. b == 0) text ≡ true → Contains text 0
+zero_found [] h = absurd (cc)
+zero_found (b ∷ z) h =
+    test (b == 0)
+    (λ e. (0, omega arith, zero_is b e))
+    (λ e. let k = zero_found z (rw e at h) in (suc k.0, omega (arith, k.1), k.2))
+
+zero_lacks : (text : Text) → list_any (λ b. b == 0) text ≡ false → ¬ Contains text 0
+zero_lacks text h k = not_both (list_any (λ b. b == 0) text) (list_any_at (λ b. b == 0) text k.0 0 k.1 (rw k.2 refl)) h
+
+is_or_is_not : (text : Text) → IsText text ⊎ ¬ IsText text
+is_or_is_not text =
+    test (is_utf8 text)
+    (λ is. test (list_any (λ b. b == 0) text)
+    (λ any. inr (λ t. t.1 (zero_found text any)))
+    (λ no. inl (IsUtf8-from_is_utf8 text is, zero_lacks text no)))
+    (λ is_not. inr (λ t. not_both (is_utf8 text) (is_utf8-from_IsUtf8 text t.0) is_not))
+
+whole_answer : (text : Text) → IsText text ⊎ ¬ IsText text → (answer : Result Stmt Refusal) × ParsesAs Whole text answer
+whole_answer text (inl is) = let found = text_answer text in (found.0, inl (is, found.1))
+whole_answer text (inr is_not) = (Err r.NotUtf8, inr (is_not, refl))
+
+answer_as : (ending : Ending) (text : Text) → (answer : Result Stmt Refusal) × ParsesAs ending text answer
+answer_as TooLong text = (Err r.StatementTooLong, refl)
+answer_as Incomplete text = (Err r.IncompleteInput, refl)
+answer_as Whole text = whole_answer text (is_or_is_not text)
+
+pub some_answer : (piece : PieceText) → (answer : Result Stmt Refusal) × Parses piece answer
+some_answer piece = answer_as piece.ending piece.text

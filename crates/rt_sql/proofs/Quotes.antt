@@ -17,10 +17,10 @@ closing-end : (q at : ℕ) (after : Text) → begins (is_byte q) after ≡ false
 closing-end q at [] h = rw (own_byte q) refl
 closing-end q at (c ∷ z) h = rw (own_byte q, h) refl
 
-doubled-twice : (q b : ℕ) (n : Text) → (b == q) ≡ true → doubled q (b ∷ n) ≡ b ∷ b ∷ doubled q n
+pub doubled-twice : (q b : ℕ) (n : Text) → (b == q) ≡ true → doubled q (b ∷ n) ≡ b ∷ b ∷ doubled q n
 doubled-twice q b n h = rw h refl
 
-doubled-once : (q b : ℕ) (n : Text) → (b == q) ≡ false → doubled q (b ∷ n) ≡ b ∷ doubled q n
+pub doubled-once : (q b : ℕ) (n : Text) → (b == q) ≡ false → doubled q (b ∷ n) ≡ b ∷ doubled q n
 doubled-once q b n h = rw h refl
 
 pub closing_doubled : (q at : ℕ) (n after : Text) → begins (is_byte q) after ≡ false → closing q at (doubled q n ++ q ∷ after) ≡ Some (at + length (doubled q n))

@@ -10,10 +10,12 @@ use Rattle.rt_sql.specs.declared.token.Sign.{Sign}
 use Rattle.rt_sql.specs.declared.token.Sign.TheVariants.{LeftParenthesis, RightParenthesis, Comma, Semicolon, Plus, Minus, Star, Equal, DoubleEqual, LessGreater, BangEqual, Less, LessOrEqual, Greater, GreaterOrEqual}
 use Rattle.rt_sql.specs.declared.token.Token.{Token}
 use Rattle.rt_sql.specs.declared.token.Token.TheVariants as token
-use Rattle.rt_sql.specs.Token.{Text, is_white, begins_word, is_in_word, is_in_line, is_open, begins, doubled}
+use Rattle.rt_cut.specs.Text.{is_white}
+use Rattle.rt_sql.specs.Token.{Text, begins_word, is_in_word, is_in_line, begins, doubled}
 use Rattle.rt_sql.specs.Tokens.{spelling, is_byte, IsToken, IsLongest, TokenAt, GapAt, GapsAt, Gap, IsTokens}
 use Rattle.rt_sql.specs.Lex.{Lexeme, bad, lexeme, spelled, gap, is_gap, word, digits, text, quoted, blob, closing, closed_text, closed_name, line_len, block_len, long_sign, short_sign, sign, signed, put, tokens_of}
 use Rattle.rt_sql.proofs.Basics.{test, cases}
+use Rattle.rt_sql.proofs.Comments.{line_passes, passes_line, line_stops, stops_line, is_open, and_both, begins_slash, block_end, open_lacks, lacks_open}
 use Rattle.rt_sql.proofs.Cuts.{word_goes_on}
 use Rattle.rt_sql.proofs.Lexing.{tokens_of-nil, tokens_of-step}
 use Rattle.rt_sql.proofs.Quotes.{closing_doubled, closed_by, byte_is}
@@ -27,11 +29,6 @@ front_all p (b ∷ z) = test (p b) (λ e. rw (e, one-add, e) (front_all p z)) (�
 pub front_stops : (p : ℕ → Bool) (z : Text) → begins p (drop (prefix_len p z) z) ≡ false
 front_stops p [] = refl
 front_stops p (b ∷ z) = test (p b) (λ e. rw (e, one-add) (front_stops p z)) (λ e. rw e e)
-
-and_both : (x y : Bool) → (x && y) ≡ true → (x ≡ true) × (y ≡ true)
-and_both true true h = (refl, refl)
-and_both true false h = absurd (cc)
-and_both false y h = absurd (cc)
 
 pub front_is : (p : ℕ → Bool) (w after : Text) → list_all p w ≡ true → begins p after ≡ false → prefix_len p (w ++ after) ≡ length w
 front_is p [] [] h stops = refl
@@ -55,11 +52,10 @@ begins_front p [] after h = absurd (cc)
 begins_front p (b ∷ w) after h = h
 
 word_not_white : (b : ℕ) → begins_word b ≡ true → is_white b ≡ false
-unfolding begins_word is_white
+unfolding begins_word
 word_not_white b h = grind (arith, nat_tests)
 
 digit_not_white : (b : ℕ) → is_ascii_digit b ≡ true → is_white b ≡ false
-unfolding is_white
 digit_not_white b h = grind (arith, nat_tests)
 
 digit_not_word : (b : ℕ) → is_ascii_digit b ≡ true → begins_word b ≡ false
@@ -440,17 +436,9 @@ found b z =
 
 -- ---- white space and comments
 
-begins_slash : (z : Text) → begins (λ c. c == 47) z ≡ (slice_index z 0 == 47)
-begins_slash [] = refl
-begins_slash (c ∷ z) = refl
-
 same_slash : (body r : Text) → begins (λ c. c == 47) (body ++ 42 ∷ []) ≡ (slice_index (body ++ 42 ∷ 47 ∷ r) 0 == 47)
 same_slash [] r = refl
 same_slash (c ∷ body) r = refl
-
-block_end : (b : ℕ) (z : Text) → ((b == 42) ≡ true) × ((slice_index z 0 == 47) ≡ true) → b ∷ z ≡ 42 ∷ 47 ∷ drop 1 z
-block_end b [] e = absurd (cc)
-block_end b (c ∷ z) e = ap (λ x. x ∷ c ∷ z) (eqb_is b 42 e.0) ∙ ap (λ x. 42 ∷ x ∷ z) (eqb_is c 47 e.1)
 
 -- a comment up to its `*/`, or the end
 abbrev Block : Text → Type 0
@@ -487,7 +475,7 @@ line_found b c z w e f =
       2 + n,
       rw (w, e) refl,
       omega arith,
-      rw two (inr (inl (take n z, ap (λ x. x ∷ c ∷ z) (eqb_is b 45 e) ∙ ap (λ x. 45 ∷ x ∷ z) (eqb_is c 45 f) ∙ ap (λ x. 45 ∷ 45 ∷ x) (take_drop n z), front_all is_in_line z, front_stops is_in_line z))),
+      rw two (inr (inl (take n z, ap (λ x. x ∷ c ∷ z) (eqb_is b 45 e) ∙ ap (λ x. 45 ∷ x ∷ z) (eqb_is c 45 f) ∙ ap (λ x. 45 ∷ 45 ∷ x) (take_drop n z), passes_line (take n z) (front_all is_in_line z), stops_line (drop n z) (front_stops is_in_line z)))),
     )
 
 block_found : (b c : ℕ) (z : Text) → is_white b ≡ false → (b == 45) ≡ false → (b == 47) ≡ true → (c == 42) ≡ true → GapFound b (c ∷ z)
@@ -501,8 +489,8 @@ block_found b c z w e f g =
       omega arith,
       rw two
           (⊎_elim
-          (λ (k : (body : Text) × (z ≡ body ++ 42 ∷ 47 ∷ drop n z) × (is_open (body ++ 42 ∷ []) ≡ true)). inr (inr (inl (k.0, starts ∙ ap (λ x. 47 ∷ 42 ∷ x) k.1, k.2))))
-          (λ (k : (is_open z ≡ true) × (drop n z ≡ [])). inr (inr (inr (z, starts, k.0, k.1))))
+          (λ (k : (body : Text) × (z ≡ body ++ 42 ∷ 47 ∷ drop n z) × (is_open (body ++ 42 ∷ []) ≡ true)). inr (inr (inl (k.0, starts ∙ ap (λ x. 47 ∷ 42 ∷ x) k.1, open_lacks (k.0 ++ 42 ∷ []) k.2))))
+          (λ (k : (is_open z ≡ true) × (drop n z ≡ [])). inr (inr (inr (z, starts, open_lacks z k.0, k.1))))
           (block z)),
     )
 
@@ -529,7 +517,6 @@ white_gap : (b c : ℕ) → is_white b ≡ true → is_gap b c ≡ true
 white_gap b c w = rw w refl
 
 comment_gap : (b c : ℕ) → ((b ≡ 45) × (c ≡ 45)) ⊎ ((b ≡ 47) × (c ≡ 42)) → is_gap b c ≡ true
-unfolding is_white
 comment_gap b c (inl e) = rw (e.0, e.1) refl
 comment_gap b c (inr e) = rw (e.0, e.1) refl
 
@@ -607,20 +594,12 @@ white_len : (b : ℕ) (z later : Text) → is_white b ≡ true → z ≡ later �
 unfolding gap
 white_len b z later w e = (1, rw w refl, omega arith, e)
 
-not_white_45 : is_white 45 ≡ false
-unfolding is_white
-not_white_45 = refl
-
-not_white_47 : is_white 47 ≡ false
-unfolding is_white
-not_white_47 = refl
-
 line_gap : (line after : Text) → list_all is_in_line line ≡ true → begins is_in_line after ≡ false → GapIs 45 (45 ∷ line ++ after) after
 unfolding gap line_len
 line_gap line after all stops =
     let n = front_is is_in_line line after all stops in
     let two : 2 + length line ≡ suc (suc (length line)) = omega arith in
-    (2 + length line, rw (not_white_45, n) refl, omega arith, rw two (drop_front line after))
+    (2 + length line, rw n refl, omega arith, rw two (drop_front line after))
 
 drop_two : (body after : Text) → drop (length body + 2) (body ++ 42 ∷ 47 ∷ after) ≡ after
 drop_two [] after = refl
@@ -632,14 +611,14 @@ unfolding gap
 block_gap body after open_to =
     let n = block_len_is body after open_to in
     let two : 2 + (length body + 2) ≡ suc (suc (length body + 2)) = omega arith in
-    (2 + (length body + 2), rw (not_white_47, n) refl, omega arith, rw two (drop_two body after))
+    (2 + (length body + 2), rw n refl, omega arith, rw two (drop_two body after))
 
 last_gap : (body : Text) → is_open body ≡ true → GapIs 47 (42 ∷ body) []
 unfolding gap
 last_gap body open_to =
     let n = block_len_open body open_to in
     let two : 2 + length body ≡ suc (suc (length body)) = omega arith in
-    (2 + length body, rw (not_white_47, n) refl, omega arith, rw two (drop_whole body))
+    (2 + length body, rw n refl, omega arith, rw two (drop_whole body))
 
 -- the length of a gap that is spelled out
 gap_len : (b : ℕ) (z later : Text) → GapAt (b ∷ z) later → GapIs b z later
@@ -650,15 +629,15 @@ gap_len b z later (inl g) =
 gap_len b z later (inr (inl g)) =
     let e : b ≡ 45 = cc in
     let f : z ≡ (45 ∷ g.0) ++ later = cc in
-    rw (e, f) (line_gap g.0 later g.2 g.3)
+    rw (e, f) (line_gap g.0 later (line_passes g.0 g.2) (line_stops later g.3))
 gap_len b z later (inr (inr (inl g))) =
     let e : b ≡ 47 = cc in
     let f : z ≡ (42 ∷ g.0) ++ 42 ∷ 47 ∷ later = cc in
-    rw (e, f) (block_gap g.0 later g.2)
+    rw (e, f) (block_gap g.0 later (lacks_open (g.0 ++ 42 ∷ []) g.2))
 gap_len b z later (inr (inr (inr g))) =
     let e : b ≡ 47 = cc in
     let f : z ≡ 42 ∷ g.0 = cc in
-    rw (e, f, g.3) (last_gap g.0 g.2)
+    rw (e, f, g.3) (last_gap g.0 (lacks_open g.0 g.2))
 
 one_gap : (text next : Text) → GapAt text next → tokens_of text ≡ tokens_of next
 one_gap [] next g = absurd (no_gap_nil next g)

@@ -202,11 +202,17 @@ statement writes (View view) = dot (codes "VIEW") ⨾ name view
 statement writes (Nodes table) = dot (codes "NODES") ⨾ name table
 
 abbrev pub end_of : Stmt → Part
+end_of (Create table if_absent columns) = sign Semicolon
+end_of (Drop table if_there) = sign Semicolon
+end_of (Insert rule table columns rows) = sign Semicolon
+end_of (Update table sets cond) = sign Semicolon
+end_of (Delete table cond) = sign Semicolon
+end_of (Select columns table cond by) = sign Semicolon
+end_of (Check table) = sign Semicolon
 end_of (Watch view table cond) = ending
 end_of (Unwatch view) = ending
 end_of (View view) = ending
 end_of (Nodes table) = ending
-end_of _ = sign Semicolon
 
 -- the tokens spell the statement up to its end, and nothing is left
 abbrev pub Spells : Writes → List Token → Stmt → Type 0

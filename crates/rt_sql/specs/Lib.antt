@@ -9,4 +9,6 @@ pub mod Reading
 pub mod Refusal
 pub mod Token
 pub mod Tokens
+pub mod Value
+pub mod ValueLaws
 pub mod Word

@@ -1,5 +1,5 @@
 -- What a piece of a script asks for, or why it is refused. Source: own.
-use Rattle.std.specs.Prelude.{◌≡◌, ◌⊎◌, Bool, false, not, ◌||◌, List, [], ◌∷◌, Result, Ok, Err, Contains, IsTrue, codes}
+use Rattle.std.specs.Prelude.{◌≡◌, ◌⊎◌, ℕ, Bool, false, not, ◌||◌, List, [], ◌∷◌, ◌++◌, Result, Ok, Err, Contains, IsTrue, codes}
 use Rattle.std.specs.Str.{IsUtf8}
 use Rattle.rt_cut.specs.declared.piece.Ending.{Ending}
 use Rattle.rt_cut.specs.declared.piece.Ending.TheVariants.{Whole, Incomplete, TooLong}
@@ -11,7 +11,9 @@ use Rattle.rt_sql.specs.declared.token.Token.TheVariants as token
 use Rattle.rt_sql.specs.Grammar.{Spells}
 use Rattle.rt_sql.specs.Number.{WritesAnySize, WritesWithin64Bits}
 use Rattle.rt_cut.specs.Piece.{PieceText}
-use Rattle.rt_sql.specs.Token.{Text}
+use Rattle.rt_cut.specs.Pieces.{Atom, spelled_all, AreAtoms}
+use Rattle.rt_cut.specs.Text.{is_quote}
+use Rattle.rt_sql.specs.Token.{Text, doubled}
 use Rattle.rt_sql.specs.Word.{same_word}
 use Rattle.rt_sql.specs.Tokens.{PieceTokens}
 
@@ -55,5 +57,17 @@ OneStatement = (tokens : List Token) (one other : Stmt) → Spells WritesAnySize
 abbrev pub OneTokenList : Type 0
 OneTokenList = (text : Text) (one other : List Token) → PieceTokens text one → PieceTokens text other → one ≡ other
 
+abbrev pub EveryTextHasTokens : Type 0
+EveryTextHasTokens = (text : Text) → (tokens : List Token) × PieceTokens text tokens
+
 abbrev pub OneAnswer : Type 0
 OneAnswer = (piece : PieceText) (one other : Result Stmt Refusal) → Parses piece one → Parses piece other → one ≡ other
+
+-- what the tokens see as one quoted name or text the cutting sees as atoms, so no `;` in it ends a statement
+abbrev pub QuotesAreAtoms : Type 0
+QuotesAreAtoms =
+    (quote : ℕ) (inside after : Text) → IsTrue (is_quote quote)
+    → (atoms : List Atom) × (spelled_all atoms ≡ (quote ∷ doubled quote inside) ++ quote ∷ []) × AreAtoms atoms after
+
+abbrev pub EveryPieceHasAnAnswer : Type 0
+EveryPieceHasAnAnswer = (piece : PieceText) → (answer : Result Stmt Refusal) × Parses piece answer

@@ -1,14 +1,10 @@
 -- The characters of a statement's text, as bytes (SQLite's documentation: Identifiers and literals).
-use Rattle.std.specs.Prelude.{ℕ, ◌+◌, ◌-◌, ◌*◌, Bool, true, false, not, List, [], ◌∷◌, ◌&&◌, ◌||◌, ◌==◌, nat_le, if◌then◌else◌}
+use Rattle.std.specs.Prelude.{ℕ, ◌+◌, ◌-◌, ◌*◌, Bool, false, not, List, [], ◌∷◌, ◌&&◌, ◌||◌, ◌==◌, nat_le, if◌then◌else◌}
 use Rattle.std.specs.Char.{is_ascii_alphabetic, is_ascii_alphanumeric, is_ascii_digit}
 use Rattle.std.specs.Int.{is_in_range}
 
 abbrev pub Text : Type 0
 Text = List ℕ
-
--- tab, line feed, form feed, carriage return and space
-unfoldable pub is_white : ℕ → Bool
-is_white b = b == 9 || b == 10 || b == 12 || b == 13 || b == 32
 
 -- a letter, `_`, or a byte of a character past ASCII
 unfoldable pub begins_word : ℕ → Bool
@@ -42,11 +38,6 @@ hex_bytes [] = []
 hex_bytes (high ∷ []) = []
 hex_bytes (high ∷ low ∷ z) = (16 * hex_value high + hex_value low) ∷ hex_bytes z
 
--- a line feed ends a comment of a line
+-- a byte that a comment of a line goes on over
 unfoldable pub is_in_line : ℕ → Bool
 is_in_line b = not (b == 10)
-
--- `*/` stands nowhere in it
-abbrev pub is_open : Text → Bool
-is_open [] = true
-is_open (b ∷ z) = not (b == 42 && begins (λ c. c == 47) z) && is_open z

@@ -6,7 +6,8 @@ use Rattle.rt_sql.specs.declared.token.Sign.{Sign}
 use Rattle.rt_sql.specs.declared.token.Sign.TheVariants.{LeftParenthesis, RightParenthesis, Comma, Semicolon, Plus, Minus, Star, Equal, DoubleEqual, LessGreater, BangEqual, Less, LessOrEqual, Greater, GreaterOrEqual}
 use Rattle.rt_sql.specs.declared.token.Token.{Token}
 use Rattle.rt_sql.specs.declared.token.Token.TheVariants as token
-use Rattle.rt_sql.specs.Token.{Text, is_white, begins_word, is_in_word, is_in_line, is_open, begins, doubled}
+use Rattle.rt_cut.specs.Text.{is_white, IsLineText, EndsLine, IsBlockText, IsOpenBlockText}
+use Rattle.rt_sql.specs.Token.{Text, begins_word, is_in_word, begins, doubled}
 
 abbrev pub spelling : Sign → Text
 spelling LeftParenthesis = codes "("
@@ -64,14 +65,14 @@ TokenAt t = IsLongest t
 
 -- `--` up to a line feed or the end
 abbrev pub IsLine : Text → Text → Type 0
-IsLine text after = (line : Text) × (text ≡ (45 ∷ 45 ∷ line) ++ after) × IsTrue (list_all is_in_line line) × (begins is_in_line after ≡ false)
+IsLine text after = (line : Text) × (text ≡ (45 ∷ 45 ∷ line) ++ after) × IsLineText line × EndsLine after
 
 -- `/*` up to the next `*/`, or up to the end where none comes
 abbrev pub IsBlock : Text → Text → Type 0
-IsBlock text after = (body : Text) × (text ≡ (47 ∷ 42 ∷ body) ++ 42 ∷ 47 ∷ after) × IsTrue (is_open (body ++ 42 ∷ []))
+IsBlock text after = (body : Text) × (text ≡ (47 ∷ 42 ∷ body) ++ 42 ∷ 47 ∷ after) × IsBlockText body
 
 abbrev pub IsLastBlock : Text → Text → Type 0
-IsLastBlock text after = (body : Text) × (text ≡ 47 ∷ 42 ∷ body) × IsTrue (is_open body) × (after ≡ [])
+IsLastBlock text after = (body : Text) × (text ≡ 47 ∷ 42 ∷ body) × IsOpenBlockText body × (after ≡ [])
 
 abbrev pub IsWhite : Text → Text → Type 0
 IsWhite text after = (b : ℕ) × (text ≡ b ∷ after) × IsTrue (is_white b)

@@ -7,6 +7,7 @@ ghost use Rattle.rt_sql.specs.Class.{is_in};
 ghost use Rattle.rt_sql.specs.Lex as lexing;
 
 use crate::token::{Sign, Spelling, Token};
+use rt_cut::text::is_white;
 
 /// Kinds of characters, by their bytes.
 #[derive(Clone, Copy, Debug)]
@@ -19,13 +20,6 @@ enum Class {
 
 /// A token, or none for white space and a comment, and its length in bytes.
 type Lexeme<'a> = (Option<Token<'a>>, usize);
-
-#[tactic(auto, unfolding(crate::specs::Token::is_white))]
-fn is_white(b: u8) -> bool
-    ensures { result ≡ spec.is_white b }
-{
-    matches!(b, b'\t' | b'\n' | 12 | b'\r' | b' ')
-}
 
 #[tactic(auto, unfolding(crate::specs::Token::begins_word))]
 fn begins_word(b: u8) -> bool

@@ -6,6 +6,7 @@
 #![tactic(auto)]
 
 mod grammar;
+pub mod laws;
 mod lexer;
 mod literals;
 pub mod name;
@@ -21,9 +22,8 @@ pub mod value;
 mod word;
 
 pub use name::Name;
-pub use parser::{
-    parse, piece_has_one_answer, text_has_one_list_of_tokens, tokens_spell_one_statement,
-};
+pub use parser::parse;
 pub use refusal::Refusal;
+pub use sqlite_items::Items;
 pub use statement::{ColumnDef, Compare, Cond, Op6, Rule, Source, Stmt, Test};
 pub use value::{Blob, Text, Value};

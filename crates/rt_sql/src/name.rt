@@ -43,6 +43,14 @@ impl Name {
         self.text.as_str()
     }
 
+    /// The string itself, without a copy.
+    pub fn into_string(self) -> String
+        ensures { string_bytes result ≡ self }
+    {
+        let Name { text: string } = self;
+        string
+    }
+
     /// Whether both are one name, which ASCII case doesn't change.
     pub fn is_same(&self, other: &Name) -> bool
         ensures { result ≡ same_name self.now other.now }

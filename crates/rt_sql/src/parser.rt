@@ -1,7 +1,7 @@
 ghost use Rattle.std.specs.Prelude.{◌≡◌, ◌⊎◌, Contains, MatchOption, None, Err};
 ghost use Rattle.rt_sql.specs.Lex.{piece_tokens};
 ghost use Rattle.rt_sql.specs.Number.{number_by};
-ghost use Rattle.rt_sql.specs.Parse.{IsText, ParsesText, ParsesUnlessMemory, OneStatement, OneTokenList, OneAnswer};
+ghost use Rattle.rt_sql.specs.Parse.{IsText, ParsesText, ParsesUnlessMemory};
 ghost use Rattle.rt_sql.specs.Reading as reading;
 
 use crate::grammar::{is_command, whole};
@@ -80,21 +80,6 @@ pub fn parse(alloc: Global, piece: &Piece<'_>) -> Result<Stmt, Refusal>
         },
     }
 }
-
-/// Law: no list of tokens spells two statements.
-pub fn tokens_spell_one_statement()
-    ensures { OneStatement }
-{}
-
-/// Law: a piece has one list of tokens.
-pub fn text_has_one_list_of_tokens()
-    ensures { OneTokenList }
-{}
-
-/// Law: a piece has one answer.
-pub fn piece_has_one_answer()
-    ensures { OneAnswer }
-{}
 
 #[cfg(test)]
 mod tests {

@@ -39,6 +39,38 @@ impl Text {
     {
         self.text.as_str()
     }
+
+    /// The string itself, without a copy.
+    pub fn into_string(self) -> String
+        ensures { string_bytes result ≡ self }
+    {
+        let Text { text: string } = self;
+        string
+    }
+}
+
+impl PartialEq for Text {
+    ghost use Rattle.std.specs.Prelude.{◌≡◌, ◌↔◌, IsTrue};
+    ghost use Rattle.std.specs.Str.{bytes_eq};
+    ghost use Rattle.std.specs.Cmp.{partial_equiv_from_equiv};
+    ghost use Rattle.std.specs.Cmp.Lexicographic.{nat_list_eq_equiv};
+
+    ghost eq = { bytes_eq };
+
+    ghost laws = { partial_equiv_from_equiv nat_list_eq_equiv };
+
+    fn eq(&self, other: &Text) -> bool
+        ensures by { result ≡ bytes_eq self.now other.now }
+        ensures same { IsTrue result ↔ (self.now ≡ other.now) }
+    {
+        self.as_str() == other.as_str()
+    }
+}
+
+impl Eq for Text {
+    ghost use Rattle.std.specs.Cmp.Lexicographic.{nat_list_eq_equiv};
+
+    ghost laws = { nat_list_eq_equiv };
 }
 
 /// A blob: its bytes.
@@ -77,6 +109,38 @@ impl Blob {
     {
         self.bytes.as_slice()
     }
+
+    /// The bytes themselves, without a copy.
+    pub fn into_vec(self) -> Vec<u8>
+        ensures { result.items ≡ self }
+    {
+        let Blob { bytes: vec } = self;
+        vec
+    }
+}
+
+impl PartialEq for Blob {
+    ghost use Rattle.std.specs.Prelude.{◌≡◌, ◌↔◌, IsTrue};
+    ghost use Rattle.std.specs.Str.{bytes_eq};
+    ghost use Rattle.std.specs.Cmp.{partial_equiv_from_equiv};
+    ghost use Rattle.std.specs.Cmp.Lexicographic.{nat_list_eq_equiv};
+
+    ghost eq = { bytes_eq };
+
+    ghost laws = { partial_equiv_from_equiv nat_list_eq_equiv };
+
+    fn eq(&self, other: &Blob) -> bool
+        ensures by { result ≡ bytes_eq self.now other.now }
+        ensures same { IsTrue result ↔ (self.now ≡ other.now) }
+    {
+        self.as_slice() == other.as_slice()
+    }
+}
+
+impl Eq for Blob {
+    ghost use Rattle.std.specs.Cmp.Lexicographic.{nat_list_eq_equiv};
+
+    ghost laws = { nat_list_eq_equiv };
 }
 
 /// A value of a row, or one that a statement writes.
@@ -101,5 +165,72 @@ impl Value {
             Value::Text(text) => Value::Text(Text::new(alloc, text.as_str())?),
             Value::Blob(blob) => Value::Blob(Blob::new(alloc, blob.as_slice())?),
         })
+    }
+}
+
+/// Two values are equal where they are one value: of one kind, and there with the same number,
+/// characters or bytes. NULL equals NULL, as it doesn't in a comparison of SQL.
+impl PartialEq for Value {
+    ghost use Rattle.std.specs.Prelude.{◌≡◌, ◌↔◌, IsTrue};
+    ghost use Rattle.std.specs.Cmp.{partial_equiv_from_equiv};
+    ghost use Rattle.rt_sql.specs.Value.{same_value};
+    ghost use Rattle.rt_sql.specs.ValueLaws.{same_value-equiv};
+
+    ghost eq = { same_value };
+
+    ghost laws = { partial_equiv_from_equiv same_value-equiv };
+
+    fn eq(&self, other: &Value) -> bool
+        ensures by { result ≡ same_value self.now other.now }
+        ensures same { IsTrue result ↔ (self.now ≡ other.now) }
+    {
+        match (self, other) {
+            (Value::Null, Value::Null) => true,
+            (Value::Int(own), Value::Int(other)) => own == other,
+            (Value::Text(own), Value::Text(other)) => own == other,
+            (Value::Blob(own), Value::Blob(other)) => own == other,
+            _ => false,
+        }
+    }
+}
+
+impl Eq for Value {
+    ghost use Rattle.rt_sql.specs.ValueLaws.{same_value-equiv};
+
+    ghost laws = { same_value-equiv };
+}
+
+#[cfg(test)]
+mod tests {
+    use super::*;
+
+    fn values(alloc: Global) -> Result<[Value; 4], AllocError> {
+        Ok([
+            Value::Null,
+            Value::Int(1),
+            Value::Text(Text::new(alloc, "1")?),
+            Value::Blob(Blob::new(alloc, b"1")?),
+        ])
+    }
+
+    #[test]
+    fn a_value_equals_itself_alone(rt: HostRuntime) -> Result<(), AllocError> {
+        let (some, others) = (values(rt.alloc())?, values(rt.alloc())?);
+        for (i, own) in some.iter().enumerate() {
+            for (j, other) in others.iter().enumerate() {
+                assert_eq!(rt; own == other, i == j);
+            }
+        }
+        assert!(rt; Value::Int(1) != Value::Int(-1));
+        Ok(())
+    }
+
+    #[test]
+    fn a_text_and_a_blob_give_their_bytes_back(rt: HostRuntime) -> Result<(), AllocError> {
+        let text = Text::new(rt.alloc(), "a'b")?.into_string();
+        assert_eq!(rt; text.as_str(), "a'b");
+        let bytes = Blob::new(rt.alloc(), b"\x00\xFF")?.into_vec();
+        assert_eq!(rt; bytes.as_slice(), b"\x00\xFF".as_slice());
+        Ok(())
     }
 }
