@@ -1,34 +1,33 @@
-# make        builds bin/rtsh
-# make demo   builds it, runs examples/first.sql and checks examples/faulty.dump with it
+# make        proves all crates side by side, and builds bin/rtsh
+# make demo   compiles rtsh without proving it, runs examples/first.sql and checks examples/faulty.dump with it
+# make check  proves what changed
+# make cases  runs the worked scripts and dumps of crates/rt_cases
 # make test   proves everything from nothing, tries the edits that must fail, and runs all tests
-# make bench  prints how long the tree's choices take
+# make bench  prints how long the choices of the R*-tree take
 
 SHELL := /bin/bash
 
-.PHONY: build demo test bench tools
+.PHONY: build demo check cases test bench tools
 
-build: bin/rtsh
-
-bin/rtsh: tools
-	@mkdir -p bin
+build: check
 	@cd crates/rtsh && rt run -- run < /dev/null > ../../bin/build.log 2>&1 || { cat ../../bin/build.log; exit 1; }
 	@cp crates/rtsh/out/rtsh bin/rtsh
 	@echo "built bin/rtsh"
 
-# Both have something to refuse, so the status is 1.
-demo: bin/rtsh
-	@bin/rtsh run examples/first.sql > bin/first.out; test $$? = 1
-	@cat bin/first.out
-	@diff examples/first.out bin/first.out
-	@bin/rtsh check examples/faulty.dump > bin/faulty.out; test $$? = 1
-	@cat bin/faulty.out
-	@diff examples/faulty.out bin/faulty.out
+demo: tools
+	@scripts/demo
+
+check: tools
+	@scripts/prove
+
+cases: tools
+	@cd crates/rt_cases && rt run -- data 2> /dev/null
 
 test: tools
 	rt ci
 
 bench: tools
-	@cd crates/rt_bench && rt run -- laws 2> /dev/null
+	@cd crates/rt_bench && rt run -- choices 2> /dev/null
 
 tools:
 	@command -v rt > /dev/null || { echo "juicedelta: the command rt (the Rattle toolchain) is missing" >&2; exit 1; }

@@ -1,9 +1,18 @@
-ghost use Rattle.std.specs.Prelude.{◌≡◌, ◌+◌, ◌^◌, ◌<◌, ◌≤◌, ◌↔◌, ◌≤ℤ◌, IsTrue, IsSome, IfSome, slice_index_or};
+ghost use Rattle.std.specs.Prelude.{◌≡◌, ◌+◌, ◌*◌, ◌^◌, ◌<◌, ◌≤◌, ◌↔◌, ◌≤ℤ◌, IsTrue, IsSome, IfSome, slice_index_or};
 ghost use Rattle.std.specs.List.{AllZip};
 ghost use Rattle.rt_box.specs.Rect.{IsBox, los, his, area, margin, overlap, union_box, Holds, centre_distance};
 
 use crate::interval::Interval;
 use std::marker::Model;
+
+/// The area of two sides. In 64 bits the product is one instruction, in 128 bits several.
+#[inline]
+fn product(first: u32, second: u32) -> u128
+    ensures value { result ≡ first * second }
+    ensures bound { result ≤ 2 ^ 64 }
+{
+    u128::from(u64::from(first) * u64::from(second))
+}
 
 /// A box of `D` axes, from one to three: on each an interval of 32-bit numbers whose `lo` is not above
 /// its `hi`. The measures are those of the R*-tree (Beckmann, Kriegel, Schneider, Seeger 1990), as whole
@@ -98,6 +107,9 @@ impl<const D: usize> Rect<D> {
         ensures value { result ≡ area self.now }
         ensures bound { result ≤ 2 ^ 96 }
     {
+        if self.axes() == 2 {
+            return product(self.range(0).length(), self.range(1).length());
+        }
         let mut area: u128 = 1;
         for axis in 0..self.axes() {
             area *= u128::from(self.range(axis).length());
@@ -123,6 +135,11 @@ impl<const D: usize> Rect<D> {
         ensures value { result ≡ overlap self.now other.now }
         ensures bound { result ≤ 2 ^ 96 }
     {
+        if self.axes() == 2 {
+            let first = self.range(0).common_part(other.range(0));
+            let second = self.range(1).common_part(other.range(1));
+            return product(first.length(), second.length());
+        }
         let mut area: u128 = 1;
         for axis in 0..self.axes() {
             area *= u128::from(self.range(axis).common_part(other.range(axis)).length());

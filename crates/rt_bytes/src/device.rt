@@ -5,12 +5,16 @@ ghost use Rattle.std.specs.Io.{ReadsAtMost, WritesAtMost};
 ghost use Rattle.std.specs.Io.KnownBytes.{ReadConsumes, WriteAppends, Keeps};
 ghost use Rattle.rt_bytes.specs.Bytes.{one_more, CountsErr};
 
+use thiserror::Error;
+
 /// A read failed.
-#[derive(Clone, Copy, PartialEq, Eq, Debug)]
+#[derive(Clone, Copy, PartialEq, Eq, Debug, Error)]
+#[error("read fault")]
 pub struct ReadFault;
 
 /// A write or a flush failed, or a write took no byte.
-#[derive(Clone, Copy, PartialEq, Eq, Debug)]
+#[derive(Clone, Copy, PartialEq, Eq, Debug, Error)]
+#[error("write fault")]
 pub struct WriteFault;
 
 /// A source of bytes.

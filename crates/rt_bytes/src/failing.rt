@@ -1,10 +1,11 @@
-//! Readers and writers that fail or give up early, for tests.
+//! A reader and a writer that fail at a chosen point, for tests.
 
 ghost use Rattle.std.specs.Prelude.{◌≡◌, ◌+◌, ◌<◌, ◌≤◌, ◌⊎◌, true, false, min, length, IsErr, IfOk, OnOk, OnErr};
 ghost use Rattle.std.specs.Io.{ReadsAtMost, WritesAtMost};
 ghost use Rattle.std.specs.Io.KnownBytes.{Keeps, ReadConsumes, WriteAppends};
 ghost use Rattle.rt_bytes.specs.Bytes.{one_more, CountsErr};
 
+use crate::counts::count_one;
 use crate::device::{ByteReader, ByteWriter, ReadFault, WriteFault};
 
 /// A reader that fails at one of its reads; the others are those of the reader inside.
@@ -72,11 +73,11 @@ impl<R: ByteReader> ByteReader for FailingReader<R> {
         ensures same { self.new.before ≡ self.old.before }
     {
         let is_due = self.reads == self.before;
-        self.reads = self.reads.saturating_add(1);
+        count_one(&mut self.reads);
         if !is_due && let Ok(count) = self.inner.read(buffer) {
             return Ok(count);
         }
-        self.failures = self.failures.saturating_add(1);
+        count_one(&mut self.failures);
         Err(ReadFault)
     }
 }
@@ -141,7 +142,7 @@ impl<W: ByteWriter> ByteWriter for FailingWriter<W> {
                 return Ok(count);
             }
         }
-        self.faults = self.faults.saturating_add(1);
+        count_one(&mut self.faults);
         Err(WriteFault)
     }
 
@@ -156,99 +157,7 @@ impl<W: ByteWriter> ByteWriter for FailingWriter<W> {
         if self.inner.flush().is_ok() {
             return Ok(());
         }
-        self.faults = self.faults.saturating_add(1);
-        Err(WriteFault)
-    }
-}
-
-/// A writer that takes one byte at a time.
-#[derive(Drop)]
-pub struct OneByteWriter<W> {
-    /// The writer inside.
-    pub inner: W,
-}
-
-impl<W: ByteWriter> OneByteWriter<W> {
-    /// Writes to `inner`.
-    pub fn new(inner: W) -> OneByteWriter<W>
-        ensures { result.inner ≡ inner }
-    {
-        OneByteWriter { inner }
-    }
-}
-
-impl<W: ByteWriter> ByteWriter for OneByteWriter<W> {
-    ghost written = { λ w. W.written w.inner };
-
-    ghost faults = { λ w. W.faults w.inner };
-
-    ghost flushed = { λ w. W.flushed w.inner };
-
-    fn write(&mut self, bytes: &[u8]) -> Result<usize, WriteFault>
-        ensures count { WritesAtMost result bytes.now }
-        ensures one { IfOk result (λ n. n ≡ min 1 (length bytes.now)) }
-        ensures bytes { WriteAppends (W.written self.old.inner) (W.written self.new.inner) result bytes.now }
-        ensures failed { CountsErr (W.faults self.old.inner) (W.faults self.new.inner) result }
-        ensures held { IfOk result (λ n. 0 < n → W.flushed self.new.inner ≡ false) }
-    {
-        if bytes.is_empty() {
-            return Ok(0);
-        }
-        self.inner.write(&bytes[..1])
-    }
-
-    fn flush(&mut self) -> Result<(), WriteFault> {
-        self.inner.flush()
-    }
-}
-
-/// A writer whose flush fails.
-#[derive(Drop)]
-pub struct UnflushableWriter<W> {
-    /// The writer inside.
-    pub inner: W,
-    faults: u64,
-}
-
-impl<W: ByteWriter> UnflushableWriter<W> {
-    /// Writes to `inner`, which is never flushed.
-    pub fn new(inner: W) -> UnflushableWriter<W>
-        ensures inner { result.inner ≡ inner }
-        ensures faults { ⟦<UnflushableWriter<W> as ByteWriter>⟧.faults result ≡ 0 }
-    {
-        UnflushableWriter { inner, faults: 0 }
-    }
-
-    /// How many writes and flushes failed.
-    pub fn faults(&self) -> u64
-        ensures { result ≡ ⟦<UnflushableWriter<W> as ByteWriter>⟧.faults self.now }
-    {
-        self.faults
-    }
-}
-
-impl<W: ByteWriter> ByteWriter for UnflushableWriter<W> {
-    ghost written = { λ w. W.written w.inner };
-
-    ghost faults = { λ w. w.faults };
-
-    ghost flushed = { λ w. W.flushed w.inner };
-
-    fn write(&mut self, bytes: &[u8]) -> Result<usize, WriteFault> {
-        if let Ok(count) = self.inner.write(bytes) {
-            return Ok(count);
-        }
-        self.faults = self.faults.saturating_add(1);
-        Err(WriteFault)
-    }
-
-    fn flush(&mut self) -> Result<(), WriteFault>
-        ensures fails { IsErr result }
-        ensures same { self.new.inner ≡ self.old.inner }
-        ensures failed { ⟦<UnflushableWriter<W> as ByteWriter>⟧.faults self.new
-            ≡ one_more (⟦<UnflushableWriter<W> as ByteWriter>⟧.faults self.old) }
-    {
-        self.faults = self.faults.saturating_add(1);
+        count_one(&mut self.faults);
         Err(WriteFault)
     }
 }

@@ -9,16 +9,19 @@
 //! - `Status` and `RunFault`: how a run over a reader and a writer ends.
 #![tactic(auto)]
 
+mod counts;
 mod device;
 mod failing;
 mod memory;
 mod outcome;
 mod over;
+mod partial;
 mod whole;
 
 pub use device::{ByteReader, ByteWriter, ReadFault, WriteFault};
-pub use failing::{FailingReader, FailingWriter, OneByteWriter, UnflushableWriter};
+pub use failing::{FailingReader, FailingWriter};
 pub use memory::{Sink, SliceReader};
 pub use outcome::{MOST_READS, READ_SIZE, RunFault, Status};
 pub use over::{OverRead, OverWrite};
+pub use partial::{OneByteWriter, UnflushableWriter};
 pub use whole::{write_parts, write_whole};

@@ -5,11 +5,19 @@ ghost use Rattle.std.specs.Io.{ReadsAtMost};
 ghost use Rattle.std.specs.Io.KnownBytes.{ReadConsumes};
 ghost use Rattle.rt_bytes.specs.Bytes.{one_more, CountsErr};
 
+use crate::counts::count_one;
 use crate::device::{ByteReader, ByteWriter, ReadFault, WriteFault};
 use std::alloc::Global;
 use std::marker::Model;
 
 /// A reader over a slice, of which each read gives at most a chosen number of bytes.
+///
+/// ```
+/// let mut reader = SliceReader::new(b"abc", 2);
+/// let mut buffer = [0u8; 4];
+/// assert_eq!(rt; reader.read(&mut buffer), Ok(2));
+/// assert_eq!(rt; reader.left(), b"c".as_slice());
+/// ```
 #[derive(Drop)]
 pub struct SliceReader<'a> {
     rest: &'a [u8],
@@ -75,7 +83,7 @@ impl<'a> ByteReader for SliceReader<'a> {
         let (front, rest) = self.rest.split_at(count);
         buffer[..count].copy_from_slice(front);
         self.rest = rest;
-        self.reads = self.reads.saturating_add(1);
+        count_one(&mut self.reads);
         Ok(count)
     }
 }
@@ -153,7 +161,7 @@ impl ByteWriter for Sink {
         match self.bytes.extend_from_slice(bytes) {
             Ok(()) => Ok(bytes.len()),
             Err(_) => {
-                self.faults = self.faults.saturating_add(1);
+                count_one(&mut self.faults);
                 Err(WriteFault)
             }
         }

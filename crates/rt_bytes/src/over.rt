@@ -3,10 +3,17 @@
 ghost use Rattle.std.specs.Prelude.{◌≡◌};
 ghost use Rattle.rt_bytes.specs.Bytes.{one_more};
 
+use crate::counts::count_one;
 use crate::device::{ByteReader, ByteWriter, ReadFault, WriteFault};
 use std::io::{Read, Write};
 
 /// A reader over one of std's: what it has left is what that one has left.
+///
+/// ```
+/// let mut reader = OverRead::new(File::open(&rt, "dump.txt")?);
+/// let mut buffer = [0; READ_SIZE];
+/// let count = reader.read(&mut buffer)?;
+/// ```
 #[derive(Drop)]
 pub struct OverRead<R> {
     inner: R,
@@ -63,11 +70,11 @@ impl<R: Read> ByteReader for OverRead<R> {
     ghost reads = { λ r. r.reads };
 
     fn read(&mut self, buffer: &mut [u8]) -> Result<usize, ReadFault> {
-        self.reads = self.reads.saturating_add(1);
+        count_one(&mut self.reads);
         match self.inner.read(buffer) {
             Ok(count) => Ok(count),
             Err(_) => {
-                self.failures = self.failures.saturating_add(1);
+                count_one(&mut self.failures);
                 Err(ReadFault)
             }
         }
@@ -77,6 +84,12 @@ impl<R: Read> ByteReader for OverRead<R> {
 /// A writer over one of std's: what is written is what that one holds.
 ///
 /// A write of bytes that took none of them is an `Err`.
+///
+/// ```
+/// let mut writer = OverWrite::new(io::writer(&rt));
+/// write_whole(&mut writer, b"ok\n")?;
+/// writer.flush()?;
+/// ```
 #[derive(Drop)]
 pub struct OverWrite<W> {
     inner: W,
@@ -129,7 +142,7 @@ impl<W: Write> ByteWriter for OverWrite<W> {
         match self.inner.write(bytes) {
             Ok(count) if count > 0 || bytes.is_empty() => Ok(count),
             _ => {
-                self.faults = self.faults.saturating_add(1);
+                count_one(&mut self.faults);
                 Err(WriteFault)
             }
         }
@@ -142,7 +155,7 @@ impl<W: Write> ByteWriter for OverWrite<W> {
                 Ok(())
             }
             Err(_) => {
-                self.faults = self.faults.saturating_add(1);
+                count_one(&mut self.faults);
                 Err(WriteFault)
             }
         }

@@ -1,14 +1,19 @@
 //! Writes of all bytes, or of a front of them where the writer fails.
 
 ghost use Rattle.std.specs.List.{flat_map};
-ghost use Rattle.rt_bytes.specs.Bytes.{Writes};
+ghost use Rattle.rt_bytes.specs.Devices.{WritesTo};
 
 use crate::device::{ByteWriter, WriteFault};
 
 /// Writes all of the bytes. After a fault a front of them is written.
+///
+/// ```
+/// let mut sink = Sink::new(rt.alloc());
+/// write_whole(&mut sink, b"row")?;
+/// assert_eq!(rt; sink.bytes(), b"row".as_slice());
+/// ```
 pub fn write_whole<W: ByteWriter>(writer: &mut W, bytes: &[u8]) -> Result<(), WriteFault>
-    ensures { Writes (W.written writer.old) (W.written writer.new) (W.faults writer.old) (W.faults writer.new)
-        result bytes.now }
+    ensures { WritesTo W.ByteWriter writer.old writer.new result bytes.now }
 {
     let mut done = 0;
     while done < bytes.len() {
@@ -19,9 +24,14 @@ pub fn write_whole<W: ByteWriter>(writer: &mut W, bytes: &[u8]) -> Result<(), Wr
 
 /// Writes all of the parts, one after the other. After a fault a front of them together is
 /// written.
+///
+/// ```
+/// let mut sink = Sink::new(rt.alloc());
+/// write_parts(&mut sink, &[b"row", b" ", b"12"])?;
+/// assert_eq!(rt; sink.bytes(), b"row 12".as_slice());
+/// ```
 pub fn write_parts<W: ByteWriter>(writer: &mut W, parts: &[&[u8]]) -> Result<(), WriteFault>
-    ensures { Writes (W.written writer.old) (W.written writer.new) (W.faults writer.old) (W.faults writer.new)
-        result (flat_map (λ part. part.now) parts.now) }
+    ensures { WritesTo W.ByteWriter writer.old writer.new result (flat_map (λ part. part.now) parts.now) }
 {
     for part in parts {
         write_whole(writer, part)?;

@@ -2,3 +2,4 @@ pub mod Known
 pub mod Axes
 pub mod Listing
 pub mod Tallies
+pub mod Hulls

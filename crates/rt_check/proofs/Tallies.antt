@@ -1,5 +1,5 @@
 -- Lemmas on how often cells name numbers.
-use Rattle.std.proofs.Common.{◌≡◌, ℕ, zero, suc, ◌+◌, ◌<◌, min, ℤ, List, [], ◌∷◌, ◌++◌, Bool, true, false, not, cond, map, refl, sym, ◌∙◌, ap, subst, length, get_or, set, take, replicate, arith, append-nil}
+use Rattle.std.proofs.Common.{◌≡◌, ℕ, zero, suc, ◌+◌, ◌<◌, min, ◌==◌, ℤ, List, [], ◌∷◌, ◌++◌, Bool, true, false, not, cond, map, refl, sym, ◌∙◌, ap, subst, length, get_or, set, take, replicate, arith, append-nil}
 use Rattle.std.proofs.lemmas.List.{take_more}
 use Rattle.std.proofs.lemmas.List.Sums.{sum_by-append}
 use Rattle.std.proofs.lemmas.Grind.{flat_map-append}
@@ -10,7 +10,9 @@ use Rattle.std.specs.Ordering.{int_eq}
 use Rattle.rt_check.specs.declared.node.RawCell.{RawCell}
 use Rattle.rt_check.specs.declared.node.NodeRow.{NodeRow}
 use Rattle.rt_check.specs.Conditions.{times_named, is_leaf, leaf_cells, inner_cells}
-use Rattle.rt_check.specs.Tally.{tallies, named_cells}
+use Rattle.rt_check.specs.Tally.{tallies, named_by_leaves, cells_naming}
+use Rattle.rt_check.specs.declared.tally.Named.{Named}
+use Rattle.rt_check.specs.declared.tally.Named.TheVariants.{Nodes, Rows}
 use Rattle.rt_check.proofs.Known.{same_number}
 
 -- two numbers that differ do so either way round
@@ -44,9 +46,16 @@ tallies-none : (D : ℕ) (ks : List ℤ) → replicate (length ks) 0 ≡ tallies
 tallies-none D [] = refl
 tallies-none D (k ∷ ks) = ap (λ l. 0 ∷ l) (tallies-none D ks)
 
-pub tallies-start : (D : ℕ) (leaves : Bool) (ks : List ℤ) (n : ℕ) → n ≡ length ks → replicate n 0 ≡ tallies {D = D} ks (named_cells leaves [])
-tallies-start D true ks n e = ap (λ m. replicate m 0) e ∙ tallies-none D ks
-tallies-start D false ks n e = ap (λ m. replicate m 0) e ∙ tallies-none D ks
+pub tallies-start : (D : ℕ) (named : Named) (ks : List ℤ) (n : ℕ) → n ≡ length ks → replicate n 0 ≡ tallies {D = D} ks (cells_naming named [])
+tallies-start D Rows ks n e = ap (λ m. replicate m 0) e ∙ tallies-none D ks
+tallies-start D Nodes ks n e = ap (λ m. replicate m 0) e ∙ tallies-none D ks
+
+-- a tally is 1 exactly where one cell names the number
+pub tally-one : (n t : ℕ) → t ≡ min 2 n → t ≡ 1 → (n == 1) ≡ true
+tally-one n t e one = let same : n ≡ 1 = omega (arith, e, one) in ap (λ m. m == 1) same
+
+pub tally-other : (n t : ℕ) → t ≡ min 2 n → (t ≡ 1 → ⊥) → (n == 1) ≡ false
+tally-other n t e other = let differs : n ≡ 1 → ⊥ = λ same. other (e ∙ ap (min 2) same) in grind (arith, differs)
 
 module _ {D : ℕ} where
   -- one cell more
@@ -100,21 +109,21 @@ module _ {D : ℕ} where
   tallies-at key (x ∷ xs) cells (suc i) d within = let inside : i < length xs = omega (arith, within) in tallies-at key xs cells i d inside
 
   -- one node more adds its cells, if it is of the wanted kind
-  pub named_cells-more : (leaves : Bool) (nodes : List (NodeRow D)) (i : ℕ) (d : NodeRow D) → i < length nodes → is_leaf (get_or nodes i d) ≡ leaves
-      → named_cells leaves (take (i + 1) nodes) ≡ named_cells leaves (take i nodes) ++ (get_or nodes i d).cells
-  named_cells-more true nodes i d within e =
+  pub cells_naming-more : (named : Named) (nodes : List (NodeRow D)) (i : ℕ) (d : NodeRow D) → i < length nodes → is_leaf (get_or nodes i d) ≡ named_by_leaves named
+      → cells_naming named (take (i + 1) nodes) ≡ cells_naming named (take i nodes) ++ (get_or nodes i d).cells
+  cells_naming-more Rows nodes i d within e =
       ap leaf_cells (take_more nodes i d within) ∙ flat_map-append (λ n. cond (is_leaf n) n.cells []) (take i nodes) (get_or nodes i d ∷ [])
       ∙ ap (λ l. leaf_cells (take i nodes) ++ l) (append-nil _ ∙ ap (λ b. cond b (get_or nodes i d).cells []) e)
-  named_cells-more false nodes i d within e =
+  cells_naming-more Nodes nodes i d within e =
       ap inner_cells (take_more nodes i d within) ∙ flat_map-append (λ n. cond (is_leaf n) [] n.cells) (take i nodes) (get_or nodes i d ∷ [])
       ∙ ap (λ l. inner_cells (take i nodes) ++ l) (append-nil _ ∙ ap (λ b. cond b [] (get_or nodes i d).cells) e)
 
   -- a node of the other kind adds none
-  pub named_cells-same : (leaves : Bool) (nodes : List (NodeRow D)) (i : ℕ) (d : NodeRow D) → i < length nodes → is_leaf (get_or nodes i d) ≡ not leaves
-      → named_cells leaves (take (i + 1) nodes) ≡ named_cells leaves (take i nodes)
-  named_cells-same true nodes i d within e =
+  pub cells_naming-same : (named : Named) (nodes : List (NodeRow D)) (i : ℕ) (d : NodeRow D) → i < length nodes → is_leaf (get_or nodes i d) ≡ not (named_by_leaves named)
+      → cells_naming named (take (i + 1) nodes) ≡ cells_naming named (take i nodes)
+  cells_naming-same Rows nodes i d within e =
       ap leaf_cells (take_more nodes i d within) ∙ flat_map-append (λ n. cond (is_leaf n) n.cells []) (take i nodes) (get_or nodes i d ∷ [])
       ∙ ap (λ l. leaf_cells (take i nodes) ++ l) (append-nil _ ∙ ap (λ b. cond b (get_or nodes i d).cells []) e) ∙ append-nil _
-  named_cells-same false nodes i d within e =
+  cells_naming-same Nodes nodes i d within e =
       ap inner_cells (take_more nodes i d within) ∙ flat_map-append (λ n. cond (is_leaf n) [] n.cells) (take i nodes) (get_or nodes i d ∷ [])
       ∙ ap (λ l. inner_cells (take i nodes) ++ l) (append-nil _ ∙ ap (λ b. cond b [] (get_or nodes i d).cells) e) ∙ append-nil _

@@ -8,8 +8,22 @@ use Rattle.rt_box.specs.Capacity.{least_fill}
 use Rattle.rt_check.specs.declared.node.NodeRow.{NodeRow}
 use Rattle.rt_check.specs.declared.node.RawCell.{RawCell}
 use Rattle.rt_check.specs.declared.node.RowEntry.{RowEntry}
-use Rattle.rt_check.specs.declared.checker.Problem.{Problem}
+use Rattle.rt_check.specs.declared.problem.Problem.{Problem}
+use Rattle.rt_check.specs.declared.problem.Condition.{Condition}
+use Rattle.rt_check.specs.declared.problem.Condition.TheVariants.{HasRoot, HasPlace, NamesChild, IsOrdered, HoldsChild, FitsChild, IsFilled, HasEntry, HasCell}
 use Rattle.rt_check.specs.Shadow.{ShadowLists}
+
+-- the number by which a condition is printed
+abbrev pub code_of : Condition → ℕ
+code_of HasRoot = 1
+code_of HasPlace = 2
+code_of NamesChild = 3
+code_of IsOrdered = 4
+code_of HoldsChild = 5
+code_of FitsChild = 6
+code_of IsFilled = 7
+code_of HasEntry = 8
+code_of HasCell = 9
 
 -- each axis below n passes the test
 abbrev pub each_axis : (ℕ → Bool) → ℕ → Bool
@@ -121,37 +135,37 @@ numbered xs = enumerate_from 1 xs
 module _ {D : ℕ} where
   -- the problem of a root that isn't there, or has a parent
   abbrev pub root_problems : ShadowLists D → List Problem
-  root_problems s = if has_root s then [] else record { condition = 1; node = s.root; position = 0 } ∷ []
+  root_problems s = if has_root s then [] else record { condition = HasRoot; node = s.root; position = 0 } ∷ []
 
   -- the problems of the nodes that fail a test
-  abbrev pub node_problems : ℕ → (NodeRow D → Bool) → List (NodeRow D) → List Problem
+  abbrev pub node_problems : Condition → (NodeRow D → Bool) → List (NodeRow D) → List Problem
   node_problems condition test nodes = failing test (λ n. record { condition = condition; node = n.number; position = 0 }) nodes
 
   -- the problems of the cells of a node that fail a test
-  abbrev pub cell_problems_of : ℕ → (NodeRow D → RawCell D → Bool) → NodeRow D → List Problem
+  abbrev pub cell_problems_of : Condition → (NodeRow D → RawCell D → Bool) → NodeRow D → List Problem
   cell_problems_of condition test node =
       failing (λ c. test node c.1) (λ c. record { condition = condition; node = node.number; position = c.0 }) (numbered node.cells)
 
   -- the problems of all cells that fail a test
-  abbrev pub cell_problems : ℕ → (NodeRow D → RawCell D → Bool) → List (NodeRow D) → List Problem
+  abbrev pub cell_problems : Condition → (NodeRow D → RawCell D → Bool) → List (NodeRow D) → List Problem
   cell_problems condition test nodes = flat_map (cell_problems_of condition test) nodes
 
 -- the problems of the row entries that fail a test
-abbrev pub row_problems : ℕ → (RowEntry → Bool) → List RowEntry → List Problem
+abbrev pub row_problems : Condition → (RowEntry → Bool) → List RowEntry → List Problem
 row_problems condition test rows = failing (λ r. test r.1) (λ r. record { condition = condition; node = r.1.leaf; position = r.0 }) (numbered rows)
 
 module _ {D : ℕ} where
   -- the problems of a shadow: by condition, and then in the order of its lists
   abbrev pub problems_of : ShadowLists D → List Problem
   problems_of s = root_problems s
-      ++ node_problems 2 (has_place s) s.nodes
-      ++ cell_problems 3 (λ n c. is_leaf n || names_child s n c) s.nodes
-      ++ cell_problems 4 (λ n c. is_ordered c) s.nodes
-      ++ cell_problems 5 (λ n c. is_leaf n || holds_child s c) s.nodes
-      ++ cell_problems 6 (λ n c. is_leaf n || fits_child s c) s.nodes
-      ++ node_problems 7 (is_filled s) s.nodes
-      ++ cell_problems 8 (λ n c. not (is_leaf n) || has_entry s n c) s.nodes
-      ++ row_problems 9 (has_cell s) s.rows
+      ++ node_problems HasPlace (has_place s) s.nodes
+      ++ cell_problems NamesChild (λ n c. is_leaf n || names_child s n c) s.nodes
+      ++ cell_problems IsOrdered (λ n c. is_ordered c) s.nodes
+      ++ cell_problems HoldsChild (λ n c. is_leaf n || holds_child s c) s.nodes
+      ++ cell_problems FitsChild (λ n c. is_leaf n || fits_child s c) s.nodes
+      ++ node_problems IsFilled (is_filled s) s.nodes
+      ++ cell_problems HasEntry (λ n c. not (is_leaf n) || has_entry s n c) s.nodes
+      ++ row_problems HasCell (has_cell s) s.rows
 
   -- a shadow without a problem
   abbrev pub IsSound : ShadowLists D → Type 0

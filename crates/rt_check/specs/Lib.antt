@@ -3,3 +3,4 @@ pub mod ShadowInside
 pub mod Conditions
 pub mod CellConditions
 pub mod Tally
+pub mod Fits

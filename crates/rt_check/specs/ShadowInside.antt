@@ -1,5 +1,7 @@
 -- How a `Shadow` keeps its lists. No public clause cites this module.
 use Rattle.std.specs.Prelude.{◌≡◌, ℕ, ◌≤◌, map}
+use Rattle.std.specs.List.{IsDistinct}
+use Rattle.std.specs.Ordering.{int_eq}
 use Rattle.rt_check.specs.Shadow.{ShadowLists}
 use Rattle.rt_check.specs.declared.shadow.Shadow.TheInside.{Inside}
 
@@ -13,3 +15,5 @@ module _ {D : ℕ} where
     pub few : D ≤ 3
     pub numbers : s.numbers.keys ≡ map (λ n. n.number) s.nodes.items
     pub ids : s.ids.keys ≡ map (λ r. r.id) s.rows.items
+    pub numbers_differ : IsDistinct int_eq s.numbers.keys
+    pub ids_differ : IsDistinct int_eq s.ids.keys

@@ -3,28 +3,19 @@
 ghost use Rattle.std.specs.Prelude.{◌≡◌, ◌++◌, IfOk, OnOk};
 ghost use Rattle.rt_check.specs.Shadow.{numbers_of, ids_of};
 ghost use Rattle.rt_check.specs.Conditions.{has_place, is_filled, has_cell, inner_cells, leaf_cells, node_problems, cell_problems, cell_problems_of, row_problems, root_problems, problems_of};
-ghost use Rattle.rt_check.specs.CellConditions.{condition_number, meets_condition};
+ghost use Rattle.rt_check.specs.CellConditions.{condition_of, meets_condition};
+ghost use Rattle.rt_check.specs.Fits.{AllFit};
 ghost use Rattle.rt_check.specs.Tally.{tallies};
 
-use crate::conditions::{CellCondition, has_cell, has_place, has_root, is_filled, meets};
-use crate::node::{NodeRow, RowEntry};
+use crate::conditions::{CellCondition, has_place, has_root, is_filled, meets};
+use crate::fits::fitting_cells;
+use crate::node::{NodeRow, RawCell, RowEntry};
+use crate::problem::{Condition, Problem};
 use crate::shadow::Shadow;
-use crate::tally::tally;
+use crate::tally::{Named, tally};
 use std::alloc::{AllocError, Global};
 
-/// A condition that fails somewhere in a shadow.
-#[derive(Clone, Copy, PartialEq, Eq, Debug)]
-pub struct Problem {
-    /// The condition, from 1 to 9.
-    pub condition: u8,
-    /// The number of the node: for condition 1 the root's, for 9 that of the entry's leaf.
-    pub node: i64,
-    /// The cell's position in the node, or for condition 9 the row entry's, counted from 1; 0 is
-    /// the node as a whole.
-    pub position: u64,
-}
-
-fn node_problem<const D: usize>(condition: u8, node: &NodeRow<D>, position: u64) -> Problem
+fn node_problem<const D: usize>(condition: Condition, node: &NodeRow<D>, position: u64) -> Problem
     ensures { result ≡ record { condition = condition; node = node.now.number; position = position } }
 {
     Problem {
@@ -49,20 +40,20 @@ fn list_root<const D: usize>(
 }
 
 fn root_problem<const D: usize>(shadow: &Shadow<D>) -> Problem
-    ensures { result ≡ record { condition = 1; node = shadow.now.root; position = 0 } }
+    ensures { result ≡ record { condition = Condition.HasRoot; node = shadow.now.root; position = 0 } }
 {
     Problem {
-        condition: 1,
+        condition: Condition::HasRoot,
         node: shadow.root(),
         position: 0,
     }
 }
 
 fn row_problem(row: &RowEntry, position: u64) -> Problem
-    ensures { result ≡ record { condition = 9; node = row.now.leaf; position = position } }
+    ensures { result ≡ record { condition = Condition.HasCell; node = row.now.leaf; position = position } }
 {
     Problem {
-        condition: 9,
+        condition: Condition::HasCell,
         node: row.leaf,
         position,
     }
@@ -72,17 +63,19 @@ fn row_problem(row: &RowEntry, position: u64) -> Problem
 fn list_cells_of<const D: usize>(
     problems: &mut Vec<Problem>,
     shadow: &Shadow<D>,
+    fits: &[Option<RawCell<D>>],
     condition: CellCondition,
     node: &NodeRow<D>,
 ) -> Result<(), AllocError>
+    requires { AllFit shadow.now.nodes fits.now }
     ensures { OnOk result (problems.new.items ≡ problems.old.items
-        ++ cell_problems_of (condition_number condition) (meets_condition shadow.now condition) node.now) }
+        ++ cell_problems_of (condition_of condition) (meets_condition shadow.now condition) node.now) }
 {
     for (index, cell) in node.cells.as_slice().iter().enumerate() {
-        if meets(shadow, condition, node, cell) {
+        if meets(shadow, fits, condition, node, cell) {
             continue;
         }
-        problems.push(node_problem(condition.number(), node, index as u64 + 1))?;
+        problems.push(node_problem(condition.condition(), node, index as u64 + 1))?;
     }
     Ok(())
 }
@@ -91,13 +84,15 @@ fn list_cells_of<const D: usize>(
 fn list_cells<const D: usize>(
     problems: &mut Vec<Problem>,
     shadow: &Shadow<D>,
+    fits: &[Option<RawCell<D>>],
     condition: CellCondition,
 ) -> Result<(), AllocError>
+    requires { AllFit shadow.now.nodes fits.now }
     ensures { OnOk result (problems.new.items ≡ problems.old.items
-        ++ cell_problems (condition_number condition) (meets_condition shadow.now condition) shadow.now.nodes) }
+        ++ cell_problems (condition_of condition) (meets_condition shadow.now condition) shadow.now.nodes) }
 {
     for node in shadow.nodes() {
-        list_cells_of(problems, shadow, condition, node)?;
+        list_cells_of(problems, shadow, fits, condition, node)?;
     }
     Ok(())
 }
@@ -107,13 +102,13 @@ fn list_unfilled<const D: usize>(
     problems: &mut Vec<Problem>,
     shadow: &Shadow<D>,
 ) -> Result<(), AllocError>
-    ensures { OnOk result (problems.new.items ≡ problems.old.items ++ node_problems 7 (is_filled shadow.now) shadow.now.nodes) }
+    ensures { OnOk result (problems.new.items ≡ problems.old.items ++ node_problems Condition.IsFilled (is_filled shadow.now) shadow.now.nodes) }
 {
     for node in shadow.nodes() {
         if is_filled(shadow, node) {
             continue;
         }
-        problems.push(node_problem(7, node, 0))?;
+        problems.push(node_problem(Condition::IsFilled, node, 0))?;
     }
     Ok(())
 }
@@ -127,13 +122,13 @@ fn list_misplaced<const D: usize>(
     named: &[u8],
 ) -> Result<(), AllocError>
     requires { named.now ≡ tallies (numbers_of shadow.now.nodes) (inner_cells shadow.now.nodes) }
-    ensures { OnOk result (problems.new.items ≡ problems.old.items ++ node_problems 2 (has_place shadow.now) shadow.now.nodes) }
+    ensures { OnOk result (problems.new.items ≡ problems.old.items ++ node_problems Condition.HasPlace (has_place shadow.now) shadow.now.nodes) }
 {
     for (index, node) in shadow.nodes().iter().enumerate() {
         if has_place(shadow, node, named[index]) {
             continue;
         }
-        problems.push(node_problem(2, node, 0))?;
+        problems.push(node_problem(Condition::HasPlace, node, 0))?;
     }
     Ok(())
 }
@@ -147,10 +142,10 @@ fn list_rows<const D: usize>(
     named: &[u8],
 ) -> Result<(), AllocError>
     requires { named.now ≡ tallies (ids_of shadow.now.rows) (leaf_cells shadow.now.nodes) }
-    ensures { OnOk result (problems.new.items ≡ problems.old.items ++ row_problems 9 (has_cell shadow.now) shadow.now.rows) }
+    ensures { OnOk result (problems.new.items ≡ problems.old.items ++ row_problems Condition.HasCell (has_cell shadow.now) shadow.now.rows) }
 {
     for (index, row) in shadow.rows().iter().enumerate() {
-        if has_cell(shadow, row, named[index]) {
+        if named[index] == 1 {
             continue;
         }
         problems.push(row_problem(row, index as u64 + 1))?;
@@ -160,21 +155,33 @@ fn list_rows<const D: usize>(
 
 /// Lists all problems of a shadow, each once: by condition, and then in the order of its lists.
 /// The list is empty exactly where the shadow is sound.
+///
+/// ```
+/// let keys = RandomState::new(&rt)?;
+/// let capacity = Capacity::new(51).ok_or("a capacity")?;
+/// let mut shadow: Shadow<2> = Shadow::new(rt.alloc(), keys, capacity, 1);
+/// let root = NodeRow { number: 1, level: 0, parent: None, cells: Items::new(rt.alloc()) };
+/// shadow.add_node(root)?;
+/// shadow.add_cell(RawCell { number: 7, lo: [0, 0], hi: [3, 4] })?;
+/// shadow.add_row(RowEntry { id: 7, leaf: 1 })?;
+/// assert!(rt; check(rt.alloc(), &shadow)?.is_empty());
+/// ```
 pub fn check<const D: usize>(alloc: Global, shadow: &Shadow<D>) -> Result<Vec<Problem>, AllocError>
     ensures { IfOk result (λ problems. problems.items ≡ problems_of shadow.now) }
 {
-    let _ = shadow.capacity();
-    let named = tally(alloc, shadow.numbers(), shadow.nodes(), false)?;
+    let named = tally(alloc, shadow, Named::Nodes)?;
+    let fits = fitting_cells(alloc, shadow.nodes())?;
+    let fits = fits.as_slice();
     let mut problems = Vec::new(alloc);
     list_root(&mut problems, shadow)?;
     list_misplaced(&mut problems, shadow, named.as_slice())?;
-    list_cells(&mut problems, shadow, CellCondition::Names)?;
-    list_cells(&mut problems, shadow, CellCondition::Ordered)?;
-    list_cells(&mut problems, shadow, CellCondition::Holds)?;
-    list_cells(&mut problems, shadow, CellCondition::Fits)?;
+    list_cells(&mut problems, shadow, fits, CellCondition::Names)?;
+    list_cells(&mut problems, shadow, fits, CellCondition::Ordered)?;
+    list_cells(&mut problems, shadow, fits, CellCondition::Holds)?;
+    list_cells(&mut problems, shadow, fits, CellCondition::Fits)?;
     list_unfilled(&mut problems, shadow)?;
-    list_cells(&mut problems, shadow, CellCondition::HasEntry)?;
-    let named = tally(alloc, shadow.ids(), shadow.nodes(), true)?;
+    list_cells(&mut problems, shadow, fits, CellCondition::Entered)?;
+    let named = tally(alloc, shadow, Named::Rows)?;
     list_rows(&mut problems, shadow, named.as_slice())?;
     Ok(problems)
 }
@@ -182,10 +189,11 @@ pub fn check<const D: usize>(alloc: Global, shadow: &Shadow<D>) -> Result<Vec<Pr
 #[cfg(test)]
 mod tests {
     use super::*;
-    use crate::items::Items;
     use crate::node::RawCell;
     use crate::shadow::ShadowFault;
     use rt_box::Capacity;
+    use sqlite_items::Items;
+    use std::hash::RandomState;
     use std::test::Fail;
 
     fn cell(number: i64, lo: i32, hi: i32) -> RawCell<1> {
@@ -205,17 +213,23 @@ mod tests {
         }
     }
 
-    fn empty(alloc: Global) -> Result<Shadow<1>, Fail> {
-        Ok(Shadow::new(alloc, Capacity::new(5).ok_or("5")?, 1))
+    fn empty(rt: &HostRuntime) -> Result<Shadow<1>, Fail> {
+        Ok(Shadow::new(
+            rt.alloc(),
+            RandomState::new(rt)?,
+            Capacity::new(5).ok_or("5")?,
+            1,
+        ))
     }
 
     /// A root over two leaves of three points: 0 to 2, and 10 to 12.
     fn two_leaves(
-        alloc: Global,
+        rt: &HostRuntime,
         second: RawCell<1>,
         first_row: RawCell<1>,
     ) -> Result<Shadow<1>, Fail> {
-        let mut shadow = empty(alloc)?;
+        let alloc = rt.alloc();
+        let mut shadow = empty(rt)?;
         let root = vec![in alloc; cell(2, 0, 2), second]?;
         let first = vec![in alloc; cell(1, 0, 0), cell(2, 1, 1), cell(3, 2, 2)]?;
         let last = vec![in alloc; first_row, cell(5, 11, 11), cell(6, 12, 12)]?;
@@ -231,7 +245,7 @@ mod tests {
         Ok(shadow)
     }
 
-    fn problem(condition: u8, node: i64, position: u64) -> Problem {
+    fn problem(condition: Condition, node: i64, position: u64) -> Problem {
         Problem {
             condition,
             node,
@@ -241,33 +255,43 @@ mod tests {
 
     #[test]
     fn a_sound_shadow_has_no_problem(rt: HostRuntime) -> Result<(), Fail> {
-        let shadow = two_leaves(rt.alloc(), cell(3, 10, 12), cell(4, 10, 10))?;
+        let shadow = two_leaves(&rt, cell(3, 10, 12), cell(4, 10, 10))?;
         assert_eq!(rt; check(rt.alloc(), &shadow)?.len(), 0);
         Ok(())
     }
 
     #[test]
     fn a_box_too_wide_is_found(rt: HostRuntime) -> Result<(), Fail> {
-        let shadow = two_leaves(rt.alloc(), cell(3, 10, 13), cell(4, 10, 10))?;
+        let shadow = two_leaves(&rt, cell(3, 10, 13), cell(4, 10, 10))?;
         let problems = check(rt.alloc(), &shadow)?;
-        assert_eq!(rt; problems.as_slice(), [problem(6, 1, 2)].as_slice());
+        assert_eq!(rt;
+            problems.as_slice(),
+            [problem(Condition::FitsChild, 1, 2)].as_slice()
+        );
         Ok(())
     }
 
     #[test]
     fn a_row_in_two_leaves_is_found(rt: HostRuntime) -> Result<(), Fail> {
-        let shadow = two_leaves(rt.alloc(), cell(3, 10, 12), cell(1, 10, 10))?;
+        let shadow = two_leaves(&rt, cell(3, 10, 12), cell(1, 10, 10))?;
         let problems = check(rt.alloc(), &shadow)?;
-        let wanted = [problem(8, 3, 1), problem(9, 2, 1), problem(9, 3, 4)];
+        let wanted = [
+            problem(Condition::HasEntry, 3, 1),
+            problem(Condition::HasCell, 2, 1),
+            problem(Condition::HasCell, 3, 4),
+        ];
         assert_eq!(rt; problems.as_slice(), wanted.as_slice());
         Ok(())
     }
 
     #[test]
     fn a_root_is_wanted_and_may_be_an_empty_leaf(rt: HostRuntime) -> Result<(), Fail> {
-        let mut shadow = empty(rt.alloc())?;
+        let mut shadow = empty(&rt)?;
         let problems = check(rt.alloc(), &shadow)?;
-        assert_eq!(rt; problems.as_slice(), [problem(1, 1, 0)].as_slice());
+        assert_eq!(rt;
+            problems.as_slice(),
+            [problem(Condition::HasRoot, 1, 0)].as_slice()
+        );
         let root = node(1, 0, None, Vec::new(rt.alloc()));
         assert_eq!(rt; shadow.add_node(root), Ok(()));
         assert_eq!(rt; check(rt.alloc(), &shadow)?.len(), 0);
@@ -276,7 +300,7 @@ mod tests {
 
     #[test]
     fn nodes_that_name_each_other_are_found(rt: HostRuntime) -> Result<(), Fail> {
-        let mut shadow = empty(rt.alloc())?;
+        let mut shadow = empty(&rt)?;
         let first = vec![in rt.alloc(); cell(3, 0, 0)]?;
         let second = vec![in rt.alloc(); cell(2, 0, 0)]?;
         assert_eq!(rt;
@@ -287,10 +311,10 @@ mod tests {
         assert_eq!(rt; shadow.add_node(node(3, 1, Some(2), second)), Ok(()));
         let problems = check(rt.alloc(), &shadow)?;
         let wanted = [
-            problem(2, 2, 0),
-            problem(2, 3, 0),
-            problem(7, 2, 0),
-            problem(7, 3, 0),
+            problem(Condition::HasPlace, 2, 0),
+            problem(Condition::HasPlace, 3, 0),
+            problem(Condition::IsFilled, 2, 0),
+            problem(Condition::IsFilled, 3, 0),
         ];
         assert_eq!(rt; problems.as_slice(), wanted.as_slice());
         Ok(())
@@ -298,7 +322,7 @@ mod tests {
 
     #[test]
     fn a_number_is_listed_once(rt: HostRuntime) -> Result<(), Fail> {
-        let mut shadow = empty(rt.alloc())?;
+        let mut shadow = empty(&rt)?;
         assert_eq!(rt; shadow.add_row(RowEntry { id: 7, leaf: 1 }), Ok(()));
         assert_eq!(rt;
             shadow.add_row(RowEntry { id: 7, leaf: 2 }),

@@ -1,12 +1,13 @@
 //! The tests of the nine conditions.
 
 ghost use Rattle.std.specs.Prelude.{◌≡◌, ◌<◌, ◌&&◌, min, int_le};
-ghost use Rattle.std.specs.List.{list_any, list_all};
-ghost use Rattle.std.specs.Ordering.{int_eq};
-ghost use Rattle.rt_check.specs.Conditions.{coordinate, has_root, is_root, is_below, has_place, names_child, is_ordered, lies_in, holds_child, is_reached, is_hull, fits_child, is_filled, has_entry, has_cell, times_named, inner_cells, leaf_cells};
+ghost use Rattle.rt_check.specs.Conditions.{coordinate, has_root, is_root, is_below, has_place, names_child, is_ordered, lies_in, holds_child, fits_child, is_filled, has_entry, times_named, inner_cells};
 ghost use Rattle.rt_check.specs.CellConditions.{meets_condition};
+ghost use Rattle.rt_check.specs.Fits.{AllFit};
 
-use crate::node::{NodeRow, RawCell, RowEntry};
+use crate::fits::fit_of;
+use crate::node::{NodeRow, RawCell};
+use crate::problem::Condition;
 use crate::shadow::Shadow;
 
 /// The conditions that speak of a cell.
@@ -21,22 +22,22 @@ pub(crate) enum CellCondition {
     /// C6: the cell is the hull of the cells of the node that it names.
     Fits,
     /// C8: the cell of a leaf has a row entry with its id and this leaf.
-    HasEntry,
+    Entered,
 }
 
 impl CellCondition {
-    ghost use Rattle.rt_check.specs.CellConditions.{condition_number};
+    ghost use Rattle.rt_check.specs.CellConditions.{condition_of};
 
-    /// The condition's number.
-    pub(crate) fn number(self) -> u8
-        ensures { result ≡ condition_number self }
+    /// The condition by its name among all.
+    pub(crate) fn condition(self) -> Condition
+        ensures { result ≡ condition_of self }
     {
         match self {
-            CellCondition::Names => 3,
-            CellCondition::Ordered => 4,
-            CellCondition::Holds => 5,
-            CellCondition::Fits => 6,
-            CellCondition::HasEntry => 8,
+            CellCondition::Names => Condition::NamesChild,
+            CellCondition::Ordered => Condition::IsOrdered,
+            CellCondition::Holds => Condition::HoldsChild,
+            CellCondition::Fits => Condition::FitsChild,
+            CellCondition::Entered => Condition::HasEntry,
         }
     }
 }
@@ -80,97 +81,42 @@ fn lies_in<const D: usize>(inner: &RawCell<D>, outer: &RawCell<D>) -> bool
     true
 }
 
-/// Whether all of the cells lie in the outer one.
-fn holds_all<const D: usize>(outer: &RawCell<D>, cells: &[RawCell<D>]) -> bool
-    ensures { result ≡ list_all (λ x. lies_in x outer.now) cells.now }
-{
-    for cell in cells {
-        if !lies_in(cell, outer) {
-            return false;
-        }
-    }
-    true
-}
-
-/// Whether some of the cells reaches down to the outer one's lo on that axis.
-fn reaches_lo<const D: usize>(outer: &RawCell<D>, cells: &[RawCell<D>], axis: usize) -> bool
-    requires { axis < D }
-    ensures { result ≡ list_any (λ x. int_eq (coordinate x.lo axis) (coordinate outer.now.lo axis)) cells.now }
-{
-    for cell in cells {
-        if cell.lo[axis] == outer.lo[axis] {
-            return true;
-        }
-    }
-    false
-}
-
-/// Whether some of the cells reaches up to the outer one's hi on that axis.
-fn reaches_hi<const D: usize>(outer: &RawCell<D>, cells: &[RawCell<D>], axis: usize) -> bool
-    requires { axis < D }
-    ensures { result ≡ list_any (λ x. int_eq (coordinate x.hi axis) (coordinate outer.now.hi axis)) cells.now }
-{
-    for cell in cells {
-        if cell.hi[axis] == outer.hi[axis] {
-            return true;
-        }
-    }
-    false
-}
-
-/// Whether the cells reach both ends of the outer one's range on that axis.
-fn is_reached_on<const D: usize>(outer: &RawCell<D>, cells: &[RawCell<D>], axis: usize) -> bool
-    requires { axis < D }
-    ensures { result ≡ (list_any (λ x. int_eq (coordinate x.lo axis) (coordinate outer.now.lo axis)) cells.now
-        && list_any (λ x. int_eq (coordinate x.hi axis) (coordinate outer.now.hi axis)) cells.now) }
-{
-    reaches_lo(outer, cells, axis) && reaches_hi(outer, cells, axis)
-}
-
-/// Whether the cells reach both ends of the outer one's range on each axis.
-fn is_reached<const D: usize>(outer: &RawCell<D>, cells: &[RawCell<D>]) -> bool
-    ensures { result ≡ is_reached outer.now cells.now }
-{
-    for axis in 0..D {
-        if !is_reached_on(outer, cells, axis) {
-            return false;
-        }
-    }
-    true
-}
-
-fn is_hull<const D: usize>(outer: &RawCell<D>, cells: &[RawCell<D>]) -> bool
-    ensures { result ≡ is_hull outer.now cells.now }
-{
-    holds_all(outer, cells) && is_reached(outer, cells)
-}
-
 /// C3: the cell names a listed node whose parent is this node.
 fn names_child<const D: usize>(shadow: &Shadow<D>, node: &NodeRow<D>, cell: &RawCell<D>) -> bool
     ensures { result ≡ names_child shadow.now node.now cell.now }
 {
-    match shadow.node(&cell.number) {
+    match shadow.node(cell.number) {
         Some(child) => child.parent == Some(node.number),
         None => false,
     }
 }
 
 /// C5: the cells of the node that the cell names lie in it.
-fn holds_child<const D: usize>(shadow: &Shadow<D>, cell: &RawCell<D>) -> bool
+fn holds_child<const D: usize>(
+    shadow: &Shadow<D>,
+    fits: &[Option<RawCell<D>>],
+    cell: &RawCell<D>,
+) -> bool
+    requires { AllFit shadow.now.nodes fits.now }
     ensures { result ≡ holds_child shadow.now cell.now }
 {
-    match shadow.node(&cell.number) {
-        Some(child) => holds_all(cell, child.cells.as_slice()),
+    match fit_of(shadow, fits, cell) {
+        Some(fit) => lies_in(fit, cell),
         None => true,
     }
 }
 
 /// C6: the cell is the hull of the cells of the node that it names.
-fn fits_child<const D: usize>(shadow: &Shadow<D>, cell: &RawCell<D>) -> bool
+fn fits_child<const D: usize>(
+    shadow: &Shadow<D>,
+    fits: &[Option<RawCell<D>>],
+    cell: &RawCell<D>,
+) -> bool
+    requires { AllFit shadow.now.nodes fits.now }
     ensures { result ≡ fits_child shadow.now cell.now }
 {
-    match shadow.node(&cell.number) {
-        Some(child) => child.cells.len() == 0 || is_hull(cell, child.cells.as_slice()),
+    match fit_of(shadow, fits, cell) {
+        Some(fit) => lies_in(fit, cell) && lies_in(cell, fit),
         None => true,
     }
 }
@@ -179,28 +125,32 @@ fn fits_child<const D: usize>(shadow: &Shadow<D>, cell: &RawCell<D>) -> bool
 fn has_entry<const D: usize>(shadow: &Shadow<D>, node: &NodeRow<D>, cell: &RawCell<D>) -> bool
     ensures { result ≡ has_entry shadow.now node.now cell.now }
 {
-    match shadow.row(&cell.number) {
+    match shadow.row(cell.number) {
         Some(row) => row.leaf == node.number,
         None => false,
     }
 }
 
 /// Whether a cell of a node meets the condition.
+///
+/// `fits` is for each node of the shadow the cell that fits it.
 pub(crate) fn meets<const D: usize>(
     shadow: &Shadow<D>,
+    fits: &[Option<RawCell<D>>],
     condition: CellCondition,
     node: &NodeRow<D>,
     cell: &RawCell<D>,
 ) -> bool
+    requires { AllFit shadow.now.nodes fits.now }
     ensures { result ≡ meets_condition shadow.now condition node.now cell.now }
 {
     let is_leaf = node.level == 0;
     match condition {
         CellCondition::Names => is_leaf || names_child(shadow, node, cell),
         CellCondition::Ordered => is_ordered(cell),
-        CellCondition::Holds => is_leaf || holds_child(shadow, cell),
-        CellCondition::Fits => is_leaf || fits_child(shadow, cell),
-        CellCondition::HasEntry => !is_leaf || has_entry(shadow, node, cell),
+        CellCondition::Holds => is_leaf || holds_child(shadow, fits, cell),
+        CellCondition::Fits => is_leaf || fits_child(shadow, fits, cell),
+        CellCondition::Entered => !is_leaf || has_entry(shadow, node, cell),
     }
 }
 
@@ -208,7 +158,7 @@ pub(crate) fn meets<const D: usize>(
 pub(crate) fn has_root<const D: usize>(shadow: &Shadow<D>) -> bool
     ensures { result ≡ has_root shadow.now }
 {
-    match shadow.node(&shadow.root()) {
+    match shadow.node(shadow.root()) {
         Some(root) => root.parent.is_none(),
         None => false,
     }
@@ -225,7 +175,7 @@ fn is_root<const D: usize>(shadow: &Shadow<D>, node: &NodeRow<D>) -> bool
 fn is_below<const D: usize>(shadow: &Shadow<D>, node: &NodeRow<D>) -> bool
     ensures { result ≡ is_below shadow.now node.now node.now.parent }
 {
-    let Some(number) = &node.parent else {
+    let Some(number) = node.parent else {
         return false;
     };
     match shadow.node(number) {
@@ -257,16 +207,4 @@ pub(crate) fn is_filled<const D: usize>(shadow: &Shadow<D>, node: &NodeRow<D>) -
         2
     };
     node.cells.len() <= capacity.greatest() && least <= node.cells.len()
-}
-
-/// C9: the entry's id is that of exactly one cell of the leaves.
-///
-/// `named` is how many cells of leaves name it, 2 standing for more.
-pub(crate) fn has_cell<const D: usize>(shadow: &Shadow<D>, row: &RowEntry, named: u8) -> bool
-    requires { named ≡ min 2 (times_named row.now.id (leaf_cells shadow.now.nodes)) }
-    ensures { result ≡ has_cell shadow.now row.now }
-{
-    let _ = shadow;
-    let _ = row;
-    named == 1
 }

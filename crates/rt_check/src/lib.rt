@@ -6,12 +6,14 @@
 
 mod checker;
 mod conditions;
-mod items;
+mod fits;
 mod node;
+mod problem;
 mod shadow;
 mod tally;
 
-pub use checker::{Problem, check};
-pub use items::Items;
+pub use checker::check;
 pub use node::{NodeRow, RawCell, RowEntry};
+pub use problem::{Condition, Problem};
 pub use shadow::{Shadow, ShadowFault};
+pub use sqlite_items::Items;

@@ -2,7 +2,7 @@
 
 ghost use Rattle.std.specs.Prelude.{◌≡◌, length};
 
-use crate::items::Items;
+use sqlite_items::Items;
 
 /// A cell of a node: the number of the child that it names, or a row's id in a leaf, and a range
 /// `lo..hi` on each of the `D` axes. `lo` may exceed `hi`, which `check` then lists.

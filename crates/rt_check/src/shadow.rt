@@ -1,14 +1,18 @@
 //! A tree seen from outside.
 
-ghost use Rattle.std.specs.Prelude.{◌≡◌, ◌≤◌, ◌↔◌, [], ◌∷◌, ◌++◌, Contains, IsErrOf, OnOk, OnErr};
+ghost use Rattle.std.specs.Prelude.{◌≡◌, ◌≤◌, ◌↔◌, [], ◌∷◌, ◌++◌, Contains, position, IsErrOf, OnOk, OnErr};
 ghost use Rattle.std.specs.Option.{option_copied};
+ghost use Rattle.std.specs.List.{IsDistinct};
+ghost use Rattle.std.specs.Ordering.{int_eq};
 
-use crate::items::item_at;
 use crate::node::{NodeRow, RawCell, RowEntry};
 use indexmap::IndexSet;
 use rt_box::Capacity;
+use sqlite_items::at as item_at;
 use std::alloc::{AllocError, Global};
+use std::hash::RandomState;
 use std::marker::Model;
+use thiserror::Error;
 
 /// A tree seen from outside: a capacity, the root's number, nodes with distinct numbers and row
 /// entries with distinct ids, each in the order in which they were added.
@@ -18,8 +22,8 @@ pub struct Shadow<const D: usize> {
     root: i64,
     nodes: Vec<NodeRow<D>>,
     rows: Vec<RowEntry>,
-    numbers: IndexSet<i64>,
-    ids: IndexSet<i64>,
+    numbers: IndexSet<i64, RandomState>,
+    ids: IndexSet<i64, RandomState>,
 }
 
 impl<const D: usize> Model for Shadow<D> {
@@ -35,11 +39,13 @@ impl<const D: usize> Model for Shadow<D> {
 }
 
 /// Why a node or a row entry isn't added.
-#[derive(Clone, Copy, PartialEq, Eq, Debug)]
+#[derive(Clone, Copy, PartialEq, Eq, Debug, Error)]
 pub enum ShadowFault {
     /// That number or id is listed.
+    #[error("listed twice")]
     Twice,
     /// No memory is left.
+    #[error("out of memory")]
     Memory,
 }
 
@@ -47,8 +53,9 @@ impl<const D: usize> Shadow<D> {
     ghost use Rattle.rt_check.specs.Shadow.{numbers_of, ids_of, with_cell};
     ghost use Rattle.rt_check.specs.Conditions.{node_of, entry_of};
 
-    /// Nothing is listed yet.
-    pub fn new(alloc: Global, capacity: Capacity, root: i64) -> Shadow<D>
+    /// Nothing is listed yet. Look-ups hash by `keys`, which are to be random where others choose the
+    /// numbers and ids.
+    pub fn new(alloc: Global, keys: RandomState, capacity: Capacity, root: i64) -> Shadow<D>
         requires some { 1 ≤ D }
         requires few { D ≤ 3 }
         ensures { result ≡ record { capacity = capacity; root = root; nodes = []; rows = [] } }
@@ -58,15 +65,14 @@ impl<const D: usize> Shadow<D> {
             root,
             nodes: Vec::new(alloc),
             rows: Vec::new(alloc),
-            numbers: IndexSet::new(alloc),
-            ids: IndexSet::new(alloc),
+            numbers: IndexSet::with_hasher(alloc, keys),
+            ids: IndexSet::with_hasher(alloc, keys),
         }
     }
 
     /// The greatest number of cells of a node.
     pub fn capacity(&self) -> Capacity
-        ensures value { result ≡ self.now.capacity }
-        ensures axes { (1 ≤ D) × (D ≤ 3) }
+        ensures { result ≡ self.now.capacity }
     {
         self.capacity
     }
@@ -80,14 +86,17 @@ impl<const D: usize> Shadow<D> {
 
     /// The nodes, in the order in which they were added.
     pub fn nodes(&self) -> &[NodeRow<D>]
-        ensures { result.now ≡ self.now.nodes }
+        ensures value { result.now ≡ self.now.nodes }
+        ensures distinct { IsDistinct int_eq (numbers_of self.now.nodes) }
+        ensures axes { (1 ≤ D) × (D ≤ 3) }
     {
         self.nodes.as_slice()
     }
 
     /// The row entries, in the order in which they were added.
     pub fn rows(&self) -> &[RowEntry]
-        ensures { result.now ≡ self.now.rows }
+        ensures value { result.now ≡ self.now.rows }
+        ensures distinct { IsDistinct int_eq (ids_of self.now.rows) }
     {
         self.rows.as_slice()
     }
@@ -104,6 +113,7 @@ impl<const D: usize> Shadow<D> {
         if self.numbers.reserve(1).is_err() || self.nodes.reserve(1).is_err() {
             return Err(ShadowFault::Memory);
         }
+        // There is room for one more, so that neither finds no memory.
         let _ = self.numbers.insert(node.number);
         let _ = self.nodes.push(node);
         Ok(())
@@ -121,12 +131,14 @@ impl<const D: usize> Shadow<D> {
         if self.ids.reserve(1).is_err() || self.rows.reserve(1).is_err() {
             return Err(ShadowFault::Memory);
         }
+        // There is room for one more, so that neither finds no memory.
         let _ = self.ids.insert(row.id);
         let _ = self.rows.push(row);
         Ok(())
     }
 
-    /// Gives the last node one cell more. After an `AllocError` nothing has changed.
+    /// Gives the last node one cell more; where no node is listed, nothing changes. After an
+    /// `AllocError` nothing has changed.
     pub fn add_cell(&mut self, cell: RawCell<D>) -> Result<(), AllocError>
         ensures ok { OnOk result (self.new ≡ with_cell self.old cell.entry) }
         ensures err { OnErr result (self.new ≡ self.old) }
@@ -140,34 +152,41 @@ impl<const D: usize> Shadow<D> {
     }
 
     /// The nodes' numbers, in the order of the nodes.
-    pub fn numbers(&self) -> &IndexSet<i64>
+    pub(crate) fn numbers(&self) -> &IndexSet<i64, RandomState>
         ensures { result.now.keys ≡ numbers_of self.now.nodes }
     {
         &self.numbers
     }
 
     /// The ids of the row entries, in their order.
-    pub fn ids(&self) -> &IndexSet<i64>
+    pub(crate) fn ids(&self) -> &IndexSet<i64, RandomState>
         ensures { result.now.keys ≡ ids_of self.now.rows }
     {
         &self.ids
     }
 
-    /// The node of that number, where it is listed.
-    pub fn node(&self, number: &i64) -> Option<&NodeRow<D>>
-        ensures { option_copied result ≡ node_of self.now.nodes number.now }
+    /// Where in the list of nodes the node of that number stands, counted from 0.
+    pub(crate) fn place_of(&self, number: i64) -> Option<usize>
+        ensures { result ≡ position (int_eq number) (numbers_of self.now.nodes) }
     {
-        match self.numbers.get_index_of(number) {
+        self.numbers.get_index_of(&number)
+    }
+
+    /// The node of that number, where it is listed.
+    pub fn node(&self, number: i64) -> Option<&NodeRow<D>>
+        ensures { option_copied result ≡ node_of self.now.nodes number }
+    {
+        match self.numbers.get_index_of(&number) {
             Some(at) => item_at(self.nodes.as_slice(), at),
             None => None,
         }
     }
 
     /// The row entry of that id, where it is listed.
-    pub fn row(&self, id: &i64) -> Option<&RowEntry>
-        ensures { option_copied result ≡ entry_of self.now.rows id.now }
+    pub fn row(&self, id: i64) -> Option<&RowEntry>
+        ensures { option_copied result ≡ entry_of self.now.rows id }
     {
-        match self.ids.get_index_of(id) {
+        match self.ids.get_index_of(&id) {
             Some(at) => item_at(self.rows.as_slice(), at),
             None => None,
         }

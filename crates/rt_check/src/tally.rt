@@ -1,19 +1,46 @@
 //! How often cells name numbers, counted in one pass for all of the numbers.
 
-ghost use Rattle.std.specs.Prelude.{◌≡◌, ◌≤◌, ◌∷◌, [], ◌++◌, List, length, IfOk};
+ghost use Rattle.std.specs.Prelude.{◌≡◌, ◌∷◌, [], ◌++◌, List, length, IfOk};
 ghost use Rattle.rt_check.specs.declared.node.RawCell.{RawCell as Cell};
-ghost use Rattle.rt_check.specs.Tally.{tallies, named_cells};
+ghost use Rattle.rt_check.specs.Tally.{tallies, listed, cells_naming};
 
-use crate::node::{NodeRow, RawCell};
+use crate::node::RawCell;
+use crate::shadow::Shadow;
 use indexmap::IndexSet;
 use std::alloc::{AllocError, Global};
+use std::hash::RandomState;
+
+/// What cells name: those of leaves name rows, and the others nodes.
+#[derive(Clone, Copy)]
+pub(crate) enum Named {
+    Nodes,
+    Rows,
+}
+
+impl Named {
+    ghost use Rattle.rt_check.specs.Tally.{named_by_leaves};
+
+    fn are_named_by_leaves(self) -> bool
+        ensures { result ≡ named_by_leaves self }
+    {
+        match self {
+            Named::Nodes => false,
+            Named::Rows => true,
+        }
+    }
+}
 
 /// Counts one cell more.
-fn count_cell<const D: usize>(counts: &mut [u8], numbers: &IndexSet<i64>, cell: &RawCell<D>)
+fn count_cell<const D: usize>(
+    counts: &mut [u8],
+    numbers: &IndexSet<i64, RandomState>,
+    cell: &RawCell<D>,
+)
     requires { length counts.old ≡ length numbers.now.keys }
     ensures { (cells : List (Cell D)) → counts.old ≡ tallies numbers.now.keys cells
         → counts.new ≡ tallies numbers.now.keys (cells ++ cell.now ∷ []) }
 {
+    // The contract of `len` says that no number stands twice in the set.
     let _ = numbers.len();
     if let Some(at) = numbers.get_index_of(&cell.number) {
         counts[at] = counts[at].saturating_add(1).min(2);
@@ -21,7 +48,11 @@ fn count_cell<const D: usize>(counts: &mut [u8], numbers: &IndexSet<i64>, cell: 
 }
 
 /// Counts the cells.
-fn count_cells<const D: usize>(counts: &mut [u8], numbers: &IndexSet<i64>, cells: &[RawCell<D>])
+fn count_cells<const D: usize>(
+    counts: &mut [u8],
+    numbers: &IndexSet<i64, RandomState>,
+    cells: &[RawCell<D>],
+)
     requires { length counts.old ≡ length numbers.now.keys }
     ensures { (before : List (Cell D)) → counts.old ≡ tallies numbers.now.keys before
         → counts.new ≡ tallies numbers.now.keys (before ++ cells.now) }
@@ -31,20 +62,22 @@ fn count_cells<const D: usize>(counts: &mut [u8], numbers: &IndexSet<i64>, cells
     }
 }
 
-/// Counts for each of the numbers how many cells name it, 2 standing for more: cells of leaves,
-/// or those of the other nodes.
+/// Counts for each of a shadow's nodes, or of its row entries, how many cells name it, 2 standing
+/// for more.
 pub(crate) fn tally<const D: usize>(
     alloc: Global,
-    numbers: &IndexSet<i64>,
-    nodes: &[NodeRow<D>],
-    leaves: bool,
+    shadow: &Shadow<D>,
+    named: Named,
 ) -> Result<Vec<u8>, AllocError>
-    requires { D ≤ 3 }
-    ensures { IfOk result (λ counts. counts.items ≡ tallies numbers.now.keys (named_cells leaves nodes.now)) }
+    ensures { IfOk result (λ counts. counts.items ≡ tallies (listed named shadow.now) (cells_naming named shadow.now.nodes)) }
 {
+    let numbers = match named {
+        Named::Nodes => shadow.numbers(),
+        Named::Rows => shadow.ids(),
+    };
     let mut counts = vec![in alloc; 0; numbers.len()]?;
-    for node in nodes {
-        if (node.level == 0) != leaves {
+    for node in shadow.nodes() {
+        if (node.level == 0) != named.are_named_by_leaves() {
             continue;
         }
         count_cells(&mut counts, numbers, node.cells.as_slice());

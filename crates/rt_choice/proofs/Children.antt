@@ -53,14 +53,14 @@ false-then-true : (o o' : ℕ) (xs ys : List ℕ) → o ≡ 0 → Less xs ys →
 false-then-true o zero xs ys e h = inr (e, h)
 false-then-true o (suc o') xs ys e h = inl (omega arith)
 
-pub no-growth-best : (boxes : List (List Interval)) (new : List Interval) (start : ℕ) (least : Cost) → IsBestChild false boxes new start →
-    numbers least ≡ costs true boxes new start → least.overlap ≡ 0 → IsBestChild true boxes new start
-no-growth-best boxes new start least by_area cost_is still = record {
+pub no-growth-best : (boxes : List (List Interval)) (new : List Interval) (start : ℕ) → IsBestChild false boxes new start →
+    overlap_enlargement boxes new start ≡ 0 → IsBestChild true boxes new start
+no-growth-best boxes new start by_area still = record {
   from_low = omega arith;
   below_high = by_area.below_high;
   least = λ k above below other.
       false-then-true (overlap_enlargement boxes new start) (overlap_enlargement boxes new k) (child_key false boxes new start) (child_key false boxes new k)
-      (sym (ap (λ xs. get_or xs 0 0) cost_is) ∙ still) (by_area.least k above below other);
+      still (by_area.least k above below other);
 }
 
 pub starts : (boxes : List (List Interval)) (new : List Interval) (start : ℕ) (least : Cost) → IsBestChild false boxes new start →

@@ -6,9 +6,11 @@ use Rattle.std.proofs.lemmas.Bool.{cases_eq}
 use Rattle.std.proofs.lemmas.Int.{ints, clamps}
 use Rattle.std.proofs.lemmas.List.{take_more, map_more, length-map, length-take, length-drop, drop_more, drop_all, get_or_read, length-set, get_or-set_same, get_or-set_other}
 use Rattle.std.proofs.lemmas.List.Sums.{fold_push}
+use Rattle.std.proofs.lemmas.List.Elements.{All-nil, All-cons, All-head, All-tail}
 use Rattle.rt_box.specs.declared.interval.Interval.{Interval}
 use Rattle.rt_box.specs.Interval.{interval, cover}
-use Rattle.rt_box.specs.Rect.{union_box}
+use Rattle.rt_box.specs.Rect.{IsBox, Holds, union_box}
+use Rattle.rt_box.proofs.Holding.{IsBox-union, Holds-union_left, Holds-union_right, Holds-union_least, Holds_refl, Holds_trans}
 use Rattle.rt_choice.specs.Hull.{box_at, boxes_at, hull}
 
 cover_assoc : (a b c : Interval) → cover (cover a b) c ≡ cover a (cover b c)
@@ -31,6 +33,27 @@ fold-from_union a b (c ∷ cs) = ap (λ u. fold union_box u cs) (union_assoc a b
 pub hull-cons : (b : List Interval) (bs : List (List Interval)) → 0 < length bs → hull (b ∷ bs) ≡ union_box b (hull bs)
 hull-cons b [] h = absurd (omega arith)
 hull-cons b (c ∷ cs) h = fold-from_union b c cs
+
+-- the hull is a box that holds each of the boxes, and is the least such
+pub hull-least : (axes : ℕ) (b : List Interval) (bs : List (List Interval)) → All (IsBox axes) (b ∷ bs) →
+    IsBox axes (hull (b ∷ bs)) × All (Holds (hull (b ∷ bs))) (b ∷ bs)
+    × ((c : List Interval) → All (Holds c) (b ∷ bs) → Holds c (hull (b ∷ bs)))
+hull-least axes b [] are_boxes = (
+  All-head (IsBox axes) b [] are_boxes,
+  All-cons (Holds b) b [] (Holds_refl b) (All-nil (Holds b)),
+  λ c holds. All-head (Holds c) b [] holds,
+)
+hull-least axes b (x ∷ xs) are_boxes =
+    let rest = hull-least axes x xs (All-tail (IsBox axes) b (x ∷ xs) are_boxes) in
+    let inner = hull (x ∷ xs) in
+    let is_box : IsBox axes b = All-head (IsBox axes) b (x ∷ xs) are_boxes in
+    let same : length b ≡ length inner = omega (arith, is_box.axes_are, rest.0.axes_are) in
+    rw (hull-cons b (x ∷ xs) (omega arith)) (
+      IsBox-union axes b inner is_box rest.0,
+      All-cons (Holds (union_box b inner)) b (x ∷ xs) (Holds-union_left b inner same)
+          (λ k d below. Holds_trans (union_box b inner) inner _ (Holds-union_right b inner same) (rest.1 k d below)),
+      λ c holds. Holds-union_least c b inner (All-head (Holds c) b (x ∷ xs) holds) (rest.2 c (All-tail (Holds c) b (x ∷ xs) holds)),
+    )
 
 pub hull-push : (bs : List (List Interval)) (c : List Interval) → 0 < length bs → hull (bs ++ c ∷ []) ≡ union_box (hull bs) c
 hull-push [] c h = absurd (omega arith)

@@ -1,9 +1,12 @@
 -- How overlaps grow where a box is widened.
-use Rattle.std.proofs.Common.{◌≡◌, ◌≢◌, inl, inr, ℕ, suc, ◌+◌, ◌-◌, ◌<◌, ◌≤◌, List, length, take, drop, sum_by, get_or, arith, ap, ◌∙◌, sym, subst, add-one}
+use Rattle.std.proofs.Common.{◌≡◌, ◌≢◌, inl, inr, ℕ, suc, ◌+◌, ◌-◌, ◌<◌, ◌≤◌, List, [], ◌∷◌, length, take, drop, sum_by, get_or, arith, ap, ◌∙◌, refl, sym, subst, add-one}
 use Rattle.std.proofs.lemmas.List.{get_or_read, take_rest, get_or-take, get_or-drop, length-take, length-drop}
 use Rattle.std.proofs.lemmas.Bool.{cases_lt}
 use Rattle.std.proofs.lemmas.List.Sums.{sum_by-append, sum_by_more, sum_by-le-sum_by, sum_by-take-drop, sum_by-drop_more}
+use Rattle.std.specs.Int.{int_min, int_max}
+use Rattle.std.proofs.lemmas.Int.{ints, clamps}
 use Rattle.rt_box.specs.declared.interval.Interval.{Interval}
+use Rattle.rt_box.specs.Interval.{interval, Covers, cover}
 use Rattle.rt_box.specs.Rect.{IsBox, overlap, union_box, Holds}
 use Rattle.rt_box.proofs.Holding.{Holds-union_left, overlap-le_left}
 use Rattle.rt_choice.specs.Hull.{box_at}
@@ -153,3 +156,24 @@ growth-near_above boxes position near new own widened cell limit x y within near
           let o = ap (overlap own) at in
           omega arith
     ])
+
+-- ---- a box that holds another is their union
+cover-holder : (a b : Interval) → Covers a b → cover a b ≡ a
+cover-holder a b h =
+    let lo : int_min a.lo b.lo ≡ a.lo = omega (arith, ints, clamps, h.0) in
+    let hi : int_max a.hi b.hi ≡ a.hi = omega (arith, ints, clamps, h.1) in
+    ap (λ x. interval x (int_max a.hi b.hi)) lo ∙ ap (λ y. interval a.lo y) hi
+
+union-holder : (a b : List Interval) → Holds a b → union_box a b ≡ a
+union-holder [] b h = refl
+union-holder (x ∷ a) [] h = absurd h
+union-holder (x ∷ a) (y ∷ b) h = ap (λ i. i ∷ union_box a b) (cover-holder x y h.0) ∙ ap (λ is. x ∷ is) (union-holder a b h.1)
+
+-- a cell that holds the new box doesn't grow
+pub overlap-still : (boxes : List (List Interval)) (new : List Interval) (position : ℕ) (own : List Interval) →
+    position < length boxes → own ≡ get_or boxes position own → Holds own new → overlap_enlargement boxes new position ≡ 0
+overlap-still boxes new position own within own_is holds =
+    let here : own ≡ box_at boxes position = get_or_read boxes position own within own_is _ in
+    let whole : union_box (box_at boxes position) new ≡ box_at boxes position =
+    union-holder (box_at boxes position) new (subst (λ b. Holds b new) here holds) in
+    let e = ap (overlap_with_others boxes position) whole in omega arith

@@ -1,7 +1,6 @@
 pub mod Children
 pub mod Entries
 pub mod Growth
-pub mod Holders
 pub mod Covering
 pub mod Keys
 pub mod Lists

@@ -1,7 +1,12 @@
-//! What the sortings rest on, as laws of the definitions that the contracts cite. Each function does nothing: its
+//! What the choices rest on, as laws of the definitions that the contracts cite. Each function does nothing: its
 //! contract is the law.
 
-ghost use Rattle.rt_choice.specs.Laws.{SortingIsUnique, SortingIsSorted, DistanceOrderIsUnique};
+ghost use Rattle.rt_choice.specs.Laws.{HullIsLeast, SortingIsUnique, SortingIsSorted, DistanceOrderIsUnique, DistanceOrderIsSorted};
+
+/// The hull of some boxes is a box that holds each of them, and whatever holds each of them holds it.
+pub fn hull_is_least()
+    ensures { HullIsLeast }
+{}
 
 /// The sorting along an axis is the only sorted order of a list's positions.
 pub fn sorting_is_unique()
@@ -16,4 +21,9 @@ pub fn sorting_is_sorted()
 /// The order by distance is the only sorted order of a list's positions.
 pub fn distance_order_is_unique()
     ensures { DistanceOrderIsUnique }
+{}
+
+/// The order by distance is a sorted order of a list's positions.
+pub fn distance_order_is_sorted()
+    ensures { DistanceOrderIsSorted }
 {}

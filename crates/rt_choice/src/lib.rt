@@ -2,8 +2,15 @@
 //! box goes into, the two groups that an overfull node is cut into, and the cells that leave it to be
 //! inserted again. Each is proved to be the choice of the paper, ties settled; none takes memory.
 //!
+//! - `choose_subtree`: the position of the cell that a new box goes into (section 4.1).
+//! - `choose_split`: the `Cut` of an overfull node's cells (section 4.2); `sorted_positions` gives the
+//!   order along an axis that the cut speaks of.
+//! - `farthest`: the positions of the cells that are taken out to be inserted again (section 4.3).
+//! - `laws` says that the hull of some boxes is the least box around them, and that the orders which the
+//!   choices cite are sorted, and the only ones that are.
+//!
 //! Boxes are those of a node's cells, in the order of the cells, and positions in that list count
-//! from 0. `laws` says that the orders which the choices cite are the only sorted ones.
+//! from 0.
 #![tactic(auto)]
 
 mod hulls;

@@ -109,7 +109,7 @@ fn best_of_sorting<const D: usize>(
     requires full { length boxes.now ≡ capacity + 1 }
     ensures { IsJudgedSorting boxes.now capacity axis upper result }
 {
-    let _ = boxes[0].axes();
+    let _ = boxes[0].axes(); // for the proof: it bounds D
     let least = capacity.least();
     let order = sorted_positions(boxes, axis, upper);
     let fronts = front_hulls(boxes, order.as_slice());
@@ -140,6 +140,14 @@ fn best_of_axis<const D: usize>(boxes: &[Rect<D>], capacity: Capacity, axis: usi
 /// all of its cuts, the cut whose groups have the least area in common, and of those the one with the least
 /// areas (Beckmann, Kriegel, Schneider, Seeger 1990, section 4.2). Each group has at least the least number of
 /// cells. Ties: the lowest axis, the sorting by the lower ends, the smallest first group.
+///
+/// ```
+/// // `boxes`: the points 0, 1, 2, 10, 11 and 12 of a line
+/// let capacity = Capacity::new(5).ok_or("no capacity")?;
+/// let cut = choose_split(&boxes, capacity); // axis 0, by the lower ends, the first 3
+/// let order = sorted_positions(&boxes, cut.axis, cut.upper);
+/// let (first, second) = order.as_slice().split_at(cut.first); // 0, 1, 2 and 3, 4, 5
+/// ```
 pub fn choose_split<const D: usize>(boxes: &[Rect<D>], capacity: Capacity) -> Cut
     requires { length boxes.now ≡ capacity + 1 }
     ensures { IsBestCut D boxes.now capacity result }

@@ -49,6 +49,7 @@ fn overlap_growth<const D: usize>(boxes: &[Rect<D>], position: usize, new_box: &
     ensures { result ≡ overlap_enlargement boxes.now new_box.now position }
 {
     let own = &boxes[position];
+    // For the proof: both are boxes of D axes, so the union holds both.
     let _ = own.axes();
     let _ = new_box.axes();
     let widened = own.union(new_box);
@@ -100,29 +101,6 @@ pub(super) fn least_cost<const D: usize>(
     best
 }
 
-/// The smallest cell that holds the new box, unless none does or some cell is flat: no overlap and no area
-/// grows there, while any other cell of some area grows, or is as large.
-fn smallest_holder<const D: usize>(boxes: &[Rect<D>], new_box: &Rect<D>) -> Option<usize>
-    ensures { IfSome result (IsBestChild true boxes.now new_box.now) }
-{
-    let _ = new_box.axes();
-    let mut smallest = None;
-    let mut least = u128::MAX;
-    for position in 0..boxes.len() {
-        let cell = &boxes[position];
-        let _ = cell.axes();
-        let area = cell.area();
-        if area == 0 {
-            return None; // a flat cell may grow by nothing, and be smaller
-        }
-        if area < least && cell.contains(new_box) {
-            smallest = Some(position);
-            least = area;
-        }
-    }
-    smallest
-}
-
 /// The growth as `common_growth` gives it, unless it is above the limit: no term is negative, so it is as soon
 /// as a part of the sum is.
 fn common_growth_within<const D: usize>(
@@ -168,6 +146,7 @@ fn overlap_growth_within<const D: usize>(
         (λ growth. growth ≡ overlap_enlargement boxes.now new_box.now position) }
 {
     let own = &boxes[position];
+    // For the proof: both are boxes of D axes, so the union holds both.
     let _ = own.axes();
     let _ = new_box.axes();
     let widened = own.union(new_box);
@@ -180,14 +159,18 @@ fn overlap_growth_within<const D: usize>(
     Some(before + after)
 }
 
-/// The position of the cell whose overlap grows least. It begins with the cell whose area grows least, and gives
-/// each other cell up as soon as its overlap grows more than that of the best so far.
+/// The position of the cell whose overlap grows least. It begins with the cell whose area grows least, which is
+/// the answer where its overlap doesn't grow, and gives each other cell up as soon as its overlap grows more than
+/// that of the best so far.
 fn least_overlap_growth<const D: usize>(boxes: &[Rect<D>], new_box: &Rect<D>) -> usize
     requires some { 0 < length boxes.now }
     requires few { length boxes.now ≤ 52 }
     ensures { IsBestChild true boxes.now new_box.now result }
 {
     let start = least_cost(boxes, false, new_box);
+    if boxes[start].contains(new_box) {
+        return start; // it doesn't grow at all
+    }
     let mut best = start;
     let mut least = cost_of(boxes, true, start, new_box);
     if least.overlap == 0 {
@@ -221,6 +204,15 @@ fn least_overlap_growth<const D: usize>(boxes: &[Rect<D>], new_box: &Rect<D>) ->
 /// The position of the cell that the new box goes into: where the children are leaves, the one whose overlap
 /// with the other cells grows least, and of those, or elsewhere, the one whose area grows least; of those the
 /// one of least area, and of those the first (Beckmann, Kriegel, Schneider, Seeger 1990, section 4.1).
+///
+/// ```
+/// // the flat cell needs the smaller area, but the tall one doesn't grow into its neighbour
+/// let flat = Rect::new([0, 0], [4, 1]).ok_or("no box")?;
+/// let tall = Rect::new([5, 0], [6, 100]).ok_or("no box")?;
+/// let point = Rect::new([7, 1], [7, 1]).ok_or("no box")?;
+/// let above_leaves = choose_subtree(&[flat, tall], true, &point); // 1
+/// let elsewhere = choose_subtree(&[flat, tall], false, &point); // 0
+/// ```
 pub fn choose_subtree<const D: usize>(
     boxes: &[Rect<D>],
     above_leaves: bool,
@@ -230,11 +222,9 @@ pub fn choose_subtree<const D: usize>(
     requires few { length boxes.now ≤ 52 }
     ensures { IsBestChild above_leaves boxes.now new_box.now result }
 {
-    if !above_leaves {
-        return least_cost(boxes, false, new_box);
-    }
-    match smallest_holder(boxes, new_box) {
-        Some(position) => position,
-        None => least_overlap_growth(boxes, new_box),
+    if above_leaves {
+        least_overlap_growth(boxes, new_box)
+    } else {
+        least_cost(boxes, false, new_box)
     }
 }

@@ -4,7 +4,7 @@ use Rattle.std.specs.Prelude.{◌≡◌, ℕ, Bool, true, false, List, [], ◌�
 use Rattle.std.specs.Option.{option_map}
 use Rattle.rt_cut.specs.Piece.{PieceText}
 use Rattle.rt_cut.specs.Pieces.{Atom, spelled_all, IsClosedGap, AreAtoms, IsOpenQuote, BeginsStatement, IsDotLine, held_of, piece_of, IsWholePiece}
-use Rattle.rt_cut.specs.Text.{Lacks, HasClose, IsLineText, IsBlockText}
+use Rattle.rt_cut.specs.Text.{HasClose, IsLineText, IsBlockText}
 use Rattle.rt_cut.specs.declared.piece.Ending.{Ending}
 use Rattle.rt_cut.specs.declared.piece.Ending.TheVariants.{Whole, Incomplete}
 use Rattle.rt_cut.specs.declared.cutter.Part.TheVariants.{Gap, Statement}

@@ -125,6 +125,26 @@ fn is_gap_byte(byte: u8) -> bool
 }
 
 /// Cuts a script into its pieces, whatever parts of it are fed at a time.
+///
+/// A piece is a statement up to and with its `;`, or a line that begins with `.`, without its line
+/// feed. What stands between pieces, white space, comments and `;`, belongs to none.
+///
+/// ```
+/// let mut cutter = Cutter::new(alloc)?;
+/// for read in [&b"SELECT * FROM t; -- b"[..], b"oth\n.view v\nSEL"] {
+///     let mut rest = read;
+///     while !rest.is_empty() {
+///         let taken = cutter.feed(rest);
+///         rest = &rest[taken..];
+///         if let Some(piece) = cutter.ready() {
+///             // `SELECT * FROM t;`, and then `.view v`, both whole
+///             cutter.clear();
+///         }
+///     }
+/// }
+/// cutter.finish();
+/// // now `SEL` is ready, which is incomplete
+/// ```
 #[derive(Drop)]
 pub struct Cutter {
     /// The bytes of the piece so far.
@@ -155,8 +175,11 @@ impl Cutter {
     ghost use Rattle.rt_cut.specs.Cutter.{StandsAt, FinishedAt, ready_piece};
     ghost use Rattle.rt_cut.specs.CutterStep.{front_after, with_byte};
 
-    /// A cutter at the start of a script. It takes the memory for the longest piece, and no other
-    /// call takes any.
+    /// A cutter at the start of a script.
+    ///
+    /// # Errors
+    ///
+    /// Fails where there is no memory for the longest piece. No other call takes any.
     pub fn new(alloc: Global) -> Result<Cutter, AllocError>
         ensures { IfOk result (λ c. StandsAt c []) }
     {
@@ -189,7 +212,7 @@ impl Cutter {
         bytes.len()
     }
 
-    /// The input has ended.
+    /// The input has ended. What has begun is then the last piece, until `clear`.
     pub fn finish(&mut self)
         ensures { (x : List ℕ) → StandsAt self.old x → FinishedAt self.new x }
     {
@@ -214,7 +237,7 @@ impl Cutter {
         Some(Piece::new(&self.held, ending))
     }
 
-    /// Drops the piece, and starts anew.
+    /// Drops what was fed so far, the piece that is ready among it, and starts anew.
     pub fn clear(&mut self)
         ensures { StandsAt self.new [] }
     {

@@ -1,7 +1,10 @@
 //! How the bytes of a script are cut into pieces.
 //!
-//! A `Cutter` is fed a script in any pieces that its reads give, and hands out its statements and
-//! dot lines one by one. It holds one of them at a time, at most 65,536 bytes.
+//! - `Cutter` is fed a script in whatever parts its reads give, and hands out its statements and dot
+//!   lines one by one. It holds one of them at a time, at most 65,536 bytes.
+//! - `Piece` is such a statement or dot line, and `Ending` says how it ended.
+//! - `text::is_white` is the white space that parts them, and tokens too.
+//! - `laws`: each text is cut in one way.
 #![tactic(auto)]
 
 mod cutter;

@@ -43,6 +43,7 @@ impl<'a> Piece<'a> {
         self.text
     }
 
+    /// How it ended.
     pub fn ending(&self) -> Ending
         ensures { result ≡ self.now.ending }
     {

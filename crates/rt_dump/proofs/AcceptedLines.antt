@@ -35,11 +35,11 @@ test_of-first false false false false true = refl
 test_of-first false false false false false = refl
 
 -- words of a kind are spelled as it
-abbrev pub spelled : ℕ → List (List ℕ) → LineKind → Bool
+abbrev pub spelled : Option ℕ → List (List ℕ) → LineKind → Bool
 spelled axes ws kind =
     test_of (is_plain (codes "rtree") 5 ws) (is_node ws) (is_cell axes ws) (is_plain (codes "row") 2 ws) (is_plain (codes "end") 0 ws) (Some kind)
 
-pub kind_spelled : (axes : ℕ) (ws : List (List ℕ)) (kind : LineKind) → kind_of axes ws ≡ Some kind → spelled axes ws kind ≡ true
+pub kind_spelled : (axes : Option ℕ) (ws : List (List ℕ)) (kind : LineKind) → kind_of axes ws ≡ Some kind → spelled axes ws kind ≡ true
 kind_spelled axes ws kind e =
     let header = is_plain (codes "rtree") 5 ws in
     let node = is_node ws in
@@ -53,7 +53,7 @@ none : (ws : List (List ℕ)) → are_numbers 0 ws ≡ true → ws ≡ []
 none [] e = refl
 none (w ∷ ws) e = let no : ⊥ = cc in absurd no
 
-head-parts : (number : Option ℤ) (level : Option ℕ) (parent : Option (Option ℤ)) (cells : Option ℕ) (h : NodeHead)
+pub head-parts : (number : Option ℤ) (level : Option ℕ) (parent : Option (Option ℤ)) (cells : Option ℕ) (h : NodeHead)
     → option_and_then {U = NodeHead} (λ number. option_and_then {U = NodeHead} (λ level. option_and_then {U = NodeHead} (λ parent. option_and_then {U = NodeHead}
     (λ cells. Some record { number = number; level = level; parent = parent; cells = cells }) cells) parent) level) number ≡ Some h
     → (number ≡ Some h.number) × (level ≡ Some h.level) × (parent ≡ Some h.parent) × (cells ≡ Some h.cells)
@@ -90,7 +90,7 @@ node-text (k ∷ a ∷ b ∷ p ∷ c ∷ ws) h kind e =
     ∙ ap (λ c. line (codes "node") (signed_decimal h.number ∷ decimal h.level ∷ parent_word h.parent ∷ c ∷ ws)) (text-count c h.cells fifth.0 parts.3)
     ∙ ap (λ ws. line (codes "node") (signed_decimal h.number ∷ decimal h.level ∷ parent_word h.parent ∷ decimal h.cells ∷ ws)) (none ws fifth.1)
 
-row-parts : (id leaf : Option ℤ) (r : RowEntry)
+pub row-parts : (id leaf : Option ℤ) (r : RowEntry)
     → option_and_then {U = RowEntry} (λ id. option_and_then {U = RowEntry} (λ leaf. Some record { id = id; leaf = leaf }) leaf) id ≡ Some r
     → (id ≡ Some r.id) × (leaf ≡ Some r.leaf)
 row-parts None leaf r e = let no : ⊥ = cc in absurd no
@@ -119,7 +119,7 @@ end-text (k ∷ ws) kind =
     let first = both (bytes_eq k (codes "end")) (are_numbers 0 ws) kind in
     ap (λ k. line k ws) (same_word k (codes "end") first.0) ∙ ap (λ ws. line (codes "end") ws) (none ws first.1)
 
-range-parts : (lo hi : Option ℤ) (rest : Option (List ℤ × List ℤ)) (rs : List ℤ × List ℤ)
+pub range-parts : (lo hi : Option ℤ) (rest : Option (List ℤ × List ℤ)) (rs : List ℤ × List ℤ)
     → option_and_then {U = List ℤ × List ℤ} (λ (r : Range). option_map {U = List ℤ × List ℤ} (λ rs. (r.lo ∷ rs.0, r.hi ∷ rs.1)) rest)
     (option_and_then {U = Range} (λ lo. option_and_then {U = Range} (λ hi. Some record { lo = lo; hi = hi }) hi) lo) ≡ Some rs
     → (l h : ℤ) × (vs : List ℤ × List ℤ) × (lo ≡ Some l) × (hi ≡ Some h) × (rest ≡ Some vs) × (rs ≡ (l ∷ vs.0, h ∷ vs.1))
@@ -146,7 +146,7 @@ ranges-text (suc n) (a ∷ b ∷ ws) rs kind e =
     ∙ ap (λ ws. signed_decimal parts.0 ∷ signed_decimal parts.1 ∷ ws) (ranges-text n ws parts.2 second.1 parts.5)
     ∙ ap (λ (rs : List ℤ × List ℤ). flat_map range_words (zip rs.0 rs.1)) (sym parts.6)
 
-cell-parts : (D : ℕ) (number : Option ℤ) (ranges : Option (List ℤ × List ℤ)) (c : RawCell D)
+pub cell-parts : (D : ℕ) (number : Option ℤ) (ranges : Option (List ℤ × List ℤ)) (c : RawCell D)
     → option_and_then {U = RawCell D} (λ number. option_map {U = RawCell D} (λ r. record { number = number; lo = r.0; hi = r.1 }) ranges) number ≡ Some c
     → (number ≡ Some c.number) × (ranges ≡ Some (c.lo, c.hi))
 cell-parts D None ranges c e = let no : ⊥ = cc in absurd no
@@ -154,13 +154,11 @@ cell-parts D (Some number) None c e = let no : ⊥ = cc in absurd no
 cell-parts D (Some number) (Some r) c e = (ap (option_map (λ (c : RawCell D). c.number)) e, ap (option_map (λ (c : RawCell D). (c.lo, c.hi))) e)
 
 -- a cell's line on one axis or more
-pub cell-text : (D : ℕ) (ws : List (List ℕ)) (c : RawCell D) → 0 < D → is_cell D ws ≡ true → raw_cell D ws ≡ Some c → ended ws ≡ cell_line c
+pub cell-text : (D : ℕ) (ws : List (List ℕ)) (c : RawCell D) → 0 < D → is_cell (Some D) ws ≡ true → raw_cell D ws ≡ Some c → ended ws ≡ cell_line c
 cell-text D ws c some kind e =
-    let other : (D == 0) ≡ false = grind (arith, some) in
     let next : 1 + 2 * D ≡ suc (2 * D) = omega arith in
     let plain : is_plain (codes "cell") (suc (2 * D)) ws ≡ true =
     ap (λ k. is_plain (codes "cell") k ws) (sym next)
-    ∙ ap (λ b. cond b (is_plain (codes "cell") 3 ws || (is_plain (codes "cell") 5 ws || is_plain (codes "cell") 7 ws)) (is_plain (codes "cell") (1 + 2 * D) ws)) (sym other)
     ∙ kind in
     by_words ws plain e
   where
@@ -175,7 +173,7 @@ cell-text D ws c some kind e =
         ∙ ap (λ a. line (codes "cell") (a ∷ ws)) (text-number a c.number second.0 parts.0)
         ∙ ap (λ ws. line (codes "cell") (signed_decimal c.number ∷ ws)) (ranges-text D ws (c.lo, c.hi) second.1 parts.1)
 
-heading-parts : (axes capacity : Option ℕ) (root : Option ℤ) (nodes rows : Option ℕ) (h : Heading)
+pub heading-parts : (axes capacity : Option ℕ) (root : Option ℤ) (nodes rows : Option ℕ) (h : Heading)
     → option_and_then {U = Heading} (λ axes. option_and_then {U = Heading} (λ capacity. option_and_then {U = Heading} (λ root. option_and_then {U = Heading}
     (λ nodes. option_and_then {U = Heading} (λ rows. Some record { axes = axes; capacity = capacity; root = root; nodes = nodes; rows = rows })
     rows) nodes) root) capacity) axes ≡ Some h
@@ -194,7 +192,7 @@ heading-parts (Some axes) (Some capacity) (Some root) (Some nodes) (Some rows) h
 )
 
 -- an axis count is from 1 to 3
-axes-range : (o : Option ℕ) (n : ℕ) → option_and_then (λ n. cond (nat_le 1 n && nat_le n 3) (Some n) None) o ≡ Some n → (nat_le 1 n && nat_le n 3) ≡ true
+pub axes-range : (o : Option ℕ) (n : ℕ) → option_and_then (λ n. cond (nat_le 1 n && nat_le n 3) (Some n) None) o ≡ Some n → (nat_le 1 n && nat_le n 3) ≡ true
 axes-range None n e = let no : ⊥ = cc in absurd no
 axes-range (Some m) n e =
     let by_case : (b : Bool) → (nat_le 1 m && nat_le m 3) ≡ b → cond b (Some m) None ≡ Some n → (nat_le 1 n && nat_le n 3) ≡ true = elim [

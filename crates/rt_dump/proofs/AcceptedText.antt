@@ -22,6 +22,8 @@ use Rattle.rt_dump.specs.Dump.{line, end_line, shadow_text, any_text}
 use Rattle.rt_dump.proofs.AcceptedWords.{ended, ended-words, joined, joined-pieces, both}
 use Rattle.rt_dump.proofs.AcceptedLines.{spelled, kind_spelled, node-text, row-text, end-text, cell-text, header-text}
 use Rattle.rt_dump.proofs.AcceptedSteps.{so_far, IsOpen, Due, due-counts, Adds, node-adds, cell-adds, row-adds, end-adds, Follows}
+use Rattle.rt_dump.specs.declared.fault.LineFault.{LineFault}
+use Rattle.rt_dump.specs.declared.fault.LineFault.TheVariants.{BadLine, ListedTwice}
 
 module _ {D : ℕ} where
   node-follows : (p q : Progress D) (ws : List (List ℕ)) → IsOpen p → p.cells ≡ 0 → 0 < p.nodes → is_node ws ≡ true
@@ -30,7 +32,7 @@ module _ {D : ℕ} where
       let by_head : (o : Option NodeHead) → node_head ws ≡ o → after_head p o ≡ Ok q → Adds p (ended ws) q = elim [
         | None ↦ λ is e. let no : ⊥ = cc in absurd no
         | Some h ↦ λ is e.
-            let by_case : (b : Bool) → cond {A = Result (Progress D) ℕ} b (Err 2) (Ok (with_head p h)) ≡ Ok q → with_head p h ≡ q = elim [
+            let by_case : (b : Bool) → cond {A = Result (Progress D) LineFault} b (Err ListedTwice) (Ok (with_head p h)) ≡ Ok q → with_head p h ≡ q = elim [
               | true ↦ λ e. let no : ⊥ = cc in absurd no
               | false ↦ λ e. cc
             ] in
@@ -46,7 +48,7 @@ module _ {D : ℕ} where
         | None ↦ λ is e. let no : ⊥ = cc in absurd no
         | Some r ↦ λ is e.
             let new : Progress D = record p { shadow = record p.shadow { rows = p.shadow.rows ++ r ∷ [] }; rows = p.rows - 1 } in
-            let by_case : (b : Bool) → cond {A = Result (Progress D) ℕ} b (Err 2) (Ok new) ≡ Ok q → new ≡ q = elim [
+            let by_case : (b : Bool) → cond {A = Result (Progress D) LineFault} b (Err ListedTwice) (Ok new) ≡ Ok q → new ≡ q = elim [
               | true ↦ λ e. let no : ⊥ = cc in absurd no
               | false ↦ λ e. cc
             ] in
@@ -55,7 +57,7 @@ module _ {D : ℕ} where
       ] in
       by_row (row_entry ws) refl e
 
-  cell-follows : (p q : Progress D) (ws : List (List ℕ)) → 0 < D → IsOpen p → 0 < p.cells → is_cell D ws ≡ true
+  cell-follows : (p q : Progress D) (ws : List (List ℕ)) → 0 < D → IsOpen p → 0 < p.cells → is_cell (Some D) ws ≡ true
       → after_cell p (raw_cell D ws) ≡ Ok q → Adds p (ended ws) q
   cell-follows p q ws axes is_open some kind e =
       let by_cell : (o : Option (RawCell D)) → raw_cell D ws ≡ o → after_cell p o ≡ Ok q → Adds p (ended ws) q = elim [
@@ -68,7 +70,7 @@ module _ {D : ℕ} where
       by_cell (raw_cell D ws) refl e
 
   kind-follows : (p q : Progress D) (ws : List (List ℕ)) (wanted kind : LineKind) → 0 < D → IsOpen p → Due p.cells p.nodes p.rows wanted
-      → spelled D ws kind ≡ true → after_kind p ws wanted kind ≡ Ok q → Follows p (ended ws) q wanted
+      → spelled (Some D) ws kind ≡ true → after_kind p ws wanted kind ≡ Ok q → Follows p (ended ws) q wanted
   kind-follows p q ws Node Node axes is_open counts kind e = node-follows p q ws is_open counts.0 counts.1 kind e
   kind-follows p q ws Cell Cell axes is_open counts kind e = cell-follows p q ws axes is_open counts kind e
   kind-follows p q ws Row Row axes is_open counts kind e = row-follows p q ws counts.0 counts.1 counts.2 kind e
@@ -78,18 +80,18 @@ module _ {D : ℕ} where
   -- an accepted line adds its bytes, or is the end's
   line-follows : (p q : Progress D) (l : List ℕ) → 0 < D → IsOpen p → after_line p l ≡ Ok q → Follows p (l ++ 10 ∷ []) q (due p)
   line-follows p q l axes is_open e =
-      let by_kind : (o : Option LineKind) → kind_of D (words l) ≡ o → after_spelling p (words l) o ≡ Ok q → Follows p (ended (words l)) q (due p) = elim [
+      let by_kind : (o : Option LineKind) → kind_of (Some D) (words l) ≡ o → after_spelling p (words l) o ≡ Ok q → Follows p (ended (words l)) q (due p) = elim [
         | None ↦ λ is e. let no : ⊥ = cc in absurd no
-        | Some kind ↦ λ is e. kind-follows p q (words l) (due p) kind axes is_open (due-counts p) (kind_spelled D (words l) kind is) e
+        | Some kind ↦ λ is e. kind-follows p q (words l) (due p) kind axes is_open (due-counts p) (kind_spelled (Some D) (words l) kind is) e
       ] in
-      subst (λ l. Follows p l q (due p)) (ended-words l) (by_kind (kind_of D (words l)) refl e)
+      subst (λ l. Follows p l q (due p)) (ended-words l) (by_kind (kind_of (Some D) (words l)) refl e)
 
 -- a line and what follows it, behind what stands before
 between : (before l after : List ℕ) → before ++ (l ++ 10 ∷ after) ≡ (before ++ (l ++ 10 ∷ [])) ++ after
 between before l after =
     ap (λ k. before ++ k) (sym (append_assoc l (10 ∷ []) after)) ∙ sym (append_assoc before (l ++ 10 ∷ []) after)
 
-nothing : (l : List ℕ) (ls : List (List ℕ)) → is_nothing (l ∷ ls) ≡ true → joined (l ∷ ls) ≡ []
+pub nothing : (l : List ℕ) (ls : List (List ℕ)) → is_nothing (l ∷ ls) ≡ true → joined (l ∷ ls) ≡ []
 nothing l ls e =
     let parts = both (length l == 0) (length ls == 0) e in
     let first : length l ≡ 0 = grind (arith, parts.0) in
@@ -104,12 +106,12 @@ module _ {D : ℕ} where
   rest-accepted (l ∷ []) p n s axes is_open e = let no : ⊥ = cc in absurd no
   rest-accepted (l ∷ m ∷ ms) p n s axes is_open e =
       let after = joined (m ∷ ms) in
-      let Read : Progress D → Bool → Type 0 = λ q b. cond b (cond {A = Result (ShadowLists D) (ℕ × ℕ)} (is_nothing (m ∷ ms)) (Ok q.shadow) (Err (n + 1, 1))) (read_rest (m ∷ ms) q (n + 1)) ≡ Ok s in
+      let Read : Progress D → Bool → Type 0 = λ q b. cond b (cond {A = Result (ShadowLists D) (ℕ × LineFault)} (is_nothing (m ∷ ms)) (Ok q.shadow) (Err (n + 1, BadLine))) (read_rest (m ∷ ms) q (n + 1)) ≡ Ok s in
       let goes_on : (q : Progress D) → Adds p (l ++ 10 ∷ []) q → Read q false → so_far p ++ (l ++ 10 ∷ after) ≡ shadow_text s = λ q adds e.
       between (so_far p) l after ∙ ap (λ k. k ++ after) (sym adds.1) ∙ rest-accepted (m ∷ ms) q (n + 1) s axes adds.0 e in
       let ends : (q : Progress D) → Due p.cells p.nodes p.rows End → p ≡ q → l ++ 10 ∷ [] ≡ end_line → Read q true → so_far p ++ (l ++ 10 ∷ after) ≡ shadow_text s =
       λ q counts same last e.
-      let by_case : (b : Bool) → is_nothing (m ∷ ms) ≡ b → cond {A = Result (ShadowLists D) (ℕ × ℕ)} b (Ok q.shadow) (Err (n + 1, 1)) ≡ Ok s → so_far p ++ (l ++ 10 ∷ after) ≡ shadow_text s = elim [
+      let by_case : (b : Bool) → is_nothing (m ∷ ms) ≡ b → cond {A = Result (ShadowLists D) (ℕ × LineFault)} b (Ok q.shadow) (Err (n + 1, BadLine)) ≡ Ok s → so_far p ++ (l ++ 10 ∷ after) ≡ shadow_text s = elim [
         | true ↦ λ is e.
             let shadow : q.shadow ≡ s = cc in
             ap (λ k. so_far p ++ (l ++ 10 ∷ k)) (nothing m ms is) ∙ ap (λ k. so_far p ++ k) last ∙ end-adds p counts
@@ -125,8 +127,8 @@ module _ {D : ℕ} where
         | Row ↦ λ q counts follows e. goes_on q follows e
         | End ↦ λ q counts follows e. ends q counts follows.0 follows.1 e
       ] in
-      let by_line : (r : Result (Progress D) ℕ) → after_line p l ≡ r
-      → at_line n r (λ q. cond (is_end (due p)) (cond {A = Result (ShadowLists D) (ℕ × ℕ)} (is_nothing (m ∷ ms)) (Ok q.shadow) (Err (n + 1, 1))) (read_rest (m ∷ ms) q (n + 1))) ≡ Ok s
+      let by_line : (r : Result (Progress D) LineFault) → after_line p l ≡ r
+      → at_line n r (λ q. cond (is_end (due p)) (cond {A = Result (ShadowLists D) (ℕ × LineFault)} (is_nothing (m ∷ ms)) (Ok q.shadow) (Err (n + 1, BadLine))) (read_rest (m ∷ ms) q (n + 1))) ≡ Ok s
       → so_far p ++ (l ++ 10 ∷ after) ≡ shadow_text s = elim [
         | Err code ↦ λ is e. let no : ⊥ = cc in absurd no
         | Ok q ↦ λ is e. by_due (due p) q (due-counts p) (line-follows p q l axes is_open is) e
@@ -156,7 +158,7 @@ shadow-accepted : (D : ℕ) (make : ShadowLists D → AnyShadow) (h : Heading) (
     → ((s : ShadowLists D) → any_text (make s) ≡ shadow_text s)
     → any_shadow make (read_rest ls (start D h) 2) ≡ Ok a → any_text a ≡ heading_line h ++ joined ls
 shadow-accepted D make h ls a some axes text e =
-    let by_case : (r : Result (ShadowLists D) (ℕ × ℕ)) → read_rest ls (start D h) 2 ≡ r → any_shadow make r ≡ Ok a → any_text a ≡ heading_line h ++ joined ls = elim [
+    let by_case : (r : Result (ShadowLists D) (ℕ × LineFault)) → read_rest ls (start D h) 2 ≡ r → any_shadow make r ≡ Ok a → any_text a ≡ heading_line h ++ joined ls = elim [
       | Err fault ↦ λ is e. let no : ⊥ = cc in absurd no
       | Ok s ↦ λ is e.
           let same : make s ≡ a = cc in
@@ -183,10 +185,10 @@ axes-accepted h ls a range e =
     by_one (h.axes == 1) refl e
 
 -- a first line of a kind
-first-accepted : (ws : List (List ℕ)) (ls : List (List ℕ)) (a : AnyShadow) (o : Option LineKind) → kind_of 0 ws ≡ o
+first-accepted : (ws : List (List ℕ)) (ls : List (List ℕ)) (a : AnyShadow) (o : Option LineKind) → kind_of None ws ≡ o
     → read_kind o (header_of ws) ls ≡ Ok a → any_text a ≡ ended ws ++ joined ls
 first-accepted ws ls a (Some Header) is e =
-    let kind = kind_spelled 0 ws Header is in
+    let kind = kind_spelled None ws Header is in
     let by_heading : (o : Option Heading) → header_of ws ≡ o → read_heading o ls ≡ Ok a → any_text a ≡ ended ws ++ joined ls = elim [
       | None ↦ λ says e. let no : ⊥ = cc in absurd no
       | Some h ↦ λ says e.
@@ -200,7 +202,7 @@ lines-accepted : (ls : List (List ℕ)) (a : AnyShadow) → read_lines ls ≡ Ok
 lines-accepted [] a e = let no : ⊥ = cc in absurd no
 lines-accepted (l ∷ []) a e = let no : ⊥ = cc in absurd no
 lines-accepted (l ∷ m ∷ ms) a e =
-    first-accepted (words l) (m ∷ ms) a (kind_of 0 (words l)) refl e
+    first-accepted (words l) (m ∷ ms) a (kind_of None (words l)) refl e
     ∙ ap (λ k. k ++ joined (m ∷ ms)) (ended-words l) ∙ append_assoc l (10 ∷ []) (joined (m ∷ ms))
 
 -- what is read is the text's shadow

@@ -78,6 +78,6 @@ length-pieces separator (b ∷ bs) =
     ]
 
 -- a first line is one where another piece follows
-pub read_lines-first : (l : List ℕ) (ls : List (List ℕ)) → (ls ≡ [] → ⊥) → read_lines (l ∷ ls) ≡ read_kind (kind_of 0 (words l)) (header_of (words l)) ls
+pub read_lines-first : (l : List ℕ) (ls : List (List ℕ)) → (ls ≡ [] → ⊥) → read_lines (l ∷ ls) ≡ read_kind (kind_of None (words l)) (header_of (words l)) ls
 read_lines-first l [] some = absurd (some refl)
 read_lines-first l (m ∷ ms) some = refl

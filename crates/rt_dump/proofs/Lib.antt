@@ -13,3 +13,9 @@ pub mod AcceptedWords
 pub mod AcceptedLines
 pub mod AcceptedSteps
 pub mod AcceptedText
+pub mod FrontLines
+pub mod Fresh
+pub mod Fits
+pub mod Completing
+pub mod Faulty
+pub mod FaultyText

@@ -13,7 +13,7 @@ use Rattle.rt_dump.specs.declared.lines.LineKind.TheVariants.{Node, Cell, Row, E
 use Rattle.rt_dump.specs.declared.reading.Progress.{Progress}
 use Rattle.rt_check.specs.Shadow.{ShadowLists, numbers_of, ids_of, with_last}
 use Rattle.rt_dump.specs.Pieces.{pieces}
-use Rattle.rt_dump.specs.Lines.{kind_of, is_cell}
+use Rattle.rt_dump.specs.Lines.{kind_of}
 use Rattle.rt_dump.specs.Dump.{line, cell_line, node_line, node_text, row_line, end_line}
 use Rattle.rt_dump.specs.Reading.{due, after_spelling, after_kind, after_head, after_cell, after_row, after_line, is_end, is_nothing, at_line, read_rest}
 use Rattle.rt_dump.specs.InRange.{IsCellInRange, IsRowInRange, IsPositive, IsNodeInRange, IsNodeNumbered}
@@ -21,6 +21,8 @@ use Rattle.rt_dump.proofs.Cuts.{pieces-some}
 use Rattle.rt_check.proofs.Known.{same_number}
 use Rattle.rt_dump.proofs.WrittenPieces.{IsWord, AreWords, spaced, words-spaced, pieces-line}
 use Rattle.rt_dump.proofs.WrittenLines.{cell_words, row_words, node_words, cell-words, cell-kind, cell-read, row-words, row-kind, row-read, node-words, node-kind, node-read}
+use Rattle.rt_dump.specs.declared.fault.LineFault.{LineFault}
+use Rattle.rt_dump.specs.declared.fault.LineFault.TheVariants.{BadLine, ListedTwice}
 
 -- a text that is read as a shadow once some lines are read
 abbrev pub ReadsTo : {D : ℕ} → Progress D → List ℕ → ShadowLists D → Type 0
@@ -31,23 +33,22 @@ module _ {D : ℕ} (p q : Progress D) (s : ShadowLists D) (n : ℕ) where
       → read_rest ls q (n + 1) ≡ Ok s → read_rest (l ∷ ls) p n ≡ Ok s
   next-line l [] some after more reads = absurd (some refl)
   next-line l (m ∷ ms) some after more reads =
-      let ended : Progress D → Result (ShadowLists D) (ℕ × ℕ) = λ q. cond (is_nothing (m ∷ ms)) (Ok q.shadow) (Err (n + 1, 1)) in
-      ap (λ (r : Result (Progress D) ℕ). at_line n r (λ q. cond (is_end (due p)) (ended q) (read_rest (m ∷ ms) q (n + 1)))) after
+      let ended : Progress D → Result (ShadowLists D) (ℕ × LineFault) = λ q. cond (is_nothing (m ∷ ms)) (Ok q.shadow) (Err (n + 1, BadLine)) in
+      ap (λ (r : Result (Progress D) LineFault). at_line n r (λ q. cond (is_end (due p)) (ended q) (read_rest (m ∷ ms) q (n + 1)))) after
       ∙ ap (λ b. cond b (ended q) (read_rest (m ∷ ms) q (n + 1))) more ∙ reads
 
 -- a line is read, and then the rest
 pub line-read : {D : ℕ} (p q : Progress D) (kind : List ℕ) (ws : List (List ℕ)) (rest : List ℕ) (s : ShadowLists D) → IsWord kind → AreWords ws
-    → after_spelling p (kind ∷ ws) (kind_of D (kind ∷ ws)) ≡ Ok q → is_end (due p) ≡ false → ReadsTo q rest s → ReadsTo p (line kind ws ++ rest) s
+    → after_spelling p (kind ∷ ws) (kind_of (Some D) (kind ∷ ws)) ≡ Ok q → is_end (due p) ≡ false → ReadsTo q rest s → ReadsTo p (line kind ws ++ rest) s
 line-read {D} p q kind ws rest s first others after more reads = λ n.
     ap (λ ls. read_rest ls p n) (pieces-line kind ws rest first others)
     ∙ next-line p q s n (kind ++ spaced ws) (pieces 10 rest) (pieces-some 10 rest)
-    (ap (λ ws. after_spelling p ws (kind_of D ws)) (words-spaced kind ws first others) ∙ after) more (reads (n + 1))
+    (ap (λ ws. after_spelling p ws (kind_of (Some D) ws)) (words-spaced kind ws first others) ∙ after) more (reads (n + 1))
 
 -- the end
-end-kind : (D : ℕ) → kind_of D (codes "end" ∷ []) ≡ Some End
+end-kind : (D : ℕ) → kind_of (Some D) (codes "end" ∷ []) ≡ Some End
 end-kind D =
-    let other : is_cell D (codes "end" ∷ []) ≡ false = elim (D == 0) as (λ b. cond b false false ≡ false) [ true ↦ refl | false ↦ refl ] in
-    ap (λ b. cond b (Some Cell) (Some End)) other
+    refl
 
 pub end-read : {D : ℕ} (s : ShadowLists D) → ReadsTo (record { shadow = s; nodes = 0; rows = 0; cells = 0 }) end_line s
 end-read {D} s = λ n.
@@ -59,7 +60,7 @@ either : (a b : Bool) → a ≡ false → b ≡ false → (a || b) ≡ false
 either true b p q = p
 either false b p q = q
 
-apart : (x y : ℤ) → int_eq y x ≡ false → int_eq x y ≡ false
+pub apart : (x y : ℤ) → int_eq y x ≡ false → int_eq x y ≡ false
 apart x y other =
     let by_case : (b : Bool) → int_eq x y ≡ b → b ≡ false = elim [
       | true ↦ λ same.
@@ -117,7 +118,7 @@ module _ {D : ℕ} (capacity : ℕ) (root : ℤ) where
 
   row-taken : (nodes : List (NodeRow D)) (done : List RowEntry) (row : RowEntry) (rest : List RowEntry)
       → IsRowInRange row → IsPositive row.leaf → IsDistinct int_eq (ids_of (done ++ row ∷ rest))
-      → after_spelling (at_row nodes done (length (row ∷ rest))) (codes "row" ∷ row_words row) (kind_of D (codes "row" ∷ row_words row))
+      → after_spelling (at_row nodes done (length (row ∷ rest))) (codes "row" ∷ row_words row) (kind_of (Some D) (codes "row" ∷ row_words row))
       ≡ Ok (at_row nodes (done ++ row ∷ []) (length rest))
   row-taken nodes done row rest fits positive distinct =
       let k = length (row ∷ rest) in
@@ -127,7 +128,7 @@ module _ {D : ℕ} (capacity : ℕ) (root : ℤ) where
       ap (after_spelling p ws) (row-kind D row fits)
       ∙ ap (λ kind. after_kind p ws kind Row) (due-row nodes done k (omega arith))
       ∙ ap (after_row p) (row-read row fits positive)
-      ∙ ap (λ b. cond b (Err 2) (Ok (at_row nodes (done ++ row ∷ []) (k - 1)))) (absent (λ (r : RowEntry). r.id) done row rest distinct)
+      ∙ ap (λ b. cond b (Err ListedTwice) (Ok (at_row nodes (done ++ row ∷ []) (k - 1)))) (absent (λ (r : RowEntry). r.id) done row rest distinct)
       ∙ ap (λ j. Ok (at_row nodes (done ++ row ∷ []) j)) less
 
   -- the rows' lines and the end
@@ -160,7 +161,7 @@ module _ {D : ℕ} (capacity : ℕ) (root : ℤ) where
 
   cell-taken : (done : List (NodeRow D)) (node : NodeRow D) (before : List (RawCell D)) (cell : RawCell D) (rest : List (RawCell D)) (nodes rows : ℕ)
       → 1 ≤ D → IsCellInRange cell
-      → after_spelling (at_cell done node before (length (cell ∷ rest)) nodes rows) (codes "cell" ∷ cell_words cell) (kind_of D (codes "cell" ∷ cell_words cell))
+      → after_spelling (at_cell done node before (length (cell ∷ rest)) nodes rows) (codes "cell" ∷ cell_words cell) (kind_of (Some D) (codes "cell" ∷ cell_words cell))
       ≡ Ok (at_cell done node (before ++ cell ∷ []) (length rest) nodes rows)
   cell-taken done node before cell rest nodes rows some fits =
       let k = length (cell ∷ rest) in
@@ -203,7 +204,7 @@ module _ {D : ℕ} (capacity : ℕ) (root : ℤ) where
 
   node-taken : (done : List (NodeRow D)) (node : NodeRow D) (rest : List (NodeRow D)) (rows : ℕ)
       → IsNodeInRange node → IsNodeNumbered node → IsDistinct int_eq (numbers_of (done ++ node ∷ rest))
-      → after_spelling (at_node done (length (node ∷ rest)) rows) (codes "node" ∷ node_words node) (kind_of D (codes "node" ∷ node_words node))
+      → after_spelling (at_node done (length (node ∷ rest)) rows) (codes "node" ∷ node_words node) (kind_of (Some D) (codes "node" ∷ node_words node))
       ≡ Ok (at_cell done node [] (length node.cells) (length rest) rows)
   node-taken done node rest rows fits numbered distinct =
       let k = length (node ∷ rest) in
@@ -213,7 +214,7 @@ module _ {D : ℕ} (capacity : ℕ) (root : ℤ) where
       ap (after_spelling p ws) (node-kind node fits numbered)
       ∙ ap (λ kind. after_kind p ws kind Node) (due-node done k rows (omega arith))
       ∙ ap (after_head p) (node-read node fits numbered)
-      ∙ ap (λ b. cond b (Err 2) (Ok (at_cell done node [] (length node.cells) (k - 1) rows))) (absent (λ (m : NodeRow D). m.number) done node rest distinct)
+      ∙ ap (λ b. cond b (Err ListedTwice) (Ok (at_cell done node [] (length node.cells) (k - 1) rows))) (absent (λ (m : NodeRow D). m.number) done node rest distinct)
       ∙ ap (λ j. Ok (at_cell done node [] (length node.cells) j rows)) less
 
   -- the nodes' lines

@@ -101,18 +101,16 @@ not_node-cell (a ∷ []) = refl
 not_node-cell (a ∷ b ∷ []) = refl
 not_node-cell (a ∷ b ∷ c ∷ ws) = refl
 
-pub cell-kind : {D : ℕ} (cell : RawCell D) → 1 ≤ D → IsCellInRange cell → kind_of D (codes "cell" ∷ cell_words cell) ≡ Some Cell
+pub cell-kind : {D : ℕ} (cell : RawCell D) → 1 ≤ D → IsCellInRange cell → kind_of (Some D) (codes "cell" ∷ cell_words cell) ≡ Some Cell
 cell-kind {D} cell some fits =
     let ws = codes "cell" ∷ cell_words cell in
-    let axes : (D == 0) ≡ false = grind (arith, some) in
     let next : 1 + 2 * D ≡ suc (2 * D) = omega arith in
     let numbers : are_numbers (1 + 2 * D) (cell_words cell) ≡ true =
     ap (λ k. are_numbers k (cell_words cell)) next
     ∙ and-true (is_number (signed_decimal cell.number)) _ (is_number-signed cell.number fits.number)
     (ranges-numbers D cell.lo cell.hi fits.axes_lo fits.axes_hi fits.lo fits.hi) in
     let rest : Option LineKind = cond (is_plain (codes "row") 2 ws) (Some Row) (cond (is_plain (codes "end") 0 ws) (Some End) None) in
-    ap (λ b. cond b (Some Node) (cond (is_cell D ws) (Some Cell) rest)) (not_node-cell (cell_words cell))
-    ∙ ap (λ b. cond (cond b (is_plain (codes "cell") 3 ws || (is_plain (codes "cell") 5 ws || is_plain (codes "cell") 7 ws)) (are_numbers (1 + 2 * D) (cell_words cell))) (Some Cell) rest) axes
+    ap (λ b. cond b (Some Node) (cond (is_cell (Some D) ws) (Some Cell) rest)) (not_node-cell (cell_words cell))
     ∙ ap (λ b. cond b (Some Cell) rest) numbers
 
 pub cell-read : {D : ℕ} (cell : RawCell D) → IsCellInRange cell → raw_cell D (codes "cell" ∷ cell_words cell) ≡ Some cell
@@ -125,15 +123,14 @@ cell-read {D} cell fits =
 pub row-words : (row : RowEntry) → IsRowInRange row → AreWords (row_words row)
 row-words row fits = (signed-word row.id fits.id, (signed-word row.leaf fits.leaf, tt))
 
-pub row-kind : (D : ℕ) (row : RowEntry) → IsRowInRange row → kind_of D (codes "row" ∷ row_words row) ≡ Some Row
+pub row-kind : (D : ℕ) (row : RowEntry) → IsRowInRange row → kind_of (Some D) (codes "row" ∷ row_words row) ≡ Some Row
 row-kind D row fits =
     let ws = codes "row" ∷ row_words row in
     let rest : Option LineKind = cond (is_plain (codes "row") 2 ws) (Some Row) None in
     let numbers : is_plain (codes "row") 2 ws ≡ true =
     and-true (is_number (signed_decimal row.id)) _ (is_number-signed row.id fits.id)
     (and-true (is_number (signed_decimal row.leaf)) _ (is_number-signed row.leaf fits.leaf) refl) in
-    let other : is_cell D ws ≡ false = elim (D == 0) as (λ b. cond b false false ≡ false) [ true ↦ refl | false ↦ refl ] in
-    ap (λ b. cond b (Some Cell) rest) other ∙ ap (λ b. cond b (Some Row) None) numbers
+    ap (λ b. cond b (Some Row) None) numbers
 
 pub row-read : (row : RowEntry) → IsRowInRange row → IsPositive row.leaf → row_entry (codes "row" ∷ row_words row) ≡ Some row
 row-read row fits positive =
@@ -156,10 +153,10 @@ node-words node fits numbered =
       ),
     )
 
-pub node-kind : {D : ℕ} (node : NodeRow D) → IsNodeInRange node → IsNodeNumbered node → kind_of D (codes "node" ∷ node_words node) ≡ Some Node
+pub node-kind : {D : ℕ} (node : NodeRow D) → IsNodeInRange node → IsNodeNumbered node → kind_of (Some D) (codes "node" ∷ node_words node) ≡ Some Node
 node-kind {D} node fits numbered =
     let level : node.level < 256 = fits.level in
-    let rest : Option LineKind = cond (is_cell D (codes "node" ∷ node_words node)) (Some Cell) None in
+    let rest : Option LineKind = cond (is_cell (Some D) (codes "node" ∷ node_words node)) (Some Cell) None in
     let numbers : is_node (codes "node" ∷ node_words node) ≡ true =
     and-true (is_number (signed_decimal node.number)) _ (is_number-signed node.number fits.number)
     (and-true (is_number (decimal node.level)) _ (is_number-count node.level (omega (arith, level)))
@@ -200,7 +197,7 @@ header-words {D} s axes capacity root nodes rows =
     )
 
 pub header-kind : {D : ℕ} (s : ShadowLists D) → D ≤ 3 → IsCapacity s.capacity → IsLong s.root → length s.nodes < 2 ^ 63 → length s.rows < 2 ^ 63
-    → kind_of 0 (codes "rtree" ∷ header_words s) ≡ Some Header
+    → kind_of None (codes "rtree" ∷ header_words s) ≡ Some Header
 header-kind {D} s axes capacity root nodes rows =
     let ws = codes "rtree" ∷ header_words s in
     let most : s.capacity ≤ 51 = capacity.1 in

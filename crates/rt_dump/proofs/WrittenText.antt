@@ -1,5 +1,5 @@
 -- The text of a shadow is read as that shadow.
-use Rattle.std.proofs.Common.{◌≡◌, ℕ, List, [], ◌∷◌, ◌++◌, refl, ◌∙◌, ap, length, Option, Ok}
+use Rattle.std.proofs.Common.{◌≡◌, ℕ, List, [], ◌∷◌, ◌++◌, refl, ◌∙◌, ap, length, Option, None, Ok}
 use Rattle.std.specs.Prelude.{codes}
 use Rattle.std.specs.List.{flat_map}
 use Rattle.rt_dump.specs.declared.lines.LineKind.{LineKind}
@@ -34,7 +34,7 @@ text-read {D} s fits numbered =
     let others = header-words s fits.axes fits.capacity fits.root fits.few_nodes fits.few_rows in
     ap read_lines (pieces-line kind (header_words s) (body_text s) first others)
     ∙ read_lines-first (kind ++ spaced (header_words s)) ls (pieces-some 10 (body_text s))
-    ∙ ap (λ ws. read_kind (kind_of 0 ws) (header_of ws) ls) (words-spaced kind (header_words s) first others)
+    ∙ ap (λ ws. read_kind (kind_of None ws) (header_of ws) ls) (words-spaced kind (header_words s) first others)
     ∙ ap (λ (k : Option LineKind). read_kind k (header_of (kind ∷ header_words s)) ls) (header-kind s fits.axes fits.capacity fits.root fits.few_nodes fits.few_rows)
     ∙ ap (λ (h : Option Heading). read_heading h ls) (header-read s fits.some fits.axes fits.capacity fits.root numbered.root fits.few_nodes fits.few_rows)
 

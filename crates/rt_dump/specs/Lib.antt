@@ -4,3 +4,5 @@ pub mod Numbers
 pub mod Lines
 pub mod Reading
 pub mod InRange
+pub mod Faults
+pub mod Codes

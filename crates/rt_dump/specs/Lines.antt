@@ -1,5 +1,5 @@
 -- The lines of a dump, by their spelling and by what they say (own).
-use Rattle.std.specs.Prelude.{ℕ, zero, suc, ◌+◌, ◌*◌, ℤ, Bool, true, false, ◌&&◌, ◌||◌, List, [], ◌∷◌, Option, None, Some, drop, bytes_eq, codes, ◌==◌, if◌then◌else◌}
+use Rattle.std.specs.Prelude.{ℕ, zero, suc, ◌+◌, ◌*◌, ℤ, Bool, true, false, ◌&&◌, ◌||◌, List, [], ◌∷◌, Option, None, Some, drop, bytes_eq, codes, if◌then◌else◌}
 use Rattle.std.specs.Option.{option_and_then, option_map}
 use Rattle.rt_check.specs.declared.node.RawCell.{RawCell}
 use Rattle.rt_check.specs.declared.node.RowEntry.{RowEntry}
@@ -34,14 +34,13 @@ abbrev pub is_node : List (List ℕ) → Bool
 is_node (k ∷ a ∷ b ∷ p ∷ ws) = bytes_eq k (codes "node") && (is_number a && (is_number b && (is_parent p && are_numbers 1 ws)))
 is_node ws = false
 
--- a cell's line on that many axes; 0 stands for one, two or three
-abbrev pub is_cell : ℕ → List (List ℕ) → Bool
-is_cell axes ws =
-    if axes == 0 then (is_plain (codes "cell") 3 ws || (is_plain (codes "cell") 5 ws || is_plain (codes "cell") 7 ws))
-    else is_plain (codes "cell") (1 + 2 * axes) ws
+-- a cell's line, on that many axes where their number is known
+abbrev pub is_cell : Option ℕ → List (List ℕ) → Bool
+is_cell None ws = is_plain (codes "cell") 3 ws || (is_plain (codes "cell") 5 ws || is_plain (codes "cell") 7 ws)
+is_cell (Some axes) ws = is_plain (codes "cell") (1 + 2 * axes) ws
 
--- the kind of a line by its spelling
-abbrev pub kind_of : ℕ → List (List ℕ) → Option LineKind
+-- the kind of a line by its spelling, where the number of axes is known or not
+abbrev pub kind_of : Option ℕ → List (List ℕ) → Option LineKind
 kind_of axes ws =
     if is_plain (codes "rtree") 5 ws then Some Header
     else if is_node ws then Some Node

@@ -1,5 +1,5 @@
 -- A dump read line by line (own): the shadow that it is the text of, or its first faulty line and
--- that line's first code.
+-- the first fault that applies to it.
 use Rattle.std.specs.Prelude.{◌≡◌, ℕ, ◌+◌, ◌-◌, Bool, true, false, ◌&&◌, List, [], ◌∷◌, ◌++◌, Option, None, Some, Result, Ok, Err, MatchResult, length, nat_le, nat_lt, ◌==◌, if◌then◌else◌}
 use Rattle.std.specs.Option.{option_and_then}
 use Rattle.std.specs.List.{list_any}
@@ -16,12 +16,14 @@ use Rattle.rt_dump.specs.declared.reading.Heading.{Heading}
 use Rattle.rt_dump.specs.Pieces.{pieces}
 use Rattle.rt_dump.specs.Numbers.{byte_of, positive_of, count_of}
 use Rattle.rt_dump.specs.declared.reading.Progress.{Progress}
-use Rattle.rt_dump.specs.declared.reading.LineFault.{LineFault}
-use Rattle.rt_dump.specs.declared.reading.LineFault.TheVariants.{Code, Memory as NoMemory}
-use Rattle.rt_dump.specs.declared.reading.DumpFault.{DumpFault}
-use Rattle.rt_dump.specs.declared.reading.DumpFault.TheVariants.{At, Memory}
+use Rattle.rt_dump.specs.declared.reading.StepFault.{StepFault}
+use Rattle.rt_dump.specs.declared.reading.StepFault.TheVariants.{Line, Memory as NoMemory}
+use Rattle.rt_dump.specs.declared.fault.DumpFault.{DumpFault}
+use Rattle.rt_dump.specs.declared.fault.DumpFault.TheVariants.{At, Memory}
 use Rattle.rt_check.specs.Shadow.{ShadowLists, numbers_of, ids_of, with_cell}
 use Rattle.rt_dump.specs.Lines.{words, kind_of, node_head, row_entry, raw_cell}
+use Rattle.rt_dump.specs.declared.fault.LineFault.{LineFault}
+use Rattle.rt_dump.specs.declared.fault.LineFault.TheVariants.{Truncated, BadLine, CountWrong, OutOfRange, ListedTwice}
 
 module _ {D : ℕ} where
   -- the kind of line that is due
@@ -39,46 +41,46 @@ module _ {D : ℕ} where
     cells = h.cells;
   }
 
-  -- a node's line: 4 where a number is out of range, 2 where the number is listed
-  abbrev pub after_head : Progress D → Option NodeHead → Result (Progress D) ℕ
-  after_head p None = Err 4
-  after_head p (Some h) = if list_any (int_eq h.number) (numbers_of p.shadow.nodes) then Err 2 else Ok (with_head p h)
+  -- a node's line
+  abbrev pub after_head : Progress D → Option NodeHead → Result (Progress D) LineFault
+  after_head p None = Err OutOfRange
+  after_head p (Some h) = if list_any (int_eq h.number) (numbers_of p.shadow.nodes) then Err ListedTwice else Ok (with_head p h)
 
   -- a cell's line
-  abbrev pub after_cell : Progress D → Option (RawCell D) → Result (Progress D) ℕ
-  after_cell p None = Err 4
+  abbrev pub after_cell : Progress D → Option (RawCell D) → Result (Progress D) LineFault
+  after_cell p None = Err OutOfRange
   after_cell p (Some c) = Ok (record p { shadow = with_cell p.shadow c; cells = p.cells - 1 })
 
   -- a row's line
-  abbrev pub after_row : Progress D → Option RowEntry → Result (Progress D) ℕ
-  after_row p None = Err 4
+  abbrev pub after_row : Progress D → Option RowEntry → Result (Progress D) LineFault
+  after_row p None = Err OutOfRange
   after_row p (Some r) =
-      if list_any (int_eq r.id) (ids_of p.shadow.rows) then Err 2
+      if list_any (int_eq r.id) (ids_of p.shadow.rows) then Err ListedTwice
       else Ok (record p { shadow = record p.shadow { rows = p.shadow.rows ++ r ∷ [] }; rows = p.rows - 1 })
 
-  -- a line of a kind where another is due: 3
-  abbrev pub after_kind : Progress D → List (List ℕ) → LineKind → LineKind → Result (Progress D) ℕ
+  -- a line of a kind where another may be due
+  abbrev pub after_kind : Progress D → List (List ℕ) → LineKind → LineKind → Result (Progress D) LineFault
   after_kind p ws Node Node = after_head p (node_head ws)
   after_kind p ws Cell Cell = after_cell p (raw_cell D ws)
   after_kind p ws Row Row = after_row p (row_entry ws)
   after_kind p ws End End = Ok p
-  after_kind p ws wanted kind = Err 3
+  after_kind p ws wanted kind = Err CountWrong
 
-  -- a line of no kind: 1
-  abbrev pub after_spelling : Progress D → List (List ℕ) → Option LineKind → Result (Progress D) ℕ
-  after_spelling p ws None = Err 1
+  -- a line by its spelling
+  abbrev pub after_spelling : Progress D → List (List ℕ) → Option LineKind → Result (Progress D) LineFault
+  after_spelling p ws None = Err BadLine
   after_spelling p ws (Some kind) = after_kind p ws (due p) kind
 
   -- a line after the header
-  abbrev pub after_line : Progress D → List ℕ → Result (Progress D) ℕ
-  after_line p line = after_spelling p (words line) (kind_of D (words line))
+  abbrev pub after_line : Progress D → List ℕ → Result (Progress D) LineFault
+  after_line p line = after_spelling p (words line) (kind_of (Some D) (words line))
 
 -- what a step gives is what was wanted, or memory was missing
-abbrev pub IsFaultOf : {P : Type 0} → Result P ℕ → LineFault → Type 0
-IsFaultOf wanted (Code code) = wanted ≡ Err code
+abbrev pub IsFaultOf : {P : Type 0} → Result P LineFault → StepFault → Type 0
+IsFaultOf wanted (Line fault) = wanted ≡ Err fault
 IsFaultOf wanted NoMemory = Unit {0}
 
-abbrev pub Gives : {P T : Type 0} → Result P ℕ → Result T LineFault → P → Type 0
+abbrev pub Gives : {P T : Type 0} → Result P LineFault → Result T StepFault → P → Type 0
 Gives wanted result new = MatchResult result (λ _. wanted ≡ Ok new) (λ fault. IsFaultOf wanted fault)
 
 -- the last of the pieces is empty and no other is left: the text's end
@@ -91,24 +93,24 @@ is_end End = true
 is_end kind = false
 
 -- a fault of a line becomes one of the text
-abbrev pub at_line : {P S : Type 0} → ℕ → Result P ℕ → (P → Result S (ℕ × ℕ)) → Result S (ℕ × ℕ)
-at_line n (Err code) next = Err (n, code)
+abbrev pub at_line : {P S : Type 0} → ℕ → Result P LineFault → (P → Result S (ℕ × LineFault)) → Result S (ℕ × LineFault)
+at_line n (Err fault) next = Err (n, fault)
 at_line n (Ok p) next = next p
 
 -- the lines after the header, the first of them line n; the last piece isn't a line
-abbrev pub read_rest : {D : ℕ} → List (List ℕ) → Progress D → ℕ → Result (ShadowLists D) (ℕ × ℕ)
-read_rest [] p n = Err (n, 5)
-read_rest (l ∷ []) p n = Err (n, 5)
+abbrev pub read_rest : {D : ℕ} → List (List ℕ) → Progress D → ℕ → Result (ShadowLists D) (ℕ × LineFault)
+read_rest [] p n = Err (n, Truncated)
+read_rest (l ∷ []) p n = Err (n, Truncated)
 read_rest (l ∷ m ∷ ms) p n =
     at_line n (after_line p l) (λ q.
-    if is_end (due p) then (if is_nothing (m ∷ ms) then Ok q.shadow else Err (n + 1, 1)) else read_rest (m ∷ ms) q (n + 1))
+    if is_end (due p) then (if is_nothing (m ∷ ms) then Ok q.shadow else Err (n + 1, BadLine)) else read_rest (m ∷ ms) q (n + 1))
 
 -- what reading gives is what was wanted, or memory was missing
-abbrev pub IsDumpFaultOf : {S : Type 0} → Result S (ℕ × ℕ) → DumpFault → Type 0
-IsDumpFaultOf wanted (At line code) = wanted ≡ Err (line, code)
+abbrev pub IsDumpFaultOf : {S : Type 0} → Result S (ℕ × LineFault) → DumpFault → Type 0
+IsDumpFaultOf wanted (At line fault) = wanted ≡ Err (line, fault)
 IsDumpFaultOf wanted Memory = Unit {0}
 
-abbrev pub Reads : {S : Type 0} → Result S (ℕ × ℕ) → Result S DumpFault → Type 0
+abbrev pub Reads : {S : Type 0} → Result S (ℕ × LineFault) → Result S DumpFault → Type 0
 Reads wanted result = MatchResult result (λ s. wanted ≡ Ok s) (λ fault. IsDumpFaultOf wanted fault)
 
 -- a header's first number: one to three axes
@@ -141,30 +143,30 @@ any_shadow make (Ok s) = Ok (make s)
 any_shadow make (Err e) = Err e
 
 -- the lines after a header
-abbrev pub read_body : Heading → List (List ℕ) → Result AnyShadow (ℕ × ℕ)
+abbrev pub read_body : Heading → List (List ℕ) → Result AnyShadow (ℕ × LineFault)
 read_body h ls =
     if h.axes == 1 then any_shadow One (read_rest ls (start 1 h) 2)
     else if h.axes == 2 then any_shadow Two (read_rest ls (start 2 h) 2)
     else any_shadow Three (read_rest ls (start 3 h) 2)
 
-abbrev pub read_heading : Option Heading → List (List ℕ) → Result AnyShadow (ℕ × ℕ)
-read_heading None ls = Err (1, 4)
+abbrev pub read_heading : Option Heading → List (List ℕ) → Result AnyShadow (ℕ × LineFault)
+read_heading None ls = Err (1, OutOfRange)
 read_heading (Some h) ls = read_body h ls
 
 -- a first line of that kind
-abbrev pub read_kind : Option LineKind → Option Heading → List (List ℕ) → Result AnyShadow (ℕ × ℕ)
-read_kind None h ls = Err (1, 1)
+abbrev pub read_kind : Option LineKind → Option Heading → List (List ℕ) → Result AnyShadow (ℕ × LineFault)
+read_kind None h ls = Err (1, BadLine)
 read_kind (Some Header) h ls = read_heading h ls
-read_kind (Some Node) h ls = Err (1, 3)
-read_kind (Some Cell) h ls = Err (1, 3)
-read_kind (Some Row) h ls = Err (1, 3)
-read_kind (Some End) h ls = Err (1, 3)
+read_kind (Some Node) h ls = Err (1, CountWrong)
+read_kind (Some Cell) h ls = Err (1, CountWrong)
+read_kind (Some Row) h ls = Err (1, CountWrong)
+read_kind (Some End) h ls = Err (1, CountWrong)
 
-abbrev pub read_lines : List (List ℕ) → Result AnyShadow (ℕ × ℕ)
-read_lines [] = Err (1, 5)
-read_lines (l ∷ []) = Err (1, 5)
-read_lines (l ∷ m ∷ ms) = read_kind (kind_of 0 (words l)) (header_of (words l)) (m ∷ ms)
+abbrev pub read_lines : List (List ℕ) → Result AnyShadow (ℕ × LineFault)
+read_lines [] = Err (1, Truncated)
+read_lines (l ∷ []) = Err (1, Truncated)
+read_lines (l ∷ m ∷ ms) = read_kind (kind_of None (words l)) (header_of (words l)) (m ∷ ms)
 
--- the shadow that the text is the dump of, or the first faulty line and its first code
-abbrev pub read_text : List ℕ → Result AnyShadow (ℕ × ℕ)
+-- the shadow that the text is the dump of, or the first faulty line and what is wrong there
+abbrev pub read_text : List ℕ → Result AnyShadow (ℕ × LineFault)
 read_text text = read_lines (pieces 10 text)

@@ -3,7 +3,7 @@
 ghost use Rattle.std.specs.Prelude.{◌<◌, ◌≡◌, ◌++◌, ◌∷◌, codes, length};
 ghost use Rattle.std.specs.List.{flat_map, zip};
 ghost use Rattle.std.specs.Fmt.{signed_decimal};
-ghost use Rattle.rt_bytes.specs.Bytes.{Writes};
+ghost use Rattle.rt_bytes.specs.Devices.{WritesTo};
 ghost use Rattle.rt_check.specs.Conditions.{coordinate};
 ghost use Rattle.rt_dump.specs.Dump.{header_line, node_line, cell_line, row_line, node_text, shadow_text, range_text, range_words, line_rest, end_line, any_text};
 
@@ -28,8 +28,7 @@ fn write_range<const D: usize, W: ByteWriter>(
     axis: usize,
 ) -> Result<(), WriteFault>
     requires { axis < D }
-    ensures { Writes (W.written writer.old) (W.written writer.new) (W.faults writer.old) (W.faults writer.new)
-        result (range_text (coordinate cell.now.lo axis, coordinate cell.now.hi axis)) }
+    ensures { WritesTo W.ByteWriter writer.old writer.new result (range_text (coordinate cell.now.lo axis, coordinate cell.now.hi axis)) }
 {
     let mut lo = Buffer::new();
     let mut hi = Buffer::new();
@@ -48,8 +47,7 @@ fn write_ranges<const D: usize, W: ByteWriter>(
     writer: &mut W,
     cell: &RawCell<D>,
 ) -> Result<(), WriteFault>
-    ensures { Writes (W.written writer.old) (W.written writer.new) (W.faults writer.old) (W.faults writer.new)
-        result (flat_map range_text (zip cell.now.lo cell.now.hi)) }
+    ensures { WritesTo W.ByteWriter writer.old writer.new result (flat_map range_text (zip cell.now.lo cell.now.hi)) }
 {
     for axis in 0..cell.axes() {
         write_range(writer, cell, axis)?;
@@ -62,8 +60,7 @@ fn write_cell_end<const D: usize, W: ByteWriter>(
     writer: &mut W,
     cell: &RawCell<D>,
 ) -> Result<(), WriteFault>
-    ensures { Writes (W.written writer.old) (W.written writer.new) (W.faults writer.old) (W.faults writer.new)
-        result (line_rest (flat_map range_words (zip cell.now.lo cell.now.hi))) }
+    ensures { WritesTo W.ByteWriter writer.old writer.new result (line_rest (flat_map range_words (zip cell.now.lo cell.now.hi))) }
 {
     write_ranges(writer, cell)?;
     write_whole(writer, b"\n")
@@ -74,8 +71,7 @@ fn write_cell_start<const D: usize, W: ByteWriter>(
     writer: &mut W,
     cell: &RawCell<D>,
 ) -> Result<(), WriteFault>
-    ensures { Writes (W.written writer.old) (W.written writer.new) (W.faults writer.old) (W.faults writer.new)
-        result (codes "cell" ++ 32 ∷ signed_decimal cell.now.number) }
+    ensures { WritesTo W.ByteWriter writer.old writer.new result (codes "cell" ++ 32 ∷ signed_decimal cell.now.number) }
 {
     let mut number = Buffer::new();
     write_parts(writer, &[b"cell ", number.format(cell.number).as_bytes()])
@@ -85,8 +81,7 @@ fn write_cell<const D: usize, W: ByteWriter>(
     writer: &mut W,
     cell: &RawCell<D>,
 ) -> Result<(), WriteFault>
-    ensures { Writes (W.written writer.old) (W.written writer.new) (W.faults writer.old) (W.faults writer.new)
-        result (cell_line cell.now) }
+    ensures { WritesTo W.ByteWriter writer.old writer.new result (cell_line cell.now) }
 {
     write_cell_start(writer, cell)?;
     write_cell_end(writer, cell)
@@ -96,8 +91,7 @@ fn write_cells<const D: usize, W: ByteWriter>(
     writer: &mut W,
     node: &NodeRow<D>,
 ) -> Result<(), WriteFault>
-    ensures { Writes (W.written writer.old) (W.written writer.new) (W.faults writer.old) (W.faults writer.new)
-        result (flat_map cell_line node.now.cells) }
+    ensures { WritesTo W.ByteWriter writer.old writer.new result (flat_map cell_line node.now.cells) }
 {
     for cell in node.cells.as_slice() {
         write_cell(writer, cell)?;
@@ -109,8 +103,7 @@ fn write_node_line<const D: usize, W: ByteWriter>(
     writer: &mut W,
     node: &NodeRow<D>,
 ) -> Result<(), WriteFault>
-    ensures { Writes (W.written writer.old) (W.written writer.new) (W.faults writer.old) (W.faults writer.new)
-        result (node_line node.now) }
+    ensures { WritesTo W.ByteWriter writer.old writer.new result (node_line node.now) }
 {
     let mut number = Buffer::new();
     let mut level = Buffer::new();
@@ -140,8 +133,7 @@ fn write_node<const D: usize, W: ByteWriter>(
     writer: &mut W,
     node: &NodeRow<D>,
 ) -> Result<(), WriteFault>
-    ensures { Writes (W.written writer.old) (W.written writer.new) (W.faults writer.old) (W.faults writer.new)
-        result (node_text node.now) }
+    ensures { WritesTo W.ByteWriter writer.old writer.new result (node_text node.now) }
 {
     write_node_line(writer, node)?;
     write_cells(writer, node)
@@ -151,8 +143,7 @@ fn write_nodes<const D: usize, W: ByteWriter>(
     writer: &mut W,
     shadow: &Shadow<D>,
 ) -> Result<(), WriteFault>
-    ensures { Writes (W.written writer.old) (W.written writer.new) (W.faults writer.old) (W.faults writer.new)
-        result (flat_map node_text shadow.now.nodes) }
+    ensures { WritesTo W.ByteWriter writer.old writer.new result (flat_map node_text shadow.now.nodes) }
 {
     for node in shadow.nodes() {
         write_node(writer, node)?;
@@ -161,8 +152,7 @@ fn write_nodes<const D: usize, W: ByteWriter>(
 }
 
 fn write_row<W: ByteWriter>(writer: &mut W, row: &RowEntry) -> Result<(), WriteFault>
-    ensures { Writes (W.written writer.old) (W.written writer.new) (W.faults writer.old) (W.faults writer.new)
-        result (row_line row.now) }
+    ensures { WritesTo W.ByteWriter writer.old writer.new result (row_line row.now) }
 {
     let mut id = Buffer::new();
     let mut leaf = Buffer::new();
@@ -182,8 +172,7 @@ fn write_rows<const D: usize, W: ByteWriter>(
     writer: &mut W,
     shadow: &Shadow<D>,
 ) -> Result<(), WriteFault>
-    ensures { Writes (W.written writer.old) (W.written writer.new) (W.faults writer.old) (W.faults writer.new)
-        result (flat_map row_line shadow.now.rows) }
+    ensures { WritesTo W.ByteWriter writer.old writer.new result (flat_map row_line shadow.now.rows) }
 {
     for row in shadow.rows() {
         write_row(writer, row)?;
@@ -195,8 +184,7 @@ fn write_header<const D: usize, W: ByteWriter>(
     writer: &mut W,
     shadow: &Shadow<D>,
 ) -> Result<(), WriteFault>
-    ensures { Writes (W.written writer.old) (W.written writer.new) (W.faults writer.old) (W.faults writer.new)
-        result (header_line shadow.now) }
+    ensures { WritesTo W.ByteWriter writer.old writer.new result (header_line shadow.now) }
 {
     let mut axes = Buffer::new();
     let mut capacity = Buffer::new();
@@ -226,8 +214,7 @@ fn write_tail<const D: usize, W: ByteWriter>(
     writer: &mut W,
     shadow: &Shadow<D>,
 ) -> Result<(), WriteFault>
-    ensures { Writes (W.written writer.old) (W.written writer.new) (W.faults writer.old) (W.faults writer.new)
-        result (flat_map row_line shadow.now.rows ++ end_line) }
+    ensures { WritesTo W.ByteWriter writer.old writer.new result (flat_map row_line shadow.now.rows ++ end_line) }
 {
     write_rows(writer, shadow)?;
     write_whole(writer, b"end\n")
@@ -238,8 +225,7 @@ fn write_body<const D: usize, W: ByteWriter>(
     writer: &mut W,
     shadow: &Shadow<D>,
 ) -> Result<(), WriteFault>
-    ensures { Writes (W.written writer.old) (W.written writer.new) (W.faults writer.old) (W.faults writer.new)
-        result (flat_map node_text shadow.now.nodes ++ (flat_map row_line shadow.now.rows ++ end_line)) }
+    ensures { WritesTo W.ByteWriter writer.old writer.new result (flat_map node_text shadow.now.nodes ++ (flat_map row_line shadow.now.rows ++ end_line)) }
 {
     write_nodes(writer, shadow)?;
     write_tail(writer, shadow)
@@ -249,17 +235,24 @@ fn write_shadow<const D: usize, W: ByteWriter>(
     writer: &mut W,
     shadow: &Shadow<D>,
 ) -> Result<(), WriteFault>
-    ensures { Writes (W.written writer.old) (W.written writer.new) (W.faults writer.old) (W.faults writer.new)
-        result (shadow_text shadow.now) }
+    ensures { WritesTo W.ByteWriter writer.old writer.new result (shadow_text shadow.now) }
 {
     write_header(writer, shadow)?;
     write_body(writer, shadow)
 }
 
-/// Writes a shadow's text. After a fault a front of it is written. Takes no memory.
+/// Writes a shadow's text, a line each for the shadow, its nodes, their cells and the row entries. After a
+/// fault a front of it is written. Takes no memory.
+///
+/// ```text
+/// rtree 1 5 1 1 1       axes, capacity, root, counts of nodes and rows
+/// node 1 0 - 1          number, level, parent, count of cells
+/// cell 7 0 2            number, and lo and hi on each axis
+/// row 7 1               id, leaf
+/// end
+/// ```
 pub fn write_dump<W: ByteWriter>(shadow: &AnyShadow, writer: &mut W) -> Result<(), WriteFault>
-    ensures { Writes (W.written writer.old) (W.written writer.new) (W.faults writer.old) (W.faults writer.new)
-        result (any_text shadow.now) }
+    ensures { WritesTo W.ByteWriter writer.old writer.new result (any_text shadow.now) }
 {
     match shadow {
         AnyShadow::One(shadow) => write_shadow(writer, shadow),

@@ -7,6 +7,7 @@ ghost use Rattle.rt_dump.specs.declared.dump.AnyShadow.{AnyShadow};
 ghost use Rattle.rt_dump.specs.Dump.{any_text};
 ghost use Rattle.rt_dump.specs.Reading.{read_text};
 ghost use Rattle.rt_dump.specs.InRange.{IsAnyNumbered};
+ghost use Rattle.rt_dump.specs.Faults.{DumpsAreRead, TruncatedTextsAreFound, BadLinesAreFound, IsDumpOrFaulty, OneAnswer};
 
 use crate::dump::AnyShadow;
 use crate::looks::look_at;
@@ -33,4 +34,28 @@ pub fn shadows_have_their_own_texts(a: &AnyShadow, b: &AnyShadow)
 /// A text that is read is, byte for byte, the text of the shadow that is read.
 pub fn read_is_written()
     ensures { (text : List ℕ) (shadow : AnyShadow) → read_text text ≡ Ok shadow → any_text shadow ≡ text }
+{}
+
+/// A text is read as a shadow exactly where it is that shadow's text, with numbers that fit their types and
+/// count from 1. So the premise of `written_is_read` holds of each shadow that was read.
+pub fn dumps_are_read()
+    ensures { DumpsAreRead }
+{}
+
+/// A text is read as truncated in a line exactly where it ends within that line: the whole lines before it
+/// begin some dump, and are none.
+pub fn truncated_texts_are_found()
+    ensures { TruncatedTextsAreFound }
+{}
+
+/// A line is read as faulty, by any other code, exactly where the lines before it begin some dump, and with it
+/// they begin none.
+pub fn bad_lines_are_found()
+    ensures { BadLinesAreFound }
+{}
+
+/// A text is a dump or has a first faulty line; not both, and no text has two.
+pub fn texts_have_one_answer()
+    ensures some { IsDumpOrFaulty }
+    ensures one { OneAnswer }
 {}

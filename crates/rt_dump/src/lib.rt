@@ -2,10 +2,12 @@
 //!
 //! - `write_dump` writes a shadow's text, or after a fault a front of it.
 //! - `read_dump` reads any bytes: as a shadow, or with the first faulty line and its first code.
-//! - `laws`: what is written is read again, and what is read is written back byte for byte.
+//! - `laws`: what is written is read again, and what is read is written back byte for byte. The first
+//!   faulty line is the first with which a text fits no dump, and each text is a dump or has one.
 #![tactic(auto)]
 
 mod dump;
+mod fault;
 pub mod laws;
 mod lines;
 mod looks;
@@ -14,4 +16,5 @@ mod pieces;
 mod reading;
 
 pub use dump::{AnyShadow, write_dump};
-pub use reading::{DumpFault, read_dump};
+pub use fault::{DumpFault, LineFault};
+pub use reading::read_dump;

@@ -1,6 +1,6 @@
 //! The lines of a dump, by their spelling and by what they say.
 
-ghost use Rattle.std.specs.Prelude.{◌≡◌, ◌≤◌, codes, drop, OnSome};
+ghost use Rattle.std.specs.Prelude.{◌≡◌, ◌≤◌, codes, drop, IfSome, OnSome};
 ghost use Rattle.rt_dump.specs.Lines.{are_numbers, words, is_plain, is_parent, is_node, is_cell, kind_of, node_head, row_entry, first_range, ranges_of, raw_cell};
 
 use crate::numbers::{
@@ -32,8 +32,7 @@ pub(crate) struct NodeHead {
 fn are_numbers(words: &mut Pieces<'_>, count: usize) -> bool
     ensures { result ≡ are_numbers count words.old }
 {
-    for turn in 0..count {
-        let _ = turn;
+    for _turn in 0..count {
         let Some(word) = words.next() else {
             return false;
         };
@@ -83,20 +82,23 @@ fn is_node(line: &[u8]) -> bool
         && are_numbers(&mut words, 1)
 }
 
-fn is_cell(line: &[u8], axes: usize) -> bool
-    requires { axes ≤ 3 }
+/// Whether the line is a cell's, on that many axes where their number is known.
+fn is_cell(line: &[u8], axes: Option<usize>) -> bool
+    requires { IfSome axes (λ count. count ≤ 3) }
     ensures { result ≡ is_cell axes (words line.now) }
 {
-    if axes == 0 {
-        is_plain(line, b"cell", 3) || is_plain(line, b"cell", 5) || is_plain(line, b"cell", 7)
-    } else {
-        is_plain(line, b"cell", 1 + 2 * axes)
+    match axes {
+        Some(axes) => is_plain(line, b"cell", 1 + 2 * axes),
+        None => {
+            is_plain(line, b"cell", 3) || is_plain(line, b"cell", 5) || is_plain(line, b"cell", 7)
+        }
     }
 }
 
-/// The kind of a line by its spelling. No axes stand for one, two or three.
-pub(crate) fn kind_of(line: &[u8], axes: usize) -> Option<LineKind>
-    requires { axes ≤ 3 }
+/// The kind of a line by its spelling. Before the header has told the number of axes, a cell may have
+/// one, two or three.
+pub(crate) fn kind_of(line: &[u8], axes: Option<usize>) -> Option<LineKind>
+    requires { IfSome axes (λ count. count ≤ 3) }
     ensures { result ≡ kind_of axes (words line.now) }
 {
     if is_plain(line, b"rtree", 5) {

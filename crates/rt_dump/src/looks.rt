@@ -96,8 +96,6 @@ fn look_at_shadow<const D: usize>(shadow: &Shadow<D>)
 {
     let _greatest = shadow.capacity().greatest();
     let _root = shadow.root();
-    let _numbers = shadow.numbers().len();
-    let _ids = shadow.ids().len();
     look_at_nodes(shadow.nodes());
     look_at_rows(shadow.rows());
 }

@@ -1,21 +1,24 @@
 //! A dump read line by line.
 
-ghost use Rattle.std.specs.Prelude.{◌≡◌, ◌≤◌, ◌<◌, ◌-◌, ◌^◌, length};
+ghost use Rattle.std.specs.Prelude.{◌≡◌, ◌≤◌, ◌<◌, ◌-◌, ◌^◌, IfOk, length};
 ghost use Rattle.rt_dump.specs.Lines.{words, kind_of, node_head, row_entry, raw_cell};
 ghost use Rattle.rt_dump.specs.Reading.{due, empty_node, after_head, after_cell, after_row, after_kind, after_line, Gives, is_nothing, is_end, read_rest, Reads, axes_of, capacity_of, header_of, start, read_body, read_kind, read_text};
+ghost use Rattle.rt_dump.specs.Faults.{IsTextOf};
 
 use crate::dump::AnyShadow;
+use crate::fault::{DumpFault, LineFault};
 use crate::lines::{LineKind, NodeHead, kind_of, node_head, raw_cell, row_entry};
 use crate::numbers::{byte_of, count_of, positive_of};
 use crate::pieces::Pieces;
 use rt_box::Capacity;
 use rt_check::{Items, NodeRow, Shadow, ShadowFault};
 use std::alloc::Global;
+use std::hash::RandomState;
 
-/// Why a line isn't taken: its code, or want of memory.
+/// Why a line isn't taken.
 #[derive(Clone, Copy)]
-pub(crate) enum LineFault {
-    Code(u8),
+pub(crate) enum StepFault {
+    Line(LineFault),
     Memory,
 }
 
@@ -59,46 +62,46 @@ fn take_head<const D: usize>(
     progress: &mut Progress<D>,
     alloc: Global,
     line: &[u8],
-) -> Result<(), LineFault>
+) -> Result<(), StepFault>
     ensures { Gives (after_head progress.old (node_head (words line.now))) result progress.new }
 {
     let Some(head) = node_head(line) else {
-        return Err(LineFault::Code(4));
+        return Err(StepFault::Line(LineFault::OutOfRange));
     };
     match progress.shadow.add_node(empty_node(alloc, &head)) {
         Ok(()) => {}
-        Err(ShadowFault::Twice) => return Err(LineFault::Code(2)),
-        Err(ShadowFault::Memory) => return Err(LineFault::Memory),
+        Err(ShadowFault::Twice) => return Err(StepFault::Line(LineFault::ListedTwice)),
+        Err(ShadowFault::Memory) => return Err(StepFault::Memory),
     }
     progress.nodes = progress.nodes.saturating_sub(1);
     progress.cells = head.cells;
     Ok(())
 }
 
-fn take_cell<const D: usize>(progress: &mut Progress<D>, line: &[u8]) -> Result<(), LineFault>
+fn take_cell<const D: usize>(progress: &mut Progress<D>, line: &[u8]) -> Result<(), StepFault>
     requires { D ≤ 3 }
     ensures { Gives (after_cell progress.old (raw_cell D (words line.now))) result progress.new }
 {
     let Some(cell) = raw_cell(line) else {
-        return Err(LineFault::Code(4));
+        return Err(StepFault::Line(LineFault::OutOfRange));
     };
     if progress.shadow.add_cell(cell).is_err() {
-        return Err(LineFault::Memory);
+        return Err(StepFault::Memory);
     }
     progress.cells = progress.cells.saturating_sub(1);
     Ok(())
 }
 
-fn take_row<const D: usize>(progress: &mut Progress<D>, line: &[u8]) -> Result<(), LineFault>
+fn take_row<const D: usize>(progress: &mut Progress<D>, line: &[u8]) -> Result<(), StepFault>
     ensures { Gives (after_row progress.old (row_entry (words line.now))) result progress.new }
 {
     let Some(row) = row_entry(line) else {
-        return Err(LineFault::Code(4));
+        return Err(StepFault::Line(LineFault::OutOfRange));
     };
     match progress.shadow.add_row(row) {
         Ok(()) => {}
-        Err(ShadowFault::Twice) => return Err(LineFault::Code(2)),
-        Err(ShadowFault::Memory) => return Err(LineFault::Memory),
+        Err(ShadowFault::Twice) => return Err(StepFault::Line(LineFault::ListedTwice)),
+        Err(ShadowFault::Memory) => return Err(StepFault::Memory),
     }
     progress.rows = progress.rows.saturating_sub(1);
     Ok(())
@@ -110,7 +113,7 @@ fn take_kind<const D: usize>(
     alloc: Global,
     line: &[u8],
     kind: LineKind,
-) -> Result<(), LineFault>
+) -> Result<(), StepFault>
     requires { D ≤ 3 }
     ensures { Gives (after_kind progress.old (words line.now) (due progress.old) kind) result progress.new }
 {
@@ -119,7 +122,7 @@ fn take_kind<const D: usize>(
         (LineKind::Cell, LineKind::Cell) => take_cell(progress, line),
         (LineKind::Row, LineKind::Row) => take_row(progress, line),
         (LineKind::End, LineKind::End) => Ok(()),
-        _ => Err(LineFault::Code(3)),
+        _ => Err(StepFault::Line(LineFault::CountWrong)),
     }
 }
 
@@ -128,29 +131,14 @@ fn take_line<const D: usize>(
     progress: &mut Progress<D>,
     alloc: Global,
     line: &[u8],
-) -> Result<(), LineFault>
+) -> Result<(), StepFault>
     requires { D ≤ 3 }
     ensures { Gives (after_line progress.old line.now) result progress.new }
 {
-    match kind_of(line, D) {
+    match kind_of(line, Some(D)) {
         Some(kind) => take_kind(progress, alloc, line, kind),
-        None => Err(LineFault::Code(1)),
+        None => Err(StepFault::Line(LineFault::BadLine)),
     }
-}
-
-/// Why bytes aren't read as a dump.
-#[derive(Clone, Copy, PartialEq, Eq, Debug)]
-pub enum DumpFault {
-    /// The first faulty line, counted from 1, and the first code that applies to it: 1 bad line,
-    /// 2 listed twice, 3 count wrong, 4 out of range, 5 truncated.
-    At {
-        /// The line's number.
-        line: u64,
-        /// The code.
-        code: u8,
-    },
-    /// No memory is left.
-    Memory,
 }
 
 /// Whether the last line is due.
@@ -188,20 +176,25 @@ fn read_rest<const D: usize>(
         if lines.is_done() {
             return Err(DumpFault::At {
                 line: number,
-                code: 5,
+                fault: LineFault::Truncated,
             });
         }
         let is_end = is_at_end(&progress);
         match take_line(&mut progress, alloc, line) {
             Ok(()) => {}
-            Err(LineFault::Code(code)) => return Err(DumpFault::At { line: number, code }),
-            Err(LineFault::Memory) => return Err(DumpFault::Memory),
+            Err(StepFault::Line(fault)) => {
+                return Err(DumpFault::At {
+                    line: number,
+                    fault,
+                });
+            }
+            Err(StepFault::Memory) => return Err(DumpFault::Memory),
         }
         if is_end {
             if !is_nothing(lines) {
                 return Err(DumpFault::At {
                     line: number + 1,
-                    code: 1,
+                    fault: LineFault::BadLine,
                 });
             }
             return Ok(progress.shadow);
@@ -210,7 +203,7 @@ fn read_rest<const D: usize>(
     }
     Err(DumpFault::At {
         line: number,
-        code: 5,
+        fault: LineFault::Truncated,
     })
 }
 
@@ -268,13 +261,13 @@ fn header_of(line: &[u8]) -> Option<Heading>
     })
 }
 
-fn start<const D: usize>(alloc: Global, header: &Heading) -> Progress<D>
+fn start<const D: usize>(alloc: Global, keys: RandomState, header: &Heading) -> Progress<D>
     requires some { 1 ≤ D }
     requires few { D ≤ 3 }
     ensures { result ≡ start D header.now }
 {
     Progress {
-        shadow: Shadow::new(alloc, header.capacity, header.root),
+        shadow: Shadow::new(alloc, keys, header.capacity, header.root),
         nodes: header.nodes,
         rows: header.rows,
         cells: 0,
@@ -284,6 +277,7 @@ fn start<const D: usize>(alloc: Global, header: &Heading) -> Progress<D>
 /// Reads the lines after a header.
 fn read_body(
     alloc: Global,
+    keys: RandomState,
     header: &Heading,
     lines: &mut Pieces<'_>,
 ) -> Result<AnyShadow, DumpFault>
@@ -291,44 +285,76 @@ fn read_body(
     ensures { Reads (read_body header.now lines.old) result }
 {
     match header.axes {
-        1 => Ok(AnyShadow::One(read_rest(start(alloc, header), alloc, lines)?)),
-        2 => Ok(AnyShadow::Two(read_rest(start(alloc, header), alloc, lines)?)),
-        _ => Ok(AnyShadow::Three(read_rest(start(alloc, header), alloc, lines)?)),
+        1 => Ok(AnyShadow::One(read_rest(start(alloc, keys, header), alloc, lines)?)),
+        2 => Ok(AnyShadow::Two(read_rest(start(alloc, keys, header), alloc, lines)?)),
+        _ => Ok(AnyShadow::Three(read_rest(start(alloc, keys, header), alloc, lines)?)),
     }
 }
 
 /// Reads what comes after the first line, if that is a header.
-fn read_first(alloc: Global, line: &[u8], lines: &mut Pieces<'_>) -> Result<AnyShadow, DumpFault>
+fn read_first(
+    alloc: Global,
+    keys: RandomState,
+    line: &[u8],
+    lines: &mut Pieces<'_>,
+) -> Result<AnyShadow, DumpFault>
     requires { length lines.old < 2 ^ 64 - 2 }
-    ensures { Reads (read_kind (kind_of 0 (words line.now)) (header_of (words line.now)) lines.old) result }
+    ensures { Reads (read_kind (kind_of None (words line.now)) (header_of (words line.now)) lines.old) result }
 {
-    let Some(kind) = kind_of(line, 0) else {
-        return Err(DumpFault::At { line: 1, code: 1 });
+    let Some(kind) = kind_of(line, None) else {
+        return Err(DumpFault::At {
+            line: 1,
+            fault: LineFault::BadLine,
+        });
     };
     match kind {
         LineKind::Header => {}
         LineKind::Node | LineKind::Cell | LineKind::Row | LineKind::End => {
-            return Err(DumpFault::At { line: 1, code: 3 });
+            return Err(DumpFault::At {
+                line: 1,
+                fault: LineFault::CountWrong,
+            });
         }
     }
     match header_of(line) {
-        Some(header) => read_body(alloc, &header, lines),
-        None => Err(DumpFault::At { line: 1, code: 4 }),
+        Some(header) => read_body(alloc, keys, &header, lines),
+        None => Err(DumpFault::At {
+            line: 1,
+            fault: LineFault::OutOfRange,
+        }),
     }
 }
 
-/// Reads a dump. Memory is taken as lines come, and none for counts alone.
-pub fn read_dump(alloc: Global, bytes: &[u8]) -> Result<AnyShadow, DumpFault>
-    ensures { Reads (read_text bytes.now) result }
+/// Reads a dump: the shadow that the bytes are the text of, or the first faulty line. Memory is taken as
+/// lines come, and none for counts alone. Numbers and ids are looked up by `keys`, which are to be random
+/// where others choose the bytes.
+///
+/// ```text
+/// let bytes = b"rtree 1 5 1 1 1\nnode 1 0 - 1\ncell 7 0 2\nrow 7 1\nend\n";
+/// match read_dump(rt.alloc(), RandomState::new(&rt)?, bytes) {
+///     Ok(shadow) => write_dump(&shadow, &mut writer)?,
+///     Err(DumpFault::At { line, fault }) => println!(rt; "line {line}: {fault}")?,
+///     Err(DumpFault::Memory) => println!(rt; "out of memory")?,
+/// }
+/// ```
+pub fn read_dump(alloc: Global, keys: RandomState, bytes: &[u8]) -> Result<AnyShadow, DumpFault>
+    ensures reads { Reads (read_text bytes.now) result }
+    ensures same { IfOk result (λ shadow. IsTextOf shadow bytes.now) }
 {
     let mut lines = Pieces::new(bytes, b'\n');
     let Some(line) = lines.next() else {
-        return Err(DumpFault::At { line: 1, code: 5 });
+        return Err(DumpFault::At {
+            line: 1,
+            fault: LineFault::Truncated,
+        });
     };
     if lines.is_done() {
-        return Err(DumpFault::At { line: 1, code: 5 });
+        return Err(DumpFault::At {
+            line: 1,
+            fault: LineFault::Truncated,
+        });
     }
-    read_first(alloc, line, &mut lines)
+    read_first(alloc, keys, line, &mut lines)
 }
 
 #[cfg(test)]
@@ -354,6 +380,7 @@ mod tests {
 
     fn written(alloc: Global, shadow: &AnyShadow) -> Vec<u8> {
         let mut sink = Sink::new(alloc);
+        // A sink out of memory holds too few bytes, which the comparison then shows.
         let _ = write_dump(shadow, &mut sink);
         sink.into_bytes()
     }
@@ -368,20 +395,23 @@ mod tests {
         Ok(changed)
     }
 
-    fn fault_of(alloc: Global, bytes: &[u8]) -> Option<DumpFault> {
-        match read_dump(alloc, bytes) {
+    fn fault_of(rt: &HostRuntime, bytes: &[u8]) -> Option<DumpFault> {
+        let Ok(keys) = RandomState::new(rt) else {
+            return None;
+        };
+        match read_dump(rt.alloc(), keys, bytes) {
             Ok(_) => None,
             Err(fault) => Some(fault),
         }
     }
 
-    fn at(line: u64, code: u8) -> Option<DumpFault> {
-        Some(DumpFault::At { line, code })
+    fn at(line: u64, fault: LineFault) -> Option<DumpFault> {
+        Some(DumpFault::At { line, fault })
     }
 
-    fn problems(alloc: Global, text: &str) -> Result<Vec<Problem>, Fail> {
-        match read_dump(alloc, text.as_bytes()) {
-            Ok(AnyShadow::One(shadow)) => Ok(check(alloc, &shadow)?),
+    fn problems(rt: &HostRuntime, text: &str) -> Result<Vec<Problem>, Fail> {
+        match read_dump(rt.alloc(), RandomState::new(rt)?, text.as_bytes()) {
+            Ok(AnyShadow::One(shadow)) => Ok(check(rt.alloc(), &shadow)?),
             _ => Err(Fail::from("one axis")),
         }
     }
@@ -389,7 +419,7 @@ mod tests {
     #[test]
     fn dumps_are_read_and_written_again(rt: HostRuntime) -> Result<(), Fail> {
         for text in [TWO_LEAVES, THREE_LEAVES, UNEVEN_LEAVES, THREE_AXES] {
-            match read_dump(rt.alloc(), text.as_bytes()) {
+            match read_dump(rt.alloc(), RandomState::new(&rt)?, text.as_bytes()) {
                 Ok(shadow) => {
                     assert_eq!(rt; written(rt.alloc(), &shadow).as_slice(), text.as_bytes());
                 }
@@ -402,36 +432,40 @@ mod tests {
     #[test]
     fn trees_have_no_problem(rt: HostRuntime) -> Result<(), Fail> {
         for text in [TWO_LEAVES, THREE_LEAVES, UNEVEN_LEAVES] {
-            assert_eq!(rt; problems(rt.alloc(), text)?.len(), 0);
+            assert_eq!(rt; problems(&rt, text)?.len(), 0);
         }
         Ok(())
     }
 
     #[test]
     fn the_first_fault_is_found(rt: HostRuntime) -> Result<(), Fail> {
-        assert_eq!(rt; fault_of(rt.alloc(), b""), at(1, 5));
+        assert_eq!(rt; fault_of(&rt, b""), at(1, LineFault::Truncated));
         let changes = [
-            (4, "cell 3 010 12", at(4, 1)),
-            (4, "cell 3 10 2147483648", at(4, 4)),
-            (14, "row 1 2", at(14, 2)),
-            (1, "rtree 1 5 1 3 5", at(18, 3)),
-            (5, "node 1 0 1 3", at(5, 2)),
-            (4, "cell 3 10 12 0 0", at(4, 1)),
-            (4, "cell 3 -0 12", at(4, 1)),
-            (4, "cell 3  10 12", at(4, 1)),
-            (4, "cell 99999999999999999999 10 12", at(4, 4)),
-            (1, "rtree 4 5 1 3 6", at(1, 4)),
-            (1, "rtree 1 52 1 3 6", at(1, 4)),
-            (1, "row 1 2", at(1, 3)),
-            (1, "cell 3 0 0 0 0", at(1, 3)),
-            (1, "cell 3 0 0 0", at(1, 1)),
-            (5, "node 2 256 1 3", at(5, 4)),
-            (5, "node 2 0 -1 3", at(5, 4)),
-            (19, "end\nx", at(20, 1)),
+            (4, "cell 3 010 12", at(4, LineFault::BadLine)),
+            (4, "cell 3 10 2147483648", at(4, LineFault::OutOfRange)),
+            (14, "row 1 2", at(14, LineFault::ListedTwice)),
+            (1, "rtree 1 5 1 3 5", at(18, LineFault::CountWrong)),
+            (5, "node 1 0 1 3", at(5, LineFault::ListedTwice)),
+            (4, "cell 3 10 12 0 0", at(4, LineFault::BadLine)),
+            (4, "cell 3 -0 12", at(4, LineFault::BadLine)),
+            (4, "cell 3  10 12", at(4, LineFault::BadLine)),
+            (
+                4,
+                "cell 99999999999999999999 10 12",
+                at(4, LineFault::OutOfRange),
+            ),
+            (1, "rtree 4 5 1 3 6", at(1, LineFault::OutOfRange)),
+            (1, "rtree 1 52 1 3 6", at(1, LineFault::OutOfRange)),
+            (1, "row 1 2", at(1, LineFault::CountWrong)),
+            (1, "cell 3 0 0 0 0", at(1, LineFault::CountWrong)),
+            (1, "cell 3 0 0 0", at(1, LineFault::BadLine)),
+            (5, "node 2 256 1 3", at(5, LineFault::OutOfRange)),
+            (5, "node 2 0 -1 3", at(5, LineFault::OutOfRange)),
+            (19, "end\nx", at(20, LineFault::BadLine)),
         ];
         for (line, by, fault) in changes {
             let text = replaced(rt.alloc(), TWO_LEAVES, line, by)?;
-            assert_eq!(rt; fault_of(rt.alloc(), text.as_bytes()), fault, "{by}");
+            assert_eq!(rt; fault_of(&rt, text.as_bytes()), fault, "{by}");
         }
         Ok(())
     }
@@ -439,7 +473,7 @@ mod tests {
     #[test]
     fn counts_take_no_room(rt: HostRuntime) {
         let text = b"rtree 1 5 1 9223372036854775807 0\nend\n";
-        assert_eq!(rt; fault_of(rt.alloc(), text), at(2, 3));
+        assert_eq!(rt; fault_of(&rt, text), at(2, LineFault::CountWrong));
     }
 
     #[test]
@@ -447,7 +481,10 @@ mod tests {
         let bytes = TWO_LEAVES.as_bytes();
         let mut line = 1u64;
         for (index, byte) in bytes.iter().enumerate() {
-            assert_eq!(rt; fault_of(rt.alloc(), &bytes[..index]), at(line, 5));
+            assert_eq!(rt;
+                fault_of(&rt, &bytes[..index]),
+                at(line, LineFault::Truncated)
+            );
             if *byte == b'\n' {
                 line = line.saturating_add(1);
             }
@@ -456,11 +493,12 @@ mod tests {
 
     #[test]
     fn a_changed_byte_is_a_fault_or_is_written_again(rt: HostRuntime) -> Result<(), Fail> {
+        let keys = RandomState::new(&rt)?;
         let mut bytes = TWO_LEAVES.as_bytes().to_vec(rt.alloc())?;
         for index in 0..bytes.len() {
             for byte in 0u8..=255 {
                 let old = std::mem::replace(&mut bytes[index], byte);
-                if let Ok(shadow) = read_dump(rt.alloc(), bytes.as_slice()) {
+                if let Ok(shadow) = read_dump(rt.alloc(), keys, bytes.as_slice()) {
                     assert_eq!(rt; written(rt.alloc(), &shadow).as_slice(), bytes.as_slice());
                 }
                 bytes[index] = old;

@@ -2,8 +2,8 @@
 use Rattle.std.proofs.Common.{◌≡◌, ◌∙◌, ℕ, ◌+◌, ◌^◌, ◌<◌, ◌≤◌, List, [], ◌++◌, length, refl, ap, inl, inr, arith, append-nil, length-append}
 use Rattle.std.specs.Io.KnownBytes.{Consumes, IsAtEnd}
 use Rattle.rt_bytes.specs.Bytes.{one_more}
-use Rattle.rt_bytes.specs.Devices.{most_reads}
-use Rattle.rt_report.specs.CheckRun.{Source, NoEnd, AllRead}
+use Rattle.rt_bytes.specs.Devices.{Source, most_reads}
+use Rattle.rt_report.specs.CheckRun.{NoEnd, AllRead}
 use Rattle.rt_bytes.proofs.Consuming.{Consumes-trans, Consumes-none, always, too_long}
 
 pub record Gathering (old now : Source) (bytes : List ℕ) (turn : ℕ) : Type 0 where

@@ -5,17 +5,15 @@ use Rattle.std.specs.declared.alloc.Global.{Global}
 use Rattle.std.specs.Io.KnownBytes.{Appends, Consumes, IsAtEnd}
 use Rattle.rt_bytes.specs.Bytes.{one_more, AppendsFront, WritesAll, WritesFront}
 use Rattle.rt_dump.specs.Reading.{read_text}
+use Rattle.rt_bytes.specs.declared.device.ByteWriter.{Ghosts as WriterMembers}
 use Rattle.rt_bytes.specs.declared.outcome.Status.{Status}
 use Rattle.rt_bytes.specs.declared.outcome.RunFault.{RunFault}
 use Rattle.rt_bytes.specs.declared.outcome.RunFault.TheVariants.{Read, Write, Memory}
-use Rattle.rt_report.specs.Report.{report_on, report_status}
-use Rattle.rt_bytes.specs.Devices.{Devices, most_reads, Held}
-
--- what is known of a reader: the bytes left, where they are known, and the counts of failures and of reads
-pub record Source : Type 0 where
-  pub left : Option (List ℕ)
-  pub failures : ℕ
-  pub reads : ℕ
+use Rattle.rt_bytes.specs.declared.outcome.Status.TheVariants.{Refused}
+use Rattle.rt_dump.specs.declared.fault.DumpFault.{DumpFault}
+use Rattle.rt_dump.specs.declared.fault.DumpFault.TheVariants.{At, Memory as NoMemory}
+use Rattle.rt_report.specs.Report.{fault_line, report_on, report_status}
+use Rattle.rt_bytes.specs.Devices.{Source, Devices, most_reads, Held}
 
 -- a read failed, or the last read was made
 pub record NoEnd (old new : Source) : Type 0 where
@@ -34,12 +32,22 @@ ReadsAll old new (Err Read) = NoEnd old new
 ReadsAll old new (Err Write) = ⊥
 ReadsAll old new (Err Memory) = new.failures ≡ old.failures
 
+-- a dump's fault was written, or after a fault of the writer a front of its line; nothing for want of memory
+abbrev pub ReportsFault : {W : Type 0} → WriterMembers W → DumpFault → W → W → Result Status RunFault → Type 0
+ReportsFault w (At line fault) old new (Ok status) =
+    WritesAll (w.written old) (w.written new) (w.faults old) (w.faults new) (fault_line line fault) × (status ≡ Refused)
+ReportsFault w (At line fault) old new (Err Write) = WritesFront (w.written old) (w.written new) (w.faults old) (w.faults new) (fault_line line fault)
+ReportsFault w (At line fault) old new (Err Read) = ⊥
+ReportsFault w (At line fault) old new (Err Memory) = ⊥
+ReportsFault w NoMemory old new result = (result ≡ Err Memory) × (w.written new ≡ w.written old) × (w.faults new ≡ w.faults old)
+
 -- the report on the bytes was written, or after a fault a front of it, or nothing for want of memory
-abbrev pub Reports : List ℕ → Option (List ℕ) → Option (List ℕ) → ℕ → ℕ → Result Status RunFault → Type 0
-Reports bytes w v f g (Ok status) = WritesAll w v f g (report_on (read_text bytes)) × (status ≡ report_status (read_text bytes))
-Reports bytes w v f g (Err Write) = WritesFront w v f g (report_on (read_text bytes))
-Reports bytes w v f g (Err Memory) = (v ≡ w) × (g ≡ f)
-Reports bytes w v f g (Err Read) = ⊥
+abbrev pub Reports : {W : Type 0} → WriterMembers W → List ℕ → W → W → Result Status RunFault → Type 0
+Reports w bytes old new (Ok status) =
+    WritesAll (w.written old) (w.written new) (w.faults old) (w.faults new) (report_on (read_text bytes)) × (status ≡ report_status (read_text bytes))
+Reports w bytes old new (Err Write) = WritesFront (w.written old) (w.written new) (w.faults old) (w.faults new) (report_on (read_text bytes))
+Reports w bytes old new (Err Memory) = (w.written new ≡ w.written old) × (w.faults new ≡ w.faults old)
+Reports w bytes old new (Err Read) = ⊥
 
 -- the reader held these bytes, and the report on them was written
 pub record ChecksDump (old new : Devices) (status : Status) : Type 0 where

@@ -1,22 +1,20 @@
 //! The check of a dump.
 
 ghost use Rattle.std.specs.Prelude.{◌≡◌, ◌+◌, ◌^◌, ◌≤◌, IfOk, OnOk, Ok, Err, true};
-ghost use Rattle.rt_report.specs.CheckRun.{Source, ReadsAll, Reports, Checks, items_or_fault};
-ghost use Rattle.rt_report.specs.Report.{all_problems};
-ghost use Rattle.rt_bytes.specs.Devices.{Devices};
+ghost use Rattle.rt_report.specs.CheckRun.{ReadsAll, ReportsFault, Reports, Checks, items_or_fault};
+ghost use Rattle.rt_report.specs.Report.{all_problems, verdict_status};
+ghost use Rattle.rt_bytes.specs.Devices.{source_of, devices_of};
 
 use crate::report::{write_bad_dump, write_verdict};
 use rt_bytes::{ByteReader, ByteWriter, MOST_READS, READ_SIZE, RunFault, Status};
 use rt_check::{Problem, check};
 use rt_dump::{AnyShadow, DumpFault, read_dump};
 use std::alloc::{AllocError, Global};
+use std::hash::RandomState;
 
 /// Reads all that there is.
 fn read_all<R: ByteReader>(alloc: Global, reader: &mut R) -> Result<Vec<u8>, RunFault>
-    ensures reads_all { ReadsAll
-        (record { left = R.left reader.old; failures = R.failures reader.old; reads = R.reads reader.old })
-        (record { left = R.left reader.new; failures = R.failures reader.new; reads = R.reads reader.new })
-        (items_or_fault result) }
+    ensures reads_all { ReadsAll (source_of R.ByteReader reader.old) (source_of R.ByteReader reader.new) (items_or_fault result) }
     ensures reads { R.reads reader.new ≤ R.reads reader.old + 2 ^ 40 }
 {
     let mut bytes = Vec::new(alloc);
@@ -41,45 +39,75 @@ fn problems_of(alloc: Global, shadow: &AnyShadow) -> Result<Vec<Problem>, AllocE
     }
 }
 
-/// Writes what is to be said of the bytes of a dump.
-fn report<W: ByteWriter>(alloc: Global, bytes: &[u8], writer: &mut W) -> Result<Status, RunFault>
-    ensures { Reports bytes.now (W.written writer.old) (W.written writer.new) (W.faults writer.old) (W.faults writer.new) result }
+fn status_of(problems: &[Problem]) -> Status
+    ensures { result ≡ verdict_status problems.now }
 {
-    match read_dump(alloc, bytes) {
+    if problems.is_empty() {
+        Status::Clean
+    } else {
+        Status::Refused
+    }
+}
+
+/// Writes what is to be said of bytes that weren't read as a dump.
+fn report_fault<W: ByteWriter>(fault: &DumpFault, writer: &mut W) -> Result<Status, RunFault>
+    ensures { ReportsFault W.ByteWriter fault.now writer.old writer.new result }
+{
+    match fault {
+        DumpFault::At { line, fault } => {
+            write_bad_dump(line, *fault, writer)?;
+            Ok(Status::Refused)
+        }
+        DumpFault::Memory => Err(RunFault::Memory),
+    }
+}
+
+/// Writes what is to be said of the bytes of a dump.
+fn report<W: ByteWriter>(
+    alloc: Global,
+    keys: RandomState,
+    bytes: &[u8],
+    writer: &mut W,
+) -> Result<Status, RunFault>
+    ensures { Reports W.ByteWriter bytes.now writer.old writer.new result }
+{
+    match read_dump(alloc, keys, bytes) {
         Ok(shadow) => {
             let problems = problems_of(alloc, &shadow)?;
             write_verdict(&problems, writer)?;
-            Ok(if problems.is_empty() {
-                Status::Clean
-            } else {
-                Status::Refused
-            })
+            Ok(status_of(&problems))
         }
-        Err(DumpFault::At { line, code }) => {
-            write_bad_dump(&line, code, writer)?;
-            Ok(Status::Refused)
-        }
-        Err(DumpFault::Memory) => Err(RunFault::Memory),
+        Err(fault) => report_fault(&fault, writer),
     }
 }
 
 /// Checks a dump: reads it whole, and writes `ok` where it is the text of a sound tree, else a line for
 /// each problem, or for its first fault. It reads at most 2^40 times, and flushes the writer once, at
-/// the end.
+/// the end. Numbers and ids are looked up by `keys`, which are to be random where others choose the
+/// bytes.
+///
+/// ```text
+/// let keys = RandomState::new(&rt)?;
+/// let mut dump = OverRead::new(File::open(&rt, "shops.dump")?);
+/// let mut verdict = OverWrite::new(io::writer(&rt));
+/// match run_check(rt.alloc(), keys, &mut dump, &mut verdict)? {
+///     Status::Clean => ExitCode::SUCCESS,
+///     Status::Refused => ExitCode::from(1),
+/// }
+/// ```
 pub fn run_check<R: ByteReader, W: ByteWriter>(
     alloc: Global,
+    keys: RandomState,
     reader: &mut R,
     writer: &mut W,
 ) -> Result<Status, RunFault>
-    ensures checks { Checks
-        (record { left = R.left reader.old; failures = R.failures reader.old; reads = R.reads reader.old; written = W.written writer.old; faults = W.faults writer.old })
-        (record { left = R.left reader.new; failures = R.failures reader.new; reads = R.reads reader.new; written = W.written writer.new; faults = W.faults writer.new })
-        result }
+    ensures checks { Checks (devices_of R.ByteReader W.ByteWriter reader.old writer.old)
+        (devices_of R.ByteReader W.ByteWriter reader.new writer.new) result }
     ensures reads { R.reads reader.new ≤ R.reads reader.old + 2 ^ 40 }
     ensures flushed { OnOk result (W.flushed writer.new ≡ true) }
 {
     let bytes = read_all(alloc, reader)?;
-    let status = report(alloc, &bytes, writer)?;
+    let status = report(alloc, keys, &bytes, writer)?;
     writer.flush()?;
     Ok(status)
 }

@@ -1,10 +1,12 @@
 //! The check of a dump: says whether it is the text of a sound tree.
 //!
 //! `run_check` reads a dump whole, and writes `ok`, a line for each problem of the tree, or the
-//! first fault of the text. Its contract names that report.
+//! first fault of the text. Its contract names that report, and `laws` says what it means to be
+//! clean.
 #![tactic(auto)]
 
 mod checking;
+pub mod laws;
 mod report;
 
 pub use checking::run_check;

@@ -1,18 +1,17 @@
 //! What is printed of a dump: a verdict, or the first fault in it. Printing takes no memory.
 
-ghost use Rattle.std.specs.Prelude.{◌≡◌};
 ghost use Rattle.std.specs.List.{flat_map};
-ghost use Rattle.rt_bytes.specs.Bytes.{Writes};
-ghost use Rattle.rt_report.specs.Report.{problem_line, verdict_lines, fault_text, fault_line};
+ghost use Rattle.rt_bytes.specs.Devices.{WritesTo};
+ghost use Rattle.rt_report.specs.Report.{problem_line, verdict_lines, fault_line};
 
 use itoa::Buffer;
 use rt_bytes::{ByteWriter, WriteFault, write_parts, write_whole};
 use rt_check::Problem;
+use rt_dump::LineFault;
 
 /// Writes `ok`, or a line for each problem. After a fault a front of that is written.
 pub fn write_verdict<W: ByteWriter>(problems: &[Problem], writer: &mut W) -> Result<(), WriteFault>
-    ensures { Writes (W.written writer.old) (W.written writer.new) (W.faults writer.old) (W.faults writer.new)
-        result (verdict_lines problems.now) }
+    ensures { WritesTo W.ByteWriter writer.old writer.new result (verdict_lines problems.now) }
 {
     if problems.is_empty() {
         return write_whole(writer, b"ok\n");
@@ -21,8 +20,7 @@ pub fn write_verdict<W: ByteWriter>(problems: &[Problem], writer: &mut W) -> Res
 }
 
 fn write_problems<W: ByteWriter>(problems: &[Problem], writer: &mut W) -> Result<(), WriteFault>
-    ensures { Writes (W.written writer.old) (W.written writer.new) (W.faults writer.old) (W.faults writer.new)
-        result (flat_map problem_line problems.now) }
+    ensures { WritesTo W.ByteWriter writer.old writer.new result (flat_map problem_line problems.now) }
 {
     for problem in problems {
         write_problem(problem, writer)?;
@@ -31,13 +29,12 @@ fn write_problems<W: ByteWriter>(problems: &[Problem], writer: &mut W) -> Result
 }
 
 fn write_problem<W: ByteWriter>(problem: &Problem, writer: &mut W) -> Result<(), WriteFault>
-    ensures { Writes (W.written writer.old) (W.written writer.new) (W.faults writer.old) (W.faults writer.new)
-        result (problem_line problem.now) }
+    ensures { WritesTo W.ByteWriter writer.old writer.new result (problem_line problem.now) }
 {
     let (mut condition, mut node, mut position) = (Buffer::new(), Buffer::new(), Buffer::new());
     let parts: [&[u8]; 7] = [
         b"C",
-        condition.format(problem.condition).as_bytes(),
+        condition.format(problem.condition.code()).as_bytes(),
         b" node ",
         node.format(problem.node).as_bytes(),
         b" at ",
@@ -49,31 +46,22 @@ fn write_problem<W: ByteWriter>(problem: &Problem, writer: &mut W) -> Result<(),
 
 /// Writes the first fault of a dump: the number of its line, and what is wrong there. After a fault
 /// of the writer a front of that is written.
-pub fn write_bad_dump<W: ByteWriter>(line: &u64, code: u8, writer: &mut W) -> Result<(), WriteFault>
-    ensures { Writes (W.written writer.old) (W.written writer.new) (W.faults writer.old) (W.faults writer.new)
-        result (fault_line line.now code) }
+pub fn write_bad_dump<W: ByteWriter>(
+    line: &u64,
+    fault: LineFault,
+    writer: &mut W,
+) -> Result<(), WriteFault>
+    ensures { WritesTo W.ByteWriter writer.old writer.new result (fault_line line.now fault) }
 {
-    let (mut number, mut kind) = (Buffer::new(), Buffer::new());
+    let (mut number, mut code) = (Buffer::new(), Buffer::new());
     let parts: [&[u8]; 7] = [
         b"bad dump ",
         number.format(*line).as_bytes(),
         b" ",
-        kind.format(code).as_bytes(),
+        code.format(fault.code()).as_bytes(),
         b": ",
-        fault_text(code).as_bytes(),
+        fault.text().as_bytes(),
         b"\n",
     ];
     write_parts(writer, &parts)
-}
-
-fn fault_text(code: u8) -> &'static str
-    ensures { result.now ≡ fault_text code }
-{
-    match code {
-        1 => "bad line",
-        2 => "listed twice",
-        3 => "count wrong",
-        4 => "out of range",
-        _ => "truncated",
-    }
 }

@@ -1,13 +1,6 @@
-//! Whole scripts, run over memory: what is printed, with what status, and what faults leave.
+//! Whole scripts and dumps, run over memory, whose readers and writers fail. Those that meet no fault stand as
+//! files beside `rt_cases`.
 #![tactic(auto)]
 
 #[cfg(test)]
-mod cutting;
-#[cfg(test)]
-mod dumps;
-#[cfg(test)]
 mod faults;
-#[cfg(test)]
-mod script;
-#[cfg(test)]
-mod scripts;

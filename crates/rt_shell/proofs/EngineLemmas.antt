@@ -1,6 +1,8 @@
 -- How an engine comes on through a script.
 use Rattle.std.proofs.Common.{◌≡◌, ◌∙◌, ℕ, ◌+◌, ◌≤◌, Bool, true, false, List, [], ◌∷◌, ◌++◌, Option, Some, None, Result, Ok, Err, refl, sym, ap, subst, inl, inr, arith, rules, append_assoc, append-nil}
-use Rattle.std.specs.Prelude.{◌||◌, ◌&&◌, ◌⊎◌}
+use Rattle.std.specs.Prelude.{◌<◌, ◌||◌, ◌&&◌, ◌⊎◌, if◌then◌else◌, nat_eq}
+use Rattle.std.specs.Bool.{MatchBool}
+use Rattle.std.proofs.lemmas.Bool.Decides.{nat_tests}
 use Rattle.std.specs.Result.{is_err}
 use Rattle.rt_cut.specs.Piece.{PieceText}
 use Rattle.rt_cut.specs.Pieces.{IsGap, IsWholePiece, IsLastPiece, Pieces, EndedPieces}
@@ -16,31 +18,53 @@ use Rattle.rt_bytes.specs.declared.outcome.Status.{Status}
 use Rattle.rt_bytes.specs.declared.outcome.Status.TheVariants.{Refused}
 use Rattle.rt_shell.specs.declared.runner.Flow.{Flow}
 use Rattle.rt_shell.specs.declared.runner.Flow.TheVariants.{Goes, Stops}
-use Rattle.rt_shell.specs.Session.{State}
+use Rattle.rt_shell.specs.declared.runner.Options.{Options}
+use Rattle.rt_shell.specs.Session.{State, Outcome}
 use Rattle.rt_shell.specs.Lines.{answer_lines}
-use Rattle.rt_shell.specs.Transcript.{Progress, Outcome, MayGive, after, Prints, lines_of, status_of}
-use Rattle.rt_shell.specs.Engine.{outcome_of, GivesAnswer, Answers, progress_of, ready_lines, flow_of, CutInto, Gives, Moves, StopsWith, Reaches, AnswersReady, Finishes}
+use Rattle.rt_shell.specs.Transcript.{Marks, Progress, MayGive, after, Prints, lines_of, status_of}
+use Rattle.rt_shell.specs.Engine.{outcome_of, GivesAnswer, AnswersNext, progress_of, ready_lines, flow_of, CutInto, Gives, Moves, StopsWith, Reaches, AnswersReady, Finishes}
 
--- an answer's outcome is one that the piece may give
-pub MayGive-outcome_of : (old : State) (piece : PieceText) (answer : Result Reply Refusal) (new : State) → GivesAnswer old piece answer new → MayGive old piece (outcome_of answer new)
-MayGive-outcome_of old piece (Ok reply) new gives = gives
-MayGive-outcome_of old piece (Err refusal) new gives = gives.0
+is_err-outcome_of : (answer : Result Reply Refusal) (new : State) → is_err (outcome_of answer new) ≡ is_err answer
+is_err-outcome_of (Ok reply) new = refl
+is_err-outcome_of (Err refusal) new = refl
 
-or-false : (b : Bool) → (b || false) ≡ b
-or-false true = refl
-or-false false = refl
+-- the progress that an answer makes
+pub after-outcome_of : (p : Progress) (piece : PieceText) (answer : Result Reply Refusal) (new : State) → GivesAnswer p.state piece answer new
+    → (let next : Progress = record { state = new; pieces = p.pieces + 1; refused = p.refused || is_err answer } in next ≡ after p (outcome_of answer new))
+after-outcome_of p piece answer new gives =
+    ap (λ b. record { state = new; pieces = p.pieces + 1; refused = p.refused || b }) (sym (is_err-outcome_of answer new))
+    ∙ ap (λ s. record { state = s; pieces = p.pieces + 1; refused = p.refused || is_err (outcome_of answer new) }) (sym gives.leaves)
 
-or-true : (b : Bool) → (b || true) ≡ true
-or-true true = refl
-or-true false = refl
+-- ---- marks
 
--- and the progress with it
-pub after-outcome_of : (p : Progress) (piece : PieceText) (answer : Result Reply Refusal) (new : State) → GivesAnswer p.tables piece answer new
-    → (let next : Progress = record { tables = new; pieces = p.pieces + 1; refused = p.refused || is_err answer } in next ≡ after p (outcome_of answer new))
-after-outcome_of p piece (Ok reply) new gives = ap (λ b. record { tables = new; pieces = p.pieces + 1; refused = b }) (or-false p.refused)
-after-outcome_of p piece (Err refusal) new gives =
-    ap (λ b. record { tables = new; pieces = p.pieces + 1; refused = b }) (or-true p.refused)
-    ∙ ap (λ t. record { tables = t; pieces = p.pieces + 1; refused = true }) gives.1
+-- the marks, with this one for the piece of the number
+marked : Marks → ℕ → Bool → Marks
+marked marks number mark = λ n. if nat_eq n number then mark else marks n
+
+marked-there : (marks : Marks) (number : ℕ) (mark : Bool) → marked marks number mark number ≡ mark
+unfolding marked
+marked-there marks number mark = grind (arith, nat_tests)
+
+marked-later : (marks : Marks) (number : ℕ) (mark : Bool) (n : ℕ) → number < n → marked marks number mark n ≡ marks n
+unfolding marked
+marked-later marks number mark n later = grind (arith, nat_tests)
+
+-- only the marks of pieces to come matter
+remarked : (options : Options) (marks others : Marks) (p : Progress) (pieces : List PieceText) (out : List ℕ) (status : Status)
+    → ((n : ℕ) → p.pieces < n → others n ≡ marks n) → Prints options marks p pieces out status → Prints options others p pieces out status
+remarked options marks others p [] out status agree prints = prints
+remarked options marks others p (piece ∷ pieces) out status agree (outcome, gives, later, lines, more) = (
+  outcome,
+  rw (agree (p.pieces + 1) (omega arith)) gives,
+  later,
+  lines,
+  elim (options.bail && is_err outcome) as
+      (λ b. MatchBool b ((later ≡ []) × (status ≡ Refused)) (Prints options marks (after p outcome) pieces later status)
+      → MatchBool b ((later ≡ []) × (status ≡ Refused)) (Prints options others (after p outcome) pieces later status)) [
+        | true ↦ λ ends. ends
+        | false ↦ λ goes. remarked options marks others (after p outcome) pieces later status (λ n lt. agree n (omega arith)) goes
+      ] more,
+)
 
 -- ---- every text is cut, and every list of pieces may print something
 
@@ -55,58 +79,67 @@ cut_in_some_way : (so_far : Bool) (x : List ℕ) → (pieces : List PieceText) �
 cut_in_some_way false x = cut_somehow x
 cut_in_some_way true x = ended_of x _ (cut_somehow x).1
 
-prints_somehow : (bail : Bool) (p : Progress) (pieces : List PieceText) → (out : List ℕ) × (status : Status) × Prints bail p pieces out status
-prints_somehow bail p [] = ([], status_of p, (refl, refl))
-prints_somehow true p (piece ∷ pieces) =
-    (lines_of (p.pieces + 1) (Err OutOfMemory) ++ [], Refused, (Err OutOfMemory, inl refl, [], refl, (refl, refl)))
-prints_somehow false p (piece ∷ pieces) =
-    let later = prints_somehow false (after p (Err OutOfMemory)) pieces in
-    (lines_of (p.pieces + 1) (Err OutOfMemory) ++ later.0, later.1, (Err OutOfMemory, inl refl, later.0, refl, later.2))
+-- where memory refuses each piece
+all_marked : Marks
+all_marked = λ number. true
 
-gives_somehow : (so_far bail : Bool) (p : Progress) (x : List ℕ) → (out : List ℕ) × (status : Status) × Gives so_far bail p x out status
-gives_somehow so_far bail p x =
+prints_somehow : (options : Options) (p : Progress) (pieces : List PieceText) → (out : List ℕ) × (status : Status) × Prints options all_marked p pieces out status
+unfolding all_marked
+prints_somehow options p [] = ([], status_of p, (refl, refl))
+prints_somehow options p (piece ∷ pieces) =
+    let later = prints_somehow options (after p (Err OutOfMemory)) pieces in
+    elim options.bail as
+    (λ b. (out : List ℕ) × (status : Status) × ((outcome : Outcome) × MayGive true p.state piece outcome
+    × (more : List ℕ) × (out ≡ lines_of (p.pieces + 1) outcome ++ more)
+    × MatchBool (b && is_err outcome) ((more ≡ []) × (status ≡ Refused)) (Prints options all_marked (after p outcome) pieces more status))) [
+      | true ↦ (lines_of (p.pieces + 1) (Err OutOfMemory) ++ [], Refused, (Err OutOfMemory, refl, [], refl, (refl, refl)))
+      | false ↦ (lines_of (p.pieces + 1) (Err OutOfMemory) ++ later.0, later.1, (Err OutOfMemory, refl, later.0, refl, later.2))
+    ]
+
+gives_somehow : (so_far : Bool) (options : Options) (p : Progress) (x : List ℕ) → (out : List ℕ) × (status : Status) × Gives so_far options p x out status
+gives_somehow so_far options p x =
     let cut = cut_in_some_way so_far x in
-    let printed = prints_somehow bail p cut.0 in
-    (printed.0, printed.1, (cut.0, cut.1, printed.2))
+    let printed = prints_somehow options p cut.0 in
+    (printed.0, printed.1, (all_marked, (cut.0, cut.1, printed.2)))
 
 -- ---- steps
 
 pub moves_nowhere : (e : Engine) (x : List ℕ) → StandsAt e.cutter x → Moves e x [] [] e x
-moves_nowhere e x stands = record { stands = stands; same_bail = refl; leads = λ so_far ahead out status gives. gives }
+moves_nowhere e x stands = record { stands = stands; same_options = refl; leads = λ so_far ahead out status gives. gives }
 
 -- bytes that the cutter took
 pub moves_by_feed : (e : Engine) (c : Front) (x taken : List ℕ) → StandsAt c (x ++ taken) → Moves e x taken [] (record e { cutter = c }) (x ++ taken)
 moves_by_feed e c x taken stands = record {
   stands = stands;
-  same_bail = refl;
+  same_options = refl;
   leads = λ so_far ahead out status gives. rw (← append_assoc x taken ahead) gives;
 }
 
 pub moves_on : (old mid new : Engine) (x y z b c l m : List ℕ) → Moves old x b l mid y → Moves mid y c m new z → Moves old x (b ++ c) (l ++ m) new z
 moves_on old mid new x y z b c l m first second = record {
   stands = second.stands;
-  same_bail = second.same_bail ∙ first.same_bail;
+  same_options = second.same_options ∙ first.same_options;
   leads = λ so_far ahead out status gives.
-      let kept : Gives so_far mid.bail (progress_of new) (z ++ ahead) out status = rw first.same_bail gives in
+      let kept : Gives so_far mid.options (progress_of new) (z ++ ahead) out status = rw first.same_options gives in
       let later = second.leads so_far ahead out status kept in
-      let led : Gives so_far old.bail (progress_of mid) (y ++ (c ++ ahead)) (m ++ out) status = rw (← first.same_bail) later in
+      let led : Gives so_far old.options (progress_of mid) (y ++ (c ++ ahead)) (m ++ out) status = rw (← first.same_options) later in
       rw (append_assoc b c ahead, append_assoc l m out) (first.leads so_far (c ++ ahead) (m ++ out) status led);
 }
 
 pub stops_after : (old mid : Engine) (x y b l m rest : List ℕ) → Moves old x b l mid y → StopsWith mid y [] m → StopsWith old x (b ++ rest) (l ++ m)
 stops_after old mid x y b l m rest first stops so_far ahead =
-    let led : Gives so_far old.bail (progress_of mid) (y ++ (rest ++ ahead)) m Refused = rw (← first.same_bail) (stops so_far (rest ++ ahead)) in
+    let led : Gives so_far old.options (progress_of mid) (y ++ (rest ++ ahead)) m Refused = rw (← first.same_options) (stops so_far (rest ++ ahead)) in
     rw (append_assoc b rest ahead) (first.leads so_far (rest ++ ahead) m Refused led)
 
 pub reaches_after : (old mid : Engine) (x y b l m rest : List ℕ) → Moves old x b l mid y → Reaches mid y [] m → Reaches old x (b ++ rest) (l ++ m)
 reaches_after old mid x y b l m rest first reaches so_far ahead =
     let later = reaches so_far (rest ++ ahead) in
-    let led : Gives so_far old.bail (progress_of mid) (y ++ (rest ++ ahead)) (m ++ later.0) later.1 = rw (← first.same_bail) later.2 in
+    let led : Gives so_far old.options (progress_of mid) (y ++ (rest ++ ahead)) (m ++ later.0) later.1 = rw (← first.same_options) later.2 in
     (later.0, later.1, rw (append_assoc b rest ahead, append_assoc l m later.0) (first.leads so_far (rest ++ ahead) (m ++ later.0) later.1 led))
 
 pub reaches_from : (old new : Engine) (x y b l : List ℕ) → Moves old x b l new y → Reaches old x b l
 reaches_from old new x y b l moves so_far ahead =
-    let later = gives_somehow so_far old.bail (progress_of new) (y ++ ahead) in
+    let later = gives_somehow so_far old.options (progress_of new) (y ++ ahead) in
     (later.0, later.1, moves.leads so_far ahead later.0 later.1 later.2)
 
 -- ---- an answered piece
@@ -129,41 +162,53 @@ stops_here false answer new flow = cc
 stops_here true (Ok reply) new flow = cc
 stops_here true (Err refusal) new flow = refl
 
-pub moves_by_answer : (old : Engine) (answer : Option (Result Reply Refusal)) (new : Engine) (x : List ℕ) → StandsAt old.cutter x → Answers old answer new
-    → flow_of old.bail answer ≡ Goes → (y : List ℕ) × Moves old x [] (ready_lines (old.pieces + 1) answer) new y
+pub moves_by_answer : (old : Engine) (answer : Option (Result Reply Refusal)) (new : Engine) (x : List ℕ) → StandsAt old.cutter x → AnswersNext old answer new
+    → flow_of old.options.bail answer ≡ Goes → (y : List ℕ) × Moves old x [] (ready_lines (old.pieces + 1) answer) new y
 moves_by_answer old None new x stands waits flow = (x, rw waits.same (moves_nowhere old x stands))
 moves_by_answer old (Some answer) new x stands answers flow = (
   [],
   record {
     stands = answers.starts_anew;
-    same_bail = answers.same_bail;
+    same_options = answers.same_options;
     leads = λ so_far ahead out status gives.
         let outcome = outcome_of answer new.session in
-        let on : Prints old.bail (after (progress_of old) outcome) gives.0 out status = rw (← answers.comes_on) gives.2 in
-        let kept = goes_on old.bail answer new.session flow in (
-          answers.piece ∷ gives.0,
-          cut_more so_far x ahead answers.piece gives.0 (answers.whole x stands) gives.1,
-          (outcome, answers.gives, out, rw (lines_of-outcome_of (old.pieces + 1) answer new.session) refl, rw kept on),
+        let number = old.pieces + 1 in
+        let mark = answers.gives.mark in
+        let marks = marked gives.0 number mark in
+        let on : Prints old.options gives.0 (after (progress_of old) outcome) gives.1.0 out status = rw (← answers.comes_on) gives.1.2 in
+        let on_here : Prints old.options marks (after (progress_of old) outcome) gives.1.0 out status =
+        remarked old.options gives.0 marks (after (progress_of old) outcome) gives.1.0 out status (λ n lt. marked-later gives.0 number mark n lt) on in
+        let here : MayGive (marks number) old.session answers.piece outcome = rw (marked-there gives.0 number mark) answers.gives.gives in
+        let kept = goes_on old.options.bail answer new.session flow in (
+          marks,
+          (
+            answers.piece ∷ gives.1.0,
+            cut_more so_far x ahead answers.piece gives.1.0 (answers.whole x stands) gives.1.1,
+            (outcome, here, out, rw (lines_of-outcome_of number answer new.session) refl, rw kept on_here),
+          ),
         );
   },
 )
 
-pub stops_by_answer : (old : Engine) (answer : Option (Result Reply Refusal)) (new : Engine) (x : List ℕ) → StandsAt old.cutter x → Answers old answer new
-    → flow_of old.bail answer ≡ Stops → StopsWith old x [] (ready_lines (old.pieces + 1) answer)
+pub stops_by_answer : (old : Engine) (answer : Option (Result Reply Refusal)) (new : Engine) (x : List ℕ) → StandsAt old.cutter x → AnswersNext old answer new
+    → flow_of old.options.bail answer ≡ Stops → StopsWith old x [] (ready_lines (old.pieces + 1) answer)
 stops_by_answer old None new x stands waits flow so_far ahead = absurd (let none : ⊥ = cc in none)
 stops_by_answer old (Some answer) new x stands answers flow so_far ahead =
     let cut = cut_in_some_way so_far ahead in
     let outcome = outcome_of answer new.session in
-    let stop = stops_here old.bail answer new.session flow in (
-      answers.piece ∷ cut.0,
-      cut_more so_far x ahead answers.piece cut.0 (answers.whole x stands) cut.1,
-      (outcome, answers.gives, [], rw (lines_of-outcome_of (old.pieces + 1) answer new.session) (sym (append-nil _)), rw stop (refl, refl)),
+    let stop = stops_here old.options.bail answer new.session flow in (
+      (λ number. answers.gives.mark),
+      (
+        answers.piece ∷ cut.0,
+        cut_more so_far x ahead answers.piece cut.0 (answers.whole x stands) cut.1,
+        (outcome, answers.gives.gives, [], rw (lines_of-outcome_of (old.pieces + 1) answer new.session) (sym (append-nil _)), rw stop (refl, refl)),
+      ),
     )
 
-pub reaches_by_answer : (old : Engine) (answer : Option (Result Reply Refusal)) (new : Engine) (x : List ℕ) → StandsAt old.cutter x → Answers old answer new
+pub reaches_by_answer : (old : Engine) (answer : Option (Result Reply Refusal)) (new : Engine) (x : List ℕ) → StandsAt old.cutter x → AnswersNext old answer new
     → Reaches old x [] (ready_lines (old.pieces + 1) answer)
 reaches_by_answer old answer new x stands answers =
-    elim (flow_of old.bail answer) as (λ flow. flow_of old.bail answer ≡ flow → Reaches old x [] (ready_lines (old.pieces + 1) answer)) [
+    elim (flow_of old.options.bail answer) as (λ flow. flow_of old.options.bail answer ≡ flow → Reaches old x [] (ready_lines (old.pieces + 1) answer)) [
       | Goes ↦ λ goes. let moves = moves_by_answer old answer new x stands answers goes in reaches_from old new x moves.0 [] _ moves.1
       | Stops ↦ λ stops so_far ahead.
           let gives = stops_by_answer old answer new x stands answers stops so_far ahead in
@@ -179,23 +224,39 @@ only_piece : (x : List ℕ) (piece : PieceText) → IsWholePiece x piece ⊎ IsL
 only_piece x piece (inl whole) = inr (x, [], sym (append-nil x), whole, empty_gap)
 only_piece x piece (inr last) = inl (last, refl)
 
-prints_last : (bail : Bool) (p : Progress) (piece : PieceText) (outcome : Outcome) → MayGive p.tables piece outcome
-    → Prints bail p (piece ∷ []) (lines_of (p.pieces + 1) outcome) (status_of (after p outcome))
-prints_last true p piece (Err refusal) gives = (Err refusal, gives, [], sym (append-nil _), (refl, refl))
-prints_last false p piece (Err refusal) gives = (Err refusal, gives, [], sym (append-nil _), (refl, refl))
-prints_last true p piece (Ok given) gives = (Ok given, gives, [], sym (append-nil _), (refl, refl))
-prints_last false p piece (Ok given) gives = (Ok given, gives, [], sym (append-nil _), (refl, refl))
+or-true : (b : Bool) → (b || true) ≡ true
+or-true true = refl
+or-true false = refl
 
-pub gives_at_end : (old : Engine) (answer : Option (Result Reply Refusal)) (new : Engine) (x : List ℕ) → FinishedAt old.cutter x → Answers old answer new
-    → Gives false old.bail (progress_of old) x (ready_lines (old.pieces + 1) answer) (status_of (progress_of new))
-gives_at_end old None new x finished waits = ([], waits.gap x finished, (refl, ap (λ e. status_of (progress_of e)) waits.same))
+abbrev no_lines : List ℕ
+no_lines = []
+
+last_of_all : (bail : Bool) (p : Progress) (outcome : Outcome)
+    → MatchBool (bail && is_err outcome) ((no_lines ≡ []) × (status_of (after p outcome) ≡ Refused)) ((no_lines ≡ []) × (status_of (after p outcome) ≡ status_of (after p outcome)))
+last_of_all true p (Err refusal) = (refl, rw (or-true p.refused) refl)
+last_of_all false p (Err refusal) = (refl, refl)
+last_of_all true p (Ok given) = (refl, refl)
+last_of_all false p (Ok given) = (refl, refl)
+
+prints_last : (options : Options) (marks : Marks) (p : Progress) (piece : PieceText) (outcome : Outcome) → MayGive (marks (p.pieces + 1)) p.state piece outcome
+    → Prints options marks p (piece ∷ []) (lines_of (p.pieces + 1) outcome) (status_of (after p outcome))
+prints_last options marks p piece outcome gives = (outcome, gives, [], sym (append-nil _), last_of_all options.bail p outcome)
+
+pub gives_at_end : (old : Engine) (answer : Option (Result Reply Refusal)) (new : Engine) (x : List ℕ) → FinishedAt old.cutter x → AnswersNext old answer new
+    → Gives false old.options (progress_of old) x (ready_lines (old.pieces + 1) answer) (status_of (progress_of new))
+gives_at_end old None new x finished waits = (all_marked, ([], waits.gap x finished, (refl, ap (λ e. status_of (progress_of e)) waits.same)))
 gives_at_end old (Some answer) new x finished answers =
-    let prints = prints_last old.bail (progress_of old) answers.piece (outcome_of answer new.session) answers.gives in (
-      answers.piece ∷ [],
-      only_piece x answers.piece (answers.last x finished),
-      subst (λ (q : Progress). Prints old.bail (progress_of old) (answers.piece ∷ []) (answer_lines (old.pieces + 1) answer) (status_of q)) (sym answers.comes_on)
-          (subst (λ (out : List ℕ). Prints old.bail (progress_of old) (answers.piece ∷ []) out (status_of (after (progress_of old) (outcome_of answer new.session))))
-          (lines_of-outcome_of (old.pieces + 1) answer new.session) prints),
+    let marks : Marks = λ number. answers.gives.mark in
+    let outcome = outcome_of answer new.session in
+    let prints = prints_last old.options marks (progress_of old) answers.piece outcome answers.gives.gives in (
+      marks,
+      (
+        answers.piece ∷ [],
+        only_piece x answers.piece (answers.last x finished),
+        subst (λ (q : Progress). Prints old.options marks (progress_of old) (answers.piece ∷ []) (answer_lines (old.pieces + 1) answer) (status_of q)) (sym answers.comes_on)
+            (subst (λ (out : List ℕ). Prints old.options marks (progress_of old) (answers.piece ∷ []) out (status_of (after (progress_of old) outcome)))
+            (lines_of-outcome_of (old.pieces + 1) answer new.session) prints),
+      ),
     )
 
 pub finishes_ok : (old : Engine) (c : Front) (new : Engine) (w v : Option (List ℕ)) (f g : ℕ) (flow : Flow) → ((x : List ℕ) → StandsAt old.cutter x → FinishedAt c x)
@@ -214,7 +275,7 @@ finishes_err old c new w v f g fault ends ready = (
 -- ---- one turn of a loop over bytes
 
 pub moves_step : (old now : Engine) (c : Front) (answer : Option (Result Reply Refusal)) (new : Engine) (x y b l taken : List ℕ)
-    → Moves old x b l now y → StandsAt c (y ++ taken) → Answers (record now { cutter = c }) answer new → flow_of now.bail answer ≡ Goes
+    → Moves old x b l now y → StandsAt c (y ++ taken) → AnswersNext (record now { cutter = c }) answer new → flow_of now.options.bail answer ≡ Goes
     → (z : List ℕ) × Moves old x (b ++ taken) (l ++ ready_lines (now.pieces + 1) answer) new z
 moves_step old now c answer new x y b l taken first stands answers goes =
     let fed = moves_on old now (record now { cutter = c }) x y (y ++ taken) b taken l [] first (moves_by_feed now c y taken stands) in
@@ -223,7 +284,7 @@ moves_step old now c answer new x y b l taken first stands answers goes =
     (answered.0, rw (append-nil (b ++ taken), append-nil l) at on)
 
 pub stops_step : (old now : Engine) (c : Front) (answer : Option (Result Reply Refusal)) (new : Engine) (x y b l taken rest : List ℕ)
-    → Moves old x b l now y → StandsAt c (y ++ taken) → Answers (record now { cutter = c }) answer new → flow_of now.bail answer ≡ Stops
+    → Moves old x b l now y → StandsAt c (y ++ taken) → AnswersNext (record now { cutter = c }) answer new → flow_of now.options.bail answer ≡ Stops
     → StopsWith old x (b ++ (taken ++ rest)) (l ++ ready_lines (now.pieces + 1) answer)
 stops_step old now c answer new x y b l taken rest first stands answers stops =
     let fed = moves_on old now (record now { cutter = c }) x y (y ++ taken) b taken l [] first (moves_by_feed now c y taken stands) in
@@ -231,23 +292,19 @@ stops_step old now c answer new x y b l taken rest first stands answers stops =
     rw (← append_assoc b taken rest, ← append-nil l) (stops_after old (record now { cutter = c }) x (y ++ taken) (b ++ taken) (l ++ []) (ready_lines (now.pieces + 1) answer) rest fed stop)
 
 pub reaches_step : (old now : Engine) (c : Front) (answer : Option (Result Reply Refusal)) (new : Engine) (x y b l taken rest : List ℕ)
-    → Moves old x b l now y → StandsAt c (y ++ taken) → Answers (record now { cutter = c }) answer new
+    → Moves old x b l now y → StandsAt c (y ++ taken) → AnswersNext (record now { cutter = c }) answer new
     → Reaches old x (b ++ (taken ++ rest)) (l ++ ready_lines (now.pieces + 1) answer)
 reaches_step old now c answer new x y b l taken rest first stands answers =
     let fed = moves_on old now (record now { cutter = c }) x y (y ++ taken) b taken l [] first (moves_by_feed now c y taken stands) in
     let reach = reaches_by_answer (record now { cutter = c }) answer new (y ++ taken) stands answers in
     rw (← append_assoc b taken rest, ← append-nil l) (reaches_after old (record now { cutter = c }) x (y ++ taken) (b ++ taken) (l ++ []) (ready_lines (now.pieces + 1) answer) rest fed reach)
 
-pub idle_after : (old : Engine) (answer : Option (Result Reply Refusal)) (new : Engine) → Answers old answer new → ready_piece new.cutter ≡ None
+pub idle_after : (old : Engine) (answer : Option (Result Reply Refusal)) (new : Engine) → AnswersNext old answer new → ready_piece new.cutter ≡ None
 idle_after old None new waits = rw waits.same waits.not_ready
 idle_after old (Some answer) new answers = nothing_ready new.cutter answers.starts_anew
 
-pieces-after : (p : Progress) (outcome : Outcome) → (after p outcome).pieces ≡ p.pieces + 1
-pieces-after p (Ok given) = refl
-pieces-after p (Err refusal) = refl
-
-pub pieces_grow : (old : Engine) (answer : Option (Result Reply Refusal)) (new : Engine) → Answers old answer new → new.pieces ≤ old.pieces + 1
+pub pieces_grow : (old : Engine) (answer : Option (Result Reply Refusal)) (new : Engine) → AnswersNext old answer new → new.pieces ≤ old.pieces + 1
 pieces_grow old None new waits = rw waits.same (omega arith)
 pieces_grow old (Some answer) new answers =
-    let same : new.pieces ≡ old.pieces + 1 = ap (λ (p : Progress). p.pieces) answers.comes_on ∙ pieces-after (progress_of old) (outcome_of answer new.session) in
+    let same : new.pieces ≡ old.pieces + 1 = ap (λ (p : Progress). p.pieces) answers.comes_on in
     omega arith

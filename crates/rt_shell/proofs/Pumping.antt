@@ -1,7 +1,6 @@
 -- What a loop keeps that reads a script to its end.
-use Rattle.std.proofs.Common.{◌≡◌, ◌∙◌, ℕ, ◌+◌, ◌*◌, ◌^◌, ◌<◌, ◌≤◌, Bool, true, false, List, [], ◌++◌, length, Option, None, Some, Ok, Err, refl, sym, ap, subst, inl, inr, arith, append_assoc, append-nil, length-append}
-use Rattle.std.specs.Prelude.{IfSome}
-use Rattle.std.specs.Io.KnownBytes.{Appends, Consumes, Keeps, IsAtEnd}
+use Rattle.std.proofs.Common.{◌≡◌, ◌∙◌, ℕ, ◌+◌, ◌*◌, ◌^◌, ◌<◌, ◌≤◌, Bool, true, false, List, [], ◌++◌, length, None, Ok, Err, refl, ap, subst, inl, inr, arith, append_assoc, append-nil, length-append}
+use Rattle.std.specs.Io.KnownBytes.{Consumes, Keeps, IsAtEnd}
 use Rattle.rt_bytes.specs.Bytes.{one_more, WritesAll}
 use Rattle.rt_bytes.specs.declared.device.WriteFault.{WriteFault}
 use Rattle.rt_bytes.proofs.Writing.{WritesAll-trans, WritesAll-nil, WritesFront-after, AppendsFront-more, AppendsFront-all}
@@ -11,9 +10,10 @@ use Rattle.rt_shell.specs.declared.runner.Engine.{Engine}
 use Rattle.rt_bytes.specs.declared.outcome.Status.{Status}
 use Rattle.rt_bytes.specs.declared.outcome.Status.TheVariants.{Refused}
 use Rattle.rt_shell.specs.declared.runner.Flow.TheVariants.{Goes, Stops}
-use Rattle.rt_shell.specs.Transcript.{Progress, start, status_of, IsTranscriptSoFar}
+use Rattle.rt_shell.specs.Transcript.{Marks, Progress, start, status_of, MayPrintSoFar}
+use Rattle.rt_shell.specs.declared.runner.Options.{Options}
 use Rattle.rt_shell.specs.Engine.{IsFresh, progress_of, Gives, Moves, TakesAll, Finishes}
-use Rattle.rt_bytes.specs.Devices.{Devices, most_reads, Held}
+use Rattle.rt_bytes.specs.Devices.{Devices, most_reads}
 use Rattle.rt_bytes.proofs.Consuming.{Consumes-trans, Consumes-kept, Consumes-none, always, too_long, held_at_end, held_before, Appends-kept}
 use Rattle.rt_shell.specs.Run.{FailsToRead, FailsToWrite, ReadsToEnd, RunsScript}
 use Rattle.rt_shell.proofs.EngineLemmas.{moves_nowhere, moves_on}
@@ -33,24 +33,32 @@ pub record Pumping (e0 e : Engine) (old now : Devices) (turn : ℕ) : Type 0 whe
   pub reads : now.reads ≤ old.reads + turn
   pub exact : old.reads < 2 ^ 63 → now.reads ≡ old.reads + turn
 
-module _ (e0 e : Engine) (old now : Devices) (turn : ℕ) (fresh : IsFresh e0 e0.bail) (so_far : Pumping e0 e old now turn) where
+-- no piece is marked
+unmarked : Marks
+unmarked = λ number. false
+
+-- the pieces that ended in a text printed this
+so_far_of : (options : Options) (text out : List ℕ) (status : Status) → Gives true options (start options) text out status → MayPrintSoFar options text out
+so_far_of options text out status gives = (gives.0, (gives.1.0, gives.1.1, status, gives.1.2))
+
+module _ (e0 e : Engine) (old now : Devices) (turn : ℕ) (fresh : IsFresh e0 e0.options) (so_far : Pumping e0 e old now turn) where
   moved : (y : List ℕ) × Moves e0 [] so_far.read so_far.lines e y
   moved = so_far.moves [] fresh.stands
 
   -- what is given from the start
-  from_start : (ended : Bool) (ahead out : List ℕ) (status : Status) → Gives ended e0.bail (progress_of e) (moved.0 ++ ahead) out status
-      → Gives ended e0.bail start (so_far.read ++ ahead) (so_far.lines ++ out) status
+  from_start : (ended : Bool) (ahead out : List ℕ) (status : Status) → Gives ended e0.options (progress_of e) (moved.0 ++ ahead) out status
+      → Gives ended e0.options (start e0.options) (so_far.read ++ ahead) (so_far.lines ++ out) status
   from_start ended ahead out status gives = rw fresh.at_start at (moved.1.leads ended ahead out status gives)
 
-  transcript_so_far : IsTranscriptSoFar e0.bail so_far.read so_far.lines
+  transcript_so_far : MayPrintSoFar e0.options so_far.read so_far.lines
   transcript_so_far =
-      let nothing : Gives true e0.bail (progress_of e) (moved.0 ++ []) [] (status_of (progress_of e)) =
-      ([], rw (append-nil moved.0) (rw so_far.idle at (whole_at e.cutter moved.0 moved.1.stands)), (refl, refl)) in
-      let gives : Gives true e0.bail start so_far.read so_far.lines (status_of (progress_of e)) =
+      let nothing : Gives true e0.options (progress_of e) (moved.0 ++ []) [] (status_of (progress_of e)) =
+      (unmarked, ([], rw (append-nil moved.0) (rw so_far.idle at (whole_at e.cutter moved.0 moved.1.stands)), (refl, refl))) in
+      let gives : Gives true e0.options (start e0.options) so_far.read so_far.lines (status_of (progress_of e)) =
       rw (append-nil so_far.read, append-nil so_far.lines) at (from_start true [] [] (status_of (progress_of e)) nothing) in
-      (gives.0, gives.1, status_of (progress_of e), gives.2)
+      so_far_of e0.options _ _ (status_of (progress_of e)) gives
 
-  pub read_fails : (new : Devices) → Keeps now.left new.left → new.failures ≡ one_more now.failures → new.written ≡ now.written → new.faults ≡ now.faults → FailsToRead e0.bail old new
+  pub read_fails : (new : Devices) → Keeps now.left new.left → new.failures ≡ one_more now.failures → new.written ≡ now.written → new.faults ≡ now.faults → FailsToRead e0.options old new
   read_fails new kept failed written faults = record {
     read = so_far.read;
     out = so_far.lines;
@@ -62,7 +70,7 @@ module _ (e0 e : Engine) (old now : Devices) (turn : ℕ) (fresh : IsFresh e0 e0
     no_write_failed = faults ∙ so_far.wrote.1;
   }
 
-  pub reads_out : turn ≡ most_reads → FailsToRead e0.bail old now
+  pub reads_out : turn ≡ most_reads → FailsToRead e0.options old now
   reads_out last = record {
     read = so_far.read;
     out = so_far.lines;
@@ -79,30 +87,30 @@ module _ (e0 e : Engine) (old now : Devices) (turn : ℕ) (fresh : IsFresh e0 e0
     consumed = Consumes-trans old.left now.left new.left so_far.read bytes so_far.consumed came
 
     -- what the engine gives from where it stands, given from the start
-    given : (ended : Bool) (ahead out : List ℕ) (status : Status) → Gives ended e.bail (progress_of e) (moved.0 ++ ahead) out status
-        → Gives ended e0.bail start (so_far.read ++ ahead) (so_far.lines ++ out) status
-    given ended ahead out status gives = from_start ended ahead out status (subst (λ (b : Bool). Gives ended b (progress_of e) (moved.0 ++ ahead) out status) moved.1.same_bail gives)
+    given : (ended : Bool) (ahead out : List ℕ) (status : Status) → Gives ended e.options (progress_of e) (moved.0 ++ ahead) out status
+        → Gives ended e0.options (start e0.options) (so_far.read ++ ahead) (so_far.lines ++ out) status
+    given ended ahead out status gives = from_start ended ahead out status (subst (λ (o : Options). Gives ended o (progress_of e) (moved.0 ++ ahead) out status) moved.1.same_options gives)
 
-    pub write_fails : (fault : WriteFault) → TakesAll e bytes e1 now.written new.written now.faults new.faults (Err fault) → FailsToWrite e0.bail old new
+    pub write_fails : (fault : WriteFault) → TakesAll e bytes e1 now.written new.written now.faults new.faults (Err fault) → FailsToWrite e0.options old new
     write_fails fault takes =
         let reach = takes.2 moved.0 moved.1.stands true [] in
-        let gives : Gives true e.bail (progress_of e) (moved.0 ++ bytes) (takes.0 ++ reach.0) reach.1 = rw (append-nil bytes) at reach.2 in
+        let gives : Gives true e.options (progress_of e) (moved.0 ++ bytes) (takes.0 ++ reach.0) reach.1 = rw (append-nil bytes) at reach.2 in
         let whole = given true bytes (takes.0 ++ reach.0) reach.1 gives in
         let front = WritesFront-after old.written now.written new.written old.faults now.faults new.faults so_far.lines takes.0 so_far.wrote takes.1 in
         record {
           read = so_far.read ++ bytes;
           out = so_far.lines ++ (takes.0 ++ reach.0);
           consumed = consumed;
-          transcript = inl (whole.0, whole.1, reach.1, whole.2);
+          transcript = inl (so_far_of e0.options _ _ reach.1 whole);
           wrote = rw (← append_assoc so_far.lines takes.0 reach.0) (AppendsFront-more old.written new.written (so_far.lines ++ takes.0) reach.0 front.0);
           why = front.1;
           no_read_failed = no_failure ∙ so_far.no_failure;
         }
 
-    pub stops : TakesAll e bytes e1 now.written new.written now.faults new.faults (Ok Stops) → ReadsToEnd e0.bail old new Refused
+    pub stops : TakesAll e bytes e1 now.written new.written now.faults new.faults (Ok Stops) → ReadsToEnd e0.options old new Refused
     stops takes =
         let stop = takes.2 moved.0 moved.1.stands in
-        let ended : Gives true e.bail (progress_of e) (moved.0 ++ bytes) takes.0 Refused = rw (append-nil bytes) at (stop true []) in
+        let ended : Gives true e.options (progress_of e) (moved.0 ++ bytes) takes.0 Refused = rw (append-nil bytes) at (stop true []) in
         let so = given true bytes takes.0 Refused ended in
         let all = WritesAll-trans old.written now.written new.written old.faults now.faults new.faults so_far.lines takes.0 so_far.wrote takes.1 in
         record {
@@ -111,7 +119,7 @@ module _ (e0 e : Engine) (old now : Devices) (turn : ℕ) (fresh : IsFresh e0 e0
           consumed = consumed;
           wrote = all.0;
           transcript = inr (
-            (so.0, so.1, Refused, so.2),
+            so_far_of e0.options _ _ Refused so,
             λ rest. rw (append_assoc so_far.read bytes rest) (given false (bytes ++ rest) takes.0 Refused (stop false rest)),
           );
           no_read_failed = no_failure ∙ so_far.no_failure;
@@ -138,9 +146,9 @@ module _ (e0 e : Engine) (old now : Devices) (turn : ℕ) (fresh : IsFresh e0 e0
       exact = λ small. omega (arith, so_far.exact small, reads, within, small);
     }
 
-    pub ends : (status : Status) → bytes ≡ [] → IsAtEnd new.left → Finishes e now.written new.written now.faults new.faults (Ok status) → ReadsToEnd e0.bail old new status
+    pub ends : (status : Status) → bytes ≡ [] → IsAtEnd new.left → Finishes e now.written new.written now.faults new.faults (Ok status) → ReadsToEnd e0.options old new status
     ends status none at_end finishes =
-        let last : Gives false e.bail (progress_of e) (moved.0 ++ []) finishes.0 status = rw (append-nil moved.0) (finishes.2 moved.0 moved.1.stands) in
+        let last : Gives false e.options (progress_of e) (moved.0 ++ []) finishes.0 status = rw (append-nil moved.0) (finishes.2 moved.0 moved.1.stands) in
         let all = WritesAll-trans old.written now.written new.written old.faults now.faults new.faults so_far.lines finishes.0 so_far.wrote finishes.1 in
         record {
           read = so_far.read ++ bytes;
@@ -152,10 +160,10 @@ module _ (e0 e : Engine) (old now : Devices) (turn : ℕ) (fresh : IsFresh e0 e0
           no_write_failed = all.1;
         }
 
-    pub end_fails : (fault : WriteFault) → bytes ≡ [] → IsAtEnd new.left → Finishes e now.written new.written now.faults new.faults (Err fault) → FailsToWrite e0.bail old new
+    pub end_fails : (fault : WriteFault) → bytes ≡ [] → IsAtEnd new.left → Finishes e now.written new.written now.faults new.faults (Err fault) → FailsToWrite e0.options old new
     end_fails fault none at_end finishes =
         let gives = finishes.2 moved.0 moved.1.stands in
-        let last : Gives false e.bail (progress_of e) (moved.0 ++ []) finishes.0 gives.0 = rw (append-nil moved.0) gives.1 in
+        let last : Gives false e.options (progress_of e) (moved.0 ++ []) finishes.0 gives.0 = rw (append-nil moved.0) gives.1 in
         let front = WritesFront-after old.written now.written new.written old.faults now.faults new.faults so_far.lines finishes.0 so_far.wrote finishes.1 in
         record {
           read = so_far.read ++ bytes;
@@ -167,8 +175,8 @@ module _ (e0 e : Engine) (old now : Devices) (turn : ℕ) (fresh : IsFresh e0 e0
           no_read_failed = no_failure ∙ so_far.no_failure;
         }
 
-pub pumping_starts : (e : Engine) (bail : Bool) (now : Devices) → IsFresh e bail → Pumping e e now now 0
-pumping_starts e bail now fresh = record {
+pub pumping_starts : (e : Engine) (options : Options) (now : Devices) → IsFresh e options → Pumping e e now now 0
+pumping_starts e options now fresh = record {
   read = [];
   lines = [];
   consumed = Consumes-none now.left;
@@ -185,9 +193,9 @@ pumping_starts e bail now fresh = record {
 
 -- ---- after the flush
 
-pub flushed : (bail : Bool) (old now new : Devices) (status : Status) → ReadsToEnd bail old now status
-    → new.left ≡ now.left → new.failures ≡ now.failures → Keeps now.written new.written → new.faults ≡ now.faults → RunsScript bail old new status
-flushed bail old now new status ran left failures kept faults =
+pub flushed : (options : Options) (old now new : Devices) (status : Status) → ReadsToEnd options old now status
+    → new.left ≡ now.left → new.failures ≡ now.failures → Keeps now.written new.written → new.faults ≡ now.faults → RunsScript options old new status
+flushed options old now new status ran left failures kept faults =
     let wrote = Appends-kept old.written now.written new.written ran.out ran.wrote kept in
     elim ran.transcript [
       | inl whole ↦ record {
@@ -212,9 +220,9 @@ flushed bail old now new status ran left failures kept faults =
           }
     ]
 
-pub flush_fails : (bail : Bool) (old now new : Devices) (status : Status) → ReadsToEnd bail old now status
-    → new.left ≡ now.left → new.failures ≡ now.failures → Keeps now.written new.written → new.faults ≡ one_more now.faults → FailsToWrite bail old new
-flush_fails bail old now new status ran left failures kept faults = record {
+pub flush_fails : (options : Options) (old now new : Devices) (status : Status) → ReadsToEnd options old now status
+    → new.left ≡ now.left → new.failures ≡ now.failures → Keeps now.written new.written → new.faults ≡ one_more now.faults → FailsToWrite options old new
+flush_fails options old now new status ran left failures kept faults = record {
   read = ran.read;
   out = ran.out;
   consumed = rw left ran.consumed;

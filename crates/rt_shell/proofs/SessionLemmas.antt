@@ -1,5 +1,5 @@
 -- Tables in a map under their folded names, and the same tables in a list.
-use Rattle.std.proofs.Common.{◌≡◌, ℕ, List, [], ◌∷◌, ◌++◌, Bool, true, false, Some, None, refl, arith}
+use Rattle.std.proofs.Common.{◌≡◌, ◌∙◌, ap, ℕ, List, [], ◌∷◌, ◌++◌, Bool, true, false, Some, None, refl, arith}
 use Rattle.std.specs.Prelude.{map}
 use Rattle.std.specs.Str.{bytes_eq, str_to_ascii_lowercase}
 use Rattle.std.specs.Map.{keys_of, values_of, lookup, set_value}
@@ -9,13 +9,23 @@ use Rattle.std.proofs.lemmas.Grind.{common_steps}
 use Rattle.indexmap.specs.IndexMap.{insert_entry}
 use Rattle.rt_shell.specs.declared.rows.Row.{Row}
 use Rattle.rt_shell.specs.declared.session.Table.{Table}
-use Rattle.rt_shell.specs.Session.{is_named, table_of, with_rows}
+use Rattle.rt_shell.specs.Session.{State, is_named, table_of, with_rows}
 
 abbrev pub Entries : Type 0
 Entries = List (Vec ℕ Global × Table)
 
 abbrev pub IsKeyedBy : Entries → Type 0
 IsKeyedBy es = map (λ k. k.items) (keys_of es) ≡ map (λ t. str_to_ascii_lowercase t.name) (values_of es)
+
+-- the state, where the capacity stays and these are the tables
+abbrev pub state_with : ℕ → List Table → State
+state_with capacity tables = record { capacity = capacity; tables = tables }
+
+pub changed_state : (now : State) (capacity : ℕ) (before after tables : List Table) → state_with capacity before ≡ now → after ≡ tables → state_with capacity after ≡ record now { tables = tables }
+changed_state now capacity before after tables is changed = ap (λ c. state_with c after) (ap (λ (s : State). s.capacity) is) ∙ ap (λ ts. record now { tables = ts }) changed
+
+pub kept_state : (now : State) (capacity : ℕ) (before after : List Table) → state_with capacity before ≡ now → after ≡ before → state_with capacity after ≡ now
+kept_state now capacity before after is kept = ap (λ ts. state_with capacity ts) kept ∙ is
 
 head_key : (e : Vec ℕ Global × Table) (es : Entries) → IsKeyedBy (e ∷ es) → e.0.items ≡ str_to_ascii_lowercase e.1.name
 head_key e es keyed = cc

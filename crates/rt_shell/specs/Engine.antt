@@ -13,39 +13,41 @@ use Rattle.rt_shell.specs.declared.runner.Flow.{Flow}
 use Rattle.rt_shell.specs.declared.runner.Flow.TheVariants.{Goes, Stops}
 use Rattle.rt_bytes.specs.declared.outcome.Status.{Status}
 use Rattle.rt_bytes.specs.declared.outcome.Status.TheVariants.{Refused}
-use Rattle.rt_shell.specs.Session.{State}
+use Rattle.rt_shell.specs.declared.runner.Options.{Options}
+use Rattle.rt_shell.specs.Session.{State, Outcome, state_after}
 use Rattle.rt_shell.specs.Lines.{answer_lines}
-use Rattle.rt_shell.specs.Transcript.{Progress, start, Outcome, MayGive, after, Prints}
+use Rattle.rt_shell.specs.Transcript.{Marks, Progress, start, MayGive, after, Prints}
 
--- an answer with the tables that it leaves
+-- an answer with the state that it leaves
 abbrev pub outcome_of : Result Reply Refusal → State → Outcome
-outcome_of (Ok reply) tables = Ok (reply, tables)
-outcome_of (Err refusal) tables = Err refusal
+outcome_of (Ok reply) new = Ok (reply, new)
+outcome_of (Err refusal) new = Err refusal
 
--- the piece may give this answer and these tables
-abbrev pub GivesAnswer : State → PieceText → Result Reply Refusal → State → Type 0
-GivesAnswer old piece (Ok reply) new = MayGive old piece (Ok (reply, new))
-GivesAnswer old piece (Err refusal) new = MayGive old piece (Err refusal) × (new ≡ old)
+-- the piece, marked or not, gives this answer and leaves this state
+pub record GivesAnswer (old : State) (piece : PieceText) (answer : Result Reply Refusal) (new : State) : Type 0 where
+  pub mark : Bool
+  pub gives : MayGive mark old piece (outcome_of answer new)
+  pub leaves : state_after old (outcome_of answer new) ≡ new
 
 -- how far an engine has come
 abbrev pub progress_of : Engine → Progress
-progress_of engine = record { tables = engine.session; pieces = engine.pieces; refused = engine.refused }
+progress_of engine = record { state = engine.session; pieces = engine.pieces; refused = engine.refused }
 
 -- no byte was taken yet
-pub record IsFresh (engine : Engine) (bail : Bool) : Type 0 where
-  pub at_start : progress_of engine ≡ start
+pub record IsFresh (engine : Engine) (options : Options) : Type 0 where
+  pub at_start : progress_of engine ≡ start options
   pub stands : StandsAt engine.cutter []
-  pub asked : engine.bail ≡ bail
+  pub asked : engine.options ≡ options
 
 -- the piece that was ready got this answer, and the cutter starts anew
 pub record AnswersPiece (old : Engine) (answer : Result Reply Refusal) (new : Engine) : Type 0 where
   pub piece : PieceText
   pub whole : (x : List ℕ) → StandsAt old.cutter x → IsWholePiece x piece
   pub last : (x : List ℕ) → FinishedAt old.cutter x → IsWholePiece x piece ⊎ IsLastPiece x piece
-  pub gives : MayGive old.session piece (outcome_of answer new.session)
+  pub gives : GivesAnswer old.session piece answer new.session
   pub comes_on : progress_of new ≡ after (progress_of old) (outcome_of answer new.session)
   pub starts_anew : StandsAt new.cutter []
-  pub same_bail : new.bail ≡ old.bail
+  pub same_options : new.options ≡ old.options
 
 -- no piece was ready, and nothing happened
 pub record WaitsForMore (old new : Engine) : Type 0 where
@@ -53,9 +55,9 @@ pub record WaitsForMore (old new : Engine) : Type 0 where
   pub not_ready : ready_piece old.cutter ≡ None
   pub same : new ≡ old
 
-abbrev pub Answers : Engine → Option (Result Reply Refusal) → Engine → Type 0
-Answers old None new = WaitsForMore old new
-Answers old (Some answer) new = AnswersPiece old answer new
+abbrev pub AnswersNext : Engine → Option (Result Reply Refusal) → Engine → Type 0
+AnswersNext old None new = WaitsForMore old new
+AnswersNext old (Some answer) new = AnswersPiece old answer new
 
 abbrev pub ready_lines : ℕ → Option (Result Reply Refusal) → List ℕ
 ready_lines number None = []
@@ -69,35 +71,36 @@ flow_of bail (Some answer) = if bail && is_err answer then Stops else Goes
 -- the piece that is ready, if there is one, is answered and its lines are written
 pub record AnswersReady (old new : Engine) (w v : Option (List ℕ)) (f g : ℕ) (result : Result Flow WriteFault) : Type 0 where
   pub answer : Option (Result Reply Refusal)
-  pub answers : Answers old answer new
+  pub answers : AnswersNext old answer new
   pub writes : Writes w v f g result (ready_lines (old.pieces + 1) answer)
-  pub flow : IfOk result (λ flow. flow ≡ flow_of old.bail answer)
+  pub flow : IfOk result (λ flow. flow ≡ flow_of old.options.bail answer)
 
 -- the pieces of a text, or those that have ended in it so far
 abbrev pub CutInto : Bool → List ℕ → List PieceText → Type 0
 CutInto true x pieces = EndedPieces x pieces
 CutInto false x pieces = Pieces x pieces
 
--- from here on the pieces of the text print this
-abbrev pub Gives : Bool → Bool → Progress → List ℕ → List ℕ → Status → Type 0
-Gives so_far bail p text out status = (pieces : List PieceText) × CutInto so_far text pieces × Prints bail p pieces out status
+-- from here on the pieces of the text print this, for some marks
+abbrev pub Gives : Bool → Options → Progress → List ℕ → List ℕ → Status → Type 0
+Gives so_far options p text out status =
+    (marks : Marks) × ((pieces : List PieceText) × CutInto so_far text pieces × Prints options marks p pieces out status)
 
 -- from x the engine took the bytes and printed the lines, and stands at y: whatever comes and is printed after
 -- that, comes and is printed with these in front
 pub record Moves (old : Engine) (x bytes lines : List ℕ) (new : Engine) (y : List ℕ) : Type 0 where
   pub stands : StandsAt new.cutter y
-  pub same_bail : new.bail ≡ old.bail
-  pub leads : (so_far : Bool) (ahead out : List ℕ) (status : Status) → Gives so_far old.bail (progress_of new) (y ++ ahead) out status
-      → Gives so_far old.bail (progress_of old) (x ++ (bytes ++ ahead)) (lines ++ out) status
+  pub same_options : new.options ≡ old.options
+  pub leads : (so_far : Bool) (ahead out : List ℕ) (status : Status) → Gives so_far old.options (progress_of new) (y ++ ahead) out status
+      → Gives so_far old.options (progress_of old) (x ++ (bytes ++ ahead)) (lines ++ out) status
 
 -- the run ends with these lines, whatever comes after the bytes
 abbrev pub StopsWith : Engine → List ℕ → List ℕ → List ℕ → Type 0
-StopsWith old x bytes lines = (so_far : Bool) (ahead : List ℕ) → Gives so_far old.bail (progress_of old) (x ++ (bytes ++ ahead)) lines Refused
+StopsWith old x bytes lines = (so_far : Bool) (ahead : List ℕ) → Gives so_far old.options (progress_of old) (x ++ (bytes ++ ahead)) lines Refused
 
 -- the lines are the front of what is printed, whatever comes after the bytes
 abbrev pub Reaches : Engine → List ℕ → List ℕ → List ℕ → Type 0
 Reaches old x bytes lines = (so_far : Bool) (ahead : List ℕ)
-    → (out : List ℕ) × (status : Status) × Gives so_far old.bail (progress_of old) (x ++ (bytes ++ ahead)) (lines ++ out) status
+    → (out : List ℕ) × (status : Status) × Gives so_far old.options (progress_of old) (x ++ (bytes ++ ahead)) (lines ++ out) status
 
 abbrev pub FlowsOn : Flow → Engine → List ℕ → List ℕ → List ℕ → Engine → Type 0
 FlowsOn Goes old x bytes lines new = (y : List ℕ) × Moves old x bytes lines new y
@@ -113,6 +116,6 @@ TakesAll old bytes new w v f g (Err fault) =
 -- the input has ended, and the last piece is answered
 abbrev pub Finishes : Engine → Option (List ℕ) → Option (List ℕ) → ℕ → ℕ → Result Status WriteFault → Type 0
 Finishes old w v f g (Ok status) =
-    (lines : List ℕ) × WritesAll w v f g lines × ((x : List ℕ) → StandsAt old.cutter x → Gives false old.bail (progress_of old) x lines status)
+    (lines : List ℕ) × WritesAll w v f g lines × ((x : List ℕ) → StandsAt old.cutter x → Gives false old.options (progress_of old) x lines status)
 Finishes old w v f g (Err fault) =
-    (lines : List ℕ) × WritesFront w v f g lines × ((x : List ℕ) → StandsAt old.cutter x → (status : Status) × Gives false old.bail (progress_of old) x lines status)
+    (lines : List ℕ) × WritesFront w v f g lines × ((x : List ℕ) → StandsAt old.cutter x → (status : Status) × Gives false old.options (progress_of old) x lines status)

@@ -7,3 +7,4 @@ pub mod Lines
 pub mod Engine
 pub mod Transcript
 pub mod Run
+pub mod Laws

@@ -5,8 +5,8 @@ use Rattle.indexmap.specs.IndexMap.{keys, values}
 use Rattle.rt_shell.specs.declared.session.Session.TheInside.{Inside}
 use Rattle.rt_shell.specs.Session.{State}
 
-abbrev pub tables_of : Inside → State
-tables_of s = values s.tables
+abbrev pub state_of : Inside → State
+state_of s = record { capacity = s.capacity; tables = values s.tables }
 
 -- each table stands under its folded name
 abbrev pub IsKeyed : Inside → Type 0

@@ -1,7 +1,7 @@
 //! What is printed of an answer. Printing takes no memory, so no line is ever cut off by a want of it.
 
 ghost use Rattle.std.specs.List.{flat_map};
-ghost use Rattle.rt_bytes.specs.Bytes.{Writes};
+ghost use Rattle.rt_bytes.specs.Devices.{WritesTo};
 ghost use Rattle.rt_shell.specs.Lines.{row_line, reply_lines, refusal_line};
 
 use crate::rows::Row;
@@ -13,8 +13,7 @@ use rt_sql::Refusal;
 /// Writes the lines of a reply: for each row `id|minimum|maximum`, as SQLite's shell lists rows.
 /// After a fault a front of them is written.
 pub fn write_reply<W: ByteWriter>(reply: &Reply, writer: &mut W) -> Result<(), WriteFault>
-    ensures { Writes (W.written writer.old) (W.written writer.new) (W.faults writer.old) (W.faults writer.new)
-        result (reply_lines reply.now) }
+    ensures { WritesTo W.ByteWriter writer.old writer.new result (reply_lines reply.now) }
 {
     match reply {
         Reply::Nothing => Ok(()),
@@ -23,8 +22,7 @@ pub fn write_reply<W: ByteWriter>(reply: &Reply, writer: &mut W) -> Result<(), W
 }
 
 fn write_rows<W: ByteWriter>(rows: &[Row], writer: &mut W) -> Result<(), WriteFault>
-    ensures { Writes (W.written writer.old) (W.written writer.new) (W.faults writer.old) (W.faults writer.new)
-        result (flat_map row_line rows.now) }
+    ensures { WritesTo W.ByteWriter writer.old writer.new result (flat_map row_line rows.now) }
 {
     for row in rows {
         write_row(row, writer)?;
@@ -33,8 +31,7 @@ fn write_rows<W: ByteWriter>(rows: &[Row], writer: &mut W) -> Result<(), WriteFa
 }
 
 fn write_row<W: ByteWriter>(row: &Row, writer: &mut W) -> Result<(), WriteFault>
-    ensures { Writes (W.written writer.old) (W.written writer.new) (W.faults writer.old) (W.faults writer.new)
-        result (row_line row.now) }
+    ensures { WritesTo W.ByteWriter writer.old writer.new result (row_line row.now) }
 {
     let (mut id, mut minimum, mut maximum) = (Buffer::new(), Buffer::new(), Buffer::new());
     let parts: [&[u8]; 6] = [
@@ -55,8 +52,7 @@ pub fn write_refusal<W: ByteWriter>(
     refusal: Refusal,
     writer: &mut W,
 ) -> Result<(), WriteFault>
-    ensures { Writes (W.written writer.old) (W.written writer.new) (W.faults writer.old) (W.faults writer.new)
-        result (refusal_line number.now refusal) }
+    ensures { WritesTo W.ByteWriter writer.old writer.new result (refusal_line number.now refusal) }
 {
     let (mut piece, mut code) = (Buffer::new(), Buffer::new());
     let parts: [&[u8]; 7] = [

@@ -1,11 +1,10 @@
 //! The run of a whole script.
 
 ghost use Rattle.std.specs.Prelude.{◌≡◌, ℕ, ◌+◌, ◌-◌, ◌<◌, ◌^◌, true, length, None, IfOk, OnOk, ◌≤◌};
-ghost use Rattle.rt_shell.specs.Engine.{IsFresh, GivesAnswer, Answers, AnswersReady, TakesAll, Finishes};
-ghost use Rattle.rt_bytes.specs.Devices.{Devices};
+ghost use Rattle.rt_shell.specs.Engine.{IsFresh, GivesAnswer, AnswersNext, AnswersReady, TakesAll, Finishes, flow_of};
 ghost use Rattle.rt_shell.specs.Run.{Pumps, Runs};
 ghost use Rattle.rt_cut.specs.Cutter.{ready_piece};
-ghost use Rattle.rt_bytes.specs.Bytes.{Writes};
+ghost use Rattle.rt_bytes.specs.Devices.{WritesTo, devices_of};
 ghost use Rattle.rt_shell.specs.Lines.{answer_lines};
 
 use crate::reply::{write_refusal, write_reply};
@@ -15,6 +14,7 @@ use rt_bytes::{ByteReader, ByteWriter, MOST_READS, READ_SIZE, RunFault, Status, 
 use rt_cut::{Cutter, Piece};
 use rt_sql::{Refusal, parse};
 use std::alloc::{AllocError, Global};
+use std::hash::RandomState;
 
 /// How a run goes.
 #[derive(Clone, Copy, PartialEq, Eq, Debug)]
@@ -41,7 +41,7 @@ struct Engine {
     // How many pieces came, and whether one was refused.
     pieces: u64,
     refused: bool,
-    bail: bool,
+    options: Options,
 }
 
 fn answer_to(alloc: Global, session: &mut Session, piece: &Piece<'_>) -> Result<Reply, Refusal>
@@ -57,8 +57,7 @@ fn write_answer<W: ByteWriter>(
     answer: &Result<Reply, Refusal>,
     writer: &mut W,
 ) -> Result<(), WriteFault>
-    ensures { Writes (W.written writer.old) (W.written writer.new) (W.faults writer.old) (W.faults writer.new)
-        result (answer_lines number.now answer.now) }
+    ensures { WritesTo W.ByteWriter writer.old writer.new result (answer_lines number.now answer.now) }
 {
     match answer {
         Ok(reply) => write_reply(reply, writer),
@@ -66,24 +65,35 @@ fn write_answer<W: ByteWriter>(
     }
 }
 
+/// With bail a run stops at a refusal.
+fn flow_after(bail: bool, answer: &Result<Reply, Refusal>) -> Flow
+    ensures { result ≡ flow_of bail (Some answer.now) }
+{
+    if bail && answer.is_err() {
+        Flow::Stops
+    } else {
+        Flow::Goes
+    }
+}
+
 impl Engine {
-    fn new(alloc: Global, options: &Options) -> Result<Engine, AllocError>
-        ensures { IfOk result (λ engine. IsFresh engine options.now.bail) }
+    fn new(alloc: Global, keys: RandomState, options: &Options) -> Result<Engine, AllocError>
+        ensures { IfOk result (λ engine. IsFresh engine options.now) }
     {
         Ok(Engine {
             alloc,
             cutter: Cutter::new(alloc)?,
-            session: Session::new(alloc, options.capacity),
+            session: Session::new(alloc, keys, options.capacity),
             pieces: 0,
             refused: false,
-            bail: options.bail,
+            options: *options,
         })
     }
 
     // Answers the piece that the cutter has ready, and drops it.
     fn next_answer(&mut self) -> Option<Result<Reply, Refusal>>
         requires { self.old.pieces < 2 ^ 64 - 1 }
-        ensures { Answers self.old result self.new }
+        ensures { AnswersNext self.old result self.new }
     {
         let piece = self.cutter.ready()?;
         let answer = answer_to(self.alloc, &mut self.session, &piece);
@@ -102,11 +112,7 @@ impl Engine {
             return Ok(Flow::Goes);
         };
         write_answer(&self.pieces, &answer, writer)?;
-        Ok(if self.bail && answer.is_err() {
-            Flow::Stops
-        } else {
-            Flow::Goes
-        })
+        Ok(flow_after(self.options.bail, &answer))
     }
 
     // Takes all of the bytes and answers the pieces that end in them.
@@ -149,10 +155,10 @@ impl Engine {
         reader: &mut R,
         writer: &mut W,
     ) -> Result<Status, RunFault>
-        requires { IsFresh self.old self.old.bail }
-        ensures pumps { Pumps self.old.bail
-            (record { left = R.left reader.old; failures = R.failures reader.old; reads = R.reads reader.old; written = W.written writer.old; faults = W.faults writer.old })
-            (record { left = R.left reader.new; failures = R.failures reader.new; reads = R.reads reader.new; written = W.written writer.new; faults = W.faults writer.new })
+        requires { IsFresh self.old self.old.options }
+        ensures pumps { Pumps self.old.options
+            (devices_of R.ByteReader W.ByteWriter reader.old writer.old)
+            (devices_of R.ByteReader W.ByteWriter reader.new writer.new)
             result }
         ensures reads { R.reads reader.new ≤ R.reads reader.old + 2 ^ 40 }
     {
@@ -171,25 +177,37 @@ impl Engine {
     }
 }
 
-/// Runs a script: reads it from the reader, and writes to the writer what its statements print. What
-/// a piece of it prints is written before the next piece is taken. It holds a piece of the script
-/// and 4,096 bytes at a time, reads at most 2^40 times, and flushes the writer once, at the end.
-/// A refusal is no fault: it is printed, and the status tells of it. After a fault nothing more is
-/// read or written.
+/// Runs a script: reads it from the reader, and writes to the writer what its pieces print, each
+/// piece's lines before the next piece is taken. A refusal is no fault: its line is printed, and the
+/// status tells of it. At the end of the input, with `bail` after the first refusal, the writer is
+/// flushed once, and the run is over.
+///
+/// It holds a piece of the script and 4,096 bytes at a time beside the tables, and reads at most 2^40
+/// times. The keys are those of the hashes of ids; nothing that is printed depends on them.
+///
+/// After a fault nothing more is read, written or flushed:
+///
+/// - `Memory`: the start found no memory, and nothing was read or written. Where memory runs out
+///   later, a piece is refused.
+/// - `Read`: a read failed, or the input hadn't ended after 2^40 reads. What was written is what the
+///   pieces print that were complete before.
+/// - `Write`: a write or the flush failed, or a write took no byte. What was written is a front of
+///   what the script prints, which the failed flush may have held back.
 pub fn run<R: ByteReader, W: ByteWriter>(
     alloc: Global,
+    keys: RandomState,
     reader: &mut R,
     writer: &mut W,
     options: &Options,
 ) -> Result<Status, RunFault>
-    ensures runs { Runs options.now.bail
-        (record { left = R.left reader.old; failures = R.failures reader.old; reads = R.reads reader.old; written = W.written writer.old; faults = W.faults writer.old })
-        (record { left = R.left reader.new; failures = R.failures reader.new; reads = R.reads reader.new; written = W.written writer.new; faults = W.faults writer.new })
+    ensures runs { Runs options.now
+        (devices_of R.ByteReader W.ByteWriter reader.old writer.old)
+        (devices_of R.ByteReader W.ByteWriter reader.new writer.new)
         result }
     ensures reads { R.reads reader.new ≤ R.reads reader.old + 2 ^ 40 }
     ensures flushed { OnOk result (W.flushed writer.new ≡ true) }
 {
-    let mut engine = Engine::new(alloc, options)?;
+    let mut engine = Engine::new(alloc, keys, options)?;
     let status = engine.pump(reader, writer)?;
     writer.flush()?;
     Ok(status)

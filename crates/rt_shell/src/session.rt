@@ -3,7 +3,7 @@
 ghost use Rattle.std.specs.Prelude.{◌≡◌, ◌≢◌, [], map, IfOk, IfErr, OnErr, MatchResult, MatchOption, IsTrue, ◌↔◌};
 ghost use Rattle.std.specs.Option.{option_copied};
 ghost use Rattle.std.specs.Str.{str_to_ascii_lowercase};
-ghost use Rattle.rt_shell.specs.Session.{answer, created, inserted, inserted_into, selected, selected_from, table_of, is_column_list, has_auxiliary};
+ghost use Rattle.rt_shell.specs.Session.{empty, CarriesOut, created, inserted, inserted_into, selected, selected_from, table_of, is_column_list, has_auxiliary};
 ghost use Rattle.rt_shell.specs.Steps.{AnswersUnlessMemory};
 
 use crate::rows::{Row, RowList};
@@ -12,6 +12,7 @@ use rt_box::Capacity;
 use rt_sql::{ColumnDef, Cond, Name, Refusal, Rule, Stmt, Value};
 use sqlite_items::Items;
 use std::alloc::{AllocError, Global};
+use std::hash::RandomState;
 use std::marker::Model;
 
 /// How many tables there are at most. The limit is own.
@@ -40,6 +41,8 @@ pub struct Session {
     alloc: Global,
     // The capacity of the nodes of each table; no table has any yet.
     capacity: Capacity,
+    // The keys of the hashes of ids, of which no table has any yet.
+    keys: RandomState,
     tables: IndexMap<Vec<u8>, Table>,
 }
 
@@ -48,20 +51,22 @@ impl Model for Session {
 
     ghost Value = { State };
 
-    ghost use Rattle.rt_shell.specs.SessionInside.{tables_of, IsKeyed};
+    ghost use Rattle.rt_shell.specs.SessionInside.{state_of, IsKeyed};
 
-    ghost view = { tables_of };
+    ghost view = { state_of };
 
     ghost invariant = { IsKeyed };
 }
 
 impl Session {
-    /// A session with no table. It takes no memory.
-    pub fn new(alloc: Global, capacity: Capacity) -> Session
-        ensures { result ≡ [] }
+    /// A session with no table, which takes no memory. The capacity is that of each table's nodes, and
+    /// the keys are those of the hashes of ids.
+    pub fn new(alloc: Global, keys: RandomState, capacity: Capacity) -> Session
+        ensures { result ≡ empty capacity }
     {
         Session {
             alloc,
+            keys,
             capacity,
             tables: IndexMap::new(alloc),
         }
@@ -70,7 +75,7 @@ impl Session {
     /// Carries out a statement, as SQLite's R*Tree module does where the definitions name no rule
     /// of their own. A refusal leaves the tables as they were.
     pub fn step(&mut self, statement: Stmt) -> Result<Reply, Refusal>
-        ensures { AnswersUnlessMemory (answer self.old statement) result self.old self.new }
+        ensures { CarriesOut self.old statement result self.new }
     {
         match statement {
             Stmt::Create {
@@ -142,7 +147,7 @@ impl Session {
     }
 
     fn insert(&mut self, name: &Name, values: &[Value]) -> Result<Reply, Refusal>
-        ensures { AnswersUnlessMemory (inserted_into self.old (table_of self.old name.now) name.now values.now) result self.old self.new }
+        ensures { AnswersUnlessMemory (inserted_into self.old (table_of self.old.tables name.now) name.now values.now) result self.old self.new }
     {
         let key = folded(self.alloc, name)?;
         let Some(table) = self.tables.get_mut(key.as_slice()) else {
@@ -153,7 +158,7 @@ impl Session {
     }
 
     fn table(&self, name: &Name) -> Result<Option<&Table>, AllocError>
-        ensures { IfOk result (λ table. option_copied table ≡ table_of self.now name.now) }
+        ensures { IfOk result (λ table. option_copied table ≡ table_of self.now.tables name.now) }
     {
         let key = folded(self.alloc, name)?;
         Ok(self.tables.get(key.as_slice()))
@@ -170,7 +175,7 @@ impl Session {
     }
 
     fn select(&self, name: &Name) -> Result<Reply, Refusal>
-        ensures { AnswersUnlessMemory (selected_from self.now (table_of self.now name.now)) result self.now self.now }
+        ensures { AnswersUnlessMemory (selected_from self.now (table_of self.now.tables name.now)) result self.now self.now }
     {
         let Some(table) = self.table(name)? else {
             return Err(Refusal::NoSuchTable);

@@ -92,9 +92,9 @@ fn digits(text: &str) -> Lexeme<'_>
     (Some(Token::Digits(Spelling::new(&text[..end]))), end)
 }
 
-#[tactic(auto, using(crate::proofs::Closings::closing_goes, crate::proofs::Closings::closing_skips))]
 /// Where the quote stands that closes, in a text without the opening one. A doubled quote
 /// doesn't close.
+#[tactic(auto, using(crate::proofs::Closings::closing_goes, crate::proofs::Closings::closing_skips))]
 fn closing(quote: u8, text: &[u8]) -> Option<usize>
     ensures value { result ≡ lexing.closing quote 0 text.now }
     ensures within { IfSome result (λ end. (end < length text.now) × (slice_index text.now end ≡ quote)) }

@@ -1,8 +1,11 @@
 //! SQL statements: what statement a piece of a script spells.
 //!
-//! - `parser`: `parse` makes of a piece the statement that its tokens spell, or says by a `Refusal`
-//!   why there is none.
-//! - `statement`, `name` and `value`: statements, as plain data.
+//! - `parse` makes of a piece the statement that its tokens spell, or says by a `Refusal` why there
+//!   is none.
+//! - `Stmt` and what it is made of, in `statement`, `Name` and `Value` are plain data. Lists in them
+//!   are `Items`, which contracts see as lists.
+//! - `Refusal` has the number and the words that each refusal prints, those of tables and views too.
+//! - `laws`: tokens spell at most one statement, and each piece has one answer.
 #![tactic(auto)]
 
 mod grammar;

@@ -5,7 +5,6 @@ ghost use Rattle.rt_sql.specs.Token as spec;
 use std::alloc::{AllocError, Global};
 
 /// The first place where two quotes stand side by side.
-
 fn pair_at(quote: u8, text: &[u8]) -> Option<usize>
     ensures value { MatchOption result (spec.undoubled quote text.now ≡ text.now) (λ at. spec.undoubled quote text.now ≡ take (at + 1) text.now ++ spec.undoubled quote (drop (at + 2) text.now)) }
     ensures within { MatchOption result (Unit {0}) (λ at. (at + 1 < length text.now) × (slice_index text.now at ≡ quote) × (slice_index text.now (at + 1) ≡ quote)) }

@@ -31,12 +31,14 @@ impl Name {
         })
     }
 
+    /// A name with this text, which isn't copied.
     pub fn from_string(text: String) -> Name
         ensures { result ≡ string_bytes text }
     {
         Name { text }
     }
 
+    /// Its text, with the case that was written.
     pub fn as_str(&self) -> &str
         ensures { result.now ≡ self.now }
     {
@@ -51,7 +53,7 @@ impl Name {
         string
     }
 
-    /// Whether both are one name, which ASCII case doesn't change.
+    /// Whether both are one name, which ASCII case doesn't change. Nothing is copied.
     pub fn is_same(&self, other: &Name) -> bool
         ensures { result ≡ same_name self.now other.now }
     {

@@ -63,11 +63,19 @@ fn parse_text(alloc: Global, text: &str) -> Result<Stmt, Refusal>
 
 /// The statement that a piece of a script spells.
 ///
+/// ```
+/// let piece = Piece::new(b"DROP TABLE \"t\";", Ending::Whole);
+/// match parse(alloc, &piece)? {
+///     Stmt::Drop { table, if_there } => {} // `table` is the name t, and `if_there` is false
+///     _ => {}
+/// }
+/// ```
+///
 /// # Errors
 ///
 /// Refuses a piece that is too long, incomplete, no UTF-8 text without zero bytes, a dot line
 /// with an unknown word, no statement, or a statement with an integer outside 64 bits; the first
-/// that applies.
+/// that applies. In place of any answer memory may run out, which is `Refusal::OutOfMemory`.
 pub fn parse(alloc: Global, piece: &Piece<'_>) -> Result<Stmt, Refusal>
     ensures { ParsesUnlessMemory piece.now result }
 {

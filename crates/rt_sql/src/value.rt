@@ -20,6 +20,7 @@ impl Text {
     ghost use Rattle.std.specs.Prelude.{◌≡◌, IfOk};
     ghost use Rattle.std.specs.String.{string_bytes};
 
+    /// A text with these characters.
     pub fn new(alloc: Global, text: &str) -> Result<Text, AllocError>
         ensures { IfOk result (λ made. made ≡ text.now) }
     {
@@ -28,12 +29,14 @@ impl Text {
         })
     }
 
+    /// The same of a string, which isn't copied.
     pub fn from_string(text: String) -> Text
         ensures { result ≡ string_bytes text }
     {
         Text { text }
     }
 
+    /// Its characters.
     pub fn as_str(&self) -> &str
         ensures { result.now ≡ self.now }
     {
@@ -90,6 +93,7 @@ impl Model for Blob {
 impl Blob {
     ghost use Rattle.std.specs.Prelude.{◌≡◌, IfOk};
 
+    /// A blob with these bytes.
     pub fn new(alloc: Global, bytes: &[u8]) -> Result<Blob, AllocError>
         ensures { IfOk result (λ blob. blob ≡ bytes.now) }
     {
@@ -98,12 +102,14 @@ impl Blob {
         })
     }
 
+    /// The same of a vector, which isn't copied.
     pub fn from_vec(bytes: Vec<u8>) -> Blob
         ensures { result ≡ bytes.items }
     {
         Blob { bytes }
     }
 
+    /// Its bytes.
     pub fn as_slice(&self) -> &[u8]
         ensures { result.now ≡ self.now }
     {

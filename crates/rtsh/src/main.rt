@@ -15,6 +15,7 @@ use rt_shell::run;
 use std::alloc::{AllocError, Global};
 use std::env;
 use std::fs::File;
+use std::hash::RandomState;
 use std::io::{self, BufWriter, IsTerminal};
 use std::process::ExitCode;
 use thiserror::Error;
@@ -104,9 +105,14 @@ fn read_from<R: ByteReader>(
     reader: &mut R,
     asked: &Asked<'_>,
 ) -> Result<Status, RunFault> {
+    // The source of random bytes is a device too.
+    let Ok(keys) = RandomState::new(rt) else {
+        return Err(RunFault::Read);
+    };
     if rt.stdout().is_terminal() {
         return read_and_write(
             rt.alloc(),
+            keys,
             reader,
             &mut OverWrite::new(io::writer(rt)),
             asked,
@@ -115,17 +121,18 @@ fn read_from<R: ByteReader>(
     let Ok(buffer) = BufWriter::new(rt.alloc(), io::writer(rt)) else {
         return Err(RunFault::Memory);
     };
-    read_and_write(rt.alloc(), reader, &mut OverWrite::new(buffer), asked)
+    read_and_write(rt.alloc(), keys, reader, &mut OverWrite::new(buffer), asked)
 }
 
 fn read_and_write<R: ByteReader, W: ByteWriter>(
     alloc: Global,
+    keys: RandomState,
     reader: &mut R,
     writer: &mut W,
     asked: &Asked<'_>,
 ) -> Result<Status, RunFault> {
     match asked {
-        Asked::Run(options, _) => run(alloc, reader, writer, options),
-        Asked::Check(_) => run_check(alloc, reader, writer),
+        Asked::Run(options, _) => run(alloc, keys, reader, writer, options),
+        Asked::Check(_) => run_check(alloc, keys, reader, writer),
     }
 }

@@ -1,6 +1,7 @@
 use Rattle.std.proofs.Common.{◌≡◌, ◌++◌, ◌∷◌, [], Bool, sym, ◌∙◌, ap, arith, length, get_or, min, ◌<◌, ◌+◌, drop, rules}
-use Rattle.rt_check.specs.declared.checker.Problem.{Problem}
+use Rattle.rt_check.specs.declared.problem.Problem.{Problem}
 use Rattle.rt_check.specs.declared.node.NodeRow.{NodeRow}
+use Rattle.rt_check.specs.declared.problem.Condition.TheVariants.{HasPlace}
 use Rattle.rt_check.specs.Conditions.{has_place, times_named, inner_cells, failing}
 use Rattle.rt_check.proofs.Tallies.{tallies-at}
 use Rattle.rt_check.proofs.Listing.{failing-fails}
@@ -10,8 +11,8 @@ pub has_place-requires : goal.has_place-requires
 has_place-requires g c =
     let nodes = c.args.shadow.now.nodes in
     let this : get_or nodes c.loop-index.index c.node-item.result ≡ c.node-item.result =
-    ap (λ l. get_or l c.loop-index.index c.node-item.result) (sym c.nodes-node-items.ensures) ∙ sym c.node-item.is in
-    let same : length c.nodes-node-items.result.now ≡ length nodes = ap length c.nodes-node-items.ensures in
+    ap (λ l. get_or l c.loop-index.index c.node-item.result) (sym c.nodes-node-items.ensures.value) ∙ sym c.node-item.is in
+    let same : length c.nodes-node-items.result.now ≡ length nodes = ap length c.nodes-node-items.ensures.value in
     let within : c.loop-index.index < length nodes = omega (arith, same, c.loop-index-test.true) in
     let counted : get_or c.args.named.now c.loop-index.index 0 ≡ min 2 (times_named c.node-item.result.number (inner_cells nodes)) =
     ap (λ l. get_or l c.loop-index.index 0) c.requires
@@ -25,9 +26,9 @@ loop-index-preserved g c =
     let i = c.loop-index.index in
     let d = c.node-item.result in
     let test : NodeRow g.row.D → Bool = has_place c.args.shadow.now in
-    let entry : NodeRow g.row.D → Problem = λ n. record { condition = 2; node = n.number; position = 0 } in
-    let this : get_or nodes i d ≡ d = ap (λ l. get_or l i d) (sym c.nodes-node-items.ensures) ∙ sym c.node-item.is in
-    let same : length c.nodes-node-items.result.now ≡ length nodes = ap length c.nodes-node-items.ensures in
+    let entry : NodeRow g.row.D → Problem = λ n. record { condition = HasPlace; node = n.number; position = 0 } in
+    let this : get_or nodes i d ≡ d = ap (λ l. get_or l i d) (sym c.nodes-node-items.ensures.value) ∙ sym c.node-item.is in
+    let same : length c.nodes-node-items.result.now ≡ length nodes = ap length c.nodes-node-items.ensures.value in
     let within : i < length nodes = omega (arith, same, c.loop-index-test.true) in
     let added : c.push.new.self.items ≡ c.loop-index.problems.items ++ entry (get_or nodes i d) ∷ [] =
     c.in_ok-push.ensures.items ∙ ap (λ p. c.loop-index.problems.items ++ p ∷ []) (c.node_problem.ensures ∙ ap entry (sym this)) in

@@ -1,13 +1,23 @@
-use Rattle.std.proofs.Common.{arith, ◌∙◌, sym}
+use Rattle.std.proofs.Common.{get_or, arith, ap, ◌∙◌, sym}
 use Rattle.std.proofs.lemmas.Bool.{false≢true}
+use Rattle.rt_choice.proofs.Growth.{overlap-still}
 use Rattle.rt_choice.proofs.Children.{no-growth-best, grows-more, costs-less, costs-no-less, least-best, costs-from}
 use Rattle.rt_choice.proofs.subtree.least_overlap_growth.Goals as goal
 use Rattle.rt_choice.proofs.subtree.least_overlap_growth.Goals.{in-Some+then-is_less, in-Some+else-is_less, in_default}
 
+pub returns-then-contains : goal.returns-then-contains
+returns-then-contains g c =
+    let boxes = c.args.boxes.now in
+    let new = c.args.new_box.now in
+    let start = c.least_cost-start.result in
+    no-growth-best boxes new start c.least_cost-start.ensures
+    (overlap-still boxes new start c.index-boxes-start.result c.least_cost-start.ensures.below_high c.index-boxes-start.is
+    (c.contains.ensures.0 c.if-contains.true))
+
 pub returns-then-least-eq0 : goal.returns-then-least-eq0
 returns-then-least-eq0 g c =
-    no-growth-best c.args.boxes.now c.args.new_box.now c.least_cost-start.result c.cost_of-least.result c.least_cost-start.ensures
-    c.cost_of-least.ensures c.if-least-eq0.true
+    no-growth-best c.args.boxes.now c.args.new_box.now c.least_cost-start.result c.least_cost-start.ensures
+    (sym (ap (λ xs. get_or xs 0 0) c.cost_of-least.ensures) ∙ c.if-least-eq0.true)
 
 pub loop-position-preserved : goal.loop-position-preserved
 loop-position-preserved g c =

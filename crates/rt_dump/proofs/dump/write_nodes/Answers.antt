@@ -10,8 +10,8 @@ returns-in_err-write_node g c =
     let items = c.args.shadow.now.nodes in
     let i = c.loop-node.node-index in
     let d = c.node-item.result in
-    let this : get_or items i d ≡ d = ap (λ l. get_or l i d) (sym c.nodes-node-items.ensures) ∙ sym c.node-item.is in
-    let same : length c.nodes-node-items.result.now ≡ length items = ap length c.nodes-node-items.ensures in
+    let this : get_or items i d ≡ d = ap (λ l. get_or l i d) (sym c.nodes-node-items.ensures.value) ∙ sym c.node-item.is in
+    let same : length c.nodes-node-items.result.now ≡ length items = ap length c.nodes-node-items.ensures.value in
     let within : i < length items = omega (arith, same, c.loop-node-test.true) in
     let front : WritesFront (g.W.ByteWriter.written c.loop-node.writer) (g.W.ByteWriter.written c.write_node.new.writer) (g.W.ByteWriter.faults c.loop-node.writer)
     (g.W.ByteWriter.faults c.write_node.new.writer) (node_text (get_or items i d)) =

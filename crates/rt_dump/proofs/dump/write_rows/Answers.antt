@@ -10,8 +10,8 @@ returns-in_err-write_row g c =
     let items = c.args.shadow.now.rows in
     let i = c.loop-row.row-index in
     let d : RowEntry = record { id = pos 0; leaf = pos 0 } in
-    let this : get_or c.rows-row-items.result.now i d ≡ get_or items i d = ap (λ l. get_or l i d) c.rows-row-items.ensures in
-    let same : length c.rows-row-items.result.now ≡ length items = ap length c.rows-row-items.ensures in
+    let this : get_or c.rows-row-items.result.now i d ≡ get_or items i d = ap (λ l. get_or l i d) c.rows-row-items.ensures.value in
+    let same : length c.rows-row-items.result.now ≡ length items = ap length c.rows-row-items.ensures.value in
     let within : i < length items = omega (arith, same, c.loop-row-test.true) in
     let front : WritesFront (g.W.ByteWriter.written c.loop-row.writer) (g.W.ByteWriter.written c.write_row.new.writer) (g.W.ByteWriter.faults c.loop-row.writer)
     (g.W.ByteWriter.faults c.write_row.new.writer) (row_line (get_or items i d)) =

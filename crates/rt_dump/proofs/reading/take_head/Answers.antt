@@ -7,6 +7,7 @@ use Rattle.rt_check.specs.Shadow.{ShadowLists, numbers_of}
 use Rattle.rt_dump.specs.Reading.{after_head, empty_node}
 use Rattle.rt_check.proofs.Known.{absent-number}
 use Rattle.rt_dump.proofs.reading.take_head.Goals as goal
+use Rattle.rt_dump.specs.declared.fault.LineFault.TheVariants.{ListedTwice}
 
 pub returns : goal.returns
 returns g c =
@@ -19,7 +20,7 @@ returns g c =
     subst (λ (x : ℤ). Contains (numbers_of p.shadow.nodes) x) (sym (ap (λ n. n.number) same)) listed in
     let twice = c.in-Ok.ensures.twice.1 other in let no : ⊥ = cc in no) in
     ap (after_head p) (sym c.in-Some.ensures)
-    ∙ ap (λ b. cond b (Err 2) (Ok (record p {
+    ∙ ap (λ b. cond b (Err ListedTwice) (Ok (record p {
       shadow = record p.shadow { nodes = p.shadow.nodes ++ empty_node head ∷ [] };
       nodes = p.nodes - 1;
       cells = head.cells;

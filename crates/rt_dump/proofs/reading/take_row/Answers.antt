@@ -6,6 +6,7 @@ use Rattle.rt_check.specs.Shadow.{ShadowLists, ids_of}
 use Rattle.rt_dump.specs.Reading.{after_row}
 use Rattle.rt_check.proofs.Known.{absent-number}
 use Rattle.rt_dump.proofs.reading.take_row.Goals as goal
+use Rattle.rt_dump.specs.declared.fault.LineFault.TheVariants.{ListedTwice}
 
 pub returns : goal.returns
 returns g c =
@@ -14,6 +15,6 @@ returns g c =
     let absent : list_any (int_eq row.id) (ids_of p.shadow.rows) ≡ false =
     absent-number row.id (ids_of p.shadow.rows) (λ listed. let twice = c.in-Ok.ensures.twice.1 listed in let no : ⊥ = cc in no) in
     ap (after_row p) (sym c.in-Some.ensures)
-    ∙ ap (λ b. cond b (Err 2) (Ok (record p { shadow = record p.shadow { rows = p.shadow.rows ++ row ∷ [] }; rows = p.rows - 1 }))) absent
+    ∙ ap (λ b. cond b (Err ListedTwice) (Ok (record p { shadow = record p.shadow { rows = p.shadow.rows ++ row ∷ [] }; rows = p.rows - 1 }))) absent
     ∙ ap (λ (s : ShadowLists g.row.D). Ok (record p { shadow = s; rows = p.rows - 1 })) (sym c.in-Ok.ensures.ok)
     ∙ ap (λ n. Ok (record p { shadow = c.add_row.new.self; rows = n })) (sym c.saturating_sub-progress.ensures)

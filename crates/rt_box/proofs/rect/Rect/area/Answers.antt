@@ -9,7 +9,7 @@ step : (g : Over) (c : After-from-area g) →
     c.loop-axis.area * c.from-area.result ≡ area (take (c.loop-axis.axis + 1) c.args.self.now)
 step g c =
     let within : c.loop-axis.axis < length c.args.self.now = omega arith in
-    let e = area_more c.args.self.now c.loop-axis.axis c.range.result within in cc
+    let e = area_more c.args.self.now c.loop-axis.axis c.range-in-loop-axis.result within in cc
 
 pub overflow_mul-area : goal.overflow_mul-area
 overflow_mul-area g c =

@@ -10,8 +10,8 @@ step : (g : Over) (c : After-from-area g) →
 step g c =
     let within : c.loop-axis.axis < length c.args.self.now = omega arith in
     let other_within : c.loop-axis.axis < length c.args.other.now = omega arith in
-    rw (c.loop-axis.invariant, c.from-area.ensures, c.length.ensures, c.common_part.ensures)
-    (sym (overlap_more _ _ _ _ _ within other_within c.range.ensures.value c.range-in-loop-axis.ensures.value))
+    rw (c.loop-axis.invariant, c.from-area.ensures, c.length-in-loop-axis.ensures, c.common_part.ensures)
+    (sym (overlap_more _ _ _ _ _ within other_within c.range-in-loop-axis.ensures.value c.range-in-loop-axis-2.ensures.value))
 
 pub overflow_mul-area : goal.overflow_mul-area
 overflow_mul-area g c =

@@ -21,6 +21,8 @@ invariant_of-self g c =
       few = c.self.invariant.few;
       numbers = c.self.invariant.numbers ∙ sym (map-set_same (λ (n : NodeRow g.row.D). n.number) items at _ c.index_mut-node.result.now same);
       ids = c.self.invariant.ids;
+      numbers_differ = c.self.invariant.numbers_differ;
+      ids_differ = c.self.invariant.ids_differ;
     }
 
 pub returns-clause-ok : goal.returns-clause-ok

@@ -1,4 +1,5 @@
 use Rattle.std.proofs.Common.{◌≡◌, ap, ◌∙◌, Some, None, map}
+use Rattle.std.proofs.Math.Facts.{to_z-of_z}
 use Rattle.std.specs.Prelude.{position, slice_get}
 use Rattle.std.specs.Ordering.{int_eq}
 use Rattle.rt_check.specs.Conditions.{node_of}
@@ -8,16 +9,18 @@ use Rattle.rt_check.proofs.shadow.Shadow.node.Goals as goal
 pub returns-in-Some : goal.returns-in-Some
 returns-in-Some g c =
     let items = c.self.inside.nodes.items in
-    let place : Some c.in-Some.at ≡ position (int_eq c.args.number.now) (map (λ x. x.number) items) =
-    c.in-Some.ensures.index ∙ ap (position (int_eq c.args.number.now)) c.self.invariant.numbers in
-    c.item_at.ensures ∙ ap (λ l. slice_get l c.in-Some.at) c.as_slice.ensures.value
-    ∙ find-some (λ x. x.number) (int_eq c.args.number.now) items c.in-Some.at place
-    ∙ ap (λ s. node_of s.nodes c.args.number.now) c.self.view_is
+    let keys = c.self.inside.numbers.keys in
+    let place : Some c.in-Some.at ≡ position (int_eq c.args.number) (map (λ x. x.number) items) =
+    c.in-Some.ensures.index ∙ ap (λ z. position (int_eq z) keys) (to_z-of_z c.ranges.number) ∙ ap (position (int_eq c.args.number)) c.self.invariant.numbers in
+    c.at.ensures ∙ ap (λ l. slice_get l c.in-Some.at) c.as_slice.ensures.value
+    ∙ find-some (λ x. x.number) (int_eq c.args.number) items c.in-Some.at place
+    ∙ ap (λ s. node_of s.nodes c.args.number) c.self.view_is
 
 pub returns-in-None : goal.returns-in-None
 returns-in-None g c =
     let items = c.self.inside.nodes.items in
-    let place : None ≡ position (int_eq c.args.number.now) (map (λ x. x.number) items) =
-    c.in-None.ensures.index ∙ ap (position (int_eq c.args.number.now)) c.self.invariant.numbers in
-    find-none (λ x. x.number) (int_eq c.args.number.now) items place
-    ∙ ap (λ s. node_of s.nodes c.args.number.now) c.self.view_is
+    let keys = c.self.inside.numbers.keys in
+    let place : None ≡ position (int_eq c.args.number) (map (λ x. x.number) items) =
+    c.in-None.ensures.index ∙ ap (λ z. position (int_eq z) keys) (to_z-of_z c.ranges.number) ∙ ap (position (int_eq c.args.number)) c.self.invariant.numbers in
+    find-none (λ x. x.number) (int_eq c.args.number) items place
+    ∙ ap (λ s. node_of s.nodes c.args.number) c.self.view_is

@@ -5,7 +5,7 @@ use Rattle.rt_shell.proofs.Pumping.{pumping_starts, read_fails, reads_out, write
 use Rattle.rt_shell.proofs.runner.Engine.pump.Goals as goal
 
 pub loop-turn-init : goal.loop-turn-init
-loop-turn-init g c = pumping_starts c.args.self.now c.args.self.now.bail _ c.requires
+loop-turn-init g c = pumping_starts c.args.self.now c.args.self.now.options _ c.requires
 
 pub returns-in_err-count-clause-pumps : goal.returns-in_err-count-clause-pumps
 returns-in_err-count-clause-pumps g c =

@@ -1,0 +1,159 @@
+ghost use Rattle.std.specs.Prelude.{◌≡◌};
+
+use rt_box::{Capacity, Rect};
+use rt_choice::{choose_split, choose_subtree, farthest};
+use std::io;
+use std::rt::Clock;
+use std::time::Instant;
+
+const CELLS: usize = 52;
+
+const ROUNDS: u64 = 20000;
+
+/// Numbers that look random, each from the one before.
+fn next(seed: u64) -> u64 {
+    seed.wrapping_mul(6364136223846793005)
+        .wrapping_add(1442695040888963407)
+}
+
+/// A number up to `limit`, from the upper bits of the seed.
+fn up_to(seed: u64, limit: u16) -> u16 {
+    let bits = (seed >> 32 & 0xffff) as u32;
+    (bits % (u32::from(limit) + 1)) as u16
+}
+
+/// A box whose low corner lies up to `span` on both axes, and whose sides are at most `size` long.
+fn rect_from(seed: u64, span: u16, size: u8) -> Rect<2> {
+    let places = next(seed);
+    let sizes = next(places);
+    let x = i32::from(up_to(places, span));
+    let y = i32::from(up_to(places >> 16, span));
+    let width = i32::from(up_to(sizes, u16::from(size)));
+    let height = i32::from(up_to(sizes >> 16, u16::from(size)));
+    match Rect::new([x, y], [x + width, y + height]) {
+        Some(rect) => rect,
+        None => whole(),
+    }
+}
+
+fn whole() -> Rect<2> {
+    match Rect::new([i32::MIN; 2], [i32::MAX; 2]) {
+        Some(rect) => rect,
+        None => unreachable!(),
+    }
+}
+
+/// How a node's boxes lie.
+#[derive(Clone, Copy)]
+struct Shape {
+    span: u16,
+    size: u8,
+}
+
+fn node(seed: u64, shape: Shape) -> [Rect<2>; CELLS] {
+    let mut boxes = [whole(); CELLS];
+    let mut seed = seed;
+    for cell in boxes.iter_mut() {
+        seed = next(seed);
+        *cell = rect_from(seed, shape.span, shape.size);
+    }
+    boxes
+}
+
+/// The time of a choice, and the sum of what was chosen.
+fn time_choices<R: Clock>(
+    rt: &R,
+    shape: Shape,
+    above_leaves: bool,
+    new_size: u8,
+) -> io::Result<(u128, u64)> {
+    let boxes = node(7, shape);
+    let mut sum: u64 = 0;
+    let start = Instant::now(rt)?;
+    for round in 0..ROUNDS {
+        let new_box = rect_from(round, shape.span, new_size);
+        sum = sum.wrapping_add(choose_subtree(&boxes[..CELLS - 1], above_leaves, &new_box) as u64);
+    }
+    Ok((start.elapsed(rt)?.as_nanos() / u128::from(ROUNDS), sum))
+}
+
+fn time_splits<R: Clock>(rt: &R, shape: Shape, capacity: Capacity) -> io::Result<(u128, u64)>
+    requires { capacity ≡ 51 }
+{
+    let mut sum: u64 = 0;
+    let boxes = [
+        node(1, shape),
+        node(2, shape),
+        node(3, shape),
+        node(4, shape),
+    ];
+    let start = Instant::now(rt)?;
+    for round in 0..ROUNDS {
+        let cut = choose_split(&boxes[(round % 4) as usize], capacity);
+        sum = sum.wrapping_add(cut.first as u64);
+    }
+    Ok((start.elapsed(rt)?.as_nanos() / u128::from(ROUNDS), sum))
+}
+
+fn time_outliers<R: Clock>(rt: &R, shape: Shape, capacity: Capacity) -> io::Result<(u128, u64)>
+    requires { capacity ≡ 51 }
+{
+    let mut sum: u64 = 0;
+    let boxes = [
+        node(1, shape),
+        node(2, shape),
+        node(3, shape),
+        node(4, shape),
+    ];
+    let start = Instant::now(rt)?;
+    for round in 0..ROUNDS {
+        let order = farthest(&boxes[(round % 4) as usize], capacity);
+        sum = sum.wrapping_add(order.len() as u64);
+    }
+    Ok((start.elapsed(rt)?.as_nanos() / u128::from(ROUNDS), sum))
+}
+
+fn report_shape(rt: &HostRuntime, name: &str, shape: Shape) -> io::Result<()> {
+    let (above, sum) = time_choices(rt, shape, true, shape.size)?;
+    println!(rt; "{name}: choice above leaves {above} ns ({sum})")?;
+    let (point, sum) = time_choices(rt, shape, true, 0)?;
+    println!(rt; "{name}: choice for a point {point} ns ({sum})")?;
+    let (elsewhere, sum) = time_choices(rt, shape, false, shape.size)?;
+    println!(rt; "{name}: choice elsewhere {elsewhere} ns ({sum})")?;
+    if let Some(capacity) = Capacity::new(51) {
+        let (split, sum) = time_splits(rt, shape, capacity)?;
+        println!(rt; "{name}: split {split} ns ({sum})")?;
+        let (outliers, sum) = time_outliers(rt, shape, capacity)?;
+        println!(rt; "{name}: farthest {outliers} ns ({sum})")?;
+    }
+    Ok(())
+}
+
+/// Prints the nanoseconds of each call, on boxes strewn widely, on close ones, and on points.
+pub fn report(rt: &HostRuntime) -> io::Result<()> {
+    report_shape(
+        rt,
+        "wide",
+        Shape {
+            span: 1000,
+            size: 20,
+        },
+    )?;
+    report_shape(
+        rt,
+        "tiled",
+        Shape {
+            span: 1000,
+            size: 200,
+        },
+    )?;
+    report_shape(rt, "close", Shape { span: 60, size: 20 })?;
+    report_shape(
+        rt,
+        "points",
+        Shape {
+            span: 1000,
+            size: 0,
+        },
+    )
+}

@@ -1,0 +1,4 @@
+CREATE VIRTUAL TABLE t USING rtree_i32(id,minX,maxX);
+INSERT INTO t VALUES(1,0,0);
+SELECT * FROM t/*@*/;
+SELECT * FROM t;

@@ -1,0 +1,99 @@
+//! The cases of a list.
+
+use rt_box::Capacity;
+use rt_bytes::Status;
+use rt_shell::Options;
+use std::alloc::{AllocError, Global};
+
+/// What is done with a case's input.
+#[derive(Drop)]
+pub enum Command {
+    /// The script is run.
+    Run(Options),
+    /// The dump is checked.
+    Check,
+    /// Each front of the dump is checked, from none of its bytes to all but the last.
+    CheckFronts,
+}
+
+impl Command {
+    /// How the name of the input's file ends.
+    pub fn extension(&self) -> &'static str {
+        match self {
+            Command::Run(_) => "sql",
+            Command::Check | Command::CheckFronts => "dump",
+        }
+    }
+}
+
+/// A line of the list: a name, a status, a command and its options.
+#[derive(Drop)]
+pub struct Case<'a> {
+    /// Its files' name.
+    pub name: &'a str,
+    /// The status that it must have.
+    pub status: Status,
+    /// What is done.
+    pub command: Command,
+    /// How many letters stand for each `@` of the input, if it is to be filled.
+    fill: Option<u32>,
+    /// Whether the input is also read in two parts, cut at each place in turn.
+    pub cuts: bool,
+}
+
+impl<'a> Case<'a> {
+    /// Reads a line such as `open_quote 1 run --fill 65528`, or `None` where it isn't one.
+    pub fn read(line: &'a str) -> Option<Case<'a>> {
+        let mut words = line.split_whitespace();
+        let name = words.next()?;
+        let status = match words.next()? {
+            "0" => Status::Clean,
+            "1" => Status::Refused,
+            _ => return None,
+        };
+        let command = words.next()?;
+        let (mut capacity, mut bail, mut fill, mut cuts) = (Capacity::new(51)?, false, None, false);
+        for _ in 0..line.len() {
+            let Some(option) = words.next() else {
+                break;
+            };
+            match option {
+                "--capacity" => capacity = Capacity::new(words.next()?.parse::<u8>().ok()?)?,
+                "--bail" => bail = true,
+                "--fill" => fill = Some(words.next()?.parse::<u32>().ok()?),
+                "--cuts" => cuts = true,
+                _ => return None,
+            }
+        }
+        let command = match command {
+            "run" => Command::Run(Options { capacity, bail }),
+            "check" => Command::Check,
+            "check-fronts" => Command::CheckFronts,
+            _ => return None,
+        };
+        Some(Case {
+            name,
+            status,
+            command,
+            fill,
+            cuts,
+        })
+    }
+
+    /// The input that the file's bytes stand for.
+    pub fn filled(&self, alloc: Global, bytes: &[u8]) -> Result<Vec<u8>, AllocError> {
+        let mut input = Vec::new(alloc);
+        for byte in bytes {
+            if *byte == b'@'
+                && let Some(times) = self.fill
+            {
+                for _ in 0..times {
+                    input.push(b'a')?;
+                }
+            } else {
+                input.push(*byte)?;
+            }
+        }
+        Ok(input)
+    }
+}
