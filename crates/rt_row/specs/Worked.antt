@@ -195,8 +195,10 @@ delete-above_one = refl
 -- ---- conditions
 
 abbrev five : TableLists
-five = record (new_table noted) { rows = note (pos 1) (pos 0) (pos 1) Null ∷ note (pos 2) (pos 0) (pos 1) (n 5) ∷ note (pos 3) (pos 0) (pos 1) (text (codes "5"))
-    ∷ note (pos 4) (pos 0) (pos 1) (text (codes "b")) ∷ note (pos 5) (pos 0) (pos 1) (Blob (0 ∷ [])) ∷ [] }
+five = record (new_table noted) {
+  rows = note (pos 1) (pos 0) (pos 1) Null ∷ note (pos 2) (pos 0) (pos 1) (n 5) ∷ note (pos 3) (pos 0) (pos 1) (text (codes "5"))
+      ∷ note (pos 4) (pos 0) (pos 1) (text (codes "b")) ∷ note (pos 5) (pos 0) (pos 1) (Blob (0 ∷ [])) ∷ [];
+}
 
 abbrev of_n : Op6 → Value → List Test
 of_n op value = compare (codes "n") op value ∷ []

@@ -1,9 +1,6 @@
-//! The rows of a table, and what statements mean for them.
+//! The rows of a table, and what columns, conditions and statements mean for them.
 #![tactic(auto)]
 
-ghost use Rattle.std.specs.Prelude.{◌≡◌};
-ghost use Rattle.rt_row.specs.Values.{compares};
-ghost use Rattle.rt_row.specs.Tables.{view};
+mod values;
 
-/// Stands for the crate until its first function.
-pub fn nothing() {}
+pub use values::compares;
