@@ -6,4 +6,5 @@ pub mod Candidates
 pub mod Edits
 pub mod Views
 pub mod Tables
+pub mod Answers
 pub mod Worked
