@@ -7,4 +7,6 @@ pub mod Edits
 pub mod Views
 pub mod Tables
 pub mod Answers
+pub mod Entries
+pub mod Filters
 pub mod Worked

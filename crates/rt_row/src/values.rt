@@ -6,7 +6,7 @@ ghost use Rattle.rt_row.specs.Values.{is_null, rank, value_cmp, keeps, compares}
 use rt_sql::{Op6, Value};
 use std::cmp::Ordering;
 
-fn is_null(value: &Value) -> bool
+pub(crate) fn is_null(value: &Value) -> bool
     ensures { result ≡ is_null value.now }
 {
     matches!(value, Value::Null)
