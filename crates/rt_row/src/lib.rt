@@ -7,5 +7,6 @@ mod schema;
 mod values;
 
 pub use entry::{Entry, Field};
+pub use filter::Filter;
 pub use schema::Schema;
 pub use values::compares;
