@@ -1,0 +1,13 @@
+use Rattle.std.proofs.Common.{refl}
+use Rattle.rt_row.specs.Filters.{ArePlaces}
+use Rattle.rt_row.proofs.Filters.{admits_same, has_columns_from}
+use Rattle.rt_row.proofs.filter.Filter.new.Goals as goal
+
+pub returns : goal.returns
+returns c =
+    let found : ArePlaces c.args.schema.now.names c.args.cond c.in_ok-places.places.items = rw c.as_slice.ensures at c.in_ok-places.ensures in
+    record {
+      known = has_columns_from c.args.schema.now c.args.cond c.in_ok-places.places.items found;
+      cond_is = refl;
+      same = λ row. admits_same c.args.schema.now c.args.cond c.in_ok-places.places.items row found;
+    }

@@ -1,0 +1,12 @@
+pub mod Values
+pub mod Columns
+pub mod Rows
+pub mod Conditions
+pub mod Candidates
+pub mod Edits
+pub mod Views
+pub mod Tables
+pub mod Answers
+pub mod Entries
+pub mod Filters
+pub mod Worked

@@ -1,0 +1,119 @@
+//! Which rows a condition picks.
+
+ghost use Rattle.std.specs.Prelude.{◌≡◌, zip, MatchResult};
+ghost use Rattle.std.specs.List.{list_all};
+ghost use Rattle.rt_row.specs.Conditions.{column_of};
+ghost use Rattle.rt_row.specs.Filters.{value_passes, passes_at, ArePlaces, IsFilterOf, IsUnknown};
+ghost use Rattle.rt_row.specs.Entries.{row_of, field_value};
+
+use crate::entry::{Entry, Field};
+use crate::schema::Schema;
+use crate::values::{compares, is_null};
+use rt_sql::{Cond, Name, Refusal, Test, Value};
+use std::alloc::Global;
+use std::marker::Model;
+
+fn column_of(test: &Test) -> &Name
+    ensures { result.now ≡ column_of test.now }
+{
+    match test {
+        Test::Compare(compare) => &compare.column,
+        Test::IsNull(name) => name,
+        Test::IsNotNull(name) => name,
+    }
+}
+
+fn value_passes(value: &Value, test: &Test) -> bool
+    ensures { result ≡ value_passes value.now test.now }
+{
+    match test {
+        Test::Compare(compare) => compares(compare.op, value, &compare.value),
+        Test::IsNull(_) => is_null(value),
+        Test::IsNotNull(_) => !is_null(value),
+    }
+}
+
+fn field_passes(field: Field<'_>, test: &Test) -> bool
+    ensures { result ≡ value_passes (field_value field.entry) test.now }
+{
+    match field {
+        Field::Number(number) => value_passes(&Value::Int(number), test),
+        Field::Kept(value) => value_passes(value, test),
+        Field::Missing => value_passes(&Value::Null, test),
+    }
+}
+
+fn passes_at<const D: usize>(row: &Entry<D>, test: &Test, place: usize) -> bool
+    ensures { result ≡ passes_at (row_of row.now) (test.now, place) }
+{
+    field_passes(row.value_at(place), test)
+}
+
+fn passes_all<const D: usize>(row: &Entry<D>, tests: &[Test], places: &[usize]) -> bool
+    ensures { result ≡ list_all (passes_at (row_of row.now)) (zip tests.now places.now) }
+{
+    tests.iter().zip(places).all(
+        |pair: (&Test, &usize)| -> bool
+            ensures { result ≡ passes_at (row_of row.entry.now) (pair.entry.0.now, pair.entry.1.now) }
+        { passes_at(row, pair.0, *pair.1) },
+    )
+}
+
+/// The places of the columns that the tests look at.
+fn places_of(alloc: Global, schema: &Schema, cond: &[Test]) -> Result<Vec<usize>, Refusal>
+    ensures { MatchResult result (λ places. ArePlaces schema.now.names cond.now places.items) (λ refusal. IsUnknown schema.now cond.now refusal) }
+{
+    let mut places = Vec::with_capacity(alloc, cond.len())?;
+    for test in cond {
+        match schema.place_of(column_of(test)) {
+            Some(place) => places.push(place)?,
+            None => return Err(Refusal::NoSuchColumn),
+        }
+    }
+    Ok(places)
+}
+
+/// A condition whose columns were looked up once, so that no name is compared for a row.
+#[derive(Debug, Drop)]
+pub struct Filter {
+    cond: Cond,
+    places: Vec<usize>,
+}
+
+impl Model for Filter {
+    ghost use Rattle.rt_row.specs.Filters.{Placed};
+
+    ghost Value = { Placed };
+
+    ghost view = { λ filter. record { cond = filter.cond; places = filter.places.items } };
+}
+
+impl Filter {
+    ghost use Rattle.rt_row.specs.Filters.{admits, IsFilterOf, IsUnknown};
+
+    /// The condition over a table of these columns.
+    ///
+    /// # Errors
+    ///
+    /// `NoSuchColumn` where a test looks at a column that the table hasn't, and `OutOfMemory`.
+    pub fn new(alloc: Global, schema: &Schema, cond: Cond) -> Result<Filter, Refusal>
+        ensures { MatchResult result (IsFilterOf schema.now cond) (IsUnknown schema.now cond) }
+    {
+        let places = places_of(alloc, schema, cond.as_slice())?;
+        Ok(Filter { cond, places })
+    }
+
+    /// The condition.
+    pub fn cond(&self) -> &Cond
+        ensures { result.now ≡ self.now.cond }
+    {
+        &self.cond
+    }
+
+    /// Whether the condition holds of a row. Nothing is copied.
+    pub fn holds<const D: usize>(&self, row: &Entry<D>) -> bool
+        ensures { result ≡ admits self.now (row_of row.now) }
+    {
+        passes_all(row, self.cond.as_slice(), self.places.as_slice())
+    }
+}
