@@ -4,9 +4,9 @@ ghost use Rattle.std.specs.List.{flat_map};
 ghost use Rattle.rt_bytes.specs.Devices.{WritesTo};
 ghost use Rattle.rt_shell.specs.Lines.{row_line, reply_lines, refusal_line};
 
-use rt_session::{Reply, Row};
 use itoa::Buffer;
 use rt_bytes::{ByteWriter, WriteFault, write_parts};
+use rt_session::{Reply, Row};
 use rt_sql::Refusal;
 
 /// Writes the lines of a reply: for each row `id|minimum|maximum`, as SQLite's shell lists rows.

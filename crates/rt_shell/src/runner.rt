@@ -8,10 +8,10 @@ ghost use Rattle.rt_bytes.specs.Devices.{WritesTo, devices_of};
 ghost use Rattle.rt_shell.specs.Lines.{answer_lines};
 
 use crate::reply::{write_refusal, write_reply};
-use rt_session::{Reply, Session};
 use rt_box::Capacity;
 use rt_bytes::{ByteReader, ByteWriter, MOST_READS, READ_SIZE, RunFault, Status, WriteFault};
 use rt_cut::{Cutter, Piece};
+use rt_session::{Reply, Session};
 use rt_sql::{Refusal, parse};
 use std::alloc::{AllocError, Global};
 use std::hash::RandomState;
