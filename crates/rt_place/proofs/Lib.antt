@@ -8,3 +8,4 @@ pub mod Groups
 pub mod Way
 pub mod Created
 pub mod Divided
+pub mod Arrived
