@@ -9,3 +9,4 @@ pub mod Way
 pub mod Created
 pub mod Divided
 pub mod Arrived
+pub mod Divides
