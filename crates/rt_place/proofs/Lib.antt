@@ -10,3 +10,4 @@ pub mod Created
 pub mod Divided
 pub mod Arrived
 pub mod Divides
+pub mod GivenUp
