@@ -11,3 +11,4 @@ pub mod Divided
 pub mod Arrived
 pub mod Divides
 pub mod GivenUp
+pub mod Relieved

@@ -142,3 +142,21 @@ module _ {D : ℕ} where
     pub capacity : new.capacity ≡ old.capacity
     pub len : slab_len new.nodes ≡ slab_len old.nodes + 1
     pub room : new.nodes.capacity ≡ old.nodes.capacity
+
+  -- the node has no longer too many cells, nor has it too few; the parent has at most one cell more
+  pub record Relieves (old new : Arena D) (key parent : ℕ) : Type 0 where
+    pub opened : IsOpen (λ x. (x ≡ key) ⊎ (x ≡ parent)) new new.waiting.items
+    pub rows : (test : Cell D → Bool) → count_rows test new.nodes new.waiting.items ≡ count_rows test old.nodes old.waiting.items
+    pub least : least_fill old.capacity ≤ length (cells_at new.nodes key)
+    pub most : length (cells_at new.nodes key) ≤ old.capacity
+    pub kept : length (cells_at old.nodes parent) ≤ length (cells_at new.nodes parent)
+    pub grown : length (cells_at new.nodes parent) ≤ suc (length (cells_at old.nodes parent))
+    pub levels : (x l : ℕ) → level_at old.nodes x ≡ Some l → level_at new.nodes x ≡ Some l
+    pub parents : (x l i : ℕ) → level_at old.nodes x ≡ Some l → level_at old.nodes key ≡ Some i → i ≤ l → parent_at new.nodes x ≡ parent_at old.nodes x
+    pub cells : (x l : ℕ) → level_at old.nodes x ≡ Some l → x ≢ key → x ≢ parent → cells_at new.nodes x ≡ cells_at old.nodes x
+    pub ids : KeepsIds old.leaves new.leaves
+    pub root : new.root ≡ old.root
+    pub level : new.level ≡ old.level
+    pub capacity : new.capacity ≡ old.capacity
+    pub room : new.nodes.capacity ≡ old.nodes.capacity
+    pub waiting_room : vec_capacity old.waiting ≤ vec_capacity new.waiting
