@@ -3,12 +3,12 @@ use Rattle.std.proofs.Common.{◌≡◌, ◌≢◌, ◌⊎◌, ℕ, zero, suc, �
 use Rattle.std.specs.Ordering.{int_eq}
 use Rattle.std.specs.List.{All}
 use Rattle.std.specs.List.Sorted.{IsPermutation}
-use Rattle.std.proofs.lemmas.Option.{none-some}
+use Rattle.std.proofs.lemmas.Option.{none-some, same_Some}
 use Rattle.std.proofs.lemmas.Bool.{cases_eq}
 use Rattle.std.proofs.lemmas.List.Elements.{All-weaker}
 use Rattle.std.proofs.lemmas.List.Sorted.{All-permutation}
 use Rattle.indexmap.specs.IndexMap.{get as leaf_of}
-use Rattle.slab.specs.Slab.{Slab, get, Updates}
+use Rattle.slab.specs.Slab.{Slab, get, Updates, slab_len}
 use Rattle.rt_box.specs.Rect.{IsBox}
 use Rattle.rt_choice.specs.Split.{first_group, second_group}
 use Rattle.rt_node.specs.declared.arena.Arena.{Arena}
@@ -18,6 +18,7 @@ use Rattle.rt_node.specs.Node.{NodeCells}
 use Rattle.rt_node.specs.Places.{key_of, rects, picked, times_named, times_listed, cells_of, inner_part, leaf_part, leaf_cells_of, level_of, parent_of, level_at, parent_at, cells_at, waiting_rows, waiting_nodes, sum_over, count_rows}
 use Rattle.rt_node.specs.Sound.{NamesChild, IsLinked, HasHomes}
 use Rattle.rt_node.specs.Open.{IsFittedBut, IsOpen}
+use Rattle.rt_node.specs.Homes.{KeepsIds}
 use Rattle.rt_node.proofs.Counts.{count-some}
 use Rattle.rt_node.proofs.Places.{waiting_at, nodes-joined, rows-joined, names_key, has_id}
 use Rattle.rt_node.proofs.Links.{same-at, new-at, created, All-right}
@@ -207,3 +208,74 @@ module _ {D : ℕ} (E : ℕ → Type 0) (decide : (x : ℕ) → E x ⊎ (E x →
       let four = rows-updated test done.moved.nodes new.nodes sibling made_node (record n { cells = [] ++ second }) has_moved given mid_waiting ws (omega arith) in
       let last = rows-joined test ws (suc n.level) (c ∷ []) in
       omega (arith, one, two, three, four, last)
+
+  -- nodes that were there have their levels, and but for the one that was split their cells
+  kept-level : (x : ℕ) → level_at done.kept x ≡ level_at old.nodes x
+  kept-level = same-at level_of old.nodes done.kept key n (record n { cells = first }) has done.keeps.updates refl
+
+  kept-parent : (x : ℕ) → parent_at done.kept x ≡ parent_at old.nodes x
+  kept-parent = same-at parent_of old.nodes done.kept key n (record n { cells = first }) has done.keeps.updates refl
+
+  pub not-new : (x l : ℕ) → level_at old.nodes x ≡ Some l → x ≢ sibling
+  not-new x l e same = none-some l (sym (ap level_of done.vacant) ∙ kept-level sibling ∙ ap (level_at old.nodes) (sym same) ∙ e)
+
+  moved-level : (x l : ℕ) → n.level ≡ l → level_at done.moved.nodes x ≡ level_at done.made x
+  moved-level x zero e = ap (λ s. level_at s x) ((done.takes.rows e).1)
+  moved-level x (suc l) e = (done.takes.children (omega arith)).0.levels x
+
+  moved-cells : (x l : ℕ) → n.level ≡ l → cells_at done.moved.nodes x ≡ cells_at done.made x
+  moved-cells x zero e = ap (λ s. cells_at s x) ((done.takes.rows e).1)
+  moved-cells x (suc l) e = (done.takes.children (omega arith)).0.cells x
+
+  moved-parent : (x h l : ℕ) → level_at old.nodes x ≡ Some h → n.level ≤ h → n.level ≡ l → parent_at done.moved.nodes x ≡ parent_at done.made x
+  moved-parent x h zero at high e = ap (λ s. parent_at s x) ((done.takes.rows e).1)
+  moved-parent x h (suc l) at high e =
+      ap parent_of ((done.takes.children (omega arith)).0.others x
+      (All-weaker (NamesChild old.nodes l key) (λ q. key_of q ≢ x)
+      (λ q is same. let differ = same_Some l h (sym is.names.level_is ∙ ap (level_at old.nodes) same ∙ at) in absurd (omega arith)) second (second-children l e)))
+
+  pub levels-kept : (x l : ℕ) → level_at old.nodes x ≡ Some l → level_at new.nodes x ≡ Some l
+  levels-kept x l e =
+      ap level_of (given.others x (not-new x l e)) ∙ moved-level x n.level refl ∙ ap level_of (done.makes.others x (not-new x l e)) ∙ kept-level x ∙ e
+
+  pub cells-kept : (x l : ℕ) → level_at old.nodes x ≡ Some l → x ≢ key → cells_at new.nodes x ≡ cells_at old.nodes x
+  cells-kept x l e other =
+      ap cells_of (given.others x (not-new x l e)) ∙ moved-cells x n.level refl ∙ ap cells_of (done.makes.others x (not-new x l e))
+      ∙ ap cells_of (done.keeps.updates.others x other)
+
+  pub parents-kept : (x h : ℕ) → level_at old.nodes x ≡ Some h → n.level ≤ h → parent_at new.nodes x ≡ parent_at old.nodes x
+  parents-kept x h e high =
+      ap parent_of (given.others x (not-new x h e)) ∙ moved-parent x h n.level e high refl ∙ ap parent_of (done.makes.others x (not-new x h e)) ∙ kept-parent x
+
+  pub cells-first : cells_at new.nodes key ≡ first
+  cells-first =
+      let e : level_at old.nodes key ≡ Some n.level = ap level_of has in
+      ap cells_of (given.others key (not-new key n.level e)) ∙ moved-cells key n.level refl ∙ ap cells_of (done.makes.others key (not-new key n.level e))
+      ∙ ap cells_of done.keeps.updates.changed
+
+  pub made-here : get new.nodes sibling ≡ Some (record n { cells = second })
+  made-here = given.changed
+
+  pub ids-kept : KeepsIds old.leaves new.leaves
+  ids-kept = subst (KeepsIds old.leaves) (sym leaves-kept) (by n.level refl)
+    where
+      by : (l : ℕ) → n.level ≡ l → KeepsIds old.leaves done.moved.leaves
+      by zero e = (done.takes.rows e).0.keeps
+      by (suc l) e = subst (KeepsIds old.leaves) (sym ((done.takes.children (omega arith)).1)) record { ids = refl; len = refl; room = refl }
+
+  pub len-kept : slab_len new.nodes ≡ slab_len old.nodes + 1
+  len-kept = let step = done.gives made_node has_moved in omega (arith, step.len, by n.level refl, done.made_len, done.keeps.len)
+    where
+      by : (l : ℕ) → n.level ≡ l → slab_len done.moved.nodes ≡ slab_len done.made
+      by zero e = ap slab_len ((done.takes.rows e).1)
+      by (suc l) e = (done.takes.children (omega arith)).0.len
+
+  pub room-kept : new.nodes.capacity ≡ old.nodes.capacity
+  room-kept = (done.gives made_node has_moved).room ∙ by n.level refl ∙ done.made_room ∙ done.keeps.room
+    where
+      by : (l : ℕ) → n.level ≡ l → done.moved.nodes.capacity ≡ done.made.capacity
+      by zero e = ap (λ s. s.capacity) ((done.takes.rows e).1)
+      by (suc l) e = (done.takes.children (omega arith)).0.room
+
+  pub waiting-kept : new.waiting ≡ old.waiting
+  waiting-kept = ap (λ t. t.waiting) done.rest ∙ ap (λ t. t.waiting) done.takes.rest

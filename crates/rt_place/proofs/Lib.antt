@@ -8,3 +8,7 @@ pub mod Groups
 pub mod Way
 pub mod Created
 pub mod Divided
+pub mod Arrived
+pub mod Divides
+pub mod GivenUp
+pub mod Relieved

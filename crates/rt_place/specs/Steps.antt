@@ -1,8 +1,8 @@
 -- What the parts of a placement do.
-use Rattle.std.specs.Prelude.{◌≡◌, ◌≢◌, ℕ, suc, ◌+◌, ◌≤◌, Bool, List, [], ◌∷◌, ◌++◌, Some, None, length, slice_get, slice_set, slice_index_or, map, All, vec_capacity, IsSome, ℤ, pos, ◌<◌}
+use Rattle.std.specs.Prelude.{◌≡◌, ◌≢◌, ◌⊎◌, ℕ, suc, ◌+◌, ◌≤◌, Bool, List, [], ◌∷◌, ◌++◌, Some, None, length, slice_get, slice_set, slice_index_or, map, All, vec_capacity, IsSome, ℤ, pos, ◌<◌}
 use Rattle.rt_box.specs.Rect.{IsBox}
 use Rattle.std.specs.List.Sorted.{IsPermutation}
-use Rattle.rt_box.specs.Capacity.{reinsertion_share}
+use Rattle.rt_box.specs.Capacity.{least_fill, reinsertion_share}
 use Rattle.slab.specs.Slab.{Slab, get, slab_len, Updates}
 use Rattle.rt_choice.specs.declared.split.Cut.{Cut}
 use Rattle.rt_choice.specs.Split.{IsBestCut, first_group, second_group}
@@ -14,10 +14,11 @@ use Rattle.rt_node.specs.declared.arena.Arena.{Arena}
 use Rattle.rt_node.specs.declared.cell.Cell.{Cell}
 use Rattle.rt_node.specs.declared.cell.Waiting.{Waiting}
 use Rattle.rt_node.specs.Node.{NodeCells}
-use Rattle.rt_node.specs.Places.{key_of, picked, times_named, waiting_nodes, rects, no_cell, hull_at, cells_at, level_at, parent_at}
+use Rattle.rt_node.specs.Places.{key_of, picked, times_named, waiting_nodes, rects, no_cell, hull_at, cells_at, level_at, parent_at, count_rows}
 use Rattle.rt_node.specs.Sound.{NamesChild, IsLinked}
 use Rattle.rt_node.specs.Changes.{Puts, Changes}
 use Rattle.rt_node.specs.Homes.{Moves, KeepsIds}
+use Rattle.rt_node.specs.Open.{IsOpen}
 
 module _ {D : ℕ} where
   -- cells as they wait for a node of a level
@@ -113,3 +114,49 @@ module _ {D : ℕ} where
     pub takes : TakesOver (record old { nodes = made }) moved sibling n.level (picked n.cells (second_group (rects n.cells) cut))
     pub gives : Changes (λ m. record m { cells = m.cells ++ picked n.cells (second_group (rects n.cells) cut) }) moved.nodes new.nodes sibling
     pub rest : new ≡ record moved { nodes = new.nodes }
+
+  -- a node and its parent, which alone may be out of shape
+  pub record IsPair (t : Arena D) (key parent : ℕ) : Type 0 where
+    pub opened : IsOpen (λ x. (x ≡ key) ⊎ (x ≡ parent)) t t.waiting.items
+    pub level : ℕ
+    pub key_level : level_at t.nodes key ≡ Some level
+    pub parent_level : level_at t.nodes parent ≡ Some (suc level)
+    pub up : parent_at t.nodes key ≡ Some parent
+    pub few : length (cells_at t.nodes parent) ≤ t.capacity
+
+  -- the node was split, and the new node's cell is the last of the parent's; the rows, and what lies above or
+  -- beside, are as before
+  pub record Divides (old new : Arena D) (key parent : ℕ) : Type 0 where
+    pub opened : IsOpen (λ x. (x ≡ key) ⊎ (x ≡ parent)) new new.waiting.items
+    pub rows : (test : Cell D → Bool) → count_rows test new.nodes new.waiting.items ≡ count_rows test old.nodes old.waiting.items
+    pub least : least_fill old.capacity ≤ length (cells_at new.nodes key)
+    pub most : length (cells_at new.nodes key) ≤ old.capacity
+    pub grown : length (cells_at new.nodes parent) ≡ suc (length (cells_at old.nodes parent))
+    pub levels : (x l : ℕ) → level_at old.nodes x ≡ Some l → level_at new.nodes x ≡ Some l
+    pub parents : (x l i : ℕ) → level_at old.nodes x ≡ Some l → level_at old.nodes key ≡ Some i → i ≤ l → parent_at new.nodes x ≡ parent_at old.nodes x
+    pub cells : (x l : ℕ) → level_at old.nodes x ≡ Some l → x ≢ key → x ≢ parent → cells_at new.nodes x ≡ cells_at old.nodes x
+    pub ids : KeepsIds old.leaves new.leaves
+    pub waiting : new.waiting ≡ old.waiting
+    pub root : new.root ≡ old.root
+    pub level : new.level ≡ old.level
+    pub capacity : new.capacity ≡ old.capacity
+    pub len : slab_len new.nodes ≡ slab_len old.nodes + 1
+    pub room : new.nodes.capacity ≡ old.nodes.capacity
+
+  -- the node has no longer too many cells, nor has it too few; the parent has at most one cell more
+  pub record Relieves (old new : Arena D) (key parent : ℕ) : Type 0 where
+    pub opened : IsOpen (λ x. (x ≡ key) ⊎ (x ≡ parent)) new new.waiting.items
+    pub rows : (test : Cell D → Bool) → count_rows test new.nodes new.waiting.items ≡ count_rows test old.nodes old.waiting.items
+    pub least : least_fill old.capacity ≤ length (cells_at new.nodes key)
+    pub most : length (cells_at new.nodes key) ≤ old.capacity
+    pub kept : length (cells_at old.nodes parent) ≤ length (cells_at new.nodes parent)
+    pub grown : length (cells_at new.nodes parent) ≤ suc (length (cells_at old.nodes parent))
+    pub levels : (x l : ℕ) → level_at old.nodes x ≡ Some l → level_at new.nodes x ≡ Some l
+    pub parents : (x l i : ℕ) → level_at old.nodes x ≡ Some l → level_at old.nodes key ≡ Some i → i ≤ l → parent_at new.nodes x ≡ parent_at old.nodes x
+    pub cells : (x l : ℕ) → level_at old.nodes x ≡ Some l → x ≢ key → x ≢ parent → cells_at new.nodes x ≡ cells_at old.nodes x
+    pub ids : KeepsIds old.leaves new.leaves
+    pub root : new.root ≡ old.root
+    pub level : new.level ≡ old.level
+    pub capacity : new.capacity ≡ old.capacity
+    pub room : new.nodes.capacity ≡ old.nodes.capacity
+    pub waiting_room : vec_capacity old.waiting ≤ vec_capacity new.waiting

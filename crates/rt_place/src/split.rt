@@ -1,14 +1,18 @@
-ghost use Rattle.std.specs.Prelude.{◌≡◌, ◌≢◌, ℕ, suc, ◌+◌, ◌<◌, ◌≤◌, All, Some, IsSome, length, take, drop};
+ghost use Rattle.std.specs.Prelude.{◌≡◌, ◌≢◌, ℕ, suc, ◌+◌, ◌^◌, ◌<◌, ◌≤◌, All, Some, IsSome, length, take, drop};
 ghost use Rattle.std.specs.Ordering.{int_eq};
 ghost use Rattle.indexmap.specs.IndexMap.{get as leaf_of};
 ghost use Rattle.slab.specs.Slab.{get, ContainsKey, HasRoomFor};
 ghost use Rattle.rt_node.specs.Node.{NodeCells};
 ghost use Rattle.rt_node.specs.Places.{key_of as key_in, cells_at, level_at, picked};
-ghost use Rattle.rt_place.specs.Steps.{Adopts, Rehouses, TakesOver, Splits};
+ghost use Rattle.rt_place.specs.Steps.{Adopts, Rehouses, TakesOver, Splits, IsPair, Divides};
 
+use crate::attach::attach;
+use crate::refit::cell_for;
 use indexmap::IndexMap;
 use rt_choice::{choose_split, sorted_positions};
-use rt_node::{Arena, Node, add_cells, set_leaf, set_parent, take_cells};
+use rt_node::{
+    Arena, Node, Waiting, add_cells, hull_at, node_at, set_leaf, set_parent, take_cells,
+};
 use slab::Slab;
 use std::hash::RandomState;
 
@@ -91,4 +95,20 @@ pub(crate) fn split<const D: usize>(tree: &mut Arena<D>, key: usize) -> usize
     take_over(tree, sibling, &old, second);
     add_cells(&mut tree.nodes, sibling, &old, second);
     sibling
+}
+
+/// Splits an overfull node below the root, and appends the new node's cell to the parent.
+pub(crate) fn divide<const D: usize>(tree: &mut Arena<D>, key: usize, parent: usize)
+    requires few { D ≤ 3 }
+    requires pair { IsPair tree.old key parent }
+    requires full { length (cells_at tree.old.nodes key) ≡ tree.old.capacity + 1 }
+    requires room { HasRoomFor tree.old.nodes 1 }
+    requires keys { tree.old.nodes.capacity ≤ 2 ^ 62 }
+    ensures { Divides tree.old tree.new key parent }
+{
+    let sibling = split(tree, key);
+    let hull = hull_at(&tree.nodes, sibling);
+    let cell = cell_for(sibling, &hull);
+    let level = node_at(&tree.nodes, parent).level();
+    attach(tree, parent, &Waiting { level, cell });
 }
