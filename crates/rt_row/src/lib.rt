@@ -14,8 +14,6 @@
 mod entry;
 mod filter;
 mod schema;
-#[cfg(test)]
-mod tests;
 mod values;
 
 pub use entry::{Entry, Field};
