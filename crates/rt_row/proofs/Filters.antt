@@ -1,10 +1,8 @@
 -- A condition whose columns were looked up picks the rows that it picks by their names.
-use Rattle.std.proofs.Common.{◌≡◌, ℕ, suc, zero, ◌+◌, ◌<◌, Bool, true, false, cond, not, ◌||◌, List, [], ◌∷◌, map, zip, length, get_or, sym, ap, arith, refl, ◌∙◌, nat_lt, Option, Some, None, slice_index_or, position}
+use Rattle.std.proofs.Common.{◌≡◌, ℕ, suc, ◌+◌, Bool, true, false, cond, not, ◌||◌, List, [], ◌∷◌, zip, length, sym, ap, arith, refl, ◌∙◌, nat_lt, Option, Some, None, slice_index_or}
 use Rattle.std.specs.List.{list_any, list_all, position_or_len}
 use Rattle.std.specs.Option.{option_map_or}
 use Rattle.std.proofs.lemmas.Bool.Decides.{nat_tests}
-use Rattle.std.proofs.lemmas.List.Quantifiers.{position-Some}
-use Rattle.std.proofs.lemmas.List.Folds.{list_any_at}
 use Rattle.rt_sql.specs.Name.{same_name}
 use Rattle.rt_sql.specs.declared.value.Value.{Value}
 use Rattle.rt_sql.specs.declared.value.Value.TheVariants.{Null}
@@ -14,7 +12,7 @@ use Rattle.rt_row.specs.Values.{is_null, compares}
 use Rattle.rt_row.specs.Columns.{Columns, place_of, has_name}
 use Rattle.rt_row.specs.Conditions.{column_of, value_in, passes, holds, has_columns}
 use Rattle.rt_row.specs.Rows.{TableRow, values_of}
-use Rattle.rt_row.specs.Filters.{Placed, value_passes, passes_at, admits, ArePlaces}
+use Rattle.rt_row.specs.Filters.{value_passes, passes_at, ArePlaces}
 
 less : (n m : ℕ) → nat_lt n m ≡ nat_lt (1 + n) (suc m)
 less n m = grind (arith, nat_tests)

@@ -1,8 +1,7 @@
 -- The columns of a table. Source: SQLite's documentation (The SQLite R*Tree Module, sections 3.1 and 4); one to
 -- three axes, and 100 columns with the auxiliary ones, are own.
-use Rattle.std.specs.Prelude.{ℕ, ◌+◌, ◌/◌, Bool, true, false, not, ◌&&◌, ◌||◌, ◌==◌, nat_le, if◌then◌else◌, List, [], ◌∷◌, length, map, filter, drop, position, Option, Result, Ok, Err}
+use Rattle.std.specs.Prelude.{ℕ, ◌/◌, Bool, true, not, ◌&&◌, ◌||◌, ◌==◌, nat_le, if◌then◌else◌, List, [], ◌∷◌, length, map, filter, drop, position, Option, Result, Ok, Err}
 use Rattle.std.specs.List.{list_any, list_all}
-use Rattle.std.specs.Option.{option_map_or}
 use Rattle.rt_sql.specs.Name.{same_name}
 use Rattle.rt_sql.specs.declared.statement.ColumnDef.{ColumnDef}
 use Rattle.rt_sql.specs.declared.refusal.Refusal.{Refusal}

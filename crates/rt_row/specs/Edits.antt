@@ -1,13 +1,13 @@
 -- What a statement does to the rows of a table, as a list of steps. Source: SQLite's documentation (The SQLite R*Tree
 -- Module; The ON CONFLICT Clause; UPDATE). New ids, the order of the refusals, and that an UPDATE goes by rising id,
 -- are own.
-use Rattle.std.specs.Prelude.{ℕ, ◌+◌, ◌-◌, ◌*◌, ◌^◌, ℤ, pos, ◌+ℤ◌, ◌-ℤ◌, Bool, true, false, not, ◌&&◌, ◌||◌, ◌==◌, nat_le, if◌then◌else◌, List, [], ◌∷◌, ◌++◌, length, map, drop, find, position, Option, Some, None, Result, Ok, Err}
-use Rattle.std.specs.List.{list_any, list_all}
+use Rattle.std.specs.Prelude.{ℕ, ◌-◌, ◌^◌, ℤ, pos, ◌+ℤ◌, ◌-ℤ◌, Bool, true, not, ◌&&◌, ◌==◌, nat_le, if◌then◌else◌, List, [], ◌∷◌, ◌++◌, length, map, find, Option, Some, None, Result, Ok, Err}
+use Rattle.std.specs.List.{list_all}
 use Rattle.std.specs.Ordering.{int_eq}
 use Rattle.std.specs.Option.{option_map_or}
 use Rattle.rt_sql.specs.Name.{same_name}
 use Rattle.rt_sql.specs.declared.value.Value.{Value}
-use Rattle.rt_sql.specs.declared.value.Value.TheVariants.{Null, Int}
+use Rattle.rt_sql.specs.declared.value.Value.TheVariants.{Int}
 use Rattle.rt_sql.specs.declared.statement.Rule.{Rule}
 use Rattle.rt_sql.specs.declared.statement.Rule.TheVariants.{Abort, Replace, Ignore}
 use Rattle.rt_sql.specs.declared.statement.Source.{Source}
@@ -16,7 +16,7 @@ use Rattle.rt_sql.specs.declared.statement.Test.{Test}
 use Rattle.rt_sql.specs.declared.refusal.Refusal.{Refusal}
 use Rattle.rt_sql.specs.declared.refusal.Refusal.TheVariants.{BadColumnList, NoSuchColumn, WrongNumberOfValues, WrongType, IntegerOutOfRange, IdAlreadyTaken, MinimumAboveMaximum, TableFull, NoIdLeft}
 use Rattle.rt_row.specs.Columns.{Columns, has_name, are_distinct}
-use Rattle.rt_row.specs.Rows.{TableRow, values_of, row_at, has_id, with_row, without_id, largest_id}
+use Rattle.rt_row.specs.Rows.{TableRow, values_of, has_id, with_row, without_id, largest_id}
 use Rattle.rt_row.specs.Conditions.{value_in, has_columns, picked}
 use Rattle.rt_row.specs.Candidates.{Candidate, is_integer, number_in, fits_bits, id_value, coordinate_values, candidate_of}
 

@@ -1,5 +1,4 @@
 -- A row as a table keeps it, and a value of it that is looked at where it stands. Source: own.
-use Rattle.std.specs.Prelude.{ℤ, List}
 use Rattle.rt_sql.specs.declared.value.Value.{Value}
 use Rattle.rt_sql.specs.declared.value.Value.TheVariants.{Null, Int}
 use Rattle.rt_row.specs.declared.entry.Entry.{Entry}

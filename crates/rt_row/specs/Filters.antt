@@ -1,5 +1,5 @@
 -- A condition whose columns were looked up: each test has the place of the column that it looks at. Source: own.
-use Rattle.std.specs.Prelude.{◌≡◌, ◌⊎◌, ℕ, Bool, true, false, not, List, [], ◌∷◌, map, zip, Option, Some, slice_index_or}
+use Rattle.std.specs.Prelude.{◌≡◌, ◌⊎◌, ℕ, Bool, true, false, not, List, map, zip, Some, slice_index_or}
 use Rattle.std.specs.List.{list_all}
 use Rattle.rt_sql.specs.declared.value.Value.{Value}
 use Rattle.rt_sql.specs.declared.value.Value.TheVariants.{Null}

@@ -1,5 +1,5 @@
 -- The rows of a table, a plain list by rising id (SQLite: the id is the primary key; the order own).
-use Rattle.std.specs.Prelude.{ℕ, ◌-◌, ℤ, ◌<ℤ◌, int_lt, Bool, not, List, [], ◌∷◌, ◌++◌, length, map, filter, find, AllPairs, Option, slice_get}
+use Rattle.std.specs.Prelude.{◌-◌, ℤ, ◌<ℤ◌, int_lt, Bool, not, List, ◌∷◌, ◌++◌, length, map, filter, find, AllPairs, Option, slice_get}
 use Rattle.std.specs.Option.{option_map}
 use Rattle.std.specs.Ordering.{int_eq}
 use Rattle.std.specs.List.{list_any}

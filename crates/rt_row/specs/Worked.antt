@@ -1,12 +1,12 @@
 -- The definitions, held against worked examples: each says what a statement does to the rows of a small table, and
 -- is proved by running the definitions.
-use Rattle.std.specs.Prelude.{◌≡◌, ℕ, ◌-◌, ◌^◌, ℤ, pos, negsuc, Bool, true, false, List, [], ◌∷◌, ◌++◌, map, codes, Option, Some, None, Result, Ok, Err, refl}
+use Rattle.std.specs.Prelude.{◌≡◌, ℕ, ◌-◌, ◌^◌, ℤ, pos, negsuc, true, false, List, [], ◌∷◌, map, codes, Some, None, Result, Ok, Err, refl}
 use Rattle.rt_box.specs.Interval.{interval}
 use Rattle.rt_sql.specs.declared.value.Value.{Value}
 use Rattle.rt_sql.specs.declared.value.Value.TheVariants.{Null, Int, Text, Blob}
 use Rattle.rt_sql.specs.declared.statement.Rule.TheVariants.{Abort, Replace, Ignore}
 use Rattle.rt_sql.specs.declared.statement.Source.{Source}
-use Rattle.rt_sql.specs.declared.statement.Source.TheVariants.{Literal, Column, Plus, Minus}
+use Rattle.rt_sql.specs.declared.statement.Source.TheVariants.{Literal, Plus, Minus}
 use Rattle.rt_sql.specs.declared.statement.Op6.{Op6}
 use Rattle.rt_sql.specs.declared.statement.Op6.TheVariants.{Eq, Ne, Lt, Le, Gt, Ge}
 use Rattle.rt_sql.specs.declared.statement.Test.{Test}
@@ -17,7 +17,7 @@ use Rattle.rt_sql.specs.declared.refusal.Refusal.TheVariants.{BadColumnList, NoS
 use Rattle.rt_row.specs.Columns.{Columns, columns_of}
 use Rattle.rt_row.specs.Rows.{TableRow}
 use Rattle.rt_row.specs.Edits.{Setting, Steps, and_then, outcome, insert, update, delete}
-use Rattle.rt_row.specs.Views.{View, ViewChange}
+use Rattle.rt_row.specs.Views.{ViewChange}
 use Rattle.rt_row.specs.Tables.{TableLists, new_table, edited, select, watch, unwatch, view}
 
 -- ---- tables to work on

@@ -1,10 +1,12 @@
 //! A row as a table keeps it.
 
-ghost use Rattle.std.specs.Prelude.{◌≡◌, ◌*◌, ◌<◌, slice_index_or};
+ghost use Rattle.std.specs.Prelude.{◌≡◌, ◌*◌, ◌<◌, ◌∷◌, ◌++◌, map, slice_index_or, IfOk};
+ghost use Rattle.rt_sql.specs.declared.value.Value.TheVariants.{Int};
 ghost use Rattle.rt_box.specs.Rect.{coordinates};
 
 use rt_box::Rect;
 use rt_sql::{Items, Value};
+use std::alloc::{AllocError, Global};
 
 /// A row of a table with `D` axes, from one to three: its id, its box, and the values of its
 /// auxiliary columns.
@@ -34,6 +36,28 @@ fn coordinate<const D: usize>(rect: &Rect<D>, place: usize) -> i32
     if place % 2 == 0 { range.lo } else { range.hi }
 }
 
+/// The id and the coordinates.
+fn numbers<const D: usize>(alloc: Global, id: i64, rect: &Rect<D>) -> Result<Vec<Value>, AllocError>
+    ensures { IfOk result (λ values. values.items ≡ Int id ∷ map Int (coordinates rect.now)) }
+{
+    let places = 2 * rect.axes();
+    let mut values = Vec::with_capacity(alloc, 1 + places)?;
+    values.push(Value::Int(id))?;
+    for place in 0..places {
+        values.push(Value::Int(i64::from(coordinate(rect, place))))?;
+    }
+    Ok(values)
+}
+
+fn push_copies(alloc: Global, values: &mut Vec<Value>, more: &[Value]) -> Result<(), AllocError>
+    ensures { IfOk result (λ _. values.new.items ≡ values.old.items ++ more.now) }
+{
+    for value in more {
+        values.push(value.try_clone(alloc)?)?;
+    }
+    Ok(())
+}
+
 impl<const D: usize> Entry<D> {
     ghost use Rattle.rt_sql.specs.declared.value.Value.TheVariants.{Null};
     ghost use Rattle.rt_row.specs.Rows.{values_of};
@@ -54,5 +78,14 @@ impl<const D: usize> Entry<D> {
             Some(value) => Field::Kept(value),
             None => Field::Missing,
         }
+    }
+
+    /// A copy of the row's values, column by column.
+    pub fn values(&self, alloc: Global) -> Result<Items<Value>, AllocError>
+        ensures { IfOk result (λ row. row ≡ values_of (row_of self.now)) }
+    {
+        let mut values = numbers(alloc, self.id, &self.rect)?;
+        push_copies(alloc, &mut values, self.more.as_slice())?;
+        Ok(Items::from_vec(values))
     }
 }

@@ -1,4 +1,14 @@
 //! The rows of a table, and what columns, conditions and statements mean for them.
+//!
+//! - `Schema` is what a CREATE makes of its columns; names are compared without ASCII case.
+//! - `Entry` is a row as a table keeps it. `value_at` looks at one of its values where it stands, and
+//!   `values` copies them all, column by column.
+//! - `Filter` is a condition whose columns were looked up once; `holds` says of which rows it holds, and
+//!   compares no name and copies nothing.
+//! - `compares` holds two values against one another: nothing is converted, and NULL is never equal.
+//!
+//! What inserting, deleting, updating and watching do to the rows of a table is defined in `specs/` over plain
+//! lists; no function of this crate carries them out.
 #![tactic(auto)]
 
 mod entry;

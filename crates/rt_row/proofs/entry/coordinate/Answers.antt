@@ -1,6 +1,6 @@
-use Rattle.std.proofs.Common.{rules, arith, FitsSigned, w32, to_z-of_z, nat_eq, ◌≡◌, ◌%◌, false, true}
+use Rattle.std.proofs.Common.{rules, arith, FitsSigned, w32, to_z-of_z, ◌≡◌, ◌%◌}
 use Rattle.std.proofs.lemmas.Bool.Decides.{nat_tests}
-use Rattle.rt_row.proofs.Places.{low_at, high_at}
+use Rattle.rt_row.proofs.Places.{high_at}
 use Rattle.rt_row.proofs.entry.coordinate.Goals as goal
 
 pub returns-else-place-eq0 : goal.returns-else-place-eq0

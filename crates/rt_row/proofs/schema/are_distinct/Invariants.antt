@@ -1,4 +1,4 @@
-use Rattle.std.proofs.Common.{◌≡◌, ℕ, length}
+use Rattle.std.proofs.Common.{◌≡◌, length}
 use Rattle.rt_row.specs.Columns.{are_distinct}
 use Rattle.rt_row.proofs.schema.are_distinct.Given as goal
 

@@ -1,6 +1,5 @@
-use Rattle.std.proofs.Common.{rules, arith, FitsSigned, w32, w64, to_z-of_z, ◌≡◌, ◌+◌, ◌-◌, ◌*◌, length, ℤ, suc, Some, None, sym, get_or, ◌∙◌, slice_get}
-use Rattle.std.proofs.lemmas.Option.{get_or_from_slice_get, unwrap_or-slice_get, slice_get_cases}
-use Rattle.rt_box.specs.Rect.{coordinates}
+use Rattle.std.proofs.Common.{rules, arith, FitsSigned, w32, w64, to_z-of_z, ◌≡◌, ◌-◌, ◌*◌, Some, None, sym, get_or, ◌∙◌, slice_get}
+use Rattle.std.proofs.lemmas.Option.{get_or_from_slice_get, unwrap_or-slice_get}
 use Rattle.rt_sql.specs.declared.value.Value.TheVariants.{Null}
 use Rattle.rt_row.proofs.Places.{coordinate_at, kept_at}
 use Rattle.rt_row.proofs.entry.Entry.value_at.Goals as goal
