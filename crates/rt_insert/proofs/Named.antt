@@ -63,8 +63,8 @@ module _ {D : ℕ} where
             let cells : inner_part n.level n.cells ≡ n.cells = ap (λ j. inner_part j n.cells) e in
             let names = subst (All (NamesChild a i p)) cells (all i (ap Some e)) in
             let none = named-none k n.cells (All-weaker (NamesChild a i p) (λ c. key_of c ≢ k) (λ c is same.
-                let level : i ≡ l = same_Some i l (sym is.names.level_is ∙ ap (level_at a) same ∙ here) in
-                true≢false (sym holds ∙ ap test level ∙ fails)) n.cells names) in
+            let level : i ≡ l = same_Some i l (sym is.names.level_is ∙ ap (level_at a) same ∙ here) in
+            true≢false (sym holds ∙ ap test level ∙ fails)) n.cells names) in
             ap (λ b. times_named k (cond b n.cells [])) holds ∙ none
         | inr no_level ↦ ap (λ b. times_named k (cond b n.cells [])) no_level
       ]
@@ -78,7 +78,7 @@ module _ {D : ℕ} where
     times-vacant test k vacant =
         count-flat (names_key k) (chosen test) a.slots
         ∙ sum-none (λ s. times_named k (chosen test s)) refl a.slots
-            (λ p. omega (arith, chosen-le test k (get a p), unnamed-vacant a root level ws linked p k vacant))
+        (λ p. omega (arith, chosen-le test k (get a p), unnamed-vacant a root level ws linked p k vacant))
 
     -- a node is named by its parent alone
     times-above : (test : ℕ → Bool) (k : ℕ) → times_named k (chosen_cells test) ≤ times_named k (cells_above a k)
@@ -88,11 +88,11 @@ module _ {D : ℕ} where
         by : (o : Option ℕ) → parent_at a k ≡ o → times_named k (flat_map (chosen test) a.slots) ≤ times_named k (cells_above a k)
         by None e =
             let none = sum-none (λ s. times_named k (chosen test s)) refl a.slots
-                (λ p. omega (arith, chosen-le test k (get a p), unnamed-elsewhere a root level ws linked p k (λ q. none-some p (sym e ∙ q)))) in
+            (λ p. omega (arith, chosen-le test k (get a p), unnamed-elsewhere a root level ws linked p k (λ q. none-some p (sym e ∙ q)))) in
             omega (arith, count-flat (names_key k) (chosen test) a.slots, none)
         by (Some p) e =
             let only = sum-only (λ s. times_named k (chosen test s)) refl a.slots p
-                (λ q ne. omega (arith, chosen-le test k (get a q), unnamed-elsewhere a root level ws linked q k (λ f. ne (sym (same_Some p q (sym e ∙ f)))))) in
+            (λ q ne. omega (arith, chosen-le test k (get a q), unnamed-elsewhere a root level ws linked q k (λ f. ne (sym (same_Some p q (sym e ∙ f)))))) in
             let above = ap (times_named k) (above-some a k p e) in
             omega (arith, count-flat (names_key k) (chosen test) a.slots, only, above, chosen-le test k (get a p))
 
@@ -117,8 +117,8 @@ module _ {D : ℕ} where
     times-failed test k l e fails =
         count-flat (names_key k) (chosen test) a.slots
         ∙ sum-none (λ s. times_named k (chosen test s)) refl a.slots
-            (λ p. chosen-unnamed test a k l p (get a p) e fails
-                (λ i high. subst (All (NamesChild a i p)) (sym (inner-at_inner a p i high)) (linked.children p i high)))
+        (λ p. chosen-unnamed test a k l p (get a p) e fails
+        (λ i high. subst (All (NamesChild a i p)) (sym (inner-at_inner a p i high)) (linked.children p i high)))
 
     -- of each level's nodes no more are named by cells above them than there are
     pub named-on_level : (l : ℕ) → sum_over (λ s. length (chosen (λ i. nat_eq i l) s)) a ≤ sum_over (node_in (λ i. nat_eq i l)) a
@@ -179,8 +179,11 @@ module _ {D : ℕ} where
         few k = by (get a k) refl
           where
             parts : times_named k cells ≡ times_named k (top ∷ []) + (times_named k (flat_map (chosen test) a.slots) + times_named k (waiting_nodes ws))
-            parts = omega (arith, count-append (names_key k) (top ∷ []) (flat_map (chosen test) a.slots ++ waiting_nodes ws),
-                count-append (names_key k) (flat_map (chosen test) a.slots) (waiting_nodes ws))
+            parts = omega (
+              arith,
+              count-append (names_key k) (top ∷ []) (flat_map (chosen test) a.slots ++ waiting_nodes ws),
+              count-append (names_key k) (flat_map (chosen test) a.slots) (waiting_nodes ws),
+            )
 
             by : (s : Option (NodeCells D)) → get a k ≡ s → times_named k cells ≤ present s
             by None e =
