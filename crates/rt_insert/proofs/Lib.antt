@@ -1,0 +1,6 @@
+pub mod Sums
+pub mod Named
+pub mod Few
+pub mod Turns
+pub mod Entered
+pub mod Inserted
