@@ -11,6 +11,7 @@ use Rattle.std.specs.Ordering.{int_eq}
 use Rattle.rt_box.specs.declared.interval.Interval.{Interval}
 use Rattle.rt_choice.specs.Subtree.{IsBestChild}
 use Rattle.rt_node.specs.declared.arena.Arena.{Arena}
+use Rattle.rt_node.specs.declared.arena.Work.{Work}
 use Rattle.rt_node.specs.declared.cell.Cell.{Cell}
 use Rattle.rt_node.specs.declared.cell.Waiting.{Waiting}
 use Rattle.rt_node.specs.Node.{NodeCells}
@@ -142,6 +143,15 @@ module _ {D : ℕ} where
     pub capacity : new.capacity ≡ old.capacity
     pub len : slab_len new.nodes ≡ slab_len old.nodes + 1
     pub room : new.nodes.capacity ≡ old.nodes.capacity
+    pub cell : Cell D
+    pub appended : cells_at new.nodes parent ≡ cells_at old.nodes parent ++ cell ∷ []
+    pub apart : key_of cell ≢ parent
+    pub cut : Cut
+    pub best : IsBestCut D (rects (cells_at old.nodes key)) old.capacity cut
+    pub first_cells : cells_at new.nodes key ≡
+        picked (cells_at old.nodes key) (first_group (rects (cells_at old.nodes key)) cut)
+    pub second_cells : cells_at new.nodes (key_of cell) ≡
+        picked (cells_at old.nodes key) (second_group (rects (cells_at old.nodes key)) cut)
 
   -- the node has no longer too many cells, nor has it too few; the parent has at most one cell more
   pub record Relieves (old new : Arena D) (key parent : ℕ) : Type 0 where
@@ -160,3 +170,53 @@ module _ {D : ℕ} where
     pub capacity : new.capacity ≡ old.capacity
     pub room : new.nodes.capacity ≡ old.nodes.capacity
     pub waiting_room : vec_capacity old.waiting ≤ vec_capacity new.waiting
+    pub names : (z : ℕ) → times_named z (cells_at old.nodes parent) ≤ times_named z (cells_at new.nodes parent)
+    pub still : length (cells_at old.nodes key) ≤ old.capacity → new ≡ old
+
+  -- the node isn't overfull, and neither node nor cell came or went
+  pub record LetsBe (old new : Arena D) (key parent marks marks1 : ℕ) (work work1 : Work) : Type 0 where
+    pub fits : length (cells_at old.nodes key) ≤ old.capacity
+    pub waiting : new.waiting ≡ old.waiting
+    pub leaves : new.leaves ≡ old.leaves
+    pub len : slab_len new.nodes ≡ slab_len old.nodes
+    pub above : length (cells_at new.nodes parent) ≡ length (cells_at old.nodes parent)
+    pub marks_same : marks1 ≡ marks
+    pub placements : work1.placements ≡ work.placements
+    pub splits : work1.splits ≡ work.splits
+    pub reinsertions : work1.reinsertions ≡ work.reinsertions
+
+  -- the overfull node was split, since its level is marked
+  pub record SplitsMarked (old new : Arena D) (key parent marks marks1 : ℕ) (work work1 : Work) : Type 0 where
+    pub full : old.capacity < length (cells_at old.nodes key)
+    pub level : ℕ
+    pub here : level_at old.nodes key ≡ Some level
+    pub marked : level < marks
+    pub waiting : new.waiting ≡ old.waiting
+    pub len : slab_len new.nodes ≡ slab_len old.nodes + 1
+    pub above : length (cells_at new.nodes parent) ≡ suc (length (cells_at old.nodes parent))
+    pub marks_same : marks1 ≡ marks
+    pub placements : work1.placements ≡ work.placements
+    pub splits : work1.splits ≡ suc work.splits
+    pub reinsertions : work1.reinsertions ≡ work.reinsertions
+
+  -- the overfull node gave up cells, since its level wasn't marked, and now it is
+  pub record GivesUnmarked (old new : Arena D) (key parent marks marks1 : ℕ) (work work1 : Work) : Type 0 where
+    pub full : old.capacity < length (cells_at old.nodes key)
+    pub level : ℕ
+    pub here : level_at old.nodes key ≡ Some level
+    pub unmarked : marks ≤ level
+    pub marked : marks1 ≡ suc level
+    pub far : List (Cell D)
+    pub share : length far ≡ reinsertion_share old.capacity
+    pub waiting : new.waiting.items ≡ old.waiting.items ++ waiting_at level far
+    pub len : slab_len new.nodes ≡ slab_len old.nodes
+    pub above : length (cells_at new.nodes parent) ≡ length (cells_at old.nodes parent)
+    pub placements : work1.placements ≡ work.placements
+    pub splits : work1.splits ≡ work.splits
+    pub reinsertions : work1.reinsertions ≡ suc work.reinsertions
+
+  -- levels below `marks` are marked
+  abbrev pub Treats : Arena D → Arena D → ℕ → ℕ → ℕ → ℕ → Work → Work → Type 0
+  Treats old new key parent marks marks1 work work1 =
+      LetsBe old new key parent marks marks1 work work1 ⊎ SplitsMarked old new key parent marks marks1 work work1
+      ⊎ GivesUnmarked old new key parent marks marks1 work work1
