@@ -12,3 +12,4 @@ pub mod Arrived
 pub mod Divides
 pub mod GivenUp
 pub mod Relieved
+pub mod Lifted

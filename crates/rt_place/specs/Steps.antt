@@ -1,5 +1,5 @@
 -- What the parts of a placement do.
-use Rattle.std.specs.Prelude.{◌≡◌, ◌≢◌, ◌⊎◌, ℕ, suc, ◌+◌, ◌≤◌, Bool, List, [], ◌∷◌, ◌++◌, Some, None, length, slice_get, slice_set, slice_index_or, map, All, vec_capacity, IsSome, ℤ, pos, ◌<◌}
+use Rattle.std.specs.Prelude.{◌≡◌, ◌≢◌, ◌⊎◌, ℕ, suc, ◌+◌, ◌≤◌, Bool, List, [], ◌∷◌, ◌++◌, Some, None, length, slice_get, slice_set, slice_index_or, map, All, Contains, vec_capacity, IsSome, ℤ, pos, ◌<◌}
 use Rattle.rt_box.specs.Rect.{IsBox}
 use Rattle.std.specs.List.Sorted.{IsPermutation}
 use Rattle.rt_box.specs.Capacity.{least_fill, reinsertion_share}
@@ -20,6 +20,9 @@ use Rattle.rt_node.specs.Sound.{NamesChild, IsLinked}
 use Rattle.rt_node.specs.Changes.{Puts, Changes}
 use Rattle.rt_node.specs.Homes.{Moves, KeepsIds}
 use Rattle.rt_node.specs.Open.{IsOpen}
+use Rattle.rt_node.specs.Whole.{IsSound}
+use Rattle.rt_node.specs.Path.{KeepsShape}
+use Rattle.rt_place.specs.Way.{LeadsUp}
 
 module _ {D : ℕ} where
   -- cells as they wait for a node of a level
@@ -220,3 +223,36 @@ module _ {D : ℕ} where
   Treats old new key parent marks marks1 work work1 =
       LetsBe old new key parent marks marks1 work work1 ⊎ SplitsMarked old new key parent marks marks1 work work1
       ⊎ GivesUnmarked old new key parent marks marks1 work work1
+
+  -- sound but for the node at the key, which may have one cell too many, and whose cell above it may have another box
+  -- than the least one; parents lead up from it to the root
+  pub record IsRising (t : Arena D) (key : ℕ) : Type 0 where
+    pub sound : IsSound t (Some key)
+    pub level : ℕ
+    pub here : level_at t.nodes key ≡ Some level
+    pub steps : ℕ
+    pub way : LeadsUp t.nodes t.root steps key
+    pub some : 1 ≤ length (cells_at t.nodes key)
+    pub filled : key ≢ t.root → least_fill t.capacity ≤ length (cells_at t.nodes key)
+    pub most : length (cells_at t.nodes key) ≤ t.capacity + 1
+
+  -- the rows stay, in the tree or among what waits, and the root with all of its cells
+  pub record KeepsRows (old new : Arena D) : Type 0 where
+    pub rows : (test : Cell D → Bool) → count_rows test new.nodes new.waiting.items ≡ count_rows test old.nodes old.waiting.items
+    pub ids : KeepsIds old.leaves new.leaves
+    pub root : new.root ≡ old.root
+    pub level : new.level ≡ old.level
+    pub capacity : new.capacity ≡ old.capacity
+    pub room : new.nodes.capacity ≡ old.nodes.capacity
+    pub waiting_room : vec_capacity old.waiting ≤ vec_capacity new.waiting
+    pub top : length (cells_at old.nodes old.root) ≤ length (cells_at new.nodes new.root)
+
+  -- a step up: the node is in shape, and its parent may now be out of shape; where the node wasn't overfull, only the
+  -- box of the cell that names it changed
+  pub record Lifts (old new : Arena D) (key parent marks marks1 : ℕ) (work work1 : Work) : Type 0 where
+    pub next : IsRising new parent
+    pub up : (l : ℕ) → level_at old.nodes key ≡ Some l → level_at new.nodes parent ≡ Some (suc l)
+    pub keeps : KeepsRows old new
+    pub treats : Treats old new key parent marks marks1 work work1
+    pub shape : length (cells_at old.nodes key) ≤ old.capacity → (path : List ℕ) → Contains path key → (k : ℕ) →
+        KeepsShape old.nodes new.nodes path k

@@ -9,6 +9,7 @@ mod descent;
 mod overflow;
 mod refit;
 mod reinsertion;
+mod rise;
 mod split;
 
 pub use descent::choose_node;
