@@ -13,3 +13,5 @@ pub mod Divides
 pub mod GivenUp
 pub mod Relieved
 pub mod Lifted
+pub mod Shapes
+pub mod Risen

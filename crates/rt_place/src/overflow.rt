@@ -25,7 +25,7 @@ pub(crate) fn relieve<const D: usize>(
     requires room { HasRoomFor tree.old.nodes 1 }
     requires keys { tree.old.nodes.capacity ≤ 2 ^ 62 }
     requires height { tree.old.level ≤ 30 }
-    requires waiting_room { vec_len tree.old.waiting + 15 ≤ vec_capacity tree.old.waiting }
+    requires waiting_room { tree.old.capacity < length (cells_at tree.old.nodes key) → vec_len tree.old.waiting + 15 ≤ vec_capacity tree.old.waiting }
     requires splits { work.old.splits < 4294967295 }
     requires reinsertions { work.old.reinsertions < 4294967295 }
     ensures relieves { Relieves tree.old tree.new key parent }

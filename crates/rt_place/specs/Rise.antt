@@ -1,0 +1,50 @@
+-- The steps up from a node that a cell was placed in.
+use Rattle.std.specs.Prelude.{◌≡◌, ◌⊎◌, ℕ, suc, ◌+◌, ◌≤◌, ◌<◌, List, Some, length, Contains}
+use Rattle.slab.specs.Slab.{Slab, slab_len}
+use Rattle.rt_node.specs.declared.arena.Arena.{Arena}
+use Rattle.rt_node.specs.declared.arena.Work.{Work}
+use Rattle.rt_node.specs.Node.{NodeCells}
+use Rattle.rt_node.specs.Places.{cells_at, parent_at}
+use Rattle.rt_node.specs.Path.{KeepsShape}
+use Rattle.rt_place.specs.Steps.{IsRising, KeepsRows}
+use Rattle.rt_place.specs.Placing.{InsertsAgain, InsertsNone}
+
+module _ {D : ℕ} where
+  -- with each node its parent is among the nodes of the path
+  abbrev pub IsUpward : Slab (NodeCells D) → List ℕ → Type 0
+  IsUpward a path = (k p : ℕ) → Contains path k → parent_at a k ≡ Some p → Contains path p
+
+  -- only the boxes of cells that name nodes of the path changed, and the node at the key is one of the path
+  pub record KeepsAllBut (old new : Arena D) (path : List ℕ) (key : ℕ) (work work1 : Work) : Type 0 where
+    pub shape : (k : ℕ) → KeepsShape old.nodes new.nodes path k
+    pub leaves : new.leaves ≡ old.leaves
+    pub on : Contains path key
+    pub fits : length (cells_at new.nodes key) ≤ new.capacity
+    pub splits : work1.splits ≡ work.splits
+    pub reinsertions : work1.reinsertions ≡ work.reinsertions
+
+  -- no step was made yet
+  pub record StartsAt (old new : Arena D) (from key marks marks1 : ℕ) (work work1 : Work) : Type 0 where
+    pub same : new ≡ old
+    pub key_is : key ≡ from
+    pub marks_is : marks1 ≡ marks
+    pub work_is : work1 ≡ work
+
+  -- a step was made, in which the node that they began at gave up cells, where it was overfull and no level marked
+  pub record HasStepped (old : Arena D) (from level marks : ℕ) (work work1 : Work) : Type 0 where
+    pub higher : 1 ≤ level
+    pub again : old.capacity < length (cells_at old.nodes from) → marks ≡ 0 → work1.reinsertions ≡ suc work.reinsertions
+
+  -- steps up have come to the node at the key
+  pub record HasRisen (old new : Arena D) (from key marks marks1 : ℕ) (work work1 : Work) : Type 0 where
+    pub rising : IsRising new key
+    pub keeps : KeepsRows old new
+    pub waits : (InsertsAgain old new old.waiting.items marks marks1 work work1 × (length (cells_at new.nodes key) ≤ new.capacity))
+        ⊎ InsertsNone new old.waiting.items marks marks1 work work1
+    pub placements : work1.placements ≡ work.placements
+    pub splits : work.splits ≤ work1.splits
+    pub few : work1.splits ≤ work.splits + rising.level
+    pub len : slab_len new.nodes + work.splits ≡ slab_len old.nodes + work1.splits
+    pub exact : length (cells_at old.nodes from) ≤ old.capacity → (path : List ℕ) → IsUpward old.nodes path → Contains path from →
+        KeepsAllBut old new path key work work1
+    pub first : StartsAt old new from key marks marks1 work work1 ⊎ HasStepped old from rising.level marks work work1
