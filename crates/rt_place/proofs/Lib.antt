@@ -15,3 +15,5 @@ pub mod Relieved
 pub mod Lifted
 pub mod Shapes
 pub mod Risen
+pub mod Closed
+pub mod Raised

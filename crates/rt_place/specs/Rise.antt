@@ -1,10 +1,11 @@
 -- The steps up from a node that a cell was placed in.
-use Rattle.std.specs.Prelude.{◌≡◌, ◌⊎◌, ℕ, suc, ◌+◌, ◌≤◌, ◌<◌, List, Some, length, Contains}
+use Rattle.std.specs.Prelude.{◌≡◌, ◌⊎◌, ℕ, suc, ◌+◌, ◌≤◌, ◌<◌, Bool, pos, List, [], ◌∷◌, Some, length, Contains}
 use Rattle.slab.specs.Slab.{Slab, slab_len}
 use Rattle.rt_node.specs.declared.arena.Arena.{Arena}
 use Rattle.rt_node.specs.declared.arena.Work.{Work}
+use Rattle.rt_node.specs.declared.cell.Cell.{Cell}
 use Rattle.rt_node.specs.Node.{NodeCells}
-use Rattle.rt_node.specs.Places.{cells_at, parent_at}
+use Rattle.rt_node.specs.Places.{cells_at, parent_at, count_rows}
 use Rattle.rt_node.specs.Path.{KeepsShape}
 use Rattle.rt_place.specs.Steps.{IsRising, KeepsRows}
 use Rattle.rt_place.specs.Placing.{InsertsAgain, InsertsNone}
@@ -48,3 +49,19 @@ module _ {D : ℕ} where
     pub exact : length (cells_at old.nodes from) ≤ old.capacity → (path : List ℕ) → IsUpward old.nodes path → Contains path from →
         KeepsAllBut old new path key work work1
     pub first : StartsAt old new from key marks marks1 work work1 ⊎ HasStepped old from rising.level marks work work1
+
+  -- a new root, one level higher, has one cell, which names the old one
+  pub record Raises (old new : Arena D) : Type 0 where
+    pub rising : IsRising new old.root
+    pub up : parent_at new.nodes old.root ≡ Some new.root
+    pub cell : Cell D
+    pub alone : cells_at new.nodes new.root ≡ cell ∷ []
+    pub names : cell.number ≡ pos old.root
+    pub cells : cells_at new.nodes old.root ≡ cells_at old.nodes old.root
+    pub rows : (test : Cell D → Bool) → count_rows test new.nodes new.waiting.items ≡ count_rows test old.nodes old.waiting.items
+    pub level : new.level ≡ suc old.level
+    pub waiting : new.waiting ≡ old.waiting
+    pub leaves : new.leaves ≡ old.leaves
+    pub capacity : new.capacity ≡ old.capacity
+    pub len : slab_len new.nodes ≡ slab_len old.nodes + 1
+    pub room : new.nodes.capacity ≡ old.nodes.capacity

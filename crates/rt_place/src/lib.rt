@@ -6,6 +6,7 @@
 
 mod attach;
 mod descent;
+mod grow;
 mod overflow;
 mod refit;
 mod reinsertion;
