@@ -17,3 +17,4 @@ pub mod Shapes
 pub mod Risen
 pub mod Closed
 pub mod Raised
+pub mod Grown

@@ -122,6 +122,12 @@ module _ {D : ℕ} (t : Arena D) (key parent : ℕ) (rising : IsRising t key) (u
         let q : x ≢ parent = λ same. let differ = same_Some (suc i) (suc rising.level) (sym e ∙ ap (level_at t.nodes) same ∙ parent-level) in absurd (omega arith) in
         ap (times_named z) (inner-at_inner mid.nodes x i (r.levels x (suc i) e) ∙ r.cells x (suc i) e p q ∙ sym (inner-at_inner t.nodes x i e))
 
+    pub mid-once : times_named key (cells_at mid.nodes parent) ≤ 1
+    mid-once =
+        let one = r.opened.linked.named key rising.level mid-key_level mid-not_root in
+        let above = ap (times_named key) (above-some mid.nodes key parent mid-up ∙ inner-at_inner mid.nodes parent rising.level mid-parent_level) in
+        omega arith
+
     mid-way : LeadsUp mid.nodes mid.root found.0 parent
     mid-way = subst (λ y. LeadsUp mid.nodes y found.0 parent) (sym r.root)
         (way-kept t.nodes t.root t.level t.waiting.items rising.sound.linked mid.nodes (suc rising.level) found.0 parent (suc rising.level) found.1 parent-level (omega arith)

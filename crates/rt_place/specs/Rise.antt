@@ -1,12 +1,16 @@
 -- The steps up from a node that a cell was placed in.
 use Rattle.std.specs.Prelude.{◌≡◌, ◌⊎◌, ℕ, suc, ◌+◌, ◌≤◌, ◌<◌, Bool, pos, List, [], ◌∷◌, Some, length, Contains}
 use Rattle.slab.specs.Slab.{Slab, slab_len}
+use Rattle.rt_choice.specs.declared.split.Cut.{Cut}
+use Rattle.rt_choice.specs.Split.{IsBestCut, first_group, second_group}
 use Rattle.rt_node.specs.declared.arena.Arena.{Arena}
 use Rattle.rt_node.specs.declared.arena.Work.{Work}
 use Rattle.rt_node.specs.declared.cell.Cell.{Cell}
 use Rattle.rt_node.specs.Node.{NodeCells}
-use Rattle.rt_node.specs.Places.{cells_at, parent_at, count_rows}
+use Rattle.rt_node.specs.Places.{key_of, picked, rects, cells_at, parent_at, count_rows}
 use Rattle.rt_node.specs.Path.{KeepsShape}
+use Rattle.rt_node.specs.Whole.{IsWhole}
+use Rattle.rt_node.specs.Homes.{KeepsIds}
 use Rattle.rt_place.specs.Steps.{IsRising, KeepsRows}
 use Rattle.rt_place.specs.Placing.{InsertsAgain, InsertsNone}
 
@@ -65,3 +69,37 @@ module _ {D : ℕ} where
     pub capacity : new.capacity ≡ old.capacity
     pub len : slab_len new.nodes ≡ slab_len old.nodes + 1
     pub room : new.nodes.capacity ≡ old.nodes.capacity
+
+  -- the root isn't overfull, and all is as it was
+  pub record StaysRoot (old new : Arena D) (work work1 : Work) : Type 0 where
+    pub fits : length (cells_at old.nodes old.root) ≤ old.capacity
+    pub same : new ≡ old
+    pub work_same : work1 ≡ work
+
+  -- the overfull root was split, and the nodes of the two groups are the children of a new root, in this order
+  pub record SplitsRoot (old new : Arena D) (work work1 : Work) : Type 0 where
+    pub full : old.capacity < length (cells_at old.nodes old.root)
+    pub cut : Cut
+    pub best : IsBestCut D (rects (cells_at old.nodes old.root)) old.capacity cut
+    pub first : Cell D
+    pub second : Cell D
+    pub height : new.level ≡ suc old.level
+    pub top : cells_at new.nodes new.root ≡ first ∷ second ∷ []
+    pub first_cells : cells_at new.nodes (key_of first) ≡
+        picked (cells_at old.nodes old.root) (first_group (rects (cells_at old.nodes old.root)) cut)
+    pub second_cells : cells_at new.nodes (key_of second) ≡
+        picked (cells_at old.nodes old.root) (second_group (rects (cells_at old.nodes old.root)) cut)
+    pub waiting : new.waiting ≡ old.waiting
+    pub len : slab_len new.nodes ≡ slab_len old.nodes + 2
+    pub placements : work1.placements ≡ work.placements
+    pub splits : work1.splits ≡ suc work.splits
+    pub reinsertions : work1.reinsertions ≡ work.reinsertions
+
+  -- no node is out of shape any more: the root, which alone might be, was split where it was overfull
+  pub record Grows (old new : Arena D) (work work1 : Work) : Type 0 where
+    pub whole : IsWhole new
+    pub rows : (test : Cell D → Bool) → count_rows test new.nodes new.waiting.items ≡ count_rows test old.nodes old.waiting.items
+    pub ids : KeepsIds old.leaves new.leaves
+    pub capacity : new.capacity ≡ old.capacity
+    pub room : new.nodes.capacity ≡ old.nodes.capacity
+    pub split : StaysRoot old new work work1 ⊎ SplitsRoot old new work work1
