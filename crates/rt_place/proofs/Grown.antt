@@ -25,6 +25,9 @@ module _ {D : ℕ} (t : Arena D) (rising : IsRising t t.root) where
     ids = record { ids = refl; len = refl; room = refl };
     capacity = refl;
     room = refl;
+    waiting = refl;
+    placements = refl;
+    reinsertions = refl;
     split = inl record { fits = fits; same = refl; work_same = refl };
   }
 
@@ -89,6 +92,9 @@ module _ {D : ℕ} (t : Arena D) (rising : IsRising t t.root) where
           ids = subst (λ m. KeepsIds m new.leaves) raises.leaves lifts.keeps.ids;
           capacity = lifts.keeps.capacity ∙ raises.capacity;
           room = lifts.keeps.room ∙ raises.room;
+          waiting = done.waiting ∙ raises.waiting;
+          placements = placements;
+          reinsertions = reinsertions;
           split = inr record {
             full = omega (arith, full);
             cut = done.cut;
@@ -102,10 +108,7 @@ module _ {D : ℕ} (t : Arena D) (rising : IsRising t t.root) where
                 ∙ ap (λ cs. picked cs (first_group (rects cs) done.cut)) raises.cells;
             second_cells = ap cells_of (fit.nodes.updates.others (key_of done.cell) done.apart) ∙ done.second_cells
                 ∙ ap (λ cs. picked cs (second_group (rects cs) done.cut)) raises.cells;
-            waiting = done.waiting ∙ raises.waiting;
             len = let l = fit.nodes.len in let m = done.len in let k = raises.len in omega arith;
-            placements = placements;
             splits = splits;
-            reinsertions = reinsertions;
           };
         }

@@ -18,3 +18,4 @@ pub mod Risen
 pub mod Closed
 pub mod Raised
 pub mod Grown
+pub mod Entered

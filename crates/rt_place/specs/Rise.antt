@@ -1,16 +1,19 @@
 -- The steps up from a node that a cell was placed in.
-use Rattle.std.specs.Prelude.{◌≡◌, ◌⊎◌, ℕ, suc, ◌+◌, ◌≤◌, ◌<◌, Bool, pos, List, [], ◌∷◌, Some, length, Contains}
+use Rattle.std.specs.Prelude.{◌≡◌, ◌≢◌, ◌⊎◌, ℕ, suc, ◌+◌, ◌≤◌, ◌<◌, Bool, pos, List, [], ◌∷◌, ◌++◌, Some, length, Contains}
 use Rattle.slab.specs.Slab.{Slab, slab_len}
 use Rattle.rt_choice.specs.declared.split.Cut.{Cut}
 use Rattle.rt_choice.specs.Split.{IsBestCut, first_group, second_group}
 use Rattle.rt_node.specs.declared.arena.Arena.{Arena}
 use Rattle.rt_node.specs.declared.arena.Work.{Work}
 use Rattle.rt_node.specs.declared.cell.Cell.{Cell}
+use Rattle.rt_node.specs.declared.cell.Waiting.{Waiting}
 use Rattle.rt_node.specs.Node.{NodeCells}
-use Rattle.rt_node.specs.Places.{key_of, picked, rects, cells_at, parent_at, count_rows}
-use Rattle.rt_node.specs.Path.{KeepsShape}
+use Rattle.rt_node.specs.Places.{key_of, picked, rects, cells_at, level_at, parent_at, count_rows}
+use Rattle.rt_node.specs.Path.{LeadsTo, KeepsShape}
+use Rattle.rt_node.specs.Changes.{Changes}
+use Rattle.rt_node.specs.Open.{IsOpen}
 use Rattle.rt_node.specs.Whole.{IsWhole}
-use Rattle.rt_node.specs.Homes.{KeepsIds}
+use Rattle.rt_node.specs.Homes.{KeepsIds, Moves}
 use Rattle.rt_place.specs.Steps.{IsRising, KeepsRows}
 use Rattle.rt_place.specs.Placing.{InsertsAgain, InsertsNone}
 
@@ -89,11 +92,8 @@ module _ {D : ℕ} where
         picked (cells_at old.nodes old.root) (first_group (rects (cells_at old.nodes old.root)) cut)
     pub second_cells : cells_at new.nodes (key_of second) ≡
         picked (cells_at old.nodes old.root) (second_group (rects (cells_at old.nodes old.root)) cut)
-    pub waiting : new.waiting ≡ old.waiting
     pub len : slab_len new.nodes ≡ slab_len old.nodes + 2
-    pub placements : work1.placements ≡ work.placements
     pub splits : work1.splits ≡ suc work.splits
-    pub reinsertions : work1.reinsertions ≡ work.reinsertions
 
   -- no node is out of shape any more: the root, which alone might be, was split where it was overfull
   pub record Grows (old new : Arena D) (work work1 : Work) : Type 0 where
@@ -102,4 +102,31 @@ module _ {D : ℕ} where
     pub ids : KeepsIds old.leaves new.leaves
     pub capacity : new.capacity ≡ old.capacity
     pub room : new.nodes.capacity ≡ old.nodes.capacity
+    pub waiting : new.waiting ≡ old.waiting
+    pub placements : work1.placements ≡ work.placements
+    pub reinsertions : work1.reinsertions ≡ work.reinsertions
     pub split : StaysRoot old new work work1 ⊎ SplitsRoot old new work work1
+
+  -- a tree that is sound, with a cell on its way besides those that wait
+  abbrev pub IsAwaited : Arena D → Waiting D → Type 0
+  IsAwaited t entry = IsOpen (λ x. ⊥) t (t.waiting.items ++ entry ∷ [])
+
+  -- the cell is the last of a node of its level, which best children lead a row to
+  pub record Enters (old new : Arena D) (entry : Waiting D) (key : ℕ) : Type 0 where
+    pub rising : IsRising new key
+    pub level : level_at old.nodes key ≡ Some entry.level
+    pub rows : (test : Cell D → Bool) →
+        count_rows test new.nodes new.waiting.items ≡ count_rows test old.nodes (old.waiting.items ++ entry ∷ [])
+    pub ids : KeepsIds old.leaves new.leaves
+    pub levels : (x : ℕ) → level_at new.nodes x ≡ level_at old.nodes x
+    pub cells : cells_at new.nodes key ≡ cells_at old.nodes key ++ entry.cell ∷ []
+    pub others : (x : ℕ) → x ≢ key → cells_at new.nodes x ≡ cells_at old.nodes x
+    pub waiting : new.waiting ≡ old.waiting
+    pub root : new.root ≡ old.root
+    pub height : new.level ≡ old.level
+    pub capacity : new.capacity ≡ old.capacity
+    pub len : slab_len new.nodes ≡ slab_len old.nodes
+    pub room : new.nodes.capacity ≡ old.nodes.capacity
+    pub row : entry.level ≡ 0 → (path : List ℕ) × LeadsTo old.nodes old.level old.root entry.cell.rect key path
+        × Moves old.leaves new.leaves entry.cell.number key
+        × Changes (λ n. record n { cells = n.cells ++ entry.cell ∷ [] }) old.nodes new.nodes key

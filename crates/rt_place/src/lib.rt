@@ -8,6 +8,7 @@ mod attach;
 mod descent;
 mod grow;
 mod overflow;
+mod placing;
 mod refit;
 mod reinsertion;
 mod rise;
