@@ -11,7 +11,7 @@ use Rattle.indexmap.specs.IndexMap.{get as leaf_of}
 use Rattle.slab.specs.Slab.{Slab, get, ContainsKey, Updates, slab_len}
 use Rattle.rt_box.specs.Capacity.{least_fill}
 use Rattle.rt_box.specs.Rect.{IsBox}
-use Rattle.rt_choice.specs.Split.{sorting, first_group, second_group}
+use Rattle.rt_choice.specs.Split.{IsBestCut, sorting, first_group, second_group}
 use Rattle.rt_node.specs.declared.arena.Arena.{Arena}
 use Rattle.rt_node.specs.declared.cell.Cell.{Cell}
 use Rattle.rt_node.specs.declared.cell.Waiting.{Waiting}
@@ -190,6 +190,14 @@ module _ {D : ℕ} (old : Arena D) (key parent : ℕ) (pair : IsPair old key par
             capacity = ap (λ t. t.capacity) at.rest ∙ capacity-kept E (decide-either key parent) old mid key n sibling ws pair.opened (inl refl) has below done c number_is box;
             len = second.len ∙ first.len ∙ len-kept E (decide-either key parent) old mid key n sibling ws pair.opened (inl refl) has below done c number_is box;
             room = second.room ∙ first.room ∙ room-kept E (decide-either key parent) old mid key n sibling ws pair.opened (inl refl) has below done c number_is box;
+            cell = c;
+            appended = ap cells_of second.updates.changed ∙ ap (λ cs. cs ++ c ∷ []) (sym (ap cells_of above.1) ∙ parent_cells);
+            apart = λ e. cell_apart (sym e);
+            cut = done.cut;
+            best = subst (λ cs. IsBestCut D (rects cs) old.capacity done.cut) (sym (ap cells_of has)) done.best;
+            first_cells = key_cells ∙ ap (λ cs. picked cs (first_group (rects cs) done.cut)) (sym (ap cells_of has));
+            second_cells = ap cells_of (second.updates.others (key_of c) (λ e. cell_apart (sym e))) ∙ ap cells_of first.updates.changed
+                ∙ ap (λ cs. picked cs (second_group (rects cs) done.cut)) (sym (ap cells_of has));
           }
 
     -- what the new node and the parent are like in between; any cell of the node has a box that serves

@@ -6,9 +6,12 @@
 
 mod attach;
 mod descent;
+mod grow;
 mod overflow;
+mod placing;
 mod refit;
 mod reinsertion;
+mod rise;
 mod split;
 
 pub use descent::choose_node;
