@@ -1,0 +1,4 @@
+pub mod Sums
+pub mod Named
+pub mod Few
+pub mod Turns

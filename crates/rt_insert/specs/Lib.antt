@@ -1,1 +1,2 @@
 pub mod Insertion
+pub mod Settling
