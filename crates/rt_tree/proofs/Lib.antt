@@ -5,3 +5,5 @@ pub mod Rows
 pub mod Reading
 pub mod Found
 pub mod Fresh
+pub mod Lookup
+pub mod Changed

@@ -19,6 +19,7 @@ use Rattle.rt_node.specs.declared.arena.Arena.{Arena}
 use Rattle.rt_node.specs.declared.cell.Cell.{Cell}
 use Rattle.rt_node.specs.Node.{NodeCells}
 use Rattle.rt_node.specs.Places.{times_listed, waiting_rows, leaf_cells_of, leaf_cells_at, cells_at, level_at, count_rows}
+use Rattle.rt_node.proofs.Places.{leaf-at_leaf}
 use Rattle.rt_walk.specs.declared.searching.Row.{Row}
 use Rattle.rt_walk.specs.Search.{times, row_of}
 use Rattle.rt_walk.specs.InOrder.{row_cell}
@@ -68,11 +69,13 @@ module _ {D : ℕ} where
           let w = ap (λ ws. count_rows (λ c. int_eq id c.number) t.nodes ws) s.none in
           omega (arith, rows-counted has, a, b, w)
 
-      pub box-none : leaf_of int_eq t.leaves id ≡ None → box_of (outside t) id ≡ None
+      none-have : leaf_of int_eq t.leaves id ≡ None → count_by has (rows_of (outside t)) ≡ 0
       unfolding has listed
-      box-none none =
-          let count = total [] (λ k. omega arith) (λ k some. absurd (none-some k (sym none ∙ s.whole.homes.home k id some))) in
-          ap (option_map (λ (r : Row D). r.rect)) (find-nothing has (rows_of (outside t)) count)
+      none-have none = total [] (λ k. omega arith) (λ k some. absurd (none-some k (sym none ∙ s.whole.homes.home k id some)))
+
+      pub box-none : leaf_of int_eq t.leaves id ≡ None → box_of (outside t) id ≡ None
+      unfolding has
+      box-none none = ap (option_map (λ (r : Row D). r.rect)) (find-nothing has (rows_of (outside t)) (none-have none))
 
       module _ (k : ℕ) (leaf : leaf_of int_eq t.leaves id ≡ Some k) where
         here : times_listed id (leaf_cells_at t.nodes k) ≡ 1
@@ -106,3 +109,18 @@ module _ {D : ℕ} where
             let found = find-one has (rows_of (outside t)) (row_in (row_cell c)) (contains-map row_in (leaf_cells (outside t).nodes) (row_cell c) in_leaves)
             ((Decides-int_eq id c.number).1 (sym same)) (omega (arith, once)) in
             ap (option_map (λ (r : Row D). r.rect)) found ∙ ap (λ (r : Row D). Some r.rect) (row-back c)
+
+        pub box-some : (c : Cell D) × (box_of (outside t) id ≡ Some c.rect)
+        box-some =
+            let h = counted-contained (λ (c : Cell D). int_eq id c.number) (leaf_cells_at t.nodes k) (omega (arith, here)) in
+            let in_leaf = subst (λ (cs : List (Cell D)). Contains cs h.0) (leaf-at_leaf t.nodes k leaf-is) h.1 in
+            (h.0, box-there h.0 in_leaf (sym ((Decides-int_eq id h.0.number).0 h.2)))
+
+      -- of the rows at most one has the id
+      pub few-have : count_by (λ (r : Row D). int_eq id r.id) (rows_of (outside t)) ≤ 1
+      unfolding has
+      few-have = by (leaf_of int_eq t.leaves id) refl
+        where
+          by : (o : Option ℕ) → leaf_of int_eq t.leaves id ≡ o → count_by has (rows_of (outside t)) ≤ 1
+          by None e = omega (arith, none-have e)
+          by (Some k) e = omega (arith, once k e)

@@ -1,5 +1,5 @@
 -- The rows of a tree.
-use Rattle.std.specs.Prelude.{◌≡◌, ℕ, ◌+◌, Bool, ℤ, List, [], ◌∷◌, Option, find, map, count_by, if◌then◌else◌}
+use Rattle.std.specs.Prelude.{◌≡◌, ◌≢◌, ℕ, ◌+◌, Bool, ℤ, List, [], ◌∷◌, Option, None, Some, find, map, count_by, if◌then◌else◌}
 use Rattle.std.specs.Option.{option_map}
 use Rattle.std.specs.Ordering.{int_eq}
 use Rattle.rt_box.specs.declared.interval.Interval.{Interval}
@@ -32,11 +32,17 @@ module _ {D : ℕ} where
   abbrev pub box_of : ShadowLists D → ℤ → Option (List Interval)
   box_of s id = option_map (λ r. r.rect) (find (λ r. int_eq id r.id) (rows_of s))
 
-  -- for each test as many rows pass it as before, and the row with the id and the box beside them
-  abbrev pub GainsRow : ShadowLists D → ShadowLists D → ℤ → List Interval → Type 0
-  GainsRow old new id rect = (test : Row D → Bool) →
-      count_by test (rows_of new) ≡ count_by test (rows_of old) + (if test record { id = id; rect = rect } then 1 else 0)
+  -- the row came, and each that was there stays: as many rows pass any test as before, and this one beside them
+  pub record GainsRow (old new : ShadowLists D) (id : ℤ) (rect : List Interval) : Type 0 where
+    pub rows : (test : Row D → Bool) →
+        count_by test (rows_of new) ≡ count_by test (rows_of old) + (if test record { id = id; rect = rect } then 1 else 0)
+    pub here : box_of new id ≡ Some rect
+    pub others : (other : ℤ) → other ≢ id → box_of new other ≡ box_of old other
 
-  -- the same, and the row beside them before
-  abbrev pub LosesRow : ShadowLists D → ShadowLists D → ℤ → List Interval → Type 0
-  LosesRow old new id rect = GainsRow new old id rect
+  -- the row is gone, and each other one stays
+  pub record LosesRow (old new : ShadowLists D) (id : ℤ) (rect : List Interval) : Type 0 where
+    pub rows : (test : Row D → Bool) →
+        count_by test (rows_of new) + (if test record { id = id; rect = rect } then 1 else 0) ≡ count_by test (rows_of old)
+    pub was : box_of old id ≡ Some rect
+    pub gone : box_of new id ≡ None
+    pub others : (other : ℤ) → other ≢ id → box_of new other ≡ box_of old other

@@ -24,13 +24,3 @@ pub trait InsertRow<const D: usize> {
         requires waiting_room { 513 ≤ vec_capacity tree.old.waiting }
         ensures { Inserts tree.old tree.new id.now rect.now result };
 }
-
-/// How high a tree gets.
-pub trait FewLevels<const D: usize> {
-    /// A tree of at most 2^20 rows has at most 20 levels. It does nothing.
-    fn few_levels(tree: &Arena<D>)
-        requires whole { IsWhole tree.now }
-        requires idle { tree.now.waiting.items ≡ [] }
-        requires rows { row_count tree.now ≤ 2 ^ 20 }
-        ensures { tree.now.level < 20 };
-}
