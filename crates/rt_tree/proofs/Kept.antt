@@ -1,0 +1,23 @@
+-- What a tree keeps.
+use Rattle.std.proofs.Common.{ℕ}
+use Rattle.std.specs.Ordering.{int_eq}
+use Rattle.indexmap.specs.IndexMap.{IsUnique}
+use Rattle.rt_walk.specs.Outside.{outside}
+use Rattle.rt_walk.proofs.Progress.{IsSettled}
+use Rattle.rt_walk.proofs.Flawless.{outside-sound}
+use Rattle.rt_walk.proofs.Subtrees.{outside-ordered}
+use Rattle.rt_walk.proofs.Rows.{entries-rise}
+use Rattle.rt_tree.specs.Lists.{IsInShape}
+use Rattle.rt_tree.specs.TreeInside.{IsKept}
+use Rattle.rt_tree.specs.declared.tree.Tree.TheInside.{Inside}
+
+module _ {D : ℕ} where
+  pub settled : (t : Inside D) → IsKept t → IsSettled t.arena
+  settled t k = record { whole = k.whole; none = k.idle }
+
+  pub in-shape : (t : Inside D) → IsKept t → IsUnique int_eq t.arena.leaves → IsInShape (outside t.arena)
+  in-shape t k unique = record {
+    sound = outside-sound t.arena (settled t k) k.branched;
+    preorder = outside-ordered t.arena (settled t k);
+    rising = entries-rise t.arena unique;
+  }

@@ -1,0 +1,9 @@
+pub mod Members
+pub mod Shape
+pub mod Kept
+pub mod Rows
+pub mod Reading
+pub mod Found
+pub mod Fresh
+pub mod Lookup
+pub mod Changed

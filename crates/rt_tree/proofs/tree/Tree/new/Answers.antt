@@ -1,0 +1,23 @@
+use Rattle.std.proofs.Common.{◌≤◌, ◌^◌, vec_capacity, arith, refl, Some, subst}
+use Rattle.slab.specs.Slab.{Updates}
+use Rattle.rt_node.specs.Node.{NodeCells}
+use Rattle.rt_tree.proofs.Fresh.{fresh-kept}
+use Rattle.rt_tree.proofs.tree.Tree.new.Goals as goal
+
+pub invariant_of-result : goal.invariant_of-result
+invariant_of-result g c =
+    let a = c.in_ok-nodes.nodes in
+    let b = c.insert_reserved-root.new.self in
+    let root = c.insert_reserved-root.result in
+    let leaf = subst (λ (n : NodeCells g.row.D). Updates a b root (Some n)) c.new.ensures c.insert_reserved-root.ensures.updates in
+    let many : 33 ≤ b.capacity = omega (arith, c.in_ok-nodes.ensures.capacity, c.insert_reserved-root.ensures.capacity) in
+    let few : b.capacity ≤ 2 ^ 62 = omega (arith, c.capacity.ensures.value, c.insert_reserved-root.ensures.capacity, c.if-capacity-gt-MOST_NODES.false) in
+    let room : 1024 ≤ vec_capacity c.in_ok-waiting.waiting = omega (arith, c.in_ok-waiting.ensures.capacity) in
+    fresh-kept a b root c.in_ok-nodes.ensures.empty leaf (record {
+      nodes = b;
+      leaves = c.with_hasher.result;
+      waiting = c.in_ok-waiting.waiting;
+      root = root;
+      level = 0;
+      capacity = c.args.capacity;
+    }) refl refl refl c.in_ok-waiting.ensures.items c.with_hasher.ensures.empty c.requires.some c.requires.few c.least.ensures.valid many few room

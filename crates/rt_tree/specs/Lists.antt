@@ -1,0 +1,35 @@
+-- A tree from outside.
+use Rattle.std.specs.Prelude.{ℕ, ℤ, Option, pos, [], ◌∷◌, None}
+use Rattle.std.specs.Option.{option_map, option_map_or}
+use Rattle.rt_check.specs.Shadow.{ShadowLists}
+use Rattle.rt_check.specs.Conditions.{node_of, IsSound}
+use Rattle.rt_walk.specs.InOrder.{IsPreorder, AreByRisingId}
+
+-- its nodes and row entries, and how many more rows it takes without asking for memory
+pub record TreeLists (D : ℕ) : Type 0 where
+  pub lists : ShadowLists D
+  pub spare : ℕ
+
+module _ {D : ℕ} where
+  -- the level of the node of that number, where it is listed
+  abbrev pub level_of_number : ShadowLists D → ℤ → Option ℕ
+  level_of_number s number = option_map (λ n. n.level) (node_of s.nodes number)
+
+  -- the level of the root
+  abbrev pub root_level : ShadowLists D → ℕ
+  root_level s = option_map_or (λ n. n.level) (node_of s.nodes s.root) 0
+
+  -- no rows: the root is a leaf without cells
+  abbrev pub empty_lists : ℕ → ShadowLists D
+  empty_lists capacity = record {
+    capacity = capacity;
+    root = pos 1;
+    nodes = record { number = pos 1; level = 0; parent = None; cells = [] } ∷ [];
+    rows = [];
+  }
+
+  -- the checker finds no problem, the nodes are in preorder, and the row entries stand by rising id
+  pub record IsInShape (s : ShadowLists D) : Type 0 where
+    pub sound : IsSound s
+    pub preorder : IsPreorder s
+    pub rising : AreByRisingId s.rows

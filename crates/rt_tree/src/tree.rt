@@ -1,0 +1,189 @@
+//! A tree.
+
+ghost use Rattle.std.specs.Prelude.{◌≡◌, ◌<◌, ◌≤◌, ◌+◌, ◌^◌, length, Some, None, IsSome, IfOk};
+ghost use Rattle.rt_tree.specs.Lists.{root_level, empty_lists, IsInShape};
+ghost use Rattle.rt_tree.specs.Rows.{box_of, GainsRow, LosesRow};
+ghost use Rattle.rt_tree.specs.Finding.{FindsIn};
+
+use crate::parts::InsertRow;
+use indexmap::IndexMap;
+use rt_box::{Capacity, Rect, Window};
+use rt_check::Shadow;
+use rt_insert::levels_are_few;
+use rt_node::{Arena, Node, Work, node_at};
+use rt_remove::{Settle, remove_row};
+use rt_walk::{Found, search, shadow_of};
+use slab::Slab;
+use std::alloc::{AllocError, Global};
+use std::hash::RandomState;
+use std::marker::Model;
+
+/// The nodes that a tree has room for beyond those that its rows may need: an insertion splits at most one
+/// node a level.
+const NODES_AHEAD: usize = 33;
+
+/// The most nodes that a tree has room for, so that a key is a cell's number.
+const MOST_NODES: usize = 1 << 62;
+
+/// The cells that may wait at once.
+const WAITING_ROOM: usize = 1024;
+
+/// A box.
+fn point<const D: usize>() -> Rect<D>
+    requires some { 1 ≤ D }
+    requires few { D ≤ 3 }
+{
+    Rect::new([0; D], [0; D]).unwrap()
+}
+
+/// An R*-tree of rows, each an id and a box of `D` axes. No id is there twice.
+#[derive(Drop)]
+pub struct Tree<const D: usize> {
+    arena: Arena<D>,
+    spare: usize,
+}
+
+// Clauses see the tree from outside.
+impl<const D: usize> Model for Tree<D> {
+    ghost use Rattle.rt_tree.specs.Lists.{TreeLists};
+
+    ghost Value = { TreeLists D };
+
+    ghost use Rattle.rt_tree.specs.TreeInside.{lists_of, IsKept};
+
+    ghost view = { lists_of };
+
+    ghost invariant = { IsKept };
+}
+
+impl<const D: usize> Tree<D> {
+    /// A tree without rows, whose nodes have at most `capacity` cells. Look-ups by id hash by `keys`, which are to be
+    /// random where others choose the ids.
+    ///
+    /// # Errors
+    ///
+    /// `AllocError` where no memory is left.
+    pub fn new(alloc: Global, keys: RandomState, capacity: Capacity) -> Result<Tree<D>, AllocError>
+        requires some { 1 ≤ D }
+        requires few { D ≤ 3 }
+        ensures { IfOk result (λ tree. tree ≡ record { lists = empty_lists capacity; spare = 0 }) }
+    {
+        // The capacity is in its range.
+        let _ = capacity.least();
+        let mut nodes = Slab::with_capacity(alloc, NODES_AHEAD)?;
+        if nodes.capacity() > MOST_NODES {
+            return Err(AllocError);
+        }
+        let waiting = Vec::with_capacity(alloc, WAITING_ROOM)?;
+        let root = nodes.insert_reserved(Node::new(0, None, &point()));
+        Ok(Tree {
+            arena: Arena {
+                nodes,
+                leaves: IndexMap::with_hasher(alloc, keys),
+                waiting,
+                root,
+                level: 0,
+                capacity,
+            },
+            spare: 0,
+        })
+    }
+
+    /// The number of rows.
+    pub fn len(&self) -> usize
+        ensures { result ≡ length self.now.lists.rows }
+    {
+        self.arena.leaves.len()
+    }
+
+    /// How many more rows `insert` takes without asking for memory.
+    pub fn spare(&self) -> usize
+        ensures { result ≡ self.now.spare }
+    {
+        self.spare
+    }
+
+    /// The number of levels of nodes: 1 where the root is a leaf.
+    pub fn depth(&self) -> usize
+        ensures { result ≡ root_level self.now.lists + 1 }
+    {
+        usize::from(self.arena.level) + 1
+    }
+
+    /// The number of nodes.
+    pub fn node_count(&self) -> usize
+        ensures { result ≡ length self.now.lists.nodes }
+    {
+        self.arena.nodes.len()
+    }
+
+    /// The box of the row with that id, or `None` where there is none.
+    pub fn get(&self, id: &i64) -> Option<Rect<D>>
+        ensures { result ≡ box_of self.now.lists id.now }
+    {
+        let leaf = match self.arena.leaves.get(id) {
+            Some(leaf) => *leaf,
+            None => return None,
+        };
+        let node = node_at(&self.arena.nodes, leaf);
+        Some(node.cell(node.position(id)).rect)
+    }
+
+    /// The tree from outside: its nodes in preorder, numbered from 1, and its row entries by rising id. Look-ups in it
+    /// hash by `keys`.
+    ///
+    /// # Errors
+    ///
+    /// `AllocError` where no memory is left.
+    pub fn shadow(&self, alloc: Global, keys: RandomState) -> Result<Shadow<D>, AllocError>
+        ensures { IfOk result (λ shadow. shadow ≡ self.now.lists) }
+    {
+        shadow_of(alloc, keys, &self.arena)
+    }
+
+    /// A law: whatever was done to the tree, the checker finds no problem in it, its nodes are in preorder, and its row
+    /// entries stand by rising id. The call does nothing.
+    pub fn is_in_shape(&self)
+        ensures { IsInShape self.now.lists }
+    {
+        // The map's length says that its ids differ.
+        let _ = self.arena.leaves.len();
+    }
+
+    /// Finds the rows whose boxes the window admits.
+    ///
+    /// # Errors
+    ///
+    /// `AllocError` where no memory is left for what is found or is still to be visited.
+    pub fn search(&self, alloc: Global, window: &Window<D>) -> Result<Found<D>, AllocError>
+        ensures { IfOk result (λ found. FindsIn self.now.lists window.now found.rows.items found.visited) }
+    {
+        search(alloc, &self.arena, window)
+    }
+
+    /// Puts a row into the tree. It takes no memory: each row uses up one of the rows that there is room for.
+    pub fn insert<I: InsertRow<D>>(&mut self, id: &i64, rect: &Rect<D>) -> Work
+        requires absent { box_of self.old.lists id.now ≡ None }
+        requires few { length self.old.lists.rows < 2 ^ 20 }
+        requires spare { 1 ≤ self.old.spare }
+        ensures rows { GainsRow self.old.lists self.new.lists id.now rect.now }
+        ensures spare { self.new.spare + 1 ≡ self.old.spare }
+        ensures capacity { self.new.lists.capacity ≡ self.old.lists.capacity }
+    {
+        let work = I::insert_row(&mut self.arena, id, rect);
+        self.spare -= 1;
+        work
+    }
+
+    /// Takes the row with the id out of the tree, and answers its box. It takes no memory.
+    pub fn remove<S: Settle<D>>(&mut self, id: &i64) -> Rect<D>
+        requires { IsSome (box_of self.old.lists id.now) }
+        ensures rows { LosesRow self.old.lists self.new.lists id.now result }
+        ensures spare { self.new.spare ≡ self.old.spare }
+        ensures capacity { self.new.lists.capacity ≡ self.old.lists.capacity }
+    {
+        // The waiting cells have room: there are few levels.
+        levels_are_few(&self.arena);
+        remove_row::<S, D>(&mut self.arena, id)
+    }
+}
