@@ -19,11 +19,11 @@ fn learn(leaves: &mut IndexMap<i64, usize, RandomState>, id: &i64, leaf: usize)
     requires room { 1 ≤ spare leaves.old }
     ensures { Learns leaves.old leaves.new id.now leaf }
 {
-    // There is room for one more, so that it finds no lack of memory.
+    // There is room for one more, so that it takes no memory and can't fail.
     let _ = leaves.insert(*id, leaf);
 }
 
-/// Lets a row wait for a leaf, and enters its id with a leaf that will change.
+/// Lets a row wait for a leaf. Its id gets an entry already, of any leaf, so that placing the row takes no memory.
 fn enter<const D: usize>(tree: &mut Arena<D>, id: &i64, rect: &Rect<D>)
     requires absent { leaf_of int_eq tree.old.leaves id.now ≡ None }
     requires leaves_room { 1 ≤ spare tree.old.leaves }
@@ -39,7 +39,8 @@ fn enter<const D: usize>(tree: &mut Arena<D>, id: &i64, rect: &Rect<D>)
     tree.waiting.push_reserved(Waiting { level: 0, cell });
 }
 
-/// Puts a row into the tree. It takes no memory.
+/// Puts a row into the tree, which has no row with that id. It takes no memory: there is room for the nodes, the id
+/// and the cells that wait meanwhile.
 pub fn insert_row<P: PlaceLast<D>, const D: usize>(
     tree: &mut Arena<D>,
     id: &i64,
