@@ -4,7 +4,7 @@ ghost use Rattle.std.specs.Prelude.{◌≡◌, ◌+◌, ◌^◌, ◌<◌, ◌≤
 ghost use Rattle.std.specs.Ordering.{int_eq};
 ghost use Rattle.indexmap.specs.IndexMap.{get as leaf_of, spare};
 ghost use Rattle.rt_node.specs.Whole.{IsWhole, IsBranched, HasRoom, row_count};
-ghost use Rattle.rt_insert.specs.Entering.{Learns, Enters};
+ghost use Rattle.rt_insert.specs.Awaiting.{Learns, AwaitsLeaf};
 ghost use Rattle.rt_insert.specs.Insertion.{Inserts};
 
 use crate::waiting::{PlaceLast, settle};
@@ -13,7 +13,7 @@ use rt_box::Rect;
 use rt_node::{Arena, Cell, Waiting, Work};
 use std::hash::RandomState;
 
-/// Enters an id that isn't in the map.
+/// AwaitsLeaf an id that isn't in the map.
 fn learn(leaves: &mut IndexMap<i64, usize, RandomState>, id: &i64, leaf: usize)
     requires absent { leaf_of int_eq leaves.old id.now ≡ None }
     requires room { 1 ≤ spare leaves.old }
@@ -24,11 +24,11 @@ fn learn(leaves: &mut IndexMap<i64, usize, RandomState>, id: &i64, leaf: usize)
 }
 
 /// Lets a row wait for a leaf. Its id gets an entry already, of any leaf, so that placing the row takes no memory.
-fn enter<const D: usize>(tree: &mut Arena<D>, id: &i64, rect: &Rect<D>)
+fn await_leaf<const D: usize>(tree: &mut Arena<D>, id: &i64, rect: &Rect<D>)
     requires absent { leaf_of int_eq tree.old.leaves id.now ≡ None }
     requires leaves_room { 1 ≤ spare tree.old.leaves }
     requires waiting_room { vec_len tree.old.waiting < vec_capacity tree.old.waiting }
-    ensures { Enters tree.old tree.new record { number = id.now; rect = rect.now } }
+    ensures { AwaitsLeaf tree.old tree.new record { number = id.now; rect = rect.now } }
 {
     let leaf = tree.root;
     learn(&mut tree.leaves, id, leaf);
@@ -58,6 +58,6 @@ pub fn insert_row<P: PlaceLast<D>, const D: usize>(
 {
     // The contract of `axes` says that it is a box.
     let _ = rect.axes();
-    enter(tree, id, rect);
+    await_leaf(tree, id, rect);
     settle::<P, D>(tree, 0)
 }
