@@ -7,7 +7,7 @@ ghost use Rattle.rt_node.specs.Whole.{IsWhole, IsBranched, HasRoom, row_count};
 ghost use Rattle.rt_insert.specs.Awaiting.{Learns, AwaitsLeaf};
 ghost use Rattle.rt_insert.specs.Insertion.{Inserts};
 
-use crate::waiting::{PlaceLast, settle};
+use crate::waiting::settle;
 use indexmap::IndexMap;
 use rt_box::Rect;
 use rt_node::{Arena, Cell, Waiting, Work};
@@ -41,11 +41,7 @@ fn await_leaf<const D: usize>(tree: &mut Arena<D>, id: &i64, rect: &Rect<D>)
 
 /// Puts a row into the tree, which has no row with that id. It takes no memory: there is room for the nodes, the id
 /// and the cells that wait meanwhile.
-pub fn insert_row<P: PlaceLast<D>, const D: usize>(
-    tree: &mut Arena<D>,
-    id: &i64,
-    rect: &Rect<D>,
-) -> Work
+pub fn insert_row<const D: usize>(tree: &mut Arena<D>, id: &i64, rect: &Rect<D>) -> Work
     requires whole { IsWhole tree.old }
     requires branched { IsBranched tree.old }
     requires idle { tree.old.waiting.items ≡ [] }
@@ -59,5 +55,5 @@ pub fn insert_row<P: PlaceLast<D>, const D: usize>(
     // The contract of `axes` says that it is a box.
     let _ = rect.axes();
     await_leaf(tree, id, rect);
-    settle::<P, D>(tree, 0)
+    settle(tree, 0)
 }
