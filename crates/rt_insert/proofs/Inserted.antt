@@ -8,10 +8,10 @@ use Rattle.rt_node.specs.Places.{cells_at}
 use Rattle.rt_node.specs.Whole.{IsBranched}
 use Rattle.rt_node.specs.Settles.{Settles}
 use Rattle.rt_place.specs.Placing.{JoinsLeaf, HalvesRoot}
-use Rattle.rt_insert.specs.Entering.{Enters}
+use Rattle.rt_insert.specs.Awaiting.{AwaitsLeaf}
 use Rattle.rt_insert.specs.Settling.{CountsWork, PlacesRow}
 use Rattle.rt_insert.specs.Insertion.{Inserts}
-use Rattle.rt_insert.proofs.Entered.{entered_arena, waits-alone, rows-spelled, gains-id}
+use Rattle.rt_insert.proofs.Awaited.{awaiting_arena, waits-alone, rows-spelled, gains-id}
 
 -- what comes of a row, by how many cells its leaf has and by the root's level before and after
 record Outcome (cells capacity level level1 splits reinsertions : ℕ) : Type 0 where
@@ -40,22 +40,22 @@ module _ (cells capacity level level1 splits reinsertions : ℕ) (o : Outcome ce
   ]
 
 module _ {D : ℕ} where
-  module _ (old mid new : Arena D) (c : Cell D) (work : Work) (entered : Enters old mid c) (idle : old.waiting.items ≡ [])
+  module _ (old mid new : Arena D) (c : Cell D) (work : Work) (awaits : AwaitsLeaf old mid c) (idle : old.waiting.items ≡ [])
       (settled : Settles mid new 0) (counted : CountsWork mid new 0 work) (placed : PlacesRow mid new c work) where
     start : Arena D
-    start = entered_arena old mid c entered idle
+    start = awaiting_arena old mid c awaits idle
 
     settles : Settles start new 0
     unfolding start
-    settles = subst (λ t. Settles t new 0) entered.rest settled
+    settles = subst (λ t. Settles t new 0) awaits.rest settled
 
     counts : CountsWork start new 0 work
     unfolding start
-    counts = subst (λ t. CountsWork t new 0 work) entered.rest counted
+    counts = subst (λ t. CountsWork t new 0 work) awaits.rest counted
 
     places : PlacesRow start new c work
     unfolding start
-    places = subst (λ t. PlacesRow t new c work) entered.rest placed
+    places = subst (λ t. PlacesRow t new c work) awaits.rest placed
 
     joined : (leaf : ℕ) (path : List ℕ) → JoinsLeaf start new leaf path c → JoinsLeaf old new leaf path c
     unfolding start
@@ -67,7 +67,7 @@ module _ {D : ℕ} where
       cells = j.cells;
       others = j.others;
       home = j.home;
-      homes = λ other differs. j.homes other differs ∙ entered.learns.others other differs;
+      homes = λ other differs. j.homes other differs ∙ awaits.learns.others other differs;
     }
 
     halved : HalvesRoot start new c → HalvesRoot old new c
@@ -99,17 +99,17 @@ module _ {D : ℕ} where
           whole = settles.whole;
           branched = settles.branched branched;
           none_waits = settles.waiting;
-          rows = λ test. settles.rows test ∙ rows-spelled old mid c entered idle test;
-          ids = gains-id old.leaves mid.leaves new.leaves c.number entered.leaf entered.learns settles.ids;
+          rows = λ test. settles.rows test ∙ rows-spelled old mid c awaits idle test;
+          ids = gains-id old.leaves mid.leaves new.leaves c.number awaits.leaf awaits.learns settles.ids;
           capacity = settles.capacity;
           room = settles.room;
-          waiting_room = let a = settles.waiting_room in let b = entered.waiting_room in omega arith;
+          waiting_room = let a = settles.waiting_room in let b = awaits.waiting_room in omega arith;
           leaf = places.leaf;
           path = places.path;
           leads = places.leads;
           joins = λ room. joined places.leaf places.path (places.joins room).0;
           halves = λ low full. halved (places.halves low full).0;
-          placements = let a = counts.placements in omega (arith, a, ap length (waits-alone old mid c entered idle));
+          placements = let a = counts.placements in omega (arith, a, ap length (waits-alone old mid c awaits idle));
           few = counts.few;
           nodes = counts.nodes;
           none = (none-inserted (length (cells_at old.nodes places.leaf)) old.capacity old.level new.level work.splits work.reinsertions which, inserted-none (length (cells_at old.nodes places.leaf)) old.capacity old.level new.level work.splits work.reinsertions which);

@@ -1,3 +1,3 @@
 pub mod Insertion
 pub mod Settling
-pub mod Entering
+pub mod Awaiting

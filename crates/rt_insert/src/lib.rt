@@ -8,4 +8,4 @@ mod waiting;
 
 pub use insert::insert_row;
 pub use laws::{levels_are_few, nodes_are_few, room_is_enough, waiting_cells_are_few};
-pub use waiting::{PlaceLast, settle};
+pub use waiting::settle;

@@ -1,13 +1,11 @@
 -- A tree in which one node alone is out of shape, and the root apart, which has few cells.
-use Rattle.std.proofs.Common.{◌≡◌, ◌≢◌, ◌⊎◌, ℕ, suc, ◌+◌, ◌<◌, ◌≤◌, List, length, get_or, Some, arith, refl, ap, ◌∙◌, sym, subst, inl, inr}
+use Rattle.std.proofs.Common.{◌≡◌, ◌⊎◌, ℕ, ◌≤◌, length, get_or, Some, ap, ◌∙◌, sym, subst, inl, inr}
 use Rattle.std.proofs.lemmas.Option.{none-some, same_Some}
 use Rattle.std.proofs.lemmas.Bool.{cases_eq}
-use Rattle.rt_box.specs.Capacity.{least_fill}
 use Rattle.rt_node.specs.declared.arena.Arena.{Arena}
-use Rattle.rt_node.specs.Places.{key_of, times_named, cells_at, level_at, parent_at, waiting_nodes}
+use Rattle.rt_node.specs.Places.{key_of, times_named, cells_at, parent_at, waiting_nodes}
 use Rattle.rt_node.specs.Open.{IsOpen}
 use Rattle.rt_node.specs.Whole.{IsSound, IsWhole}
-use Rattle.rt_place.specs.Steps.{IsRising}
 use Rattle.rt_place.proofs.Refitted.{waits-free}
 
 module _ {D : ℕ} where

@@ -1,5 +1,5 @@
 -- A split, and the new node's cell appended to the parent.
-use Rattle.std.proofs.Common.{◌≡◌, ◌≢◌, ◌⊎◌, ℕ, zero, suc, ◌+◌, ◌-◌, ◌<◌, ◌≤◌, Bool, pos, unsigned_abs, List, [], ◌∷◌, ◌++◌, length, get_or, count_by, Some, is_some, IsSome, drop, take, arith, refl, ap, ◌∙◌, sym, subst, inl, inr, eq-eqb}
+use Rattle.std.proofs.Common.{◌≡◌, ◌≢◌, ◌⊎◌, ℕ, suc, ◌+◌, ◌<◌, ◌≤◌, pos, unsigned_abs, [], ◌∷◌, ◌++◌, length, get_or, count_by, Some, is_some, IsSome, arith, refl, ap, ◌∙◌, sym, subst, inl, inr}
 use Rattle.std.specs.Ordering.{int_eq}
 use Rattle.std.specs.List.{All}
 use Rattle.std.proofs.lemmas.Option.{same_Some}
@@ -8,15 +8,14 @@ use Rattle.std.proofs.lemmas.Bool.Decides.{Decides-int_eq}
 use Rattle.std.proofs.lemmas.List.{append-nil, length-append, length-map, length-take, length-drop}
 use Rattle.std.proofs.lemmas.List.Elements.{All-weaker}
 use Rattle.indexmap.specs.IndexMap.{get as leaf_of}
-use Rattle.slab.specs.Slab.{Slab, get, ContainsKey, Updates, slab_len}
-use Rattle.rt_box.specs.Capacity.{least_fill}
+use Rattle.slab.specs.Slab.{get, ContainsKey}
 use Rattle.rt_box.specs.Rect.{IsBox}
 use Rattle.rt_choice.specs.Split.{IsBestCut, sorting, first_group, second_group}
 use Rattle.rt_node.specs.declared.arena.Arena.{Arena}
 use Rattle.rt_node.specs.declared.cell.Cell.{Cell}
 use Rattle.rt_node.specs.declared.cell.Waiting.{Waiting}
 use Rattle.rt_node.specs.Node.{NodeCells}
-use Rattle.rt_node.specs.Places.{key_of, rects, picked, no_cell, cells_of, leaf_cells_of, level_of, parent_of, level_at, parent_at, cells_at, hull_at, count_rows}
+use Rattle.rt_node.specs.Places.{key_of, rects, picked, no_cell, cells_of, level_of, parent_of, level_at, cells_at, hull_at, count_rows}
 use Rattle.rt_node.specs.Sound.{NamesChild}
 use Rattle.rt_node.specs.Open.{IsFittedBut, IsOpen}
 use Rattle.rt_node.specs.Homes.{KeepsIds}

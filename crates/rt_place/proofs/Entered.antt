@@ -1,22 +1,20 @@
 -- A tree after a cell on its way was appended to a node of its level.
-use Rattle.std.proofs.Common.{◌≡◌, ◌≢◌, ◌⊎◌, ℕ, zero, suc, ◌+◌, ◌<◌, ◌≤◌, List, [], ◌∷◌, ◌++◌, length, Some, IsSome, arith, refl, ap, ◌∙◌, sym, subst, inl, inr}
+use Rattle.std.proofs.Common.{◌≡◌, ◌≢◌, ℕ, zero, suc, ◌<◌, ◌≤◌, List, [], ◌∷◌, ◌++◌, length, Some, IsSome, arith, refl, ap, ◌∙◌, sym, subst, inl}
 use Rattle.std.specs.Ordering.{int_eq}
 use Rattle.std.proofs.lemmas.Bool.{cases_eq}
 use Rattle.std.proofs.lemmas.Option.{same_Some}
 use Rattle.std.proofs.lemmas.List.{append-nil, length-append}
 use Rattle.indexmap.specs.IndexMap.{get as leaf_of}
-use Rattle.slab.specs.Slab.{Slab, get, ContainsKey, Updates, slab_len}
+use Rattle.slab.specs.Slab.{get, ContainsKey, slab_len}
 use Rattle.rt_box.specs.Capacity.{least_fill}
-use Rattle.rt_box.specs.declared.interval.Interval.{Interval}
 use Rattle.rt_node.specs.declared.arena.Arena.{Arena}
-use Rattle.rt_node.specs.declared.cell.Cell.{Cell}
 use Rattle.rt_node.specs.declared.cell.Waiting.{Waiting}
 use Rattle.rt_node.specs.Changes.{Puts}
 use Rattle.rt_node.specs.Homes.{KeepsIds}
 use Rattle.rt_node.specs.Node.{NodeCells}
 use Rattle.rt_node.specs.Open.{IsOpen}
 use Rattle.rt_node.specs.Path.{LeadsTo}
-use Rattle.rt_node.specs.Places.{key_of, times_named, times_listed, cells_of, level_of, parent_of, cells_at, inner_cells_at, leaf_part, level_at, parent_at, waiting_rows, waiting_nodes, count_rows}
+use Rattle.rt_node.specs.Places.{key_of, times_named, times_listed, cells_of, level_of, parent_of, cells_at, inner_cells_at, leaf_part, level_at, parent_at, count_rows}
 use Rattle.rt_node.specs.Sound.{Names}
 use Rattle.rt_node.proofs.Fitted.{fitted-weaker}
 use Rattle.rt_node.proofs.Homes.{listed-one}

@@ -1,16 +1,15 @@
 -- A tree after its root was split.
-use Rattle.std.proofs.Common.{◌≡◌, ◌≢◌, ℕ, suc, ◌+◌, ◌<◌, ◌≤◌, unsigned_abs, List, [], ◌∷◌, ◌++◌, length, get_or, set, Some, arith, refl, ap, ◌∙◌, sym, subst, inl, inr}
+use Rattle.std.proofs.Common.{◌≡◌, ℕ, suc, ◌+◌, ◌≤◌, unsigned_abs, [], ◌∷◌, ◌++◌, length, get_or, set, Some, arith, refl, ap, ◌∙◌, sym, subst, inl, inr}
 use Rattle.std.proofs.lemmas.List.{get_or_default}
 use Rattle.slab.specs.Slab.{Slab, get}
 use Rattle.rt_choice.specs.Split.{IsBestCut, first_group, second_group}
 use Rattle.rt_node.specs.declared.arena.Arena.{Arena}
 use Rattle.rt_node.specs.declared.arena.Work.{Work}
-use Rattle.rt_node.specs.declared.cell.Cell.{Cell}
 use Rattle.rt_node.specs.Node.{NodeCells}
 use Rattle.rt_node.specs.Places.{key_of, picked, rects, times_named, no_cell, cells_of, cells_at}
 use Rattle.rt_node.specs.Homes.{KeepsIds}
 use Rattle.rt_node.specs.Whole.{IsSound, IsWhole}
-use Rattle.rt_place.specs.Rise.{Raises, StaysRoot, SplitsRoot, Grows}
+use Rattle.rt_place.specs.Rise.{Raises, Grows}
 use Rattle.rt_place.specs.Steps.{Refits, IsPair, Divides, Relieves, IsRising, Lifts}
 use Rattle.rt_place.proofs.Closed.{whole-at_root}
 use Rattle.rt_place.proofs.Lifted.{apart, rising-pair, mid-once, lifted}

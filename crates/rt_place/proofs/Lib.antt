@@ -19,3 +19,5 @@ pub mod Closed
 pub mod Raised
 pub mod Grown
 pub mod Entered
+pub mod Upward
+pub mod Placed

@@ -1,5 +1,5 @@
 -- One step up: the node is relieved, and the cell above it is given the least box.
-use Rattle.std.proofs.Common.{◌≡◌, ◌≢◌, ◌⊎◌, ℕ, zero, suc, ◌+◌, ◌<◌, ◌≤◌, Bool, pos, List, [], ◌∷◌, length, get_or, set, Some, None, unsigned_abs, nat_eq, cond, count_by, eqb-true, arith, refl, ap, ◌∙◌, sym, subst, inl, inr}
+use Rattle.std.proofs.Common.{◌≡◌, ◌≢◌, ℕ, zero, suc, ◌<◌, ◌≤◌, pos, List, [], ◌∷◌, length, get_or, set, Some, unsigned_abs, cond, count_by, eqb-true, arith, refl, ap, ◌∙◌, sym, subst, inl, inr}
 use Rattle.std.specs.Ordering.{int_eq}
 use Rattle.std.specs.List.{All, Contains}
 use Rattle.std.proofs.lemmas.Option.{none-some, same_Some}
@@ -12,11 +12,9 @@ use Rattle.rt_box.specs.Capacity.{least_fill}
 use Rattle.rt_node.specs.declared.arena.Arena.{Arena}
 use Rattle.rt_node.specs.declared.arena.Work.{Work}
 use Rattle.rt_node.specs.declared.cell.Cell.{Cell}
-use Rattle.rt_node.specs.declared.cell.Waiting.{Waiting}
 use Rattle.rt_node.specs.Node.{NodeCells}
-use Rattle.rt_node.specs.Places.{key_of, times_named, times_listed, numbers, cells_of, leaf_cells_of, level_of, parent_of, level_at, parent_at, cells_at, inner_cells_of, inner_cells_at, waiting_nodes, count_rows}
-use Rattle.rt_node.specs.Sound.{NamesChild, IsLinked, IsFitted, HasHomes}
-use Rattle.rt_node.specs.Open.{IsFittedBut, IsOpen}
+use Rattle.rt_node.specs.Places.{key_of, times_named, times_listed, numbers, cells_of, leaf_cells_of, level_of, parent_of, level_at, parent_at, cells_at, inner_cells_of, inner_cells_at, waiting_nodes}
+use Rattle.rt_node.specs.Sound.{NamesChild, IsLinked}
 use Rattle.rt_node.specs.Whole.{IsSound}
 use Rattle.rt_node.specs.Path.{KeepsShape}
 use Rattle.rt_node.proofs.Counts.{count-cons}
@@ -24,13 +22,12 @@ use Rattle.rt_node.proofs.Places.{inner-at_inner, names_key}
 use Rattle.rt_node.proofs.Links.{same-at, above-some, boxes-changed}
 use Rattle.rt_node.proofs.Fitted.{fitted-weaker, opened}
 use Rattle.rt_node.proofs.Homes.{homes-same}
-use Rattle.rt_place.specs.Steps.{IsNamedAt, Refits, IsPair, Relieves, LetsBe, SplitsMarked, GivesUnmarked, Treats, IsRising, KeepsRows, Lifts}
+use Rattle.rt_place.specs.Steps.{IsNamedAt, Refits, IsPair, Relieves, Treats, IsRising, KeepsRows, Lifts}
 use Rattle.rt_place.specs.Way.{LeadsUp}
 use Rattle.rt_place.proofs.Attached.{leaf-none, rows-updated}
 use Rattle.rt_place.proofs.Divides.{either_key}
 use Rattle.rt_place.proofs.Refitted.{refitted-fitted}
 use Rattle.rt_place.proofs.Way.{way-settled, level-above, way-kept}
-use Rattle.rt_place.proofs.WayDown.{node-from_level}
 
 module _ {D : ℕ} where
   -- where a cell that names the node is
@@ -231,45 +228,45 @@ module _ {D : ℕ} (t : Arena D) (key parent : ℕ) (rising : IsRising t key) (u
       treated : (marks marks1 : ℕ) (work work1 : Work) → Treats t mid key parent marks marks1 work work1 → Treats t (record mid { nodes = b }) key parent marks marks1 work work1
       treated marks marks1 work work1 either = elim either [
         | inl is ↦ inl record {
-            fits = is.fits;
+          fits = is.fits;
+          waiting = is.waiting;
+          leaves = is.leaves;
+          len = done.nodes.len ∙ is.len;
+          above = long ∙ is.above;
+          marks_same = is.marks_same;
+          placements = is.placements;
+          splits = is.splits;
+          reinsertions = is.reinsertions;
+        }
+        | inr others ↦ elim others [
+          | inl is ↦ inr (inl record {
+            full = is.full;
+            level = is.level;
+            here = is.here;
+            marked = is.marked;
             waiting = is.waiting;
-            leaves = is.leaves;
             len = done.nodes.len ∙ is.len;
             above = long ∙ is.above;
             marks_same = is.marks_same;
             placements = is.placements;
             splits = is.splits;
             reinsertions = is.reinsertions;
-          }
-        | inr others ↦ elim others [
-          | inl is ↦ inr (inl record {
-              full = is.full;
-              level = is.level;
-              here = is.here;
-              marked = is.marked;
-              waiting = is.waiting;
-              len = done.nodes.len ∙ is.len;
-              above = long ∙ is.above;
-              marks_same = is.marks_same;
-              placements = is.placements;
-              splits = is.splits;
-              reinsertions = is.reinsertions;
-            })
+          })
           | inr is ↦ inr (inr record {
-              full = is.full;
-              level = is.level;
-              here = is.here;
-              unmarked = is.unmarked;
-              marked = is.marked;
-              far = is.far;
-              share = is.share;
-              waiting = is.waiting;
-              len = done.nodes.len ∙ is.len;
-              above = long ∙ is.above;
-              placements = is.placements;
-              splits = is.splits;
-              reinsertions = is.reinsertions;
-            })
+            full = is.full;
+            level = is.level;
+            here = is.here;
+            unmarked = is.unmarked;
+            marked = is.marked;
+            far = is.far;
+            share = is.share;
+            waiting = is.waiting;
+            len = done.nodes.len ∙ is.len;
+            above = long ∙ is.above;
+            placements = is.placements;
+            splits = is.splits;
+            reinsertions = is.reinsertions;
+          })
         ]
       ]
 

@@ -1,5 +1,5 @@
 -- A tree after a new root was made above the old one.
-use Rattle.std.proofs.Common.{◌≡◌, ◌≢◌, ◌⊎◌, ℕ, zero, suc, ◌+◌, ◌<◌, ◌≤◌, Bool, pos, unsigned_abs, List, [], ◌∷◌, ◌++◌, length, None, Some, count_by, arith, refl, ap, ◌∙◌, sym, subst, inl, inr}
+use Rattle.std.proofs.Common.{◌≡◌, ◌≢◌, ℕ, suc, ◌+◌, ◌<◌, ◌≤◌, Bool, pos, unsigned_abs, List, [], ◌∷◌, ◌++◌, length, None, Some, arith, refl, ap, ◌∙◌, sym, subst, inl, inr}
 use Rattle.std.specs.Ordering.{int_eq}
 use Rattle.std.specs.List.{All}
 use Rattle.std.proofs.lemmas.Bool.{cases_eq}
@@ -14,16 +14,15 @@ use Rattle.rt_node.specs.declared.arena.Arena.{Arena}
 use Rattle.rt_node.specs.declared.cell.Cell.{Cell}
 use Rattle.rt_node.specs.declared.cell.Waiting.{Waiting}
 use Rattle.rt_node.specs.Node.{NodeCells}
-use Rattle.rt_node.specs.Places.{key_of, times_named, times_listed, cells_of, leaf_cells_of, level_of, parent_of, cells_at, level_at, parent_at, inner_cells_at, waiting_rows, waiting_nodes, count_rows}
+use Rattle.rt_node.specs.Places.{key_of, times_named, times_listed, cells_of, leaf_cells_of, level_of, parent_of, cells_at, level_at, parent_at, inner_cells_at, waiting_nodes, count_rows}
 use Rattle.rt_node.specs.Changes.{Puts}
 use Rattle.rt_node.specs.Open.{HasHull, IsFittedBut, IsOpen}
 use Rattle.rt_node.proofs.Places.{inner-at_inner, rows-joined, has_id, named-one}
-use Rattle.rt_node.proofs.Links.{new-at, same-at, above-some, crowned}
+use Rattle.rt_node.proofs.Links.{new-at, above-some, crowned}
 use Rattle.rt_node.proofs.Fitted.{fitted-weaker, fitted-moved, opened}
 use Rattle.rt_node.proofs.Homes.{homes-same, homes-waiting}
 use Rattle.rt_place.specs.Rise.{Raises}
 use Rattle.rt_place.specs.Steps.{Attaches, IsRising}
-use Rattle.rt_place.specs.Way.{LeadsUp}
 use Rattle.rt_place.proofs.Attached.{attached, rows-attached}
 use Rattle.rt_place.proofs.Closed.{closed}
 use Rattle.rt_place.proofs.Created.{rows-created}

@@ -1,16 +1,14 @@
 -- The steps up from a node that a cell was placed in, one after another.
-use Rattle.std.proofs.Common.{◌≡◌, ◌≢◌, ◌⊎◌, ℕ, zero, suc, ◌+◌, ◌<◌, ◌≤◌, Bool, List, ◌++◌, length, Some, None, vec_capacity, arith, refl, ap, ◌∙◌, sym, subst, inl, inr}
-use Rattle.std.specs.List.{Contains}
+use Rattle.std.proofs.Common.{◌≡◌, ◌⊎◌, ℕ, zero, suc, ◌+◌, ◌<◌, ◌≤◌, List, ◌++◌, length, Some, None, vec_capacity, arith, refl, ap, ◌∙◌, sym, inl, inr}
 use Rattle.std.proofs.lemmas.Option.{none-some, same_Some}
 use Rattle.slab.specs.Slab.{slab_len}
 use Rattle.rt_box.specs.Capacity.{reinsertion_share}
 use Rattle.rt_node.specs.declared.arena.Arena.{Arena}
 use Rattle.rt_node.specs.declared.arena.Work.{Work}
-use Rattle.rt_node.specs.declared.cell.Waiting.{Waiting}
-use Rattle.rt_node.specs.Places.{level_at, parent_at, cells_at}
+use Rattle.rt_node.specs.Places.{parent_at, cells_at}
 use Rattle.rt_place.specs.Placing.{InsertsAgain, InsertsNone}
 use Rattle.rt_place.specs.Rise.{IsUpward, KeepsAllBut, StartsAt, HasStepped, HasRisen}
-use Rattle.rt_place.specs.Steps.{LetsBe, SplitsMarked, GivesUnmarked, IsRising, KeepsRows, Lifts, waiting_at}
+use Rattle.rt_place.specs.Steps.{IsRising, KeepsRows, Lifts, waiting_at}
 use Rattle.rt_place.specs.Way.{LeadsUp}
 use Rattle.rt_place.proofs.Lifted.{parent-level, parent-most}
 use Rattle.rt_place.proofs.Shapes.{shape-none, shape-then}
@@ -72,18 +70,18 @@ module _ {D : ℕ} where
     waits-again : InsertsAgain s t s.waiting.items marks marks1 work work1 → length (cells_at t.nodes key) ≤ t.capacity → Waits
     waits-again is fits = elim step.treats [
       | inl lets ↦ inl (
-          record {
-            level = is.level;
-            unmarked = is.unmarked;
-            marked = lets.marks_same ∙ is.marked;
-            inner = let inner = is.inner in let l = step.keeps.level in omega arith;
-            far = is.far;
-            share = is.share;
-            waiting = ap (λ w. w.items) lets.waiting ∙ is.waiting;
-            counted = lets.reinsertions ∙ is.counted;
-          },
-          above-fits lets.above,
-        )
+        record {
+          level = is.level;
+          unmarked = is.unmarked;
+          marked = lets.marks_same ∙ is.marked;
+          inner = let inner = is.inner in let l = step.keeps.level in omega arith;
+          far = is.far;
+          share = is.share;
+          waiting = ap (λ w. w.items) lets.waiting ∙ is.waiting;
+          counted = lets.reinsertions ∙ is.counted;
+        },
+        above-fits lets.above,
+      )
       | inr others ↦ elim others [
         | inl splits ↦ let full = splits.full in absurd (omega arith)
         | inr gives ↦ let full = gives.full in absurd (omega arith)
@@ -93,16 +91,16 @@ module _ {D : ℕ} where
     waits-none : InsertsNone t s.waiting.items marks marks1 work work1 → Waits
     waits-none is = elim step.treats [
       | inl lets ↦ inr record {
-          marked = lets.marks_same ∙ is.marked;
-          waiting = ap (λ w. w.items) lets.waiting ∙ is.waiting;
-          counted = lets.reinsertions ∙ is.counted;
-        }
+        marked = lets.marks_same ∙ is.marked;
+        waiting = ap (λ w. w.items) lets.waiting ∙ is.waiting;
+        counted = lets.reinsertions ∙ is.counted;
+      }
       | inr others ↦ elim others [
         | inl splits ↦ inr record {
-            marked = splits.marks_same ∙ is.marked;
-            waiting = ap (λ w. w.items) splits.waiting ∙ is.waiting;
-            counted = splits.reinsertions ∙ is.counted;
-          }
+          marked = splits.marks_same ∙ is.marked;
+          waiting = ap (λ w. w.items) splits.waiting ∙ is.waiting;
+          counted = splits.reinsertions ∙ is.counted;
+        }
         | inr gives ↦
             let same : rising.level ≡ gives.level = same_Some rising.level gives.level (sym rising.here ∙ gives.here) in
             let high = step.next.sound.linked.levels parent step.next.level step.next.here in
@@ -150,13 +148,13 @@ module _ {D : ℕ} where
         let on_parent = upward key parent is.on (sym ((is.shape key).parent) ∙ up) in
         elim step.treats [
           | inl lets ↦ record {
-              shape = λ k. shape-then s.nodes t.nodes u.nodes path k (is.shape k) (step.shape is.fits path is.on k);
-              leaves = lets.leaves ∙ is.leaves;
-              on = on_parent;
-              fits = above-fits lets.above;
-              splits = lets.splits ∙ is.splits;
-              reinsertions = lets.reinsertions ∙ is.reinsertions;
-            }
+            shape = λ k. shape-then s.nodes t.nodes u.nodes path k (is.shape k) (step.shape is.fits path is.on k);
+            leaves = lets.leaves ∙ is.leaves;
+            on = on_parent;
+            fits = above-fits lets.above;
+            splits = lets.splits ∙ is.splits;
+            reinsertions = lets.reinsertions ∙ is.reinsertions;
+          }
           | inr others ↦ elim others [
             | inl other ↦ absurd (omega (arith, other.full, is.fits))
             | inr other ↦ absurd (omega (arith, other.full, is.fits))

@@ -6,7 +6,7 @@ use Rattle.slab.specs.Slab.{Slab, get, ContainsKey}
 use Rattle.rt_box.specs.declared.interval.Interval.{Interval}
 use Rattle.rt_choice.specs.Subtree.{IsBestChild}
 use Rattle.rt_node.specs.Node.{NodeCells}
-use Rattle.rt_node.specs.Places.{key_of, times_named, rects, level_of, cells_at, inner_cells_at, level_at, parent_at}
+use Rattle.rt_node.specs.Places.{key_of, times_named, rects, level_of, cells_at, level_at, parent_at}
 use Rattle.rt_node.specs.Sound.{NamesChild}
 use Rattle.rt_node.specs.Path.{LeadsTo}
 use Rattle.rt_node.proofs.Counts.{count-some}

@@ -42,6 +42,7 @@ pub fn choose_node<const D: usize>(
     ensures way { (steps : ℕ) × LeadsUp nodes.now root steps result }
     ensures path { target ≡ 0 → (path : List ℕ) × LeadsTo nodes.now level root rect.now result path }
 {
+    // Says that there are one to three axes.
     let _ = rect.axes();
     let mut key = root;
     let mut height = level;

@@ -21,6 +21,7 @@ fn raise<const D: usize>(tree: &mut Arena<D>)
     requires height { tree.old.level ≤ 30 }
     ensures { Raises tree.old tree.new }
 {
+    // Says that keys are below the capacity, and so fit into a cell.
     let _ = tree.nodes.capacity();
     let hull = hull_at(&tree.nodes, tree.root);
     let cell = cell_for(tree.root, &hull);

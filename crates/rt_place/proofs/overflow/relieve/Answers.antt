@@ -1,5 +1,4 @@
-use Rattle.std.proofs.Common.{◌≡◌, ◌+◌, length, arith, refl, ap, sym, ◌∙◌}
-use Rattle.std.proofs.lemmas.Option.{same_Some}
+use Rattle.std.proofs.Common.{◌≡◌, ◌+◌, length, arith, refl, ap}
 use Rattle.rt_node.specs.Places.{cells_of, cells_at}
 use Rattle.rt_place.proofs.Relieved.{relieved-given_up, treats-given_up}
 use Rattle.rt_place.proofs.overflow.relieve.Goals as goal

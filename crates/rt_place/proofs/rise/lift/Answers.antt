@@ -1,4 +1,4 @@
-use Rattle.std.proofs.Common.{◌≡◌, ℕ, suc, ◌+◌, ◌^◌, ◌≤◌, length, arith, rules}
+use Rattle.std.proofs.Common.{ℕ, suc, ◌+◌, ◌^◌, ◌≤◌, length, arith, rules}
 use Rattle.slab.specs.Slab.{ContainsKey}
 use Rattle.rt_box.specs.Capacity.{least_fill}
 use Rattle.rt_node.specs.Places.{cells_at}

@@ -3,8 +3,7 @@ use Rattle.slab.specs.Slab.{HasRoomFor}
 use Rattle.rt_node.specs.Places.{cells_at, parent_at, parent_of}
 use Rattle.rt_place.specs.Rise.{HasRisen}
 use Rattle.rt_place.specs.Steps.{IsRising}
-use Rattle.rt_place.proofs.Risen.{risen-start, risen-more, ends-at_root, room-left, waiting-room_left, reinsertions-few}
-use Rattle.rt_place.proofs.WayDown.{present}
+use Rattle.rt_place.proofs.Risen.{risen-more, ends-at_root, room-left, waiting-room_left, reinsertions-few}
 use Rattle.rt_place.proofs.rise.rise.Goals as goal
 
 pub lift-requires : goal.lift-requires

@@ -15,7 +15,7 @@ module _ {S : Type 0} where
 
 module _ {D : ℕ} where
   -- the row waits, and its entry leads to whichever leaf; the nodes are as before
-  pub record Enters (old new : Arena D) (cell : Cell D) : Type 0 where
+  pub record AwaitsLeaf (old new : Arena D) (cell : Cell D) : Type 0 where
     pub leaf : ℕ
     pub learns : Learns old.leaves new.leaves cell.number leaf
     pub waiting : new.waiting.items ≡ old.waiting.items ++ record { level = 0; cell = cell } ∷ []

@@ -19,7 +19,7 @@ use Rattle.rt_node.specs.Sound.{Names, IsLinked, IsFitted, HasHomes}
 use Rattle.rt_node.specs.Whole.{IsWhole, HasRoom, row_count}
 use Rattle.rt_node.proofs.Counts.{count-cons}
 use Rattle.rt_node.proofs.Homes.{same-id, listed-one, listed-other}
-use Rattle.rt_insert.specs.Entering.{Learns, Enters}
+use Rattle.rt_insert.specs.Awaiting.{Learns, AwaitsLeaf}
 use Rattle.rt_insert.specs.Insertion.{GainsId}
 
 module _ {D : ℕ} where
@@ -30,8 +30,8 @@ module _ {D : ℕ} where
   abbrev alone : Cell D → List (Waiting D)
   alone c = waiting_row c ∷ []
 
-  linked-entered : (a : Slab (NodeCells D)) (root level : ℕ) (c : Cell D) → IsLinked a root level [] → IsLinked a root level (alone c)
-  linked-entered a root level c linked = record {
+  linked-awaiting : (a : Slab (NodeCells D)) (root level : ℕ) (c : Cell D) → IsLinked a root level [] → IsLinked a root level (alone c)
+  linked-awaiting a root level c linked = record {
     root_level = linked.root_level;
     root_parent = linked.root_parent;
     root_waits_not = refl;
@@ -43,8 +43,8 @@ module _ {D : ℕ} where
         (All-nil (λ w. (l : ℕ) → w.level ≡ suc l → Names a l w.cell));
   }
 
-  fitted-entered : (M : ℕ) (a : Slab (NodeCells D)) (root : ℕ) (c : Cell D) → IsBox D c.rect → IsFitted M a root [] None → IsFitted M a root (alone c) None
-  fitted-entered M a root c box fitted = record {
+  fitted-awaiting : (M : ℕ) (a : Slab (NodeCells D)) (root : ℕ) (c : Cell D) → IsBox D c.rect → IsFitted M a root [] None → IsFitted M a root (alone c) None
+  fitted-awaiting M a root c box fitted = record {
     cap = fitted.cap;
     some = fitted.some;
     least = fitted.least;
@@ -56,9 +56,9 @@ module _ {D : ℕ} where
         (All-nil (λ w. (l : ℕ) → w.level ≡ suc l → w.cell.rect ≡ hull_at a (key_of w.cell)));
   }
 
-  homes-entered : (f g : ℤ → Option ℕ) (a : Slab (NodeCells D)) (c : Cell D) (leaf : ℕ) → f c.number ≡ None → g c.number ≡ Some leaf →
+  homes-awaiting : (f g : ℤ → Option ℕ) (a : Slab (NodeCells D)) (c : Cell D) (leaf : ℕ) → f c.number ≡ None → g c.number ≡ Some leaf →
       ((id : ℤ) → id ≢ c.number → g id ≡ f id) → HasHomes f a [] → HasHomes g a (alone c)
-  homes-entered f g a c leaf absent here others homes = record {
+  homes-awaiting f g a c leaf absent here others homes = record {
     home = λ key id some. elim (same-id id c.number) [
       | inl same ↦ absurd (none-some key (sym absent ∙ ap f (sym same) ∙ homes.home key id some))
       | inr differs ↦ others id differs ∙ homes.home key id some
@@ -81,27 +81,27 @@ module _ {D : ℕ} where
     ];
   }
 
-  module _ (old mid : Arena D) (c : Cell D) (entered : Enters old mid c) (idle : old.waiting.items ≡ []) where
+  module _ (old mid : Arena D) (c : Cell D) (awaits : AwaitsLeaf old mid c) (idle : old.waiting.items ≡ []) where
     -- the arena, spelled out
-    abbrev pub entered_arena : Arena D
-    entered_arena = record old { leaves = mid.leaves; waiting = mid.waiting }
+    abbrev pub awaiting_arena : Arena D
+    awaiting_arena = record old { leaves = mid.leaves; waiting = mid.waiting }
 
     pub waits-alone : mid.waiting.items ≡ waiting_row c ∷ []
-    waits-alone = entered.waiting ∙ ap (λ ws. ws ++ waiting_row c ∷ []) idle
+    waits-alone = awaits.waiting ∙ ap (λ ws. ws ++ waiting_row c ∷ []) idle
 
-    whole-spelled : IsWhole old → leaf_of int_eq old.leaves c.number ≡ None → IsBox D c.rect → IsWhole entered_arena
+    whole-spelled : IsWhole old → leaf_of int_eq old.leaves c.number ≡ None → IsBox D c.rect → IsWhole awaiting_arena
     whole-spelled whole absent box = record {
       linked = subst (IsLinked old.nodes old.root old.level) (sym waits-alone)
-          (linked-entered old.nodes old.root old.level c (subst (IsLinked old.nodes old.root old.level) idle whole.linked));
+          (linked-awaiting old.nodes old.root old.level c (subst (IsLinked old.nodes old.root old.level) idle whole.linked));
       fitted = subst (λ ws. IsFitted old.capacity old.nodes old.root ws None) (sym waits-alone)
-          (fitted-entered old.capacity old.nodes old.root c box (subst (λ ws. IsFitted old.capacity old.nodes old.root ws None) idle whole.fitted));
+          (fitted-awaiting old.capacity old.nodes old.root c box (subst (λ ws. IsFitted old.capacity old.nodes old.root ws None) idle whole.fitted));
       homes = subst (HasHomes (leaf_of int_eq mid.leaves) old.nodes) (sym waits-alone)
-          (homes-entered (leaf_of int_eq old.leaves) (leaf_of int_eq mid.leaves) old.nodes c entered.leaf absent entered.learns.here entered.learns.others
+          (homes-awaiting (leaf_of int_eq old.leaves) (leaf_of int_eq mid.leaves) old.nodes c awaits.leaf absent awaits.learns.here awaits.learns.others
           (subst (HasHomes (leaf_of int_eq old.leaves) old.nodes) idle whole.homes));
     }
 
-    pub whole-entered : IsWhole old → leaf_of int_eq old.leaves c.number ≡ None → IsBox D c.rect → IsWhole mid
-    whole-entered whole absent box = subst IsWhole (sym entered.rest) (whole-spelled whole absent box)
+    pub whole-awaiting : IsWhole old → leaf_of int_eq old.leaves c.number ≡ None → IsBox D c.rect → IsWhole mid
+    whole-awaiting whole absent box = subst IsWhole (sym awaits.rest) (whole-spelled whole absent box)
 
     -- one row more
     pub rows-spelled : (test : Cell D → Bool) →
@@ -112,13 +112,13 @@ module _ {D : ℕ} where
         let one = count-cons test c [] in
         omega (arith, p, q, one)
 
-    pub rows-entered : row_count mid ≡ row_count old + 1
-    rows-entered = ap row_count entered.rest ∙ rows-spelled (λ x. true)
+    pub rows-awaiting : row_count mid ≡ row_count old + 1
+    rows-awaiting = ap row_count awaits.rest ∙ rows-spelled (λ x. true)
 
-    pub room-entered : HasRoom old (row_count old + 1) → HasRoom mid (row_count mid)
-    room-entered room =
-        subst (λ t. HasRoom t (row_count mid)) (sym entered.rest)
-        (subst (λ n. HasRoom entered_arena n) (sym rows-entered) (record { nodes = room.nodes; keys = room.keys }))
+    pub room-awaiting : HasRoom old (row_count old + 1) → HasRoom mid (row_count mid)
+    room-awaiting room =
+        subst (λ t. HasRoom t (row_count mid)) (sym awaits.rest)
+        (subst (λ n. HasRoom awaiting_arena n) (sym rows-awaiting) (record { nodes = room.nodes; keys = room.keys }))
 
     pub waits-one : vec_len mid.waiting ≡ 1
     waits-one = omega (arith, ap length waits-alone)
