@@ -2,9 +2,12 @@
 #![tactic(auto)]
 
 #[cfg(test)]
+mod following;
+#[cfg(test)]
+mod growth;
+#[cfg(test)]
 mod outside;
 #[cfg(test)]
 mod plain;
-
-#[test]
-fn nothing(rt: HostRuntime) {}
+#[cfg(test)]
+mod worked;
