@@ -1,4 +1,4 @@
--- The steps up from a node that a cell was placed in.
+-- The parts of a placement: a cell comes into a node, steps lead up from there, and an overfull root is split.
 use Rattle.std.specs.Prelude.{◌≡◌, ◌≢◌, ◌⊎◌, ℕ, suc, ◌+◌, ◌≤◌, ◌<◌, Bool, pos, List, [], ◌∷◌, ◌++◌, Some, length, Contains}
 use Rattle.slab.specs.Slab.{Slab, slab_len}
 use Rattle.rt_choice.specs.declared.split.Cut.{Cut}
@@ -38,12 +38,12 @@ module _ {D : ℕ} where
     pub marks_is : marks1 ≡ marks
     pub work_is : work1 ≡ work
 
-  -- a step was made, in which the node that they began at gave up cells, where it was overfull and no level marked
+  -- a step was made, and more, maybe: at the first the node gave up cells, where it was overfull and no level marked
   pub record HasStepped (old : Arena D) (from level marks : ℕ) (work work1 : Work) : Type 0 where
     pub higher : 1 ≤ level
     pub again : old.capacity < length (cells_at old.nodes from) → marks ≡ 0 → work1.reinsertions ≡ suc work.reinsertions
 
-  -- steps up have come to the node at the key
+  -- steps up have come to the node at the key; one node at most gave up cells, and from there on none is overfull
   pub record HasRisen (old new : Arena D) (from key marks marks1 : ℕ) (work work1 : Work) : Type 0 where
     pub rising : IsRising new key
     pub keeps : KeepsRows old new

@@ -218,7 +218,7 @@ module _ {D : ℕ} where
     pub splits : work1.splits ≡ work.splits
     pub reinsertions : work1.reinsertions ≡ suc work.reinsertions
 
-  -- levels below `marks` are marked
+  -- what became of a node that might be overfull; levels below `marks` are marked
   abbrev pub Treats : Arena D → Arena D → ℕ → ℕ → ℕ → ℕ → Work → Work → Type 0
   Treats old new key parent marks marks1 work work1 =
       LetsBe old new key parent marks marks1 work work1 ⊎ SplitsMarked old new key parent marks marks1 work work1
@@ -236,7 +236,7 @@ module _ {D : ℕ} where
     pub filled : key ≢ t.root → least_fill t.capacity ≤ length (cells_at t.nodes key)
     pub most : length (cells_at t.nodes key) ≤ t.capacity + 1
 
-  -- the rows stay, in the tree or among what waits, and the root with all of its cells
+  -- the rows stay, in the tree or among what waits, and the root, which has no fewer cells than before
   pub record KeepsRows (old new : Arena D) : Type 0 where
     pub rows : (test : Cell D → Bool) → count_rows test new.nodes new.waiting.items ≡ count_rows test old.nodes old.waiting.items
     pub ids : KeepsIds old.leaves new.leaves

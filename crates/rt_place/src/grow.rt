@@ -1,6 +1,6 @@
 //! The root at the end of a placement.
 
-ghost use Rattle.std.specs.Prelude.{◌^◌, ◌<◌, ◌≤◌, length};
+ghost use Rattle.std.specs.Prelude.{◌+◌, ◌^◌, ◌<◌, ◌≤◌, length};
 ghost use Rattle.slab.specs.Slab.{HasRoomFor};
 ghost use Rattle.rt_node.specs.Places.{cells_at};
 ghost use Rattle.rt_place.specs.Steps.{IsRising};
@@ -40,7 +40,7 @@ pub(crate) fn grow<const D: usize>(tree: &mut Arena<D>, work: &mut Work)
     requires room { HasRoomFor tree.old.nodes 2 }
     requires keys { tree.old.nodes.capacity ≤ 2 ^ 62 }
     requires height { tree.old.level ≤ 30 }
-    requires splits { work.old.splits < 4294967295 }
+    requires splits { work.old.splits + 1 < 2 ^ 32 }
     ensures { Grows tree.old tree.new work.old work.new }
 {
     let key = tree.root;

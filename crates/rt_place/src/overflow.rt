@@ -26,8 +26,8 @@ pub(crate) fn relieve<const D: usize>(
     requires keys { tree.old.nodes.capacity ≤ 2 ^ 62 }
     requires height { tree.old.level ≤ 30 }
     requires waiting_room { tree.old.capacity < length (cells_at tree.old.nodes key) → vec_len tree.old.waiting + 15 ≤ vec_capacity tree.old.waiting }
-    requires splits { work.old.splits < 4294967295 }
-    requires reinsertions { work.old.reinsertions < 4294967295 }
+    requires splits { work.old.splits + 1 < 2 ^ 32 }
+    requires reinsertions { work.old.reinsertions + 1 < 2 ^ 32 }
     ensures relieves { Relieves tree.old tree.new key parent }
     ensures treats { Treats tree.old tree.new key parent marks.old marks.new work.old work.new }
 {

@@ -25,8 +25,8 @@ lift-requires g c =
       waiting-room_left s t c.args.from c.loop-parent.key c.args.marks.now c.loop-parent.marks c.args.work.now c.loop-parent.work so_far
           (omega (arith, s.waiting.ok.0, c.requires.waiting_room)) full,
     ) in
-    let splits : c.loop-parent.work.splits < 4294967295 = omega (arith, left.1, c.requires.splits) in
-    let reinsertions : c.loop-parent.work.reinsertions < 4294967295 =
+    let splits : c.loop-parent.work.splits + 1 < 2 ^ 32 = omega (arith, left.1, c.requires.splits) in
+    let reinsertions : c.loop-parent.work.reinsertions + 1 < 2 ^ 32 =
     omega (arith, reinsertions-few s t c.args.from c.loop-parent.key c.args.marks.now c.loop-parent.marks c.args.work.now c.loop-parent.work so_far, c.requires.reinsertions) in
     search rules
 
