@@ -49,7 +49,7 @@ fn refused_growth_changes_nothing(rt: HostRuntime) -> Result<(), Fail> {
     for round in 0..4i64 {
         let rows = round.wrapping_mul(40);
         for _ in 0..2 {
-            if tree.spare() < 40 && tree.reserve(rt.alloc(), 40).is_err() {
+            if tree.spare() < 40 && tree.reserve(40).is_err() {
                 expect_rows(&rt, &tree, rows);
             }
         }
