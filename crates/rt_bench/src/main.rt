@@ -3,14 +3,19 @@
 #![tactic(auto)]
 
 mod choices;
+mod tree;
 
 use std::{env, io};
 
 fn main(rt: HostRuntime) -> io::Result<()> {
-    for word in env::args(&rt)? {
-        if word.as_str() == "choices" {
-            choices::report(&rt)?;
+    let words: Vec<String> = env::args(&rt)?.collect(rt.alloc())?;
+    match words.as_slice() {
+        [_, what] if what.as_str() == "choices" => choices::report(&rt),
+        [_, what, axes, rows] if what.as_str() == "tree" => {
+            let axes = axes.as_str().parse::<u8>().unwrap_or(2);
+            let rows = rows.as_str().parse::<u64>().unwrap_or(10_000);
+            tree::report(&rt, axes, rows)
         }
+        _ => Ok(()),
     }
-    Ok(())
 }

@@ -3,12 +3,13 @@
 ghost use Rattle.std.specs.Prelude.{◌≤◌};
 
 use rt_box::{Capacity, Op6, Rect, Window};
+use rt_node::Node;
 use rt_tree::Tree;
+use std::alloc::Global;
 use std::hash::RandomState;
 use std::io;
 use std::mem::size_of;
 use std::rt::Clock;
-use std::test::Fail;
 use std::time::Instant;
 
 /// How the rows lie.
@@ -47,7 +48,12 @@ fn below(seed: u64, limit: u32) -> i64 {
 fn ends(shape: Shape, row: u64, axis: u64) -> (i64, i64) {
     let seed = mixed(row.wrapping_mul(8).wrapping_add(axis));
     let more = mixed(seed);
-    let cluster = mixed((row % 100).wrapping_mul(8).wrapping_add(axis).wrapping_add(4));
+    let cluster = mixed(
+        (row % 100)
+            .wrapping_mul(8)
+            .wrapping_add(axis)
+            .wrapping_add(4),
+    );
     let lo = match shape {
         Shape::Uniform => below(seed, 1_000_000),
         Shape::Clustered => below(cluster, 1_000_000).wrapping_add(below(seed, 5000)),
@@ -64,7 +70,8 @@ fn ends(shape: Shape, row: u64, axis: u64) -> (i64, i64) {
 
 /// The box of the row with this number, wider by `grow` at each end.
 fn rect_of<const D: usize>(shape: Shape, row: u64, grow: i64) -> Option<Rect<D>>
-    requires { D ≤ 3 }
+    requires some { 1 ≤ D }
+    requires few { D ≤ 3 }
 {
     let mut lo = [0i32; D];
     let mut hi = [0i32; D];
@@ -116,4 +123,191 @@ fn reach(axes: usize, shape: Shape, rows: u64, target: u64) -> i64 {
         }
     }
     i64::try_from(side / 2).unwrap_or(0)
+}
+
+/// What a run took in nanoseconds a call, and what its searches found.
+#[derive(Clone, Copy)]
+struct Times {
+    insert: u128,
+    remove: u128,
+    look_up: u128,
+    searches: [u128; 2],
+    found: [u64; 2],
+    nodes: usize,
+}
+
+/// The rows that a tree may have.
+const MOST_ROWS: usize = 1 << 20;
+
+/// How rows are drawn, and how many.
+#[derive(Clone, Copy)]
+struct Load {
+    shape: Shape,
+    rows: u64,
+}
+
+/// The nanoseconds since the start, shared among so many calls.
+fn share<R: Clock>(rt: &R, start: &Instant, calls: u64) -> io::Result<u128> {
+    Ok(start.elapsed(rt)?.as_nanos() / u128::from(calls.max(1)))
+}
+
+fn time_insertions<R: Clock, const D: usize>(
+    rt: &R,
+    tree: &mut Tree<D>,
+    load: Load,
+) -> io::Result<u128>
+    requires some { 1 ≤ D }
+    requires few { D ≤ 3 }
+{
+    let start = Instant::now(rt)?;
+    for row in 1..=load.rows {
+        let id = i64::try_from(row).unwrap_or(0);
+        let Some(rect) = rect_of(load.shape, row, 0) else {
+            continue;
+        };
+        tree.reserve(1)?;
+        if tree.get(&id).is_none() && tree.spare() > 0 && tree.len() < MOST_ROWS {
+            let _ = tree.insert(&id, &rect);
+        }
+    }
+    share(rt, &start, load.rows)
+}
+
+/// The row that comes at a place, when all rows come in a scattered order.
+fn scattered(place: u64, rows: u64) -> i64 {
+    if rows == 0 {
+        return 0;
+    }
+    i64::try_from(place.wrapping_mul(7919) % rows)
+        .unwrap_or(0)
+        .wrapping_add(1)
+}
+
+fn time_look_ups<R: Clock, const D: usize>(rt: &R, tree: &Tree<D>, load: Load) -> io::Result<u128>
+    requires some { 1 ≤ D }
+    requires few { D ≤ 3 }
+{
+    let mut there = 0u64;
+    let start = Instant::now(rt)?;
+    for place in 0..load.rows {
+        if tree.get(&scattered(place, load.rows)).is_some() {
+            there = there.wrapping_add(1);
+        }
+    }
+    let time = share(rt, &start, load.rows)?;
+    Ok(if there == load.rows { time } else { 0 })
+}
+
+fn time_removals<R: Clock, const D: usize>(
+    rt: &R,
+    tree: &mut Tree<D>,
+    load: Load,
+) -> io::Result<u128>
+    requires some { 1 ≤ D }
+    requires few { D ≤ 3 }
+{
+    let removals = load.rows / 2;
+    let start = Instant::now(rt)?;
+    for place in 0..removals {
+        let id = scattered(place, load.rows);
+        if tree.get(&id).is_some() {
+            let _ = tree.remove(&id);
+        }
+    }
+    share(rt, &start, removals)
+}
+
+/// The time of a search, and the rows found in all.
+fn time_searches<R: Clock, const D: usize>(
+    rt: &R,
+    alloc: Global,
+    tree: &Tree<D>,
+    load: Load,
+    windows: u64,
+    target: u64,
+) -> io::Result<(u128, u64)>
+    requires some { 1 ≤ D }
+    requires few { D ≤ 3 }
+{
+    let grow = reach(D, load.shape, load.rows, target);
+    let mut found = 0u64;
+    let start = Instant::now(rt)?;
+    for round in 0..windows {
+        let row = mixed(round)
+            .checked_rem(load.rows)
+            .unwrap_or(0)
+            .wrapping_add(1);
+        let window = window_of(load.shape, row, grow);
+        found = found.wrapping_add(tree.search(alloc, &window)?.rows.len() as u64);
+    }
+    Ok((share(rt, &start, windows)?, found))
+}
+
+fn measure<R: Clock, const D: usize>(
+    rt: &R,
+    alloc: Global,
+    keys: RandomState,
+    load: Load,
+) -> io::Result<Times>
+    requires some { 1 ≤ D }
+    requires few { D ≤ 3 }
+{
+    let Some(capacity) = Capacity::new(51) else {
+        unreachable!()
+    };
+    let mut tree = Tree::<D>::new(alloc, keys, capacity)?;
+    let insert = time_insertions(rt, &mut tree, load)?;
+    let nodes = tree.node_count();
+    let look_up = time_look_ups(rt, &tree, load)?;
+    let (few, found_few) = time_searches(rt, alloc, &tree, load, 2000, 10)?;
+    let (many, found_many) = time_searches(rt, alloc, &tree, load, 200, load.rows / 100 + 1)?;
+    let remove = time_removals(rt, &mut tree, load)?;
+    Ok(Times {
+        insert,
+        remove,
+        look_up,
+        searches: [few, many],
+        found: [found_few, found_many],
+        nodes,
+    })
+}
+
+/// `size` is that of a node in bytes.
+fn report_load<const D: usize>(
+    rt: &HostRuntime,
+    name: &str,
+    load: Load,
+    size: usize,
+) -> io::Result<()>
+    requires some { 1 ≤ D }
+    requires few { D ≤ 3 }
+{
+    let times = measure::<_, D>(rt, rt.alloc(), RandomState::new(rt)?, load)?;
+    let whole = (times.nodes as u128)
+        .wrapping_mul(size as u128)
+        .wrapping_mul(10);
+    let tenths = whole / u128::from(load.rows.max(1));
+    let bytes = tenths / 10;
+    let tenth = tenths % 10;
+    let [few, many] = times.searches;
+    let [found_few, found_many] = times.found;
+    println!(rt;
+        "{D} {name} {} {} {} {} {few} {many} {bytes}.{tenth} {found_few} {found_many}",
+        load.rows, times.insert, times.remove, times.look_up
+    )
+}
+
+/// Prints a line for each shape: the axes, the shape, the rows, the nanoseconds of an insertion, a removal, a look-up, a
+/// search of some ten rows and one of a hundredth of the rows, the bytes of the nodes for each row, and the rows that the
+/// searches of both kinds found in all.
+pub fn report(rt: &HostRuntime, axes: u8, rows: u64) -> io::Result<()> {
+    for (shape, name) in SHAPES {
+        let load = Load { shape, rows };
+        match axes {
+            1 => report_load::<1>(rt, name, load, size_of::<Node<1>>())?,
+            2 => report_load::<2>(rt, name, load, size_of::<Node<2>>())?,
+            _ => report_load::<3>(rt, name, load, size_of::<Node<3>>())?,
+        }
+    }
+    Ok(())
 }

@@ -16,7 +16,8 @@ const MOST_ROWS: usize = 1 << 20;
 
 /// A box of the first axes.
 fn rect_of<const D: usize>(spans: &Spans) -> Option<Rect<D>>
-    requires { D ≤ 3 }
+    requires some { 1 ≤ D }
+    requires few { D ≤ 3 }
 {
     let mut lo = [0i32; D];
     let mut hi = [0i32; D];
@@ -61,7 +62,6 @@ pub(crate) fn insert_reserved<const D: usize>(
 
 /// Makes room for a row and inserts it.
 pub(crate) fn insert<const D: usize>(
-    alloc: Global,
     tree: &mut Tree<D>,
     id: i64,
     rect: &Rect<D>,
@@ -69,7 +69,7 @@ pub(crate) fn insert<const D: usize>(
     requires some { 1 ≤ D }
     requires few { D ≤ 3 }
 {
-    tree.reserve(alloc, 1)?;
+    tree.reserve(1)?;
     insert_reserved(tree, id, rect)
 }
 
@@ -130,7 +130,7 @@ fn insert_both<const D: usize>(
 {
     let spans = spans_of(pair.axes, id);
     let rect = rect_of(&spans).ok_or("no box")?;
-    insert(rt.alloc(), &mut pair.tree, id, &rect)?;
+    insert(&mut pair.tree, id, &rect)?;
     pair.plain.insert(rt.alloc(), id, spans)?;
     expect_same(rt, pair)
 }

@@ -46,19 +46,19 @@ fn refused_growth_changes_nothing(rt: HostRuntime) -> Result<(), Fail> {
     let Ok(mut tree) = Tree::new(rt.alloc(), keys, capacity) else {
         return Ok(());
     };
-    for round in 0..4i64 {
-        let rows = round.wrapping_mul(40);
+    for round in 0..3i64 {
+        let rows = round.wrapping_mul(12);
         for _ in 0..2 {
-            if tree.spare() < 40 && tree.reserve(rt.alloc(), 40).is_err() {
+            if tree.spare() < 12 && tree.reserve(12).is_err() {
                 expect_rows(&rt, &tree, rows);
             }
         }
-        for id in rows.wrapping_add(1)..=rows.wrapping_add(40) {
+        for id in rows.wrapping_add(1)..=rows.wrapping_add(12) {
             insert_reserved(&mut tree, id, &rect(id).ok_or("no box")?)?;
         }
-        look(&rt, keys, &tree, rows.wrapping_add(40))?;
+        look(&rt, keys, &tree, rows.wrapping_add(12))?;
     }
-    for id in (1..=160).rev() {
+    for id in (1..=36).rev() {
         remove(&mut tree, id)?;
         expect_rows(&rt, &tree, id.wrapping_sub(1));
     }

@@ -34,7 +34,7 @@ fn points(alloc: Global, keys: RandomState, places: &[i32]) -> Result<(Tree<1>, 
     for place in places {
         id = id.wrapping_add(1);
         let rect = Rect::new([*place], [*place]).ok_or("no box")?;
-        work = insert(alloc, &mut tree, id, &rect)?;
+        work = insert(&mut tree, id, &rect)?;
     }
     Ok((tree, work))
 }
