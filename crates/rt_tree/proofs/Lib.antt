@@ -7,3 +7,4 @@ pub mod Found
 pub mod Fresh
 pub mod Lookup
 pub mod Changed
+pub mod Roomier

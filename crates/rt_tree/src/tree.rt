@@ -1,6 +1,7 @@
 //! A tree.
 
-ghost use Rattle.std.specs.Prelude.{◌≡◌, ◌<◌, ◌≤◌, ◌+◌, ◌^◌, length, Some, None, IsSome, IfOk};
+ghost use Rattle.std.specs.Prelude.{◌≡◌, ◌<◌, ◌≤◌, ◌+◌, ◌-◌, ◌*◌, ◌^◌, length, Some, None, IsSome, IfOk, OnOk};
+ghost use Rattle.rt_box.specs.Capacity.{least_fill};
 ghost use Rattle.rt_tree.specs.Lists.{root_level, empty_lists, IsInShape};
 ghost use Rattle.rt_tree.specs.Rows.{box_of, GainsRow, LosesRow};
 ghost use Rattle.rt_tree.specs.Finding.{FindsIn};
@@ -54,6 +55,32 @@ impl<const D: usize> Model for Tree<D> {
     ghost view = { lists_of };
 
     ghost invariant = { IsKept };
+}
+
+/// The nodes that there is to be room for where there are so many rows: each but the root has `capacity.least()` cells.
+fn nodes_for(capacity: Capacity, rows: usize) -> usize
+    requires { rows ≤ 2 ^ 22 }
+    ensures { rows + (least_fill capacity - 1) * 33 ≤ (least_fill capacity - 1) * result }
+{
+    rows / (capacity.least() - 1) + 1 + NODES_AHEAD
+}
+
+/// A copy of the nodes that has room for so many. What was there stays as it was, so nothing is to be put back where
+/// no memory is left.
+fn with_room<const D: usize>(
+    nodes: &Slab<Node<D>>,
+    room: usize,
+) -> Result<Slab<Node<D>>, AllocError>
+    ensures same { IfOk result (λ copy. copy.slots ≡ nodes.now.slots) }
+    ensures room { IfOk result (λ copy. room ≤ copy.capacity) }
+    ensures keys { IfOk result (λ copy. copy.capacity ≤ 2 ^ 62) }
+{
+    let mut copy = nodes.clone()?;
+    copy.reserve(room.saturating_sub(nodes.len()))?;
+    if copy.capacity() > MOST_NODES {
+        return Err(AllocError);
+    }
+    Ok(copy)
 }
 
 impl<const D: usize> Tree<D> {
@@ -159,6 +186,33 @@ impl<const D: usize> Tree<D> {
         ensures { IfOk result (λ found. FindsIn self.now.lists window.now found.rows.items found.visited) }
     {
         search(alloc, &self.arena, window)
+    }
+
+    /// Makes room for so many further rows. The room grows by as many rows as there are, so that many reservations of
+    /// one row each copy each node a few times only.
+    ///
+    /// # Errors
+    ///
+    /// `AllocError` where no memory is left; the tree is as before then.
+    pub fn reserve(&mut self, more: usize) -> Result<(), AllocError>
+        requires { more ≤ 2 ^ 20 }
+        ensures room { OnOk result (more ≤ self.new.spare) }
+        ensures keeps { self.old.spare ≤ self.new.spare }
+        ensures lists { self.new.lists ≡ self.old.lists }
+    {
+        if more <= self.spare {
+            return Ok(());
+        }
+        let rows = self.arena.leaves.len();
+        let spare = if more < rows { rows } else { more };
+        let nodes = with_room(
+            &self.arena.nodes,
+            nodes_for(self.arena.capacity, rows + spare),
+        )?;
+        self.arena.leaves.reserve(spare)?;
+        self.arena.nodes = nodes;
+        self.spare = spare;
+        Ok(())
     }
 
     /// Puts a row into the tree. It takes no memory: each row uses up one of the rows that there is room for.
