@@ -8,3 +8,4 @@ pub mod Fresh
 pub mod Lookup
 pub mod Changed
 pub mod Roomier
+pub mod Along
