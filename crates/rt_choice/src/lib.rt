@@ -27,6 +27,3 @@ pub use subtree::choose_subtree;
 
 /// One cell more than the greatest node holds.
 const MOST_CELLS: usize = 52;
-
-#[cfg(test)]
-mod tests;

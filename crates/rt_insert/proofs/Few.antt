@@ -1,14 +1,13 @@
 -- A whole tree has few nodes and few levels.
-use Rattle.std.proofs.Common.{◌≡◌, ◌≢◌, ℕ, zero, suc, ◌+◌, ◌-◌, ◌*◌, ◌/◌, ◌^◌, ◌<◌, ◌≤◌, Bool, true, false, cond, List, [], ◌∷◌, ◌++◌, length, Option, None, Some, is_some, vec_len, nat_eq, eq-eqb, ne_eqb, arith, refl, ap, sym, subst, ◌∙◌, inl, inr, length-append}
-use Rattle.std.specs.List.{sum_by, count_by, flat_map}
+use Rattle.std.proofs.Common.{◌≡◌, ◌≢◌, ℕ, zero, suc, ◌+◌, ◌-◌, ◌*◌, ◌/◌, ◌^◌, ◌<◌, ◌≤◌, Bool, true, false, cond, List, [], ◌∷◌, ◌++◌, length, Option, None, Some, is_some, vec_len, nat_eq, eq-eqb, ne_eqb, arith, refl, ap, sym, subst, ◌∙◌, inl, inr}
+use Rattle.std.specs.List.{count_by}
 use Rattle.std.proofs.Math.Nat.{mul_comm, mul-add, mul-suc, suc-mul, mul-le-mul_left, le-mul_of_pos_right, le_of_mul-le-mul_left, pow-zero, pow-suc, pow-le-pow_left, mul_assoc}
 use Rattle.std.proofs.lemmas.Nat.{pow_below, le-div}
-use Rattle.std.proofs.lemmas.Bool.{cases_eq, cases_lt, cases_Bool}
+use Rattle.std.proofs.lemmas.Bool.{cases_eq, cases_lt}
 use Rattle.std.proofs.lemmas.Option.{same_Some, none-some}
-use Rattle.slab.specs.Slab.{Slab, get, slab_len, HasRoomFor}
+use Rattle.slab.specs.Slab.{get, slab_len, HasRoomFor}
 use Rattle.rt_box.specs.Capacity.{IsCapacity, least_fill}
 use Rattle.rt_node.specs.declared.arena.Arena.{Arena}
-use Rattle.rt_node.specs.declared.cell.Cell.{Cell}
 use Rattle.rt_node.specs.declared.cell.Waiting.{Waiting}
 use Rattle.rt_node.specs.Node.{NodeCells}
 use Rattle.rt_node.specs.Places.{level_of, cells_of, leaf_part, inner_part, leaf_cells_of, inner_cells_of, cells_at, level_at, waiting_rows, waiting_nodes, sum_over}

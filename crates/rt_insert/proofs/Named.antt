@@ -1,6 +1,6 @@
 -- How many cells name nodes: no more than there are nodes to be named.
-use Rattle.std.proofs.Common.{◌≡◌, ◌≢◌, ◌⊎◌, ℕ, zero, suc, ◌+◌, ◌*◌, ◌<◌, ◌≤◌, Bool, true, false, cond, pos, List, [], ◌∷◌, ◌++◌, length, get_or, Option, None, Some, is_some, nat_eq, eq-eqb, eqb-true, arith, refl, ap, sym, subst, ◌∙◌, inl, inr, length-append}
-use Rattle.std.specs.List.{sum_by, count_by, flat_map, All}
+use Rattle.std.proofs.Common.{◌≡◌, ◌≢◌, ℕ, zero, suc, ◌+◌, ◌≤◌, Bool, true, false, cond, pos, List, [], ◌∷◌, ◌++◌, length, Option, None, Some, is_some, nat_eq, arith, refl, ap, sym, subst, ◌∙◌, inl, inr, length-append}
+use Rattle.std.specs.List.{sum_by, flat_map, All}
 use Rattle.std.proofs.lemmas.Bool.{cases_eq, cases_Bool, true≢false}
 use Rattle.std.proofs.lemmas.Option.{same_Some, none-some}
 use Rattle.std.proofs.lemmas.List.{get_or_past}
@@ -9,7 +9,7 @@ use Rattle.slab.specs.Slab.{Slab, get, slab_len}
 use Rattle.rt_node.specs.declared.cell.Cell.{Cell}
 use Rattle.rt_node.specs.declared.cell.Waiting.{Waiting}
 use Rattle.rt_node.specs.Node.{NodeCells}
-use Rattle.rt_node.specs.Places.{key_of, times_named, level_of, inner_part, inner_cells_of, cells_at, inner_cells_at, level_at, parent_at, cells_above, waiting_nodes, sum_over}
+use Rattle.rt_node.specs.Places.{key_of, times_named, level_of, inner_part, inner_cells_of, level_at, parent_at, cells_above, waiting_nodes, sum_over}
 use Rattle.rt_node.specs.Sound.{IsLinked, NamesChild}
 use Rattle.rt_node.proofs.Counts.{count-append}
 use Rattle.rt_node.proofs.Places.{inner-at_inner, names_key, named-none, named-one, named-other}

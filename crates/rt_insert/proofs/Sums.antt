@@ -1,5 +1,5 @@
 -- Sums over lists, place by place, and how many of a list's elements there can be.
-use Rattle.std.proofs.Common.{◌≡◌, ◌≢◌, ℕ, zero, suc, ◌+◌, ◌*◌, ◌<◌, ◌≤◌, Bool, true, false, cond, List, [], ◌∷◌, ◌++◌, length, get_or, take, Option, None, Some, nat_eq, nat_lt, eq-eqb, ne_eqb, length-append, arith, refl, ap, sym, ◌∙◌, inl, inr}
+use Rattle.std.proofs.Common.{◌≡◌, ◌≢◌, ℕ, zero, suc, ◌+◌, ◌*◌, ◌≤◌, Bool, true, List, [], ◌∷◌, length, get_or, take, Option, None, nat_eq, nat_lt, eq-eqb, ne_eqb, length-append, arith, refl, ap, sym, ◌∙◌, inl, inr}
 use Rattle.std.specs.List.{sum_by, count_by, flat_map}
 use Rattle.std.proofs.Math.Nat.{mul-add}
 use Rattle.std.proofs.lemmas.Bool.{cases_eq, cases_lt, lt-ltb, le-ltb}

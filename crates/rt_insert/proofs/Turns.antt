@@ -1,5 +1,5 @@
 -- The placing of waiting cells, one turn after the other.
-use Rattle.std.proofs.Common.{◌≡◌, ◌≢◌, ◌⊎◌, ℕ, zero, suc, ◌+◌, ◌-◌, ◌*◌, ◌^◌, ◌<◌, ◌≤◌, Bool, true, List, [], ◌∷◌, ◌++◌, length, take, vec_len, vec_capacity, arith, refl, ap, sym, subst, ◌∙◌, inl, inr, length-append}
+use Rattle.std.proofs.Common.{◌≡◌, ◌≢◌, ◌⊎◌, ℕ, suc, ◌+◌, ◌-◌, ◌*◌, ◌^◌, ◌<◌, ◌≤◌, Bool, true, List, [], ◌∷◌, length, take, vec_len, vec_capacity, arith, refl, ap, sym, subst, ◌∙◌, inl, inr, length-append}
 use Rattle.std.proofs.Math.Nat.{mul-suc, mul-le-mul_right}
 use Rattle.std.proofs.lemmas.Bool.{cases_lt}
 use Rattle.std.proofs.lemmas.List.{same_from_push, take-append-le, take_all}
@@ -13,7 +13,7 @@ use Rattle.rt_node.specs.Places.{no_cell, count_rows}
 use Rattle.rt_node.specs.Whole.{IsWhole, IsBranched, HasRoom, row_count}
 use Rattle.rt_node.specs.Homes.{KeepsIds}
 use Rattle.rt_node.specs.Settles.{Settles}
-use Rattle.rt_place.specs.Placing.{PlacesLast, TakesRow, InsertsAgain, InsertsNone}
+use Rattle.rt_place.specs.Placing.{PlacesLast, TakesRow, InsertsAgain}
 use Rattle.rt_place.specs.Steps.{waiting_at}
 use Rattle.rt_insert.specs.Settling.{CountsWork, PlacesRow}
 use Rattle.rt_insert.proofs.Few.{few-levels, few-waiting, fewer-nodes_than_rows, room-for}

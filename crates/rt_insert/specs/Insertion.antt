@@ -1,6 +1,6 @@
 -- What an insertion comes to, and what it takes (Beckmann, Kriegel, Schneider, Seeger 1990, section 4.3; the counts
 -- own).
-use Rattle.std.specs.Prelude.{◌≡◌, ◌≢◌, ◌↔◌, ◌⊎◌, ℕ, suc, ◌+◌, ◌*◌, ◌≤◌, ◌<◌, Bool, ℤ, List, [], ◌∷◌, length, if◌then◌else◌, None, Some, IsSome, vec_capacity}
+use Rattle.std.specs.Prelude.{◌≡◌, ◌≢◌, ◌↔◌, ◌⊎◌, ℕ, suc, ◌+◌, ◌*◌, ◌≤◌, ◌<◌, Bool, ℤ, List, [], length, if◌then◌else◌, IsSome, vec_capacity}
 use Rattle.std.specs.Ordering.{int_eq}
 use Rattle.indexmap.specs.IndexMap.{IndexMap, get as leaf_of, spare, index_map_len}
 use Rattle.slab.specs.Slab.{slab_len}

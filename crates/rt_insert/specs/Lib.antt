@@ -1,2 +1,3 @@
 pub mod Insertion
 pub mod Settling
+pub mod Awaiting

@@ -2,8 +2,10 @@
 //! cells that wait.
 #![tactic(auto)]
 
+mod insert;
 mod laws;
 mod waiting;
 
+pub use insert::insert_row;
 pub use laws::{levels_are_few, nodes_are_few, room_is_enough, waiting_cells_are_few};
-pub use waiting::{PlaceLast, settle};
+pub use waiting::settle;

@@ -20,7 +20,7 @@ use Rattle.rt_place.specs.Steps.{Attaches}
 use Rattle.rt_place.proofs.WayDown.{node-from_level}
 
 module _ {D : ℕ} where
-  leaf-none : (l : ℕ) (cells : List (Cell D)) → 1 ≤ l → leaf_part l cells ≡ []
+  pub leaf-none : (l : ℕ) (cells : List (Cell D)) → 1 ≤ l → leaf_part l cells ≡ []
   leaf-none zero cells some = absurd (omega arith)
   leaf-none (suc l) cells some = refl
 

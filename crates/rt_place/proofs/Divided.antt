@@ -1,5 +1,5 @@
 -- An arena after a node was split: it and the new node may be out of shape, and the new one's cell is on its way.
-use Rattle.std.proofs.Common.{◌≡◌, ◌≢◌, ◌⊎◌, ℕ, zero, suc, ◌+◌, ◌<◌, ◌≤◌, Bool, pos, unsigned_abs, ℤ, List, [], ◌∷◌, ◌++◌, length, get_or, Option, None, Some, count_by, append_assoc, eq-eqb, arith, refl, ap, ◌∙◌, sym, subst, inl, inr}
+use Rattle.std.proofs.Common.{◌≡◌, ◌≢◌, ◌⊎◌, ℕ, zero, suc, ◌+◌, ◌<◌, ◌≤◌, Bool, pos, unsigned_abs, List, [], ◌∷◌, ◌++◌, get_or, Some, count_by, append_assoc, eq-eqb, arith, refl, ap, ◌∙◌, sym, subst, inl, inr}
 use Rattle.std.specs.Ordering.{int_eq}
 use Rattle.std.specs.List.{All}
 use Rattle.std.specs.List.Sorted.{IsPermutation}
@@ -8,14 +8,14 @@ use Rattle.std.proofs.lemmas.Bool.{cases_eq}
 use Rattle.std.proofs.lemmas.List.Elements.{All-weaker}
 use Rattle.std.proofs.lemmas.List.Sorted.{All-permutation}
 use Rattle.indexmap.specs.IndexMap.{get as leaf_of}
-use Rattle.slab.specs.Slab.{Slab, get, Updates, slab_len}
+use Rattle.slab.specs.Slab.{get, Updates, slab_len}
 use Rattle.rt_box.specs.Rect.{IsBox}
 use Rattle.rt_choice.specs.Split.{first_group, second_group}
 use Rattle.rt_node.specs.declared.arena.Arena.{Arena}
 use Rattle.rt_node.specs.declared.cell.Cell.{Cell}
 use Rattle.rt_node.specs.declared.cell.Waiting.{Waiting}
 use Rattle.rt_node.specs.Node.{NodeCells}
-use Rattle.rt_node.specs.Places.{key_of, rects, picked, times_named, times_listed, cells_of, inner_part, leaf_part, leaf_cells_of, level_of, parent_of, level_at, parent_at, cells_at, waiting_rows, waiting_nodes, sum_over, count_rows}
+use Rattle.rt_node.specs.Places.{key_of, rects, picked, times_named, times_listed, cells_of, inner_part, leaf_part, leaf_cells_of, level_of, parent_of, level_at, parent_at, cells_at, waiting_nodes, sum_over, count_rows}
 use Rattle.rt_node.specs.Sound.{NamesChild, IsLinked, HasHomes}
 use Rattle.rt_node.specs.Open.{IsFittedBut, IsOpen}
 use Rattle.rt_node.specs.Homes.{KeepsIds}

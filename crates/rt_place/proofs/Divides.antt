@@ -1,5 +1,5 @@
 -- A split, and the new node's cell appended to the parent.
-use Rattle.std.proofs.Common.{◌≡◌, ◌≢◌, ◌⊎◌, ℕ, zero, suc, ◌+◌, ◌-◌, ◌<◌, ◌≤◌, Bool, pos, unsigned_abs, List, [], ◌∷◌, ◌++◌, length, get_or, count_by, Some, is_some, IsSome, drop, take, arith, refl, ap, ◌∙◌, sym, subst, inl, inr, eq-eqb}
+use Rattle.std.proofs.Common.{◌≡◌, ◌≢◌, ◌⊎◌, ℕ, suc, ◌+◌, ◌<◌, ◌≤◌, pos, unsigned_abs, [], ◌∷◌, ◌++◌, length, get_or, count_by, Some, is_some, IsSome, arith, refl, ap, ◌∙◌, sym, subst, inl, inr}
 use Rattle.std.specs.Ordering.{int_eq}
 use Rattle.std.specs.List.{All}
 use Rattle.std.proofs.lemmas.Option.{same_Some}
@@ -8,15 +8,14 @@ use Rattle.std.proofs.lemmas.Bool.Decides.{Decides-int_eq}
 use Rattle.std.proofs.lemmas.List.{append-nil, length-append, length-map, length-take, length-drop}
 use Rattle.std.proofs.lemmas.List.Elements.{All-weaker}
 use Rattle.indexmap.specs.IndexMap.{get as leaf_of}
-use Rattle.slab.specs.Slab.{Slab, get, ContainsKey, Updates, slab_len}
-use Rattle.rt_box.specs.Capacity.{least_fill}
+use Rattle.slab.specs.Slab.{get, ContainsKey}
 use Rattle.rt_box.specs.Rect.{IsBox}
-use Rattle.rt_choice.specs.Split.{sorting, first_group, second_group}
+use Rattle.rt_choice.specs.Split.{IsBestCut, sorting, first_group, second_group}
 use Rattle.rt_node.specs.declared.arena.Arena.{Arena}
 use Rattle.rt_node.specs.declared.cell.Cell.{Cell}
 use Rattle.rt_node.specs.declared.cell.Waiting.{Waiting}
 use Rattle.rt_node.specs.Node.{NodeCells}
-use Rattle.rt_node.specs.Places.{key_of, rects, picked, no_cell, cells_of, leaf_cells_of, level_of, parent_of, level_at, parent_at, cells_at, hull_at, count_rows}
+use Rattle.rt_node.specs.Places.{key_of, rects, picked, no_cell, cells_of, level_of, parent_of, level_at, cells_at, hull_at, count_rows}
 use Rattle.rt_node.specs.Sound.{NamesChild}
 use Rattle.rt_node.specs.Open.{IsFittedBut, IsOpen}
 use Rattle.rt_node.specs.Homes.{KeepsIds}
@@ -190,6 +189,14 @@ module _ {D : ℕ} (old : Arena D) (key parent : ℕ) (pair : IsPair old key par
             capacity = ap (λ t. t.capacity) at.rest ∙ capacity-kept E (decide-either key parent) old mid key n sibling ws pair.opened (inl refl) has below done c number_is box;
             len = second.len ∙ first.len ∙ len-kept E (decide-either key parent) old mid key n sibling ws pair.opened (inl refl) has below done c number_is box;
             room = second.room ∙ first.room ∙ room-kept E (decide-either key parent) old mid key n sibling ws pair.opened (inl refl) has below done c number_is box;
+            cell = c;
+            appended = ap cells_of second.updates.changed ∙ ap (λ cs. cs ++ c ∷ []) (sym (ap cells_of above.1) ∙ parent_cells);
+            apart = λ e. cell_apart (sym e);
+            cut = done.cut;
+            best = subst (λ cs. IsBestCut D (rects cs) old.capacity done.cut) (sym (ap cells_of has)) done.best;
+            first_cells = key_cells ∙ ap (λ cs. picked cs (first_group (rects cs) done.cut)) (sym (ap cells_of has));
+            second_cells = ap cells_of (second.updates.others (key_of c) (λ e. cell_apart (sym e))) ∙ ap cells_of first.updates.changed
+                ∙ ap (λ cs. picked cs (second_group (rects cs) done.cut)) (sym (ap cells_of has));
           }
 
     -- what the new node and the parent are like in between; any cell of the node has a box that serves

@@ -12,3 +12,12 @@ pub mod Arrived
 pub mod Divides
 pub mod GivenUp
 pub mod Relieved
+pub mod Lifted
+pub mod Shapes
+pub mod Risen
+pub mod Closed
+pub mod Raised
+pub mod Grown
+pub mod Entered
+pub mod Upward
+pub mod Placed

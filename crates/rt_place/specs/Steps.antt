@@ -1,5 +1,5 @@
 -- What the parts of a placement do.
-use Rattle.std.specs.Prelude.{◌≡◌, ◌≢◌, ◌⊎◌, ℕ, suc, ◌+◌, ◌≤◌, Bool, List, [], ◌∷◌, ◌++◌, Some, None, length, slice_get, slice_set, slice_index_or, map, All, vec_capacity, IsSome, ℤ, pos, ◌<◌}
+use Rattle.std.specs.Prelude.{◌≡◌, ◌≢◌, ◌⊎◌, ℕ, suc, ◌+◌, ◌≤◌, Bool, List, [], ◌∷◌, ◌++◌, Some, None, length, slice_get, slice_set, slice_index_or, map, All, Contains, vec_capacity, IsSome, ℤ, pos, ◌<◌}
 use Rattle.rt_box.specs.Rect.{IsBox}
 use Rattle.std.specs.List.Sorted.{IsPermutation}
 use Rattle.rt_box.specs.Capacity.{least_fill, reinsertion_share}
@@ -11,6 +11,7 @@ use Rattle.std.specs.Ordering.{int_eq}
 use Rattle.rt_box.specs.declared.interval.Interval.{Interval}
 use Rattle.rt_choice.specs.Subtree.{IsBestChild}
 use Rattle.rt_node.specs.declared.arena.Arena.{Arena}
+use Rattle.rt_node.specs.declared.arena.Work.{Work}
 use Rattle.rt_node.specs.declared.cell.Cell.{Cell}
 use Rattle.rt_node.specs.declared.cell.Waiting.{Waiting}
 use Rattle.rt_node.specs.Node.{NodeCells}
@@ -19,6 +20,9 @@ use Rattle.rt_node.specs.Sound.{NamesChild, IsLinked}
 use Rattle.rt_node.specs.Changes.{Puts, Changes}
 use Rattle.rt_node.specs.Homes.{Moves, KeepsIds}
 use Rattle.rt_node.specs.Open.{IsOpen}
+use Rattle.rt_node.specs.Whole.{IsSound}
+use Rattle.rt_node.specs.Path.{KeepsShape}
+use Rattle.rt_place.specs.Way.{LeadsUp}
 
 module _ {D : ℕ} where
   -- cells as they wait for a node of a level
@@ -142,6 +146,15 @@ module _ {D : ℕ} where
     pub capacity : new.capacity ≡ old.capacity
     pub len : slab_len new.nodes ≡ slab_len old.nodes + 1
     pub room : new.nodes.capacity ≡ old.nodes.capacity
+    pub cell : Cell D
+    pub appended : cells_at new.nodes parent ≡ cells_at old.nodes parent ++ cell ∷ []
+    pub apart : key_of cell ≢ parent
+    pub cut : Cut
+    pub best : IsBestCut D (rects (cells_at old.nodes key)) old.capacity cut
+    pub first_cells : cells_at new.nodes key ≡
+        picked (cells_at old.nodes key) (first_group (rects (cells_at old.nodes key)) cut)
+    pub second_cells : cells_at new.nodes (key_of cell) ≡
+        picked (cells_at old.nodes key) (second_group (rects (cells_at old.nodes key)) cut)
 
   -- the node has no longer too many cells, nor has it too few; the parent has at most one cell more
   pub record Relieves (old new : Arena D) (key parent : ℕ) : Type 0 where
@@ -160,3 +173,86 @@ module _ {D : ℕ} where
     pub capacity : new.capacity ≡ old.capacity
     pub room : new.nodes.capacity ≡ old.nodes.capacity
     pub waiting_room : vec_capacity old.waiting ≤ vec_capacity new.waiting
+    pub names : (z : ℕ) → times_named z (cells_at old.nodes parent) ≤ times_named z (cells_at new.nodes parent)
+    pub still : length (cells_at old.nodes key) ≤ old.capacity → new ≡ old
+
+  -- the node isn't overfull, and neither node nor cell came or went
+  pub record LetsBe (old new : Arena D) (key parent marks marks1 : ℕ) (work work1 : Work) : Type 0 where
+    pub fits : length (cells_at old.nodes key) ≤ old.capacity
+    pub waiting : new.waiting ≡ old.waiting
+    pub leaves : new.leaves ≡ old.leaves
+    pub len : slab_len new.nodes ≡ slab_len old.nodes
+    pub above : length (cells_at new.nodes parent) ≡ length (cells_at old.nodes parent)
+    pub marks_same : marks1 ≡ marks
+    pub placements : work1.placements ≡ work.placements
+    pub splits : work1.splits ≡ work.splits
+    pub reinsertions : work1.reinsertions ≡ work.reinsertions
+
+  -- the overfull node was split, since its level is marked
+  pub record SplitsMarked (old new : Arena D) (key parent marks marks1 : ℕ) (work work1 : Work) : Type 0 where
+    pub full : old.capacity < length (cells_at old.nodes key)
+    pub level : ℕ
+    pub here : level_at old.nodes key ≡ Some level
+    pub marked : level < marks
+    pub waiting : new.waiting ≡ old.waiting
+    pub len : slab_len new.nodes ≡ slab_len old.nodes + 1
+    pub above : length (cells_at new.nodes parent) ≡ suc (length (cells_at old.nodes parent))
+    pub marks_same : marks1 ≡ marks
+    pub placements : work1.placements ≡ work.placements
+    pub splits : work1.splits ≡ suc work.splits
+    pub reinsertions : work1.reinsertions ≡ work.reinsertions
+
+  -- the overfull node gave up cells, since its level wasn't marked, and now it is
+  pub record GivesUnmarked (old new : Arena D) (key parent marks marks1 : ℕ) (work work1 : Work) : Type 0 where
+    pub full : old.capacity < length (cells_at old.nodes key)
+    pub level : ℕ
+    pub here : level_at old.nodes key ≡ Some level
+    pub unmarked : marks ≤ level
+    pub marked : marks1 ≡ suc level
+    pub far : List (Cell D)
+    pub share : length far ≡ reinsertion_share old.capacity
+    pub waiting : new.waiting.items ≡ old.waiting.items ++ waiting_at level far
+    pub len : slab_len new.nodes ≡ slab_len old.nodes
+    pub above : length (cells_at new.nodes parent) ≡ length (cells_at old.nodes parent)
+    pub placements : work1.placements ≡ work.placements
+    pub splits : work1.splits ≡ work.splits
+    pub reinsertions : work1.reinsertions ≡ suc work.reinsertions
+
+  -- what became of a node that might be overfull; levels below `marks` are marked
+  abbrev pub Treats : Arena D → Arena D → ℕ → ℕ → ℕ → ℕ → Work → Work → Type 0
+  Treats old new key parent marks marks1 work work1 =
+      LetsBe old new key parent marks marks1 work work1 ⊎ SplitsMarked old new key parent marks marks1 work work1
+      ⊎ GivesUnmarked old new key parent marks marks1 work work1
+
+  -- sound but for the node at the key, which may have one cell too many, and whose cell above it may have another box
+  -- than the least one; parents lead up from it to the root
+  pub record IsRising (t : Arena D) (key : ℕ) : Type 0 where
+    pub sound : IsSound t (Some key)
+    pub level : ℕ
+    pub here : level_at t.nodes key ≡ Some level
+    pub steps : ℕ
+    pub way : LeadsUp t.nodes t.root steps key
+    pub some : 1 ≤ length (cells_at t.nodes key)
+    pub filled : key ≢ t.root → least_fill t.capacity ≤ length (cells_at t.nodes key)
+    pub most : length (cells_at t.nodes key) ≤ t.capacity + 1
+
+  -- the rows stay, in the tree or among what waits, and the root, which has no fewer cells than before
+  pub record KeepsRows (old new : Arena D) : Type 0 where
+    pub rows : (test : Cell D → Bool) → count_rows test new.nodes new.waiting.items ≡ count_rows test old.nodes old.waiting.items
+    pub ids : KeepsIds old.leaves new.leaves
+    pub root : new.root ≡ old.root
+    pub level : new.level ≡ old.level
+    pub capacity : new.capacity ≡ old.capacity
+    pub room : new.nodes.capacity ≡ old.nodes.capacity
+    pub waiting_room : vec_capacity old.waiting ≤ vec_capacity new.waiting
+    pub top : length (cells_at old.nodes old.root) ≤ length (cells_at new.nodes new.root)
+
+  -- a step up: the node is in shape, and its parent may now be out of shape; where the node wasn't overfull, only the
+  -- box of the cell that names it changed
+  pub record Lifts (old new : Arena D) (key parent marks marks1 : ℕ) (work work1 : Work) : Type 0 where
+    pub next : IsRising new parent
+    pub up : (l : ℕ) → level_at old.nodes key ≡ Some l → level_at new.nodes parent ≡ Some (suc l)
+    pub keeps : KeepsRows old new
+    pub treats : Treats old new key parent marks marks1 work work1
+    pub shape : length (cells_at old.nodes key) ≤ old.capacity → (path : List ℕ) → Contains path key → (k : ℕ) →
+        KeepsShape old.nodes new.nodes path k

@@ -16,6 +16,7 @@ pub(crate) fn attach<const D: usize>(tree: &mut Arena<D>, key: usize, entry: &Wa
     requires apart { 1 ≤ entry.now.level → key_in entry.now.cell ≢ key }
     ensures { Attaches tree.old tree.new key entry.now }
 {
+    // Says that there are one to three axes.
     let _ = entry.cell.rect.axes();
     if entry.level == 0 {
         set_leaf(&mut tree.leaves, &entry.cell.number, key);

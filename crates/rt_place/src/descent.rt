@@ -3,6 +3,7 @@ ghost use Rattle.slab.specs.Slab.{ContainsKey};
 ghost use Rattle.rt_node.specs.Places.{cells_at, level_at};
 ghost use Rattle.rt_node.specs.Path.{LeadsTo};
 ghost use Rattle.rt_place.specs.Steps.{IsPassable, IsBestAt};
+ghost use Rattle.rt_place.specs.Way.{LeadsUp};
 
 use rt_box::Rect;
 use rt_choice::choose_subtree;
@@ -38,8 +39,10 @@ pub fn choose_node<const D: usize>(
     requires passable { IsPassable nodes.now root level }
     requires below { target ≤ level }
     ensures level { level_at nodes.now result ≡ Some target }
+    ensures way { (steps : ℕ) × LeadsUp nodes.now root steps result }
     ensures path { target ≡ 0 → (path : List ℕ) × LeadsTo nodes.now level root rect.now result path }
 {
+    // Says that there are one to three axes.
     let _ = rect.axes();
     let mut key = root;
     let mut height = level;

@@ -30,6 +30,7 @@ pub(crate) fn refit<const D: usize>(nodes: &mut Slab<Node<D>>, parent: usize, ke
     requires named { (at : ℕ) × IsNamedAt (cells_at nodes.old parent) at key }
     ensures { (n : NodeCells D) → get nodes.old parent ≡ Some n → Refits nodes.old nodes.new parent key n }
 {
+    // Says that keys are below the capacity, and so fit into a cell.
     let _ = nodes.capacity();
     let hull = hull_at(nodes, key);
     let cell = cell_for(key, &hull);

@@ -78,6 +78,7 @@ pub(crate) fn reinsert<const D: usize>(tree: &mut Arena<D>, key: usize)
     requires room { vec_len tree.old.waiting + 15 ≤ vec_capacity tree.old.waiting }
     ensures { (n : NodeCells D) → get tree.old.nodes key ≡ Some n → GivesUp tree.old tree.new key n }
 {
+    // Says that the capacity is from 5 to 51.
     let _ = tree.capacity.greatest();
     let old = take_cells(&mut tree.nodes, key);
     let far = farthest(old.boxes(), tree.capacity);

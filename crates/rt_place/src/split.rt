@@ -82,6 +82,7 @@ pub(crate) fn split<const D: usize>(tree: &mut Arena<D>, key: usize) -> usize
     requires children { (l : ℕ) → level_at tree.old.nodes key ≡ Some (suc l) → All (λ c. ContainsKey tree.old.nodes (key_in c) × (key_in c ≢ key)) (cells_at tree.old.nodes key) }
     ensures { (n : NodeCells D) → get tree.old.nodes key ≡ Some n → Splits tree.old tree.new key n result }
 {
+    // Says that the capacity is from 5 to 51.
     let _ = tree.capacity.greatest();
     let old = take_cells(&mut tree.nodes, key);
     let cut = choose_split(old.boxes(), tree.capacity);

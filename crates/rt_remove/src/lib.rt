@@ -11,4 +11,3 @@ mod settle;
 mod take;
 
 pub use remove::remove_row;
-pub use settle::Settle;

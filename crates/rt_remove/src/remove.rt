@@ -9,7 +9,7 @@ ghost use Rattle.rt_remove.specs.Removal.{Removes};
 
 use crate::condense::condense;
 use crate::give_way::give_way;
-use crate::settle::{Settle, place_waiting};
+use crate::settle::place_waiting;
 use crate::take::{Taken, take_row};
 use rt_box::Rect;
 use rt_node::{Arena, Waiting};
@@ -25,7 +25,7 @@ fn turn_round<const D: usize>(waiting: &mut Vec<Waiting<D>>)
 /// Takes the row with the id out of the tree, and answers its box. Nodes that have too few cells then are taken
 /// out too, from the leaf up, and their cells are placed again, those of the lowest level first; at last an inner
 /// root with one child gives way to it. It takes no memory.
-pub fn remove_row<S: Settle<D>, const D: usize>(tree: &mut Arena<D>, id: &i64) -> Rect<D>
+pub fn remove_row<const D: usize>(tree: &mut Arena<D>, id: &i64) -> Rect<D>
     requires whole { IsWhole tree.old }
     requires branched { IsBranched tree.old }
     requires idle { tree.old.waiting.items ≡ [] }
@@ -38,7 +38,7 @@ pub fn remove_row<S: Settle<D>, const D: usize>(tree: &mut Arena<D>, id: &i64) -
     let Taken { leaf, rect } = take_row(tree, id);
     condense(tree, leaf);
     turn_round(&mut tree.waiting);
-    place_waiting::<S, D>(tree);
+    place_waiting(tree);
     give_way(tree);
     rect
 }

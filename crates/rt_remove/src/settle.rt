@@ -5,22 +5,11 @@ ghost use Rattle.rt_node.specs.Whole.{IsWhole, HasRoom, row_count};
 ghost use Rattle.rt_node.specs.Settles.{Settles};
 ghost use Rattle.rt_remove.specs.Steps.{Places};
 
-use rt_node::{Arena, Work};
-
-/// The placing of waiting cells.
-pub trait Settle<const D: usize> {
-    /// Places the waiting cells, the last first, until the first `base` are left.
-    fn settle(tree: &mut Arena<D>, base: usize) -> Work
-        requires whole { IsWhole tree.old }
-        requires waits { base < vec_len tree.old.waiting }
-        requires rows { row_count tree.old ≤ 2 ^ 20 }
-        requires room { HasRoom tree.old (row_count tree.old) }
-        requires waiting_room { vec_len tree.old.waiting + 512 ≤ vec_capacity tree.old.waiting }
-        ensures { Settles tree.old tree.new base };
-}
+use rt_insert::settle;
+use rt_node::Arena;
 
 /// Places the waiting cells, each by itself, the last first.
-pub(crate) fn place_waiting<S: Settle<D>, const D: usize>(tree: &mut Arena<D>)
+pub(crate) fn place_waiting<const D: usize>(tree: &mut Arena<D>)
     requires whole { IsWhole tree.old }
     requires rows { row_count tree.old ≤ 2 ^ 20 }
     requires room { HasRoom tree.old (row_count tree.old) }
@@ -30,6 +19,6 @@ pub(crate) fn place_waiting<S: Settle<D>, const D: usize>(tree: &mut Arena<D>)
 {
     while !tree.waiting.is_empty() {
         let base = tree.waiting.len() - 1;
-        let _ = S::settle(tree, base);
+        let _ = settle(tree, base);
     }
 }

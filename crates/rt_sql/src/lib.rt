@@ -16,8 +16,6 @@ pub mod name;
 mod number;
 mod parser;
 pub mod refusal;
-#[cfg(test)]
-mod spellings;
 pub mod statement;
 mod token;
 mod tokens;

@@ -1,8 +1,8 @@
-use Rattle.std.proofs.Common.{◌≡◌, ◌≤◌, [], ◌∷◌, length, arith, refl, subst, rules}
+use Rattle.std.proofs.Common.{◌≡◌, suc, ◌≤◌, [], ◌∷◌, length, arith, refl, subst, rules}
 use Rattle.slab.specs.Slab.{ContainsKey}
 use Rattle.rt_node.specs.Places.{cells_at}
 use Rattle.rt_node.specs.Path.{LeadsTo}
-use Rattle.rt_place.proofs.WayDown.{present, inner-some, descent-step}
+use Rattle.rt_place.proofs.WayDown.{present, inner-some, descent-step, step-named}
 use Rattle.rt_place.proofs.descent.choose_node.Goals as goal
 
 pub best_child-key-requires : goal.best_child-key-requires
@@ -20,6 +20,11 @@ loop-height-preserved g c =
     record {
       here = step.0;
       above = omega (arith, c.loop-height-test.true);
+      way = (
+        suc c.loop-height.invariant.way.0,
+        step-named c.args.nodes.now c.args.root c.args.level c.loop-height.invariant.way.0 c.loop-height.key c.loop-height.height c.args.rect.now c.best_child-key.result
+            c.requires.passable c.loop-height.invariant.here (omega (arith, c.loop-height-test.true)) c.best_child-key.ensures c.loop-height.invariant.way.1,
+      );
       path = λ leaf rest below. let up = step.1 leaf rest below in c.loop-height.invariant.path leaf up.0 up.1;
     }
 

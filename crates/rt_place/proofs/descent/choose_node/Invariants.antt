@@ -1,12 +1,14 @@
 use Rattle.std.proofs.Common.{◌≡◌, ℕ, ◌≤◌, List, Some}
 use Rattle.rt_node.specs.Places.{level_at}
 use Rattle.rt_node.specs.Path.{LeadsTo}
+use Rattle.rt_place.specs.Way.{LeadsUp}
 use Rattle.rt_place.proofs.descent.choose_node.Given as goal
 
 abbrev pub invariant-loop-height : goal.invariant-loop-height
 invariant-loop-height g l = record {
   here : level_at l.nodes l.key ≡ Some l.height;
   above : l.target ≤ l.height;
+  way : (steps : ℕ) × LeadsUp l.nodes l.fn.root steps l.key;
   path : (leaf : ℕ) (rest : List ℕ) → LeadsTo l.nodes l.height l.key l.rect leaf rest →
       (path : List ℕ) × LeadsTo l.nodes l.fn.level l.fn.root l.rect leaf path;
 }

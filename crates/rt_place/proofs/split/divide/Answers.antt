@@ -1,10 +1,10 @@
-use Rattle.std.proofs.Common.{rules, ◌≡◌, ◌≢◌, ℕ, suc, ◌+◌, ◌<◌, ◌≤◌, IsSome, unsigned_abs, length, arith, ap, ◌∙◌, sym, subst}
+use Rattle.std.proofs.Common.{rules, ◌≡◌, ◌≢◌, suc, ◌<◌, ◌≤◌, IsSome, unsigned_abs, arith, ap, ◌∙◌, sym, subst}
 use Rattle.std.specs.Ordering.{int_eq}
 use Rattle.std.proofs.lemmas.Option.{same_Some}
 use Rattle.indexmap.specs.IndexMap.{get as leaf_of}
 use Rattle.slab.specs.Slab.{ContainsKey}
 use Rattle.rt_box.specs.Rect.{IsBox}
-use Rattle.rt_node.specs.Places.{key_of, level_of, cells_at}
+use Rattle.rt_node.specs.Places.{key_of, level_of}
 use Rattle.rt_place.specs.Steps.{Attaches}
 use Rattle.rt_place.proofs.Divides.{pair-children, pair-known, sibling-some, sibling-fits, level-above_split, room-above, sibling-apart, divides}
 use Rattle.rt_place.proofs.WayDown.{node-from_level, present}

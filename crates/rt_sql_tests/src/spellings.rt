@@ -1,7 +1,7 @@
 //! Each form of the grammar in several spellings, with the statement that it is.
 
-use crate::{Refusal, parse};
 use rt_cut::{Ending, Piece};
+use rt_sql::{Refusal, parse};
 use std::alloc::{AllocError, Global};
 use std::process::Abort;
 

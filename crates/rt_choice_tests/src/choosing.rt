@@ -1,8 +1,9 @@
-ghost use Rattle.std.specs.Prelude.{◌<◌, ◌≤◌};
+//! The choices on small nodes, and the short cuts beside the costs in full.
 
-use super::subtree::least_cost;
-use super::{Cut, choose_split, choose_subtree, farthest};
+ghost use Rattle.std.specs.Prelude.{◌<◌, ◌≤◌, length};
+
 use rt_box::{Capacity, Rect};
+use rt_choice::{Cut, choose_split, choose_subtree, farthest};
 use std::process::Abort;
 use std::test::Fail;
 
@@ -117,7 +118,37 @@ fn rect_from(seed: u64, span: u8) -> Option<Rect<2>> {
     Rect::new([left, low], [right, high])
 }
 
-/// The fast choice is that of the costs in full.
+/// What a cell costs: by how much the areas that it has in common with the others grow, its own growth, its area.
+fn cost(boxes: &[Rect<2>], at: usize, new_box: &Rect<2>) -> (u128, u128, u128)
+    requires { at < length boxes.now }
+{
+    let own = &boxes[at];
+    let widened = own.union(new_box);
+    let mut overlap = 0u128;
+    for (place, other) in boxes.iter().enumerate() {
+        if place != at {
+            overlap = overlap
+                .wrapping_add(widened.overlap(other))
+                .wrapping_sub(own.overlap(other));
+        }
+    }
+    (overlap, widened.area().wrapping_sub(own.area()), own.area())
+}
+
+/// The first cell of least cost.
+fn least_cost(boxes: &[Rect<2>], new_box: &Rect<2>) -> usize
+    requires { 0 < length boxes.now }
+{
+    let mut best = 0;
+    for at in 1..boxes.len() {
+        if best < boxes.len() && cost(boxes, at, new_box) < cost(boxes, best, new_box) {
+            best = at;
+        }
+    }
+    best
+}
+
+/// The choice is that of the costs in full.
 fn agrees(rt: &impl Abort, seed: u64, span: u8, cells: usize) -> Option<()>
     requires some { 0 < cells }
     requires few { cells ≤ 52 }
@@ -130,7 +161,7 @@ fn agrees(rt: &impl Abort, seed: u64, span: u8, cells: usize) -> Option<()>
     }
     let new_box = rect_from(next(seed), span)?;
     let chosen = choose_subtree(&boxes[..cells], true, &new_box);
-    assert_eq!(rt; chosen, least_cost(&boxes[..cells], true, &new_box));
+    assert_eq!(rt; chosen, least_cost(&boxes[..cells], &new_box));
     Some(())
 }
 

@@ -1,0 +1,34 @@
+//! Values: what equals what, and what texts and blobs give back.
+
+use rt_sql::{Blob, Text, Value};
+use std::alloc::{AllocError, Global};
+
+fn values(alloc: Global) -> Result<[Value; 4], AllocError> {
+    Ok([
+        Value::Null,
+        Value::Int(1),
+        Value::Text(Text::new(alloc, "1")?),
+        Value::Blob(Blob::new(alloc, b"1")?),
+    ])
+}
+
+#[test]
+fn a_value_equals_itself_alone(rt: HostRuntime) -> Result<(), AllocError> {
+    let (some, others) = (values(rt.alloc())?, values(rt.alloc())?);
+    for (i, own) in some.iter().enumerate() {
+        for (j, other) in others.iter().enumerate() {
+            assert_eq!(rt; own == other, i == j);
+        }
+    }
+    assert!(rt; Value::Int(1) != Value::Int(-1));
+    Ok(())
+}
+
+#[test]
+fn a_text_and_a_blob_give_their_bytes_back(rt: HostRuntime) -> Result<(), AllocError> {
+    let text = Text::new(rt.alloc(), "a'b")?.into_string();
+    assert_eq!(rt; text.as_str(), "a'b");
+    let bytes = Blob::new(rt.alloc(), b"\x00\xFF")?.into_vec();
+    assert_eq!(rt; bytes.as_slice(), b"\x00\xFF".as_slice());
+    Ok(())
+}

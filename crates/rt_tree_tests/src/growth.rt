@@ -1,0 +1,66 @@
+//! A tree whose memory is refused: with each growth refused in turn (`rt try --test --fail-alloc`), nothing has changed
+//! after the refusal, and between a `reserve` that was granted and the last insertion none is asked for.
+
+use crate::following::{insert_reserved, remove};
+use rt_box::{Capacity, Rect, Window};
+use rt_tree::Tree;
+use std::hash::RandomState;
+use std::process::Abort;
+use std::test::Fail;
+
+fn rect(id: i64) -> Option<Rect<2>> {
+    let x = i32::try_from(id.wrapping_mul(37) % 101).ok()?;
+    let y = i32::try_from(id.wrapping_mul(53) % 89).ok()?;
+    Rect::new([x, y], [x.wrapping_add(3), y.wrapping_add(3)])
+}
+
+/// The tree has these rows.
+fn expect_rows(rt: &impl Abort, tree: &Tree<2>, rows: i64) {
+    for id in 1..=rows {
+        assert!(rt; tree.get(&id) == rect(id), "{id}");
+    }
+    assert_eq!(rt; i64::try_from(tree.len()), Ok(rows));
+}
+
+/// Asks for a shadow and a search; a refusal changes nothing.
+fn look(
+    rt: &(impl Abort + AllocGlobal),
+    keys: RandomState,
+    tree: &Tree<2>,
+    rows: i64,
+) -> Result<(), Fail> {
+    if let Ok(shadow) = tree.shadow(rt.alloc(), keys) {
+        assert_eq!(rt; shadow.nodes().len(), tree.node_count());
+    }
+    if let Ok(found) = tree.search(rt.alloc(), &Window::all()) {
+        assert_eq!(rt; found.rows.len(), tree.len());
+    }
+    expect_rows(rt, tree, rows);
+    Ok(())
+}
+
+#[test]
+fn refused_growth_changes_nothing(rt: HostRuntime) -> Result<(), Fail> {
+    let capacity = Capacity::new(5).ok_or("no capacity")?;
+    let keys = RandomState::new(&rt)?;
+    let Ok(mut tree) = Tree::new(rt.alloc(), keys, capacity) else {
+        return Ok(());
+    };
+    for round in 0..4i64 {
+        let rows = round.wrapping_mul(40);
+        for _ in 0..2 {
+            if tree.spare() < 40 && tree.reserve(rt.alloc(), 40).is_err() {
+                expect_rows(&rt, &tree, rows);
+            }
+        }
+        for id in rows.wrapping_add(1)..=rows.wrapping_add(40) {
+            insert_reserved(&mut tree, id, &rect(id).ok_or("no box")?)?;
+        }
+        look(&rt, keys, &tree, rows.wrapping_add(40))?;
+    }
+    for id in (1..=160).rev() {
+        remove(&mut tree, id)?;
+        expect_rows(&rt, &tree, id.wrapping_sub(1));
+    }
+    look(&rt, keys, &tree, 0)
+}

@@ -1,0 +1,13 @@
+//! Tests of the R*-tree: dumps after worked calls, and a plain model of its rules beside it, call by call.
+#![tactic(auto)]
+
+#[cfg(test)]
+mod following;
+#[cfg(test)]
+mod growth;
+#[cfg(test)]
+mod outside;
+#[cfg(test)]
+mod plain;
+#[cfg(test)]
+mod worked;
