@@ -1,21 +1,17 @@
 -- A settled tree where a leaf's cells changed, and along a path boxes, said of the tree from outside.
-use Rattle.std.proofs.Common.{◌≡◌, ◌≢◌, ℕ, zero, suc, ◌+◌, ◌<◌, ◌≤◌, Bool, true, false, cond, ℤ, pos, List, [], ◌∷◌, ◌++◌, length, map, get_or, Contains, Option, Some, None, unwrap_or, IsSome, unsigned_abs, arith, refl, ap, sym, ◌∙◌, subst, inl, inr}
-use Rattle.std.proofs.Math.Path.{fun_ext}
-use Rattle.std.specs.List.{All, AllZip, flat_map, count_by}
-use Rattle.std.specs.Option.{option_map, option_map_or}
+use Rattle.std.proofs.Common.{◌≡◌, ◌≢◌, ℕ, zero, suc, Bool, true, cond, ℤ, List, [], ◌∷◌, ◌++◌, map, get_or, Contains, Some, unwrap_or, unsigned_abs, arith, refl, ap, sym, ◌∙◌, subst, inl, inr}
+use Rattle.std.specs.List.{All, AllZip, flat_map}
+use Rattle.std.specs.Option.{option_map}
 use Rattle.std.specs.Ordering.{int_eq}
 use Rattle.std.proofs.lemmas.Bool.{cases_eq, cases_Bool}
 use Rattle.std.proofs.lemmas.Bool.Decides.{Decides-int_eq}
-use Rattle.std.proofs.lemmas.Option.{same_Some, none-some}
+use Rattle.std.proofs.lemmas.Option.{same_Some}
 use Rattle.std.proofs.lemmas.List.Elements.{All-head, All-tail}
-use Rattle.rt_box.specs.Rect.{los, his}
 use Rattle.rt_check.specs.declared.node.NodeRow.{NodeRow}
 use Rattle.rt_check.specs.declared.node.RawCell.{RawCell}
-use Rattle.rt_check.specs.Shadow.{ShadowLists}
 use Rattle.rt_node.specs.declared.arena.Arena.{Arena}
 use Rattle.rt_node.specs.declared.cell.Cell.{Cell}
-use Rattle.rt_node.specs.Node.{NodeCells}
-use Rattle.rt_node.specs.Places.{key_of, numbers, cells_at, leaf_cells_at, level_at, parent_at}
+use Rattle.rt_node.specs.Places.{key_of, numbers, cells_at, level_at, parent_at}
 use Rattle.rt_node.specs.Path.{KeepsShape}
 use Rattle.rt_node.proofs.Places.{leaf-at_leaf}
 use Rattle.slab.specs.Slab.{get}
@@ -23,7 +19,6 @@ use Rattle.rt_walk.specs.Preorder.{keys_in, tree_keys, number_in}
 use Rattle.rt_walk.specs.Outside.{cell_row, node_row, outside}
 use Rattle.rt_walk.proofs.Progress.{IsSettled}
 use Rattle.rt_walk.proofs.Listed.{HasNode, levels-below, listed-there}
-use Rattle.rt_walk.proofs.Judged.{row-level, row-cells}
 use Rattle.rt_walk.proofs.Flawless.{numbering}
 use Rattle.rt_tree.specs.Way.{KeepsCell, KeepsNode, ChangesLeaf, with_cells}
 use Rattle.rt_tree.proofs.Members.{contains-map}
@@ -95,10 +90,10 @@ module _ {D : ℕ} where
     keys-same (suc l) k e =
         let shape = others k (inner-other k l e) in
         ap (λ xs. k ∷ xs) (
-            flat-numbers (keys_in u.nodes l) (cells_at u.nodes k)
-            ∙ ap (flat_map (λ n. keys_in u.nodes l (unsigned_abs n))) shape.numbers_same
-            ∙ sym (flat-numbers (keys_in u.nodes l) (cells_at t.nodes k))
-            ∙ flat-agree (keys_in u.nodes l) (keys_in t.nodes l) (cells_at t.nodes k) (λ i d h. keys-same l (key_of (get_or (cells_at t.nodes k) i d)) (levels-below t s k l e i d h)))
+        flat-numbers (keys_in u.nodes l) (cells_at u.nodes k)
+        ∙ ap (flat_map (λ n. keys_in u.nodes l (unsigned_abs n))) shape.numbers_same
+        ∙ sym (flat-numbers (keys_in u.nodes l) (cells_at t.nodes k))
+        ∙ flat-agree (keys_in u.nodes l) (keys_in t.nodes l) (cells_at t.nodes k) (λ i d h. keys-same l (key_of (get_or (cells_at t.nodes k) i d)) (levels-below t s k l e i d h)))
 
     pub tree-same : tree_keys u ≡ tree_keys t
     tree-same = ap (λ r. keys_in u.nodes u.level r) root ∙ ap (λ l. keys_in u.nodes l t.root) height ∙ keys-same t.level t.root s.whole.linked.root_level

@@ -9,3 +9,5 @@ pub mod Lookup
 pub mod Changed
 pub mod Roomier
 pub mod Along
+pub mod Entries
+pub mod Leads

@@ -3,3 +3,4 @@ pub mod Rows
 pub mod TreeInside
 pub mod Finding
 pub mod Way
+pub mod Changes

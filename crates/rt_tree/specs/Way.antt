@@ -1,5 +1,5 @@
 -- The way from the root to a leaf, and trees that differ along a way alone.
-use Rattle.std.specs.Prelude.{◌≡◌, ◌≢◌, ℕ, zero, suc, ◌+◌, ◌≤◌, ◌<◌, ℤ, List, [], ◌∷◌, ◌++◌, Option, None, Some, map, length, nat_eq, slice_get, remove, Contains, if◌then◌else◌}
+use Rattle.std.specs.Prelude.{◌≡◌, ◌≢◌, ℕ, zero, suc, ℤ, List, [], ◌∷◌, ◌++◌, Option, None, Some, map, nat_eq, slice_get, remove, Contains, if◌then◌else◌}
 use Rattle.std.specs.Option.{option_map_or}
 use Rattle.std.specs.List.{AllZip}
 use Rattle.std.specs.Ordering.{int_eq}
@@ -7,7 +7,6 @@ use Rattle.rt_box.specs.declared.interval.Interval.{Interval}
 use Rattle.rt_box.specs.Rect.{los, his}
 use Rattle.rt_check.specs.declared.node.NodeRow.{NodeRow}
 use Rattle.rt_check.specs.declared.node.RawCell.{RawCell}
-use Rattle.rt_check.specs.declared.node.RowEntry.{RowEntry}
 use Rattle.rt_check.specs.Shadow.{ShadowLists}
 use Rattle.rt_check.specs.Conditions.{node_of, entry_of}
 use Rattle.rt_choice.specs.Subtree.{IsBestChild}

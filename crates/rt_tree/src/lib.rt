@@ -3,11 +3,8 @@
 //!
 //! - `Tree`: the tree. Contracts see it as lists, the way `rt_check` takes a tree from outside: its nodes in preorder,
 //!   numbered from 1, with their cells, and an entry for each row.
-//! - `InsertRow`: the insertion that the tree stands on.
 #![tactic(auto)]
 
-mod parts;
 mod tree;
 
-pub use parts::InsertRow;
 pub use tree::Tree;

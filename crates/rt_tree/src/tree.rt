@@ -6,13 +6,12 @@ ghost use Rattle.rt_tree.specs.Lists.{root_level, empty_lists, IsInShape};
 ghost use Rattle.rt_tree.specs.Rows.{box_of, GainsRow, LosesRow};
 ghost use Rattle.rt_tree.specs.Finding.{FindsIn};
 
-use crate::parts::InsertRow;
 use indexmap::IndexMap;
 use rt_box::{Capacity, Rect, Window};
 use rt_check::Shadow;
-use rt_insert::levels_are_few;
+use rt_insert::{insert_row, levels_are_few};
 use rt_node::{Arena, Node, Work, node_at};
-use rt_remove::{Settle, remove_row};
+use rt_remove::remove_row;
 use rt_walk::{Found, search, shadow_of};
 use slab::Slab;
 use std::alloc::{AllocError, Global};
@@ -216,7 +215,7 @@ impl<const D: usize> Tree<D> {
     }
 
     /// Puts a row into the tree. It takes no memory: each row uses up one of the rows that there is room for.
-    pub fn insert<I: InsertRow<D>>(&mut self, id: &i64, rect: &Rect<D>) -> Work
+    pub fn insert(&mut self, id: &i64, rect: &Rect<D>) -> Work
         requires absent { box_of self.old.lists id.now ≡ None }
         requires few { length self.old.lists.rows < 2 ^ 20 }
         requires spare { 1 ≤ self.old.spare }
@@ -224,13 +223,13 @@ impl<const D: usize> Tree<D> {
         ensures spare { self.new.spare + 1 ≡ self.old.spare }
         ensures capacity { self.new.lists.capacity ≡ self.old.lists.capacity }
     {
-        let work = I::insert_row(&mut self.arena, id, rect);
+        let work = insert_row(&mut self.arena, id, rect);
         self.spare -= 1;
         work
     }
 
     /// Takes the row with the id out of the tree, and answers its box. It takes no memory.
-    pub fn remove<S: Settle<D>>(&mut self, id: &i64) -> Rect<D>
+    pub fn remove(&mut self, id: &i64) -> Rect<D>
         requires { IsSome (box_of self.old.lists id.now) }
         ensures rows { LosesRow self.old.lists self.new.lists id.now result }
         ensures spare { self.new.spare ≡ self.old.spare }
@@ -238,6 +237,6 @@ impl<const D: usize> Tree<D> {
     {
         // The waiting cells have room: there are few levels.
         levels_are_few(&self.arena);
-        remove_row::<S, D>(&mut self.arena, id)
+        remove_row(&mut self.arena, id)
     }
 }
