@@ -11,3 +11,4 @@ pub mod Roomier
 pub mod Along
 pub mod Entries
 pub mod Leads
+pub mod Exact

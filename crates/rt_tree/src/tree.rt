@@ -4,6 +4,7 @@ ghost use Rattle.std.specs.Prelude.{◌≡◌, ◌<◌, ◌≤◌, ◌+◌, ◌-
 ghost use Rattle.rt_box.specs.Capacity.{least_fill};
 ghost use Rattle.rt_tree.specs.Lists.{root_level, empty_lists, IsInShape};
 ghost use Rattle.rt_tree.specs.Rows.{box_of, GainsRow, LosesRow};
+ghost use Rattle.rt_tree.specs.Changes.{IsInsertion, IsRemoval};
 ghost use Rattle.rt_tree.specs.Finding.{FindsIn};
 
 use indexmap::IndexMap;
@@ -220,6 +221,7 @@ impl<const D: usize> Tree<D> {
         requires few { length self.old.lists.rows < 2 ^ 20 }
         requires spare { 1 ≤ self.old.spare }
         ensures rows { GainsRow self.old.lists self.new.lists id.now rect.now }
+        ensures insertion { IsInsertion self.old.lists self.new.lists id.now rect.now result }
         ensures spare { self.new.spare + 1 ≡ self.old.spare }
         ensures capacity { self.new.lists.capacity ≡ self.old.lists.capacity }
     {
@@ -232,6 +234,7 @@ impl<const D: usize> Tree<D> {
     pub fn remove(&mut self, id: &i64) -> Rect<D>
         requires { IsSome (box_of self.old.lists id.now) }
         ensures rows { LosesRow self.old.lists self.new.lists id.now result }
+        ensures removal { IsRemoval self.old.lists self.new.lists id.now result }
         ensures spare { self.new.spare ≡ self.old.spare }
         ensures capacity { self.new.lists.capacity ≡ self.old.lists.capacity }
     {
