@@ -12,3 +12,4 @@ pub mod Along
 pub mod Entries
 pub mod Leads
 pub mod Exact
+pub mod Low

@@ -1,6 +1,6 @@
 //! A tree.
 
-ghost use Rattle.std.specs.Prelude.{◌≡◌, ◌<◌, ◌≤◌, ◌+◌, ◌-◌, ◌*◌, ◌^◌, length, Some, None, IsSome, IfOk, OnOk};
+ghost use Rattle.std.specs.Prelude.{◌≡◌, ◌<◌, ◌≤◌, ◌+◌, ◌-◌, ◌*◌, ◌/◌, ◌^◌, length, Some, None, IsSome, IfOk, OnOk};
 ghost use Rattle.rt_box.specs.Capacity.{least_fill};
 ghost use Rattle.rt_tree.specs.Lists.{root_level, empty_lists, IsInShape};
 ghost use Rattle.rt_tree.specs.Rows.{box_of, GainsRow, LosesRow};
@@ -10,7 +10,7 @@ ghost use Rattle.rt_tree.specs.Finding.{FindsIn};
 use indexmap::IndexMap;
 use rt_box::{Capacity, Rect, Window};
 use rt_check::Shadow;
-use rt_insert::{insert_row, levels_are_few};
+use rt_insert::{insert_row, levels_are_few, nodes_are_few};
 use rt_node::{Arena, Node, Work, node_at};
 use rt_remove::remove_row;
 use rt_walk::{Found, search, shadow_of};
@@ -175,6 +175,15 @@ impl<const D: usize> Tree<D> {
     {
         // The map's length says that its ids differ.
         let _ = self.arena.leaves.len();
+    }
+
+    /// A law: a tree has at most one node for each `capacity.least() - 1` of its rows, and one more, and at most 20
+    /// levels of nodes. The call does nothing.
+    pub fn is_small(&self)
+        ensures nodes { length self.now.lists.nodes ≤ 1 + length self.now.lists.rows / (least_fill self.now.lists.capacity - 1) }
+        ensures levels { root_level self.now.lists < 20 }
+    {
+        nodes_are_few(&self.arena);
     }
 
     /// Finds the rows whose boxes the window admits.
