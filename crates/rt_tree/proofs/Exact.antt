@@ -32,7 +32,7 @@ use Rattle.rt_walk.proofs.Judged.{row}
 use Rattle.rt_walk.proofs.Flawless.{numbering}
 use Rattle.rt_tree.specs.Lists.{root_level}
 use Rattle.rt_tree.specs.Way.{boxes_in, cell_with, LeadsTo, JoinsLeaf, LeavesLeaf, ChangesLeaf, way_up}
-use Rattle.rt_tree.specs.Changes.{picked, overfull, HalvesRoot, IsInsertion, IsRemoval}
+use Rattle.rt_tree.specs.Changes.{picked, overfull, HalvesRoot, TakesRow, IsInsertion, IsRemoval}
 use Rattle.rt_tree.proofs.Shape.{root-high, nodes-long}
 use Rattle.rt_tree.proofs.Reading.{number, cells-read}
 use Rattle.rt_tree.proofs.Along.{tree-same, changes-leaf}
@@ -183,21 +183,26 @@ module _ {D : ℕ} where
         let level1 = root-high u s1 in
         let long = leaf-long i.leaf low in
         let way = leads-read t s t.level t.root rect i.leaf i.path high i.leads in
-        record {
+        let takes : TakesRow (outside t) (outside u) id rect = record {
           leaf = number t i.leaf;
           path = map (number t) i.path;
           leads = subst (λ (z : ℤ). LeadsTo (outside t).nodes (root_level (outside t)) z rect (number t i.leaf) (map (number t) i.path)) root-one
               (subst (λ (l : ℕ). LeadsTo (outside t).nodes l (number t t.root) rect (number t i.leaf) (map (number t) i.path)) (sym level) way);
           joins = λ fits. joins-leaf i.leaf i.path cell low (i.joins (omega (arith, long, fits)));
           halves = λ flat full. let zero_level : t.level ≡ 0 = sym level ∙ flat in halves-root cell zero_level (i.halves zero_level (omega (arith, long, full)));
-          placements = i.placements;
-          few = omega (arith, i.few, level1);
-          nodes = omega (arith, i.nodes, level, level1, nodes-long t s, nodes-long u s1);
-          none = (
-            λ e. elim (i.none.0 e) [ inl fits ↦ inl (omega (arith, long, fits)) | inr flat ↦ inr (level ∙ flat) ],
-            λ h. elim h [ inl fits ↦ i.none.1 (inl (omega (arith, long, fits))) | inr flat ↦ i.none.1 (inr (sym level ∙ flat)) ],
-          );
-          plain = λ e. omega (arith, i.plain e, level, level1);
+        } in
+        record {
+          takes = takes;
+          takes_work = record {
+            placements = i.placements;
+            few = omega (arith, i.few, level1);
+            nodes = omega (arith, i.nodes, level, level1, nodes-long t s, nodes-long u s1);
+            none = (
+              λ e. elim (i.none.0 e) [ inl fits ↦ inl (omega (arith, long, fits)) | inr flat ↦ inr (level ∙ flat) ],
+              λ h. elim h [ inl fits ↦ i.none.1 (inl (omega (arith, long, fits))) | inr flat ↦ i.none.1 (inr (sym level ∙ flat)) ],
+            );
+            plain = λ e. omega (arith, i.plain e, level, level1);
+          };
         }
 
     pub removal : (id : ℤ) (rect : List Interval) (k : ℕ) → leaf_of int_eq t.leaves id ≡ Some k → level_at t.nodes k ≡ Some 0 → Removes t u id rect → IsRemoval (outside t) (outside u) id rect

@@ -35,20 +35,29 @@ module _ {D : ℕ} where
     pub first : cells_of_number new.nodes (pos 2) ≡ picked (overfull old cell) (first_group (boxes_in (overfull old cell)) cut)
     pub second : cells_of_number new.nodes (pos 3) ≡ picked (overfull old cell) (second_group (boxes_in (overfull old cell)) cut)
 
-  -- The row goes to the leaf that best children lead its box to. Where the leaf isn't full it is the leaf's last cell,
-  -- and no other row moves; a full root is halved. In these two cases and in no other nothing is inserted again. Each
-  -- cell that is placed is the row's own or one of those inserted again.
-  pub record IsInsertion (old new : ShadowLists D) (id : ℤ) (rect : List Interval) (work : Work) : Type 0 where
+  -- The row goes to the leaf that best children lead its box to. Where the leaf isn't full the row is its last cell,
+  -- and no other row moves; a full root is halved.
+  pub record TakesRow (old new : ShadowLists D) (id : ℤ) (rect : List Interval) : Type 0 where
     pub leaf : ℤ
     pub path : List ℤ
     pub leads : LeadsTo old.nodes (root_level old) old.root rect leaf path
     pub joins : length (cells_of_number old.nodes leaf) < old.capacity → JoinsLeaf old new leaf path (cell_with id rect)
     pub halves : root_level old ≡ 0 → old.capacity ≤ length (cells_of_number old.nodes leaf) → HalvesRoot old new (cell_with id rect)
+
+  -- Each cell that is placed is the row's own or one of those inserted again, a share of a node's; on each level below
+  -- the root's this happens once at most. A split adds a node, and so does a level. Nothing is inserted again where the
+  -- leaf isn't full or is the root, and in no other case; the root alone is split then.
+  pub record TakesWork (old new : ShadowLists D) (leaf : ℤ) (work : Work) : Type 0 where
     pub placements : work.placements ≡ 1 + reinsertion_share old.capacity * work.reinsertions
     pub few : work.reinsertions ≤ root_level new
     pub nodes : length new.nodes + root_level old ≡ length old.nodes + work.splits + root_level new
     pub none : work.reinsertions ≡ 0 ↔ ((length (cells_of_number old.nodes leaf) < old.capacity) ⊎ (root_level old ≡ 0))
     pub plain : work.reinsertions ≡ 0 → root_level new ≡ root_level old + work.splits
+
+  -- a row is taken, with so much work
+  pub record IsInsertion (old new : ShadowLists D) (id : ℤ) (rect : List Interval) (work : Work) : Type 0 where
+    pub takes : TakesRow old new id rect
+    pub takes_work : TakesWork old new takes.leaf work
 
   -- where the row's leaf was the root or had cells to spare, the row's cell left it, and no other row moved
   pub record IsRemoval (old new : ShadowLists D) (id : ℤ) (rect : List Interval) : Type 0 where
