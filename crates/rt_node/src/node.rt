@@ -5,6 +5,7 @@ ghost use Rattle.rt_node.specs.Places.{picked};
 use crate::cell::Cell;
 use arrayvec::ArrayVec;
 use rt_box::Rect;
+use std::alloc::AllocError;
 use std::marker::Model;
 
 /// One cell more than the greatest node holds.
@@ -29,6 +30,20 @@ impl<const D: usize> Model for Node<D> {
     ghost view = { node_of };
 
     ghost invariant = { IsPaired };
+}
+
+// A copy has the same cells.
+impl<const D: usize> Clone for Node<D> {
+    ghost is_clone = { λ node copy. copy ≡ node };
+
+    fn clone(&self) -> Result<Self, AllocError> {
+        Ok(Node {
+            level: self.level,
+            parent: self.parent,
+            numbers: self.numbers.clone()?,
+            boxes: self.boxes.clone()?,
+        })
+    }
 }
 
 /// Appends the number of a cell.

@@ -17,11 +17,13 @@ use Rattle.rt_walk.specs.Search.{row_of}
 use Rattle.rt_walk.specs.Outside.{outside}
 use Rattle.rt_walk.proofs.Progress.{IsSettled}
 use Rattle.rt_tree.specs.Rows.{box_of, GainsRow, LosesRow}
+use Rattle.rt_tree.specs.Changes.{IsInsertion, IsRemoval}
 use Rattle.rt_tree.specs.TreeInside.{IsKept}
 use Rattle.rt_tree.specs.declared.tree.Tree.TheInside.{Inside}
 use Rattle.rt_tree.proofs.Kept.{settled}
 use Rattle.rt_tree.proofs.Shape.{entries-long}
-use Rattle.rt_tree.proofs.Rows.{rows-counted, few-have, box-none, box-some}
+use Rattle.rt_tree.proofs.Rows.{rows-counted, few-have, box-none, box-some, leaf-is}
+use Rattle.rt_tree.proofs.Exact.{insertion, removal}
 use Rattle.rt_tree.proofs.Lookup.{gains, loses}
 
 module _ {D : ℕ} where
@@ -64,12 +66,12 @@ module _ {D : ℕ} where
         omega (arith, a, narrow, k.waiting_room)
 
   module _ (t : Inside D) (k : IsKept t) (u : Arena D) (id : ℤ) (rect : List Interval) where
-    module _ (work : Work) (i : Inserts t.arena u id rect work) (n : ℕ) (is : n + 1 ≡ t.spare) (few : row_count t.arena < 2 ^ 20) where
+    module _ (work : Work) (i : Inserts t.arena u id rect work) where
       more-rows : row_count u ≡ row_count t.arena + 1
       more-rows = i.rows (λ c. true)
 
-      pub inserted-kept : IsKept {D = D} record { arena = u; spare = n }
-      inserted-kept = record {
+      pub inserted-kept : (n : ℕ) → n + 1 ≡ t.spare → row_count t.arena < 2 ^ 20 → IsKept {D = D} record { arena = u; spare = n }
+      inserted-kept n is few = record {
         some = k.some;
         few = k.few;
         whole = i.whole;
@@ -88,6 +90,9 @@ module _ {D : ℕ} where
           let s1 : IsSettled u = record { whole = i.whole; none = i.none_waits } in
           gains (outside t.arena) (outside u) (few-have t.arena s) (few-have u s1) id rect
           (λ (test : Row D → Bool). rows-counted u s1 test ∙ i.rows (λ c. test (row_of c)) ∙ ap (λ m. m + cond (test record { id = id; rect = rect }) 1 0) (sym (rows-counted t.arena s test)))
+
+      pub inserted-exact : IsInsertion (outside t.arena) (outside u) id rect work
+      inserted-exact = insertion t.arena u (settled t k) (record { whole = i.whole; none = i.none_waits }) id rect work i
 
     module _ (r : Removes t.arena u id rect) where
       fewer-rows : row_count u + 1 ≡ row_count t.arena
@@ -114,3 +119,11 @@ module _ {D : ℕ} where
           loses (outside t.arena) (outside u) (few-have t.arena s) (few-have u s1) id rect
           (λ (test : Row D → Bool).
           ap (λ m. m + cond (test record { id = id; rect = rect }) 1 0) (rows-counted u s1 test) ∙ r.rows (λ c. test (row_of c)) ∙ sym (rows-counted t.arena s test))
+
+      pub removed-exact : IsSome (leaf_of int_eq t.arena.leaves id) → IsRemoval (outside t.arena) (outside u) id rect
+      removed-exact known = by (leaf_of int_eq t.arena.leaves id) refl
+        where
+          by : (o : Option ℕ) → leaf_of int_eq t.arena.leaves id ≡ o → IsRemoval (outside t.arena) (outside u) id rect
+          by None e = absurd (true≢false (sym known ∙ ap is_some e))
+          by (Some leaf) e =
+              removal t.arena u (settled t k) (record { whole = r.whole; none = r.none_waits }) id rect leaf e (leaf-is t.arena (settled t k) id leaf e) r

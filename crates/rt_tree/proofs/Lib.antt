@@ -3,7 +3,13 @@ pub mod Shape
 pub mod Kept
 pub mod Rows
 pub mod Reading
-pub mod Found
+pub mod Reached
 pub mod Fresh
 pub mod Lookup
 pub mod Changed
+pub mod Roomier
+pub mod Along
+pub mod Entries
+pub mod Leads
+pub mod Exact
+pub mod Low

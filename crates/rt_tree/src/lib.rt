@@ -1,13 +1,18 @@
 //! An R*-tree of rows with ids (Beckmann, Kriegel, Schneider, Seeger 1990): a map from ids to boxes that is searched
 //! by windows.
 //!
-//! - `Tree`: the tree. Contracts see it as lists, the way `rt_check` takes a tree from outside: its nodes in preorder,
-//!   numbered from 1, with their cells, and an entry for each row.
-//! - `InsertRow`: the insertion that the tree stands on.
+//! `Tree` is seen as lists, the way `rt_check` takes a tree from outside: its nodes in preorder, numbered from 1, with
+//! their cells, and an entry for each row.
+//!
+//! - `insert` and `remove` take no memory and don't fail: `reserve` made the room. Of each other row they say that it
+//!   stays, and where no node overflows or gets thin, that no other row moves.
+//! - `is_in_shape` and `is_small` hold of each tree, whatever was done to it: the checker finds no problem, and there
+//!   are few nodes and few levels.
+//! - `search` lists the rows that a window admits, and counts the nodes that it went into.
 #![tactic(auto)]
 
-mod parts;
 mod tree;
 
-pub use parts::InsertRow;
+pub use rt_node::Work;
+pub use rt_walk::{Found, Row};
 pub use tree::Tree;

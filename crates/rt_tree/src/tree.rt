@@ -1,17 +1,18 @@
 //! A tree.
 
-ghost use Rattle.std.specs.Prelude.{◌≡◌, ◌<◌, ◌≤◌, ◌+◌, ◌^◌, length, Some, None, IsSome, IfOk};
+ghost use Rattle.std.specs.Prelude.{◌≡◌, ◌<◌, ◌≤◌, ◌+◌, ◌-◌, ◌*◌, ◌/◌, ◌^◌, length, Some, None, IsSome, IfOk, OnOk};
+ghost use Rattle.rt_box.specs.Capacity.{least_fill};
 ghost use Rattle.rt_tree.specs.Lists.{root_level, empty_lists, IsInShape};
 ghost use Rattle.rt_tree.specs.Rows.{box_of, GainsRow, LosesRow};
+ghost use Rattle.rt_tree.specs.Changes.{IsInsertion, IsRemoval};
 ghost use Rattle.rt_tree.specs.Finding.{FindsIn};
 
-use crate::parts::InsertRow;
 use indexmap::IndexMap;
 use rt_box::{Capacity, Rect, Window};
 use rt_check::Shadow;
-use rt_insert::levels_are_few;
+use rt_insert::{insert_row, levels_are_few, nodes_are_few};
 use rt_node::{Arena, Node, Work, node_at};
-use rt_remove::{Settle, remove_row};
+use rt_remove::remove_row;
 use rt_walk::{Found, search, shadow_of};
 use slab::Slab;
 use std::alloc::{AllocError, Global};
@@ -54,6 +55,32 @@ impl<const D: usize> Model for Tree<D> {
     ghost view = { lists_of };
 
     ghost invariant = { IsKept };
+}
+
+/// The nodes that there is to be room for where there are so many rows: each but the root has `capacity.least()` cells.
+fn nodes_for(capacity: Capacity, rows: usize) -> usize
+    requires { rows ≤ 2 ^ 22 }
+    ensures { rows + (least_fill capacity - 1) * 33 ≤ (least_fill capacity - 1) * result }
+{
+    rows / (capacity.least() - 1) + 1 + NODES_AHEAD
+}
+
+/// A copy of the nodes that has room for so many. What was there stays as it was, so nothing is to be put back where
+/// no memory is left.
+fn with_room<const D: usize>(
+    nodes: &Slab<Node<D>>,
+    room: usize,
+) -> Result<Slab<Node<D>>, AllocError>
+    ensures same { IfOk result (λ copy. copy.slots ≡ nodes.now.slots) }
+    ensures room { IfOk result (λ copy. room ≤ copy.capacity) }
+    ensures keys { IfOk result (λ copy. copy.capacity ≤ 2 ^ 62) }
+{
+    let mut copy = nodes.clone()?;
+    copy.reserve(room.saturating_sub(nodes.len()))?;
+    if copy.capacity() > MOST_NODES {
+        return Err(AllocError);
+    }
+    Ok(copy)
 }
 
 impl<const D: usize> Tree<D> {
@@ -150,6 +177,15 @@ impl<const D: usize> Tree<D> {
         let _ = self.arena.leaves.len();
     }
 
+    /// A law: a tree has at most one node for each `capacity.least() - 1` of its rows, and one more, and at most 20
+    /// levels of nodes. The call does nothing.
+    pub fn is_small(&self)
+        ensures nodes { length self.now.lists.nodes ≤ 1 + length self.now.lists.rows / (least_fill self.now.lists.capacity - 1) }
+        ensures levels { root_level self.now.lists < 20 }
+    {
+        nodes_are_few(&self.arena);
+    }
+
     /// Finds the rows whose boxes the window admits.
     ///
     /// # Errors
@@ -161,29 +197,58 @@ impl<const D: usize> Tree<D> {
         search(alloc, &self.arena, window)
     }
 
+    /// Makes room for so many further rows. The room grows by as many rows as there are, so that many reservations of
+    /// one row each copy each node a few times only.
+    ///
+    /// # Errors
+    ///
+    /// `AllocError` where no memory is left; the tree is as before then.
+    pub fn reserve(&mut self, more: usize) -> Result<(), AllocError>
+        requires { more ≤ 2 ^ 20 }
+        ensures room { OnOk result (more ≤ self.new.spare) }
+        ensures keeps { self.old.spare ≤ self.new.spare }
+        ensures lists { self.new.lists ≡ self.old.lists }
+    {
+        if more <= self.spare {
+            return Ok(());
+        }
+        let rows = self.arena.leaves.len();
+        let spare = if more < rows { rows } else { more };
+        let nodes = with_room(
+            &self.arena.nodes,
+            nodes_for(self.arena.capacity, rows + spare),
+        )?;
+        self.arena.leaves.reserve(spare)?;
+        self.arena.nodes = nodes;
+        self.spare = spare;
+        Ok(())
+    }
+
     /// Puts a row into the tree. It takes no memory: each row uses up one of the rows that there is room for.
-    pub fn insert<I: InsertRow<D>>(&mut self, id: &i64, rect: &Rect<D>) -> Work
+    pub fn insert(&mut self, id: &i64, rect: &Rect<D>) -> Work
         requires absent { box_of self.old.lists id.now ≡ None }
         requires few { length self.old.lists.rows < 2 ^ 20 }
         requires spare { 1 ≤ self.old.spare }
         ensures rows { GainsRow self.old.lists self.new.lists id.now rect.now }
+        ensures insertion { IsInsertion self.old.lists self.new.lists id.now rect.now result }
         ensures spare { self.new.spare + 1 ≡ self.old.spare }
         ensures capacity { self.new.lists.capacity ≡ self.old.lists.capacity }
     {
-        let work = I::insert_row(&mut self.arena, id, rect);
+        let work = insert_row(&mut self.arena, id, rect);
         self.spare -= 1;
         work
     }
 
     /// Takes the row with the id out of the tree, and answers its box. It takes no memory.
-    pub fn remove<S: Settle<D>>(&mut self, id: &i64) -> Rect<D>
+    pub fn remove(&mut self, id: &i64) -> Rect<D>
         requires { IsSome (box_of self.old.lists id.now) }
         ensures rows { LosesRow self.old.lists self.new.lists id.now result }
+        ensures removal { IsRemoval self.old.lists self.new.lists id.now result }
         ensures spare { self.new.spare ≡ self.old.spare }
         ensures capacity { self.new.lists.capacity ≡ self.old.lists.capacity }
     {
         // The waiting cells have room: there are few levels.
         levels_are_few(&self.arena);
-        remove_row::<S, D>(&mut self.arena, id)
+        remove_row(&mut self.arena, id)
     }
 }

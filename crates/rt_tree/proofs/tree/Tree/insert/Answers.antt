@@ -5,8 +5,9 @@ use Rattle.rt_node.specs.Whole.{IsWhole, IsBranched, HasRoom, row_count}
 use Rattle.rt_walk.specs.Outside.{outside}
 use Rattle.rt_tree.specs.Lists.{TreeLists}
 use Rattle.rt_tree.specs.Rows.{box_of, GainsRow}
+use Rattle.rt_tree.specs.Changes.{IsInsertion}
 use Rattle.rt_tree.proofs.Kept.{settled}
-use Rattle.rt_tree.proofs.Changed.{absent-leaf, less-room, rows-are, inserted-kept, inserted-rows}
+use Rattle.rt_tree.proofs.Changed.{absent-leaf, less-room, rows-are, inserted-kept, inserted-rows, inserted-exact}
 use Rattle.rt_tree.proofs.tree.Tree.insert.Goals as goal
 
 pub insert_row-work-requires : goal.insert_row-work-requires
@@ -38,10 +39,10 @@ invariant_of-self g c =
 
 pub returns-clause-rows : goal.returns-clause-rows
 returns-clause-rows g c =
-    let i = c.self.inside in
-    let k = c.self.invariant in
-    let long = ap (λ (v : TreeLists g.row.D). length v.lists.rows) c.self.view_is in
-    let some : 1 ≤ i.spare = subst (λ (v : TreeLists g.row.D). 1 ≤ v.spare) (sym c.self.view_is) c.requires.spare in
     subst (λ (v : TreeLists g.row.D). GainsRow v.lists (outside c.insert_row-work.new.tree) c.args.id.now c.args.rect.now) c.self.view_is
-    (inserted-rows i k c.insert_row-work.new.tree c.args.id.now c.args.rect.now c.insert_row-work.result c.insert_row-work.ensures (i.spare - 1) (omega (arith, some))
-    (omega (arith, rows-are i k, long, c.requires.few)))
+    (inserted-rows c.self.inside c.self.invariant c.insert_row-work.new.tree c.args.id.now c.args.rect.now c.insert_row-work.result c.insert_row-work.ensures)
+
+pub returns-clause-insertion : goal.returns-clause-insertion
+returns-clause-insertion g c =
+    subst (λ (v : TreeLists g.row.D). IsInsertion v.lists (outside c.insert_row-work.new.tree) c.args.id.now c.args.rect.now c.insert_row-work.result) c.self.view_is
+    (inserted-exact c.self.inside c.self.invariant c.insert_row-work.new.tree c.args.id.now c.args.rect.now c.insert_row-work.result c.insert_row-work.ensures)

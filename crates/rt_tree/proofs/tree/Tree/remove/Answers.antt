@@ -6,8 +6,9 @@ use Rattle.rt_node.specs.Whole.{IsWhole, IsBranched, HasRoom, row_count}
 use Rattle.rt_walk.specs.Outside.{outside}
 use Rattle.rt_tree.specs.Lists.{TreeLists}
 use Rattle.rt_tree.specs.Rows.{box_of, LosesRow}
+use Rattle.rt_tree.specs.Changes.{IsRemoval}
 use Rattle.rt_tree.proofs.Kept.{settled}
-use Rattle.rt_tree.proofs.Changed.{present-leaf, less-room, way-waits, removed-kept, removed-rows}
+use Rattle.rt_tree.proofs.Changed.{present-leaf, less-room, way-waits, removed-kept, removed-rows, removed-exact}
 use Rattle.rt_tree.proofs.tree.Tree.remove.Goals as goal
 
 pub remove_row-requires : goal.remove_row-requires
@@ -31,3 +32,12 @@ pub returns-clause-rows : goal.returns-clause-rows
 returns-clause-rows g c =
     subst (λ (v : TreeLists g.row.D). LosesRow v.lists (outside c.remove_row.new.tree) c.args.id.now c.remove_row.result) c.self.view_is
     (removed-rows c.self.inside c.self.invariant c.remove_row.new.tree c.args.id.now c.remove_row.result c.remove_row.ensures)
+
+pub returns-clause-removal : goal.returns-clause-removal
+returns-clause-removal g c =
+    let i = c.self.inside in
+    let t = c.self.inside.arena in
+    let k = c.self.invariant in
+    let old : IsSome (box_of (outside t) c.args.id.now) = subst (λ (v : TreeLists g.row.D). IsSome (box_of v.lists c.args.id.now)) (sym c.self.view_is) c.requires in
+    subst (λ (v : TreeLists g.row.D). IsRemoval v.lists (outside c.remove_row.new.tree) c.args.id.now c.remove_row.result) c.self.view_is
+    (removed-exact i k c.remove_row.new.tree c.args.id.now c.remove_row.result c.remove_row.ensures (present-leaf t (settled i k) c.args.id.now old))
