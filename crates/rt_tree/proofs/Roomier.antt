@@ -1,5 +1,6 @@
 -- The same nodes and rows, with other room.
-use Rattle.std.proofs.Common.{◌≡◌, ℕ, zero, suc, ◌+◌, ◌≤◌, true, ℤ, pos, List, ◌∷◌, length, map, Option, None, vec_capacity, arith, refl, ap, sym, ◌∙◌, subst}
+use Rattle.std.proofs.Common.{◌≡◌, ℕ, zero, suc, ◌+◌, ◌≤◌, ◌^◌, ◌-◌, ◌*◌, true, ℤ, pos, List, ◌∷◌, length, map, Option, None, vec_capacity, arith, refl, ap, sym, ◌∙◌, subst}
+use Rattle.std.proofs.Math.Nat.{mul-le-mul_left}
 use Rattle.std.proofs.Math.Path.{fun_ext}
 use Rattle.std.specs.List.{flat_map, sum_by, count_by}
 use Rattle.std.specs.Map.{lookup, keys_of}
@@ -8,6 +9,7 @@ use Rattle.slab.specs.Slab.{Slab, get}
 use Rattle.indexmap.specs.IndexMap.{get as leaf_of, keys as ids_of, spare}
 use Rattle.rt_check.specs.declared.node.NodeRow.{NodeRow}
 use Rattle.rt_check.specs.Shadow.{ShadowLists}
+use Rattle.rt_box.specs.Capacity.{least_fill}
 use Rattle.rt_node.specs.declared.arena.Arena.{Arena}
 use Rattle.rt_node.specs.declared.cell.Cell.{Cell}
 use Rattle.rt_node.specs.declared.cell.Waiting.{Waiting}
@@ -116,3 +118,11 @@ module _ {D : ℕ} where
       where
         root-cells : length (cells_at u.nodes u.root) ≡ length (cells_at t.nodes t.root)
         root-cells = with-slots (λ a. length (cells_at a u.root) ≡ length (cells_at t.nodes t.root)) (ap (λ r. length (cells_at t.nodes r)) root)
+
+  -- the room stays where the slab grows
+  pub grown-room : (t u : Arena D) (rows : ℕ) → HasRoom t rows → t.nodes.capacity ≤ u.nodes.capacity → u.nodes.capacity ≤ 2 ^ 62 → u.capacity ≡ t.capacity → HasRoom u rows
+  grown-room t u rows h grows keys same = record {
+    nodes = subst (λ (n : ℕ). rows + (least_fill n - 1) * 33 ≤ (least_fill n - 1) * u.nodes.capacity) (sym same)
+        (let wide = mul-le-mul_left (least_fill t.capacity - 1) grows in omega (arith, wide, h.nodes));
+    keys = keys;
+  }

@@ -83,6 +83,21 @@ fn with_room<const D: usize>(
     Ok(copy)
 }
 
+/// Makes room for so many nodes, where there is none yet.
+fn make_room<const D: usize>(nodes: &mut Slab<Node<D>>, room: usize) -> Result<(), AllocError>
+    requires { nodes.old.capacity ≤ 2 ^ 62 }
+    ensures same { nodes.new.slots ≡ nodes.old.slots }
+    ensures keys { nodes.new.capacity ≤ 2 ^ 62 }
+    ensures grows { nodes.old.capacity ≤ nodes.new.capacity }
+    ensures room { OnOk result (room ≤ nodes.new.capacity) }
+{
+    if room <= nodes.capacity() {
+        return Ok(());
+    }
+    *nodes = with_room(nodes, room)?;
+    Ok(())
+}
+
 impl<const D: usize> Tree<D> {
     /// A tree without rows, whose nodes have at most `capacity` cells. Look-ups by id hash by `keys`, which are to be
     /// random where others choose the ids.
@@ -198,7 +213,7 @@ impl<const D: usize> Tree<D> {
     }
 
     /// Makes room for so many further rows. The room grows by as many rows as there are, so that many reservations of
-    /// one row each copy each node a few times only.
+    /// one row each copy a node a few times only.
     ///
     /// # Errors
     ///
@@ -214,12 +229,9 @@ impl<const D: usize> Tree<D> {
         }
         let rows = self.arena.leaves.len();
         let spare = if more < rows { rows } else { more };
-        let nodes = with_room(
-            &self.arena.nodes,
-            nodes_for(self.arena.capacity, rows + spare),
-        )?;
+        let room = nodes_for(self.arena.capacity, rows + spare);
+        make_room(&mut self.arena.nodes, room)?;
         self.arena.leaves.reserve(spare)?;
-        self.arena.nodes = nodes;
         self.spare = spare;
         Ok(())
     }
