@@ -12,11 +12,13 @@
 //! lists; no function of this crate carries them out.
 #![tactic(auto)]
 
+mod candidate;
 mod entry;
 mod filter;
 mod schema;
 mod values;
 
+pub use candidate::Candidate;
 pub use entry::{Entry, Field, RowView, Step};
 pub use filter::Filter;
 pub use schema::Schema;
