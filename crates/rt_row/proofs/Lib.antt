@@ -1,3 +1,4 @@
 pub mod Places
 pub mod Filters
 pub mod Boxes
+pub mod Arranging

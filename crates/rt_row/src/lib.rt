@@ -12,12 +12,15 @@
 //! lists; no function of this crate carries them out.
 #![tactic(auto)]
 
+mod arrangement;
 mod candidate;
 mod entry;
 mod filter;
 mod schema;
+mod settings;
 mod values;
 
+pub use arrangement::Arrangement;
 pub use candidate::Candidate;
 pub use entry::{Entry, Field, RowView, Step};
 pub use filter::Filter;
