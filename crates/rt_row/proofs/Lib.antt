@@ -2,3 +2,4 @@ pub mod Places
 pub mod Filters
 pub mod Boxes
 pub mod Arranging
+pub mod Setting

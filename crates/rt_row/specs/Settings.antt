@@ -1,16 +1,20 @@
 -- What an UPDATE sets, looked up: the columns that the sources read, and where each column's new value comes from.
 -- Source: own.
-use Rattle.std.specs.Prelude.{◌≡◌, ◌⊎◌, ℕ, ◌+ℤ◌, ◌-ℤ◌, Bool, true, false, not, ◌&&◌, if◌then◌else◌, List, map, length, Result, Ok, Err, slice_index_or}
+use Rattle.std.specs.Prelude.{◌≡◌, ◌⊎◌, ℕ, ◌+ℤ◌, ◌-ℤ◌, Bool, true, false, not, ◌&&◌, if◌then◌else◌, List, map, length, position, Option, Some, Result, Err, slice_index_or}
+use Rattle.std.specs.Option.{option_map, option_map_or}
 use Rattle.std.specs.List.{list_all}
 use Rattle.rt_sql.specs.declared.value.Value.{Value}
 use Rattle.rt_sql.specs.declared.value.Value.TheVariants.{Null, Int}
 use Rattle.rt_sql.specs.declared.refusal.Refusal.{Refusal}
 use Rattle.rt_sql.specs.declared.refusal.Refusal.TheVariants.{BadColumnList, NoSuchColumn, WrongType, IntegerOutOfRange, OutOfMemory}
+use Rattle.rt_sql.specs.Name.{same_name}
+use Rattle.rt_sql.specs.declared.statement.Source.{Source}
+use Rattle.rt_sql.specs.declared.statement.Source.TheVariants as source
 use Rattle.rt_row.specs.declared.settings.Reading.{Reading}
 use Rattle.rt_row.specs.declared.settings.Reading.TheVariants.{Literal, Column, Plus, Minus}
 use Rattle.rt_row.specs.declared.settings.Fill.{Fill}
 use Rattle.rt_row.specs.declared.settings.Fill.TheVariants.{Kept, Set}
-use Rattle.rt_row.specs.Columns.{Columns, has_name, are_distinct}
+use Rattle.rt_row.specs.Columns.{Columns, place_of, has_name, are_distinct}
 use Rattle.rt_row.specs.Candidates.{Candidate, is_integer, number_in, fits_bits, id_value, coordinate_values, candidate_of}
 use Rattle.rt_row.specs.Edits.{Setting, columns_read, is_summable, sum_fits, new_values}
 
@@ -80,3 +84,24 @@ IsBadSettings columns sets refusal =
     ((refusal ≡ BadColumnList) × (are_distinct (set_names sets) ≡ false))
     ⊎ ((refusal ≡ NoSuchColumn) × (are_distinct (set_names sets) ≡ true) × (has_set_columns columns sets ≡ false))
     ⊎ (refusal ≡ OutOfMemory)
+
+-- ---- how they are looked up
+
+-- what a set gives, its column looked up; none where no column has the name
+abbrev pub reading_of : List (List ℕ) → Source → Option Reading
+reading_of names (source.Literal value) = Some (Literal value)
+reading_of names (source.Column name) = option_map (λ place. Column place) (place_of names name)
+reading_of names (source.Plus name number) = option_map (λ place. Plus place number) (place_of names name)
+reading_of names (source.Minus name number) = option_map (λ place. Minus place number) (place_of names name)
+
+abbrev pub AreReadings : List (List ℕ) → List Setting → List Reading → Type 0
+AreReadings names sets readings = map (λ (set : Setting). reading_of names set.1) sets ≡ map Some readings
+
+-- a set of this column, or else the column's own place
+abbrev pub fill_of : List (List ℕ) → List Setting → List ℕ → Fill
+fill_of names sets name =
+    option_map_or (λ at. Set at) (position (λ (set : Setting). same_name name set.0) sets) (Kept (option_map_or (λ place. place) (place_of names name) 0))
+
+-- each column that a set reads is the table's
+abbrev pub reads_columns : List (List ℕ) → List Setting → Bool
+reads_columns names sets = list_all (λ (set : Setting). list_all (has_name names) (columns_read set.1)) sets

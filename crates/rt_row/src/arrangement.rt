@@ -6,7 +6,7 @@ ghost use Rattle.std.specs.Option.{option_copied};
 ghost use Rattle.rt_row.specs.Columns.{place_of, has_name};
 ghost use Rattle.rt_row.specs.Arrangements.{value_at};
 
-use crate::schema::{are_distinct, has_name, place_of, Schema};
+use crate::schema::{Schema, are_distinct, has_name, place_of};
 use rt_sql::{Items, Name, Refusal, Value};
 use std::alloc::{AllocError, Global};
 use std::marker::Model;
@@ -23,7 +23,11 @@ pub(crate) fn are_known(columns: &[Name], names: &[Name]) -> bool
 }
 
 /// For each column its place among the names.
-fn places_of(alloc: Global, columns: &[Name], names: &[Name]) -> Result<Vec<Option<usize>>, AllocError>
+fn places_of(
+    alloc: Global,
+    columns: &[Name],
+    names: &[Name],
+) -> Result<Vec<Option<usize>>, AllocError>
     ensures { IfOk result (λ places. places.items ≡ map (place_of names.now) columns.now) }
 {
     let mut places = Vec::with_capacity(alloc, columns.len())?;
@@ -105,7 +109,11 @@ fn are_wide(lists: &[Items<Value>], width: usize) -> bool
     lists.iter().all(|values| values.len() == width)
 }
 
-fn rearranged(alloc: Global, places: &[Option<usize>], list: &[Value]) -> Result<Vec<Value>, AllocError>
+fn rearranged(
+    alloc: Global,
+    places: &[Option<usize>],
+    list: &[Value],
+) -> Result<Vec<Value>, AllocError>
     ensures { IfOk result (λ values. values.items ≡ map (value_at list.now) places.now) }
 {
     let mut values = Vec::with_capacity(alloc, places.len())?;

@@ -1,4 +1,4 @@
-use Rattle.std.proofs.Common.{rules, refl, ◌≡◌, map, ◌∙◌}
+use Rattle.std.proofs.Common.{rules, refl, ◌≡◌, map}
 use Rattle.std.proofs.lemmas.List.{length-map}
 use Rattle.rt_row.specs.Columns.{place_of}
 use Rattle.rt_row.proofs.Arranging.{arranged_same}
