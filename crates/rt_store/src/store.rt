@@ -86,6 +86,7 @@ impl<const D: usize> Store<D> {
     pub fn len(&self) -> usize
         ensures value { result ≡ length self.now.rows }
         ensures rising { AreRising self.now.rows }
+        ensures few { D ≤ 3 }
     {
         self.entries.len()
     }
