@@ -1,0 +1,13 @@
+//! What a statement does to the rows of a table, planned before anything is changed.
+//!
+//! - `plan_insert`, `plan_update` and `plan_delete` give the steps that the statement takes, or the refusal of the
+//!   whole of it. The store is only looked at.
+//! - `Plan` is the list of those steps, in the order in which they are to be taken.
+#![tactic(auto)]
+
+mod delete;
+mod draft;
+mod plan;
+
+pub use delete::plan_delete;
+pub use plan::Plan;
