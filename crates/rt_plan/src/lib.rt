@@ -8,6 +8,8 @@
 mod delete;
 mod draft;
 mod plan;
+mod update;
 
 pub use delete::plan_delete;
 pub use plan::Plan;
+pub use update::plan_update;
