@@ -1,9 +1,9 @@
 -- A plan grows by one step: the ids that have rows, and the steps that are left.
-use Rattle.std.proofs.Common.{◌≡◌, if◌then◌else◌, ◌&&◌, ◌<ℤ◌, filter, ℕ, ◌+◌, ◌<◌, ◌≤◌, ℤ, Bool, true, false, cond, not, List, [], ◌∷◌, ◌++◌, append_assoc, append-nil, map, length, get_or, drop, Option, Some, None, Result, Ok, Err, ◌⊎◌, inl, inr, ⊎_elim, refl, sym, ap, subst, ◌∙◌}
+use Rattle.std.proofs.Common.{◌≡◌, if◌then◌else◌, ◌&&◌, ◌<ℤ◌, filter, ℕ, ◌+◌, ◌<◌, ℤ, Bool, true, false, cond, not, List, [], ◌∷◌, ◌++◌, append_assoc, append-nil, map, length, get_or, drop, Option, Some, None, Result, Ok, Err, ◌⊎◌, inl, inr, ⊎_elim, refl, sym, ap, subst, ◌∙◌}
 use Rattle.std.specs.List.{list_all, filter_map, AllByRecursion}
 use Rattle.std.specs.Option.{is_some, option_map_or}
 use Rattle.std.specs.Ordering.{int_eq}
-use Rattle.std.proofs.lemmas.List.{at_drop_more, at_drop_all}
+use Rattle.std.proofs.lemmas.List.{at_drop_more}
 use Rattle.rt_sql.specs.declared.refusal.Refusal.{Refusal}
 use Rattle.rt_sql.specs.declared.refusal.Refusal.TheVariants.{WrongType, IntegerOutOfRange, OutOfMemory}
 use Rattle.rt_sql.specs.declared.value.Value.{Value}
@@ -17,7 +17,7 @@ use Rattle.rt_row.specs.Edits.{Setting, Step, Steps, new_values, is_summable, su
 use Rattle.rt_row.specs.Settings.{LookedUp, reads_integer, reading_fits, IsSettingsOf}
 use Rattle.rt_store.proofs.Order.{eq_same, eq_above, eq_from}
 use Rattle.rt_store.proofs.Sorted.{Rises, rises, at_key-taken, at_key-placed}
-use Rattle.rt_plan.specs.Drafts.{is_there, Knows, touched_by, row_set, all_set}
+use Rattle.rt_plan.specs.Drafts.{Knows, touched_by, row_set, all_set}
 use Rattle.rt_plan.specs.Plans.{Plans}
 use Rattle.rt_plan.proofs.Ids.{has_row, filter_same}
 

@@ -1,6 +1,6 @@
 -- Which ids have rows.
-use Rattle.std.proofs.Common.{◌≡◌, ℤ, Bool, true, false, cond, ◌||◌, List, [], ◌∷◌, map, filter, Option, Some, None, Ok, refl, sym, ap, ◌∙◌}
-use Rattle.std.specs.Option.{is_some, option_map, option_map_or}
+use Rattle.std.proofs.Common.{◌≡◌, ℤ, Bool, true, false, cond, ◌||◌, List, [], ◌∷◌, map, filter, Option, Some, None, Ok, refl}
+use Rattle.std.specs.Option.{is_some, option_map}
 use Rattle.std.specs.Ordering.{int_eq}
 use Rattle.rt_sql.specs.declared.statement.Test.{Test}
 use Rattle.rt_row.specs.Columns.{Columns}

@@ -1,8 +1,8 @@
 -- A plan while it is made: which ids have rows after its steps, without those rows. Source: own.
-use Rattle.std.specs.Prelude.{◌≡◌, ℕ, ℤ, Bool, true, false, if◌then◌else◌, List, [], ◌∷◌, length, map, Option, Some, None, Result, Ok}
+use Rattle.std.specs.Prelude.{◌≡◌, ℕ, ℤ, Bool, true, false, if◌then◌else◌, List, [], ◌∷◌, Option, Some, None, Ok}
 use Rattle.std.specs.Option.{option_map_or}
 use Rattle.std.specs.Ordering.{int_eq}
-use Rattle.rt_row.specs.Rows.{TableRow, AreRising, values_of, has_id, largest_id}
+use Rattle.rt_row.specs.Rows.{TableRow, values_of, has_id}
 use Rattle.rt_row.specs.declared.entry.Step as declared
 use Rattle.rt_row.specs.Entries.{step_of}
 use Rattle.rt_row.specs.Edits.{Step, Steps, Leaves, Comes, Becomes, outcome, and_then, steps_and, become_candidate}
@@ -22,14 +22,12 @@ touched_by touched (Leaves old) id = if int_eq old id then Some false else touch
 touched_by touched (Comes row) id = if int_eq row.id id then Some true else touched id
 touched_by touched (Becomes old row) id = if int_eq row.id id then Some true else (if int_eq old id then Some false else touched id)
 
--- the largest id and the number of the rows
-pub record Counts (rows : List TableRow) (largest : Option ℤ) (len : ℕ) : Type 0 where
-  pub rising : AreRising rows
-  pub largest_is : largest ≡ largest_id rows
-  pub len_is : len ≡ length rows
-
 abbrev pub one_step : {D : _} → declared.Step D → List Step
 one_step step = step_of step ∷ []
+
+abbrev pub step_given : {D : _} → Option (declared.Step D) → List Step
+step_given None = []
+step_given (Some step) = step_of step ∷ []
 
 -- ---- UPDATE, its columns looked up
 

@@ -5,11 +5,14 @@
 //! - `Plan` is the list of those steps, in the order in which they are to be taken.
 #![tactic(auto)]
 
+mod count;
 mod delete;
 mod draft;
+mod insert;
 mod plan;
 mod update;
 
 pub use delete::plan_delete;
+pub use insert::plan_insert;
 pub use plan::Plan;
 pub use update::plan_update;

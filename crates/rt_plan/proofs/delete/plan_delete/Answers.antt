@@ -1,4 +1,4 @@
-use Rattle.std.proofs.Common.{◌≡◌, ℤ, map, ap, ◌∙◌}
+use Rattle.std.proofs.Common.{ℤ, map, ap, ◌∙◌}
 use Rattle.rt_row.specs.Edits.{Leaves}
 use Rattle.rt_plan.proofs.Ids.{deletes}
 use Rattle.rt_plan.proofs.delete.plan_delete.Goals as goal

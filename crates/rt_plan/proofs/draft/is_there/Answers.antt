@@ -1,8 +1,7 @@
-use Rattle.std.proofs.Common.{rules, ◌≡◌, None, Option, Bool, sym, ap, ◌∙◌}
-use Rattle.std.specs.Option.{is_some, option_map}
+use Rattle.std.proofs.Common.{◌≡◌, None, sym, ap, ◌∙◌}
+use Rattle.std.specs.Option.{is_some}
 use Rattle.std.specs.Ordering.{int_eq}
 use Rattle.indexmap.specs.IndexMap.{get}
-use Rattle.rt_row.specs.Rows.{has_id, row_at}
 use Rattle.rt_plan.proofs.Ids.{has_row, untouched, found}
 use Rattle.rt_plan.proofs.draft.is_there.Goals as goal
 

@@ -1,10 +1,10 @@
-use Rattle.std.proofs.Common.{rules, arith, ◌≡◌, ◌+◌, ◌<◌, ℤ, pos, List, map, length, drop, sym}
+use Rattle.std.proofs.Common.{arith, ◌+◌, ◌<◌, pos, map, length, drop, sym}
 use Rattle.std.specs.List.{filter_map}
 use Rattle.std.specs.Ordering.{int_eq}
 use Rattle.std.proofs.lemmas.List.{at_drop_all}
 use Rattle.std.proofs.lemmas.Result.{err_from_is_err_and}
 use Rattle.indexmap.specs.IndexMap.{get}
-use Rattle.rt_row.specs.Rows.{TableRow, row_at}
+use Rattle.rt_row.specs.Rows.{row_at}
 use Rattle.rt_row.specs.Edits.{outcome}
 use Rattle.rt_row.specs.Entries.{step_of, view_row}
 use Rattle.rt_plan.specs.Drafts.{all_set}
