@@ -168,9 +168,9 @@ fn reads_integer<const D: usize>(row: &RowView<'_, D>, reading: &Reading) -> boo
 {
     match reading {
         Reading::Literal(_) | Reading::Column(_) => true,
-        Reading::Plus(place, _) | Reading::Minus(place, _) => is_field_integer(row.value_at(
-            *place,
-        )),
+        Reading::Plus(place, _) | Reading::Minus(place, _) => {
+            is_field_integer(row.value_at(*place))
+        }
     }
 }
 
@@ -203,12 +203,14 @@ fn read<const D: usize>(
     match reading {
         Reading::Literal(value) => value.try_clone(alloc),
         Reading::Column(place) => field_copy(alloc, row.value_at(*place)),
-        Reading::Plus(place, number) => Ok(Value::Int(
-            field_number(row.value_at(*place)) + *number,
-        )),
-        Reading::Minus(place, number) => Ok(Value::Int(
-            field_number(row.value_at(*place)) - *number,
-        )),
+        Reading::Plus(place, number) => {
+            let sum = field_number(row.value_at(*place)) + *number;
+            Ok(Value::Int(sum))
+        }
+        Reading::Minus(place, number) => {
+            let difference = field_number(row.value_at(*place)) - *number;
+            Ok(Value::Int(difference))
+        }
     }
 }
 
