@@ -1,0 +1,4 @@
+pub mod Held
+pub mod Watching
+pub mod Replies
+pub mod TableInside

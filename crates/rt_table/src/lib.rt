@@ -1,0 +1,8 @@
+//! A table: its columns, its rows and its views.
+#![tactic(auto)]
+
+mod table;
+mod watched;
+
+pub use table::Table;
+pub use watched::{Change, Picked};

@@ -1,0 +1,151 @@
+//! A table of `D` axes.
+
+ghost use Rattle.std.specs.Prelude.{◌≡◌, ◌≤◌, ◌<◌, [], not, filter, length, nat_lt, Ok, IfOk, IfErr, OnOk, OnErr};
+ghost use Rattle.std.specs.List.{list_any};
+ghost use Rattle.rt_sql.specs.Name.{same_name};
+
+use crate::watched::{Change, Picked, Watched, pick, watch};
+use rt_row::{Filter, Schema};
+use rt_sql::{Cond, Name, Refusal};
+use rt_store::Store;
+use std::alloc::{AllocError, Global};
+use std::hash::RandomState;
+use std::marker::Model;
+
+fn has_view(views: &[Watched], name: &Name) -> bool
+    ensures { result ≡ list_any (λ w. same_name name.now w.name) views.now }
+{
+    views.iter().any(|view| name.is_same(&view.name))
+}
+
+/// The view goes; no other one has its name.
+fn forget(views: &mut Vec<Watched>, name: &Name)
+    ensures { views.new.items ≡ filter (λ w. not (same_name name.now w.name)) views.old.items }
+{
+    views.retain(|view| !name.is_same(&view.name));
+}
+
+/// A table of `D` axes: its columns, its rows by rising id, and its views in the order in which they were named.
+#[derive(Drop)]
+pub struct Table<const D: usize> {
+    alloc: Global,
+    keys: RandomState,
+    columns: Schema,
+    store: Store<D>,
+    views: Vec<Watched>,
+    touched: Vec<i64>,
+    staged: Vec<Change>,
+}
+
+impl<const D: usize> Model for Table<D> {
+    ghost use Rattle.rt_table.specs.Held.{Held};
+
+    ghost Value = { Held };
+
+    ghost use Rattle.rt_table.specs.TableInside.{held, IsWhole};
+
+    ghost view = { held };
+
+    ghost invariant = { IsWhole D };
+}
+
+impl<const D: usize> Table<D> {
+    ghost use Rattle.rt_row.specs.Tables.{new_table, has_view, select, watch, unwatch, view};
+    ghost use Rattle.rt_table.specs.Replies.{Refuses, Shows};
+
+    /// A table of these columns, without rows and views. Look-ups hash by `keys`, which are to be random where
+    /// others choose the ids.
+    pub fn new(alloc: Global, keys: RandomState, columns: Schema) -> Result<Table<D>, AllocError>
+        requires { columns.axes ≡ D }
+        ensures { IfOk result (λ table. table.lists ≡ new_table columns) }
+    {
+        // The contract of `axes` says that there are three at most.
+        let _ = columns.axes();
+        let store = Store::new(alloc)?;
+        Ok(Table {
+            alloc,
+            keys,
+            columns,
+            store,
+            views: Vec::new(alloc),
+            touched: Vec::new(alloc),
+            staged: Vec::new(alloc),
+        })
+    }
+
+    /// How many rows there are.
+    pub fn len(&self) -> usize
+        ensures { result ≡ length self.now.lists.rows }
+    {
+        self.store.len()
+    }
+
+    /// The columns.
+    pub fn schema(&self) -> &Schema
+        ensures { result.now ≡ self.now.lists.columns }
+    {
+        &self.columns
+    }
+
+    /// Whether the table has a view.
+    pub fn watched(&self) -> bool
+        ensures { result ≡ nat_lt 0 (length self.now.lists.views) }
+    {
+        !self.views.is_empty()
+    }
+
+    /// Whether the table has a view of that name; ASCII case doesn't matter.
+    pub fn has_view(&self, name: &Name) -> bool
+        ensures { result ≡ has_view self.now.lists name.now }
+    {
+        has_view(self.views.as_slice(), name)
+    }
+
+    /// The rows that a condition picks, by rising id.
+    ///
+    /// # Errors
+    ///
+    /// `NoSuchColumn` where a test looks at a column that the table hasn't, and `OutOfMemory`.
+    pub fn select(&self, alloc: Global, cond: Cond) -> Result<Picked, Refusal>
+        ensures ok { IfOk result (λ picked. Shows (select self.now.lists cond) picked.rows.items) }
+        ensures err { IfErr result (Refuses (select self.now.lists cond)) }
+    {
+        let condition = Filter::new(alloc, &self.columns, cond)?;
+        Ok(pick(alloc, &self.store, &condition)?)
+    }
+
+    /// Names a view of the rows that a condition picks. A refusal changes nothing.
+    ///
+    /// # Errors
+    ///
+    /// `ViewAlreadyExists` where a view of this table has the name, `NoSuchColumn`, and `OutOfMemory`.
+    pub fn watch(&mut self, alloc: Global, name: Name, cond: Cond) -> Result<(), Refusal>
+        ensures ok { OnOk result (watch self.old.lists name cond ≡ Ok self.new.lists) }
+        ensures err { IfErr result (Refuses (watch self.old.lists name cond)) }
+        ensures refused { OnErr result (self.new ≡ self.old) }
+    {
+        if self.has_view(&name) {
+            return Err(Refusal::ViewAlreadyExists);
+        }
+        let view = watch(alloc, self.keys, &self.columns, &self.store, name, cond)?;
+        self.views.push(view)?;
+        Ok(())
+    }
+
+    /// Forgets a view. It takes no memory; a refusal changes nothing.
+    ///
+    /// # Errors
+    ///
+    /// `NoSuchView` where no view of this table has the name.
+    pub fn unwatch(&mut self, name: &Name) -> Result<(), Refusal>
+        ensures ok { OnOk result (unwatch self.old.lists name.now ≡ Ok self.new.lists) }
+        ensures err { IfErr result (λ refusal. unwatch self.old.lists name.now ≡ Err refusal) }
+        ensures refused { OnErr result (self.new ≡ self.old) }
+    {
+        if !self.has_view(name) {
+            return Err(Refusal::NoSuchView);
+        }
+        forget(&mut self.views, name);
+        Ok(())
+    }
+}

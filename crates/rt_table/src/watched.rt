@@ -1,0 +1,117 @@
+//! Views, and the rows that a condition picks.
+
+ghost use Rattle.std.specs.Prelude.{◌≡◌, ◌≤◌, ◌+◌, ℤ, List, All, Some, filter, map, length, IfOk, IfErr, OnOk, OnErr, MatchResult};
+ghost use Rattle.std.specs.List.{list_any, filter_map};
+ghost use Rattle.std.specs.Ordering.{int_eq};
+ghost use Rattle.indexmap.specs.IndexSet.{contains, spare};
+ghost use Rattle.rt_row.specs.Columns.{has_name};
+ghost use Rattle.rt_row.specs.Rows.{TableRow, AreRising, row_at, values_of};
+ghost use Rattle.rt_row.specs.Filters.{admits, IsUnknown};
+ghost use Rattle.rt_table.specs.Watching.{view_of, IsKept};
+
+use indexmap::IndexSet;
+use rt_row::{Filter, Schema};
+use rt_sql::{Cond, Items, Name, Refusal, Value};
+use rt_store::Store;
+use std::alloc::{AllocError, Global};
+use std::hash::RandomState;
+
+/// The rows that a condition picks.
+#[derive(Debug, Drop)]
+pub struct Picked {
+    /// Whole rows by rising id, each as its values column by column.
+    pub rows: Vec<Items<Value>>,
+    /// How many nodes of a tree were looked at.
+    pub visited: u64,
+}
+
+/// A row that came into a view, or left it.
+#[derive(Debug, Drop)]
+pub struct Change {
+    /// The view's name, as it was written when it was named.
+    pub view: Name,
+    /// Whether the row came; else it left.
+    pub came: bool,
+    /// The row's values, column by column.
+    pub row: Items<Value>,
+}
+
+/// A view: its name, the condition that its rows meet, and their ids.
+#[derive(Drop)]
+pub(crate) struct Watched {
+    pub(crate) name: Name,
+    pub(crate) filter: Filter,
+    pub(crate) ids: IndexSet<i64, RandomState>,
+}
+
+/// The set of these ids.
+fn id_set(
+    alloc: Global,
+    keys: RandomState,
+    ids: &[i64],
+) -> Result<IndexSet<i64, RandomState>, AllocError>
+    ensures { IfOk result (λ set. (q : ℤ) → list_any (int_eq q) set.keys ≡ list_any (int_eq q) ids.now) }
+{
+    let mut set = IndexSet::with_hasher(alloc, keys);
+    for id in ids {
+        set.insert(*id)?;
+    }
+    Ok(set)
+}
+
+/// The whole rows of these ids; an id that no row has is passed over.
+fn rows_at<const D: usize>(
+    alloc: Global,
+    store: &Store<D>,
+    ids: &[i64],
+) -> Result<Vec<Items<Value>>, AllocError>
+    ensures { IfOk result (λ lists. lists.items ≡ map values_of (filter_map (row_at store.now.rows) ids.now)) }
+{
+    // The contract of `len` says that there are three axes at most.
+    let _ = store.len();
+    let mut rows = Vec::with_capacity(alloc, ids.len())?;
+    for id in ids {
+        let Some(row) = store.find(id) else {
+            continue;
+        };
+        rows.push(row.values(alloc)?)?;
+    }
+    Ok(rows)
+}
+
+/// The rows of which the filter holds.
+pub(crate) fn pick<const D: usize>(
+    alloc: Global,
+    store: &Store<D>,
+    condition: &Filter,
+) -> Result<Picked, AllocError>
+    ensures { IfOk result (λ picked. picked.rows.items ≡ map values_of (filter (admits condition.now) store.now.rows)) }
+{
+    let _ = store.len();
+    let found = store.picked(alloc, condition)?;
+    let rows = rows_at(alloc, store, found.ids.as_slice())?;
+    Ok(Picked {
+        rows,
+        visited: found.visited,
+    })
+}
+
+/// A view of the rows as they are now.
+pub(crate) fn watch<const D: usize>(
+    alloc: Global,
+    keys: RandomState,
+    columns: &Schema,
+    store: &Store<D>,
+    name: Name,
+    cond: Cond,
+) -> Result<Watched, Refusal>
+    ensures ok { IfOk result (λ watched. (view_of watched ≡ record { name = name; cond = cond }) × IsKept columns.now store.now.rows watched) }
+    ensures err { IfErr result (IsUnknown columns.now cond) }
+{
+    let filter = Filter::new(alloc, columns, cond)?;
+    // The contract of `len` says that the ids rise.
+    let _ = store.len();
+    let found = store.picked(alloc, &filter)?;
+    let ids = id_set(alloc, keys, found.ids.as_slice())?;
+    Ok(Watched { name, filter, ids })
+}
