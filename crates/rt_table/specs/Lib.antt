@@ -2,3 +2,4 @@ pub mod Held
 pub mod Watching
 pub mod Replies
 pub mod TableInside
+pub mod Preparing

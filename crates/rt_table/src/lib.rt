@@ -1,6 +1,7 @@
 //! A table: its columns, its rows and its views.
 #![tactic(auto)]
 
+mod carrying;
 mod table;
 mod watched;
 

@@ -1,6 +1,6 @@
 //! A table of `D` axes.
 
-ghost use Rattle.std.specs.Prelude.{◌≡◌, ◌≤◌, ◌<◌, [], not, filter, length, nat_lt, Ok, IfOk, IfErr, OnOk, OnErr};
+ghost use Rattle.std.specs.Prelude.{◌≡◌, ◌≤◌, ◌<◌, [], not, filter, length, position, nat_lt, Ok, IfOk, IfErr, OnOk, OnErr};
 ghost use Rattle.std.specs.List.{list_any};
 ghost use Rattle.rt_sql.specs.Name.{same_name};
 
@@ -18,11 +18,19 @@ fn has_view(views: &[Watched], name: &Name) -> bool
     views.iter().any(|view| name.is_same(&view.name))
 }
 
-/// The view goes; no other one has its name.
+fn position(views: &[Watched], name: &Name) -> Option<usize>
+    ensures { result ≡ position (λ w. same_name name.now w.name) views.now }
+{
+    views.iter().position(|view| name.is_same(&view.name))
+}
+
+/// Each view of that name goes.
 fn forget(views: &mut Vec<Watched>, name: &Name)
     ensures { views.new.items ≡ filter (λ w. not (same_name name.now w.name)) views.old.items }
 {
-    views.retain(|view| !name.is_same(&view.name));
+    while let Some(at) = position(views.as_slice(), name) {
+        let _ = views.remove(at);
+    }
 }
 
 /// A table of `D` axes: its columns, its rows by rising id, and its views in the order in which they were named.
