@@ -3,3 +3,4 @@ pub mod Watching
 pub mod Replies
 pub mod TableInside
 pub mod Preparing
+pub mod Fates

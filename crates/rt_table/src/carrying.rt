@@ -1,6 +1,6 @@
 //! A plan carried out.
 
-ghost use Rattle.std.specs.Prelude.{◌≡◌, ◌≤◌, ◌<◌, ◌+◌, ℤ, List, All, map, length, if◌then◌else◌};
+ghost use Rattle.std.specs.Prelude.{◌≡◌, ◌≤◌, ◌<◌, ◌+◌, ℕ, ℤ, List, All, slice_index_or, map, length, if◌then◌else◌};
 ghost use Rattle.std.specs.List.{list_any};
 ghost use Rattle.std.specs.Ordering.{int_eq};
 ghost use Rattle.indexmap.specs.IndexSet.{spare};
@@ -9,7 +9,8 @@ ghost use Rattle.rt_row.specs.Filters.{admits};
 ghost use Rattle.rt_row.specs.Edits.{after_step, outcome};
 ghost use Rattle.rt_row.specs.Entries.{step_of};
 ghost use Rattle.rt_table.specs.Preparing.{Applies, ApplyInTurn, places, places_all};
-ghost use Rattle.rt_table.specs.Watching.{is_picked};
+ghost use Rattle.rt_table.specs.declared.watched.Watched.{Watched};
+ghost use Rattle.rt_table.specs.Watching.{is_picked, IsRefreshed};
 
 use crate::watched::Watched;
 use indexmap::IndexSet;
@@ -78,12 +79,24 @@ fn set_among(ids: &mut IndexSet<i64, RandomState>, id: &i64, is_among: bool)
 /// Brings a view up to date at the ids that a plan touched.
 fn refresh<const D: usize>(view: &mut Watched, store: &Store<D>, touched: &[i64])
     requires { length touched.now ≤ spare view.old.ids }
-    ensures ids { (q : ℤ) → list_any (int_eq q) view.new.ids.keys ≡ (if list_any (int_eq q) touched.now then is_picked (admits view.old.filter) (row_at store.now.rows q) else list_any (int_eq q) view.old.ids.keys) }
-    ensures name { view.new.name ≡ view.old.name }
-    ensures filter { view.new.filter ≡ view.old.filter }
+    ensures { IsRefreshed store.now.rows touched.now view.old view.new }
 {
     for id in touched {
         let is_among = shows(store, &view.filter, id);
         set_among(&mut view.ids, id, is_among);
+    }
+}
+
+/// Brings each view up to date at the ids that a plan touched.
+pub(crate) fn refresh_all<const D: usize>(
+    views: &mut [Watched],
+    store: &Store<D>,
+    touched: &[i64],
+)
+    requires { All (λ w. length touched.now ≤ spare w.ids) views.old }
+    ensures { (k : ℕ) (w : Watched) → k < length views.old → IsRefreshed store.now.rows touched.now (slice_index_or views.old k w) (slice_index_or views.new k w) }
+{
+    for at in 0..views.len() {
+        refresh(&mut views[at], store, touched);
     }
 }

@@ -2,6 +2,7 @@
 #![tactic(auto)]
 
 mod carrying;
+mod preparing;
 mod table;
 mod watched;
 
