@@ -1,3 +1,5 @@
 pub mod Picking
 pub mod Viewing
 pub mod Noting
+pub mod Refreshing
+pub mod Deltas

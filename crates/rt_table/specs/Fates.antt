@@ -2,9 +2,9 @@
 use Rattle.std.specs.Prelude.{ℕ, ℤ, true, false, List, ◌++◌, Option, Some, None, if◌then◌else◌}
 use Rattle.std.specs.Borrow.{Bor}
 use Rattle.std.specs.Option.{option_map, option_to_list, unwrap_or}
-use Rattle.indexmap.specs.IndexMap.{IndexMap, get}
+use Rattle.std.specs.BTreeMap.{BTreeMap, get}
 use Rattle.rt_sql.specs.declared.value.Value.{Value}
-use Rattle.std.specs.Ordering.{int_eq}
+use Rattle.std.specs.Ordering.{int_eq, int_cmp}
 use Rattle.rt_row.specs.declared.entry.Entry.{Entry}
 use Rattle.rt_row.specs.Rows.{TableRow, row_at}
 use Rattle.rt_row.specs.Filters.{admits}
@@ -33,8 +33,8 @@ changes_at watched before after id =
     change_at watched.name (shown (admits watched.filter) (row_at before id)) (shown (admits watched.filter) (after id))
 
 -- the row of each id afterwards
-abbrev pub rows_after : {D : _} → {S : Type 0} → List TableRow → IndexMap ℤ (Option (Bor (Entry D))) S → ℤ → Option TableRow
-rows_after before fates id = unwrap_or (fate_of (get int_eq fates id)) (row_at before id)
+abbrev pub rows_after : {D : _} → List TableRow → BTreeMap ℤ (Option (Bor (Entry D))) → ℤ → Option TableRow
+rows_after before fates id = unwrap_or (fate_of (get int_cmp fates id)) (row_at before id)
 
 -- the row that left, and then the row that came
 abbrev pub changes_of : List ℕ → Option (List Value) → Option (List Value) → List ViewChange

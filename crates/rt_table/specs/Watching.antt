@@ -42,3 +42,9 @@ pub record IsRefreshed (rows : List TableRow) (touched : List ℤ) (old new : Wa
   pub filter_is : new.filter ≡ old.filter
   pub ids_are : (id : ℤ) → list_any (int_eq id) new.ids.keys
       ≡ (if list_any (int_eq id) touched then is_picked (admits old.filter) (row_at rows id) else list_any (int_eq id) old.ids.keys)
+
+-- the same view, whatever its room
+pub record IsRoomier (old new : Watched) : Type 0 where
+  pub name_is : new.name ≡ old.name
+  pub filter_is : new.filter ≡ old.filter
+  pub keys_are : new.ids.keys ≡ old.ids.keys

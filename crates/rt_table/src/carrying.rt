@@ -4,13 +4,14 @@ ghost use Rattle.std.specs.Prelude.{◌≡◌, ◌≤◌, ◌<◌, ◌+◌, ℕ,
 ghost use Rattle.std.specs.List.{list_any};
 ghost use Rattle.std.specs.Ordering.{int_eq};
 ghost use Rattle.indexmap.specs.IndexSet.{spare};
-ghost use Rattle.rt_row.specs.Rows.{row_at};
+ghost use Rattle.rt_row.specs.Columns.{Columns};
+ghost use Rattle.rt_row.specs.Rows.{TableRow, row_at};
 ghost use Rattle.rt_row.specs.Filters.{admits};
 ghost use Rattle.rt_row.specs.Edits.{after_step, outcome};
 ghost use Rattle.rt_row.specs.Entries.{step_of};
-ghost use Rattle.rt_table.specs.Preparing.{Applies, ApplyInTurn, places, places_all};
+ghost use Rattle.rt_table.specs.Preparing.{Applies, ApplyInTurn, places, places_all, DifferAt};
 ghost use Rattle.rt_table.specs.declared.watched.Watched.{Watched};
-ghost use Rattle.rt_table.specs.Watching.{is_picked, IsRefreshed};
+ghost use Rattle.rt_table.specs.Watching.{view_of, is_picked, IsKept, IsRefreshed};
 
 use crate::watched::Watched;
 use indexmap::IndexSet;
@@ -88,7 +89,7 @@ fn refresh<const D: usize>(view: &mut Watched, store: &Store<D>, touched: &[i64]
 }
 
 /// Brings each view up to date at the ids that a plan touched.
-pub(crate) fn refresh_all<const D: usize>(
+fn refresh_each<const D: usize>(
     views: &mut [Watched],
     store: &Store<D>,
     touched: &[i64],
@@ -99,4 +100,18 @@ pub(crate) fn refresh_all<const D: usize>(
     for at in 0..views.len() {
         refresh(&mut views[at], store, touched);
     }
+}
+
+/// Brings the views up to date at the ids that a plan touched. The rows of the other ids are as before.
+pub(crate) fn refresh_all<const D: usize>(
+    views: &mut Vec<Watched>,
+    store: &Store<D>,
+    touched: &[i64],
+)
+    requires { All (λ w. length touched.now ≤ spare w.ids) views.old.items }
+    ensures views { map view_of views.new.items ≡ map view_of views.old.items }
+    ensures kept { (columns : Columns) (before : List TableRow) → DifferAt touched.now before store.now.rows
+        → All (IsKept columns before) views.old.items → All (IsKept columns store.now.rows) views.new.items }
+{
+    refresh_each(views.as_mut_slice(), store, touched);
 }

@@ -1,34 +1,35 @@
 //! What a plan touches, and what it changes in the views.
 
-ghost use Rattle.std.specs.Prelude.{◌≡◌, ◌≤◌, ◌++◌, ◌∷◌, [], ℕ, ℤ, List, AllPairs, ◌<ℤ◌, is_some, map, OnOk, IfOk};
-ghost use Rattle.std.specs.Ordering.{int_eq};
+ghost use Rattle.std.specs.Prelude.{◌≡◌, ◌≤◌, ◌++◌, ◌∷◌, [], All, ℕ, ℤ, List, AllPairs, ◌<ℤ◌, is_some, map, OnOk, IfOk};
+ghost use Rattle.std.specs.Ordering.{int_eq, int_cmp};
 ghost use Rattle.std.specs.Option.{option_map, unwrap_or};
 ghost use Rattle.std.specs.List.{list_any, flat_map};
 ghost use Rattle.std.specs.Cmp.Lexicographic.{pointwise};
-ghost use Rattle.indexmap.specs.IndexMap.{get};
+ghost use Rattle.std.specs.BTreeMap.{get, keys};
 ghost use Rattle.rt_sql.specs.Value.{same_value};
 ghost use Rattle.rt_row.specs.Rows.{TableRow, row_at, values_of};
 ghost use Rattle.rt_row.specs.Edits.{outcome};
 ghost use Rattle.rt_row.specs.Entries.{step_of, view_row};
 ghost use Rattle.rt_row.specs.Filters.{admits};
-ghost use Rattle.rt_row.specs.Views.{change_at};
-ghost use Rattle.rt_table.specs.Watching.{change_of, shown};
+ghost use Rattle.rt_row.specs.Views.{change_at, deltas};
+ghost use Rattle.rt_row.specs.Columns.{Columns};
+ghost use Rattle.rt_table.specs.Preparing.{DifferAt};
+ghost use Rattle.rt_table.specs.Watching.{view_of, change_of, shown, IsKept};
 ghost use Rattle.rt_table.specs.Fates.{fate_of, noted, rows_after, changes_of, changes_at};
 
 use crate::watched::{Change, Watched};
-use indexmap::IndexMap;
 use rt_row::{Entry, Filter, RowView, Step};
 use rt_sql::{Items, Name, Value};
 use rt_store::Store;
 use std::alloc::{AllocError, Global};
-use std::hash::RandomState;
+use std::collections::BTreeMap;
 
 /// Notes which row has the ids of a step after it.
 fn note<'a, const D: usize>(
-    rows: &mut IndexMap<i64, Option<&'a Entry<D>>, RandomState>,
+    rows: &mut BTreeMap<i64, Option<&'a Entry<D>>>,
     step: &'a Step<D>,
 ) -> Result<(), AllocError>
-    ensures { OnOk result ((q : ℤ) → fate_of (get int_eq rows.new q) ≡ noted (step_of step.now) q (fate_of (get int_eq rows.old q))) }
+    ensures { OnOk result ((q : ℤ) → fate_of (get int_cmp rows.new q) ≡ noted (step_of step.now) q (fate_of (get int_cmp rows.old q))) }
 {
     match step {
         Step::Leaves(id) => {
@@ -48,24 +49,36 @@ fn note<'a, const D: usize>(
 }
 
 /// The ids that a plan touches, each with the row that has it after the plan.
-pub(crate) fn fates<'a, const D: usize>(
+fn fates<'a, const D: usize>(
     alloc: Global,
-    keys: RandomState,
     plan: &'a [Step<D>],
-) -> Result<IndexMap<i64, Option<&'a Entry<D>>, RandomState>, AllocError>
-    ensures { IfOk result (λ fates. (rows : List TableRow) (q : ℤ) → row_at (outcome rows (map step_of plan.now)) q ≡ unwrap_or (fate_of (get int_eq fates q)) (row_at rows q)) }
+) -> Result<BTreeMap<i64, Option<&'a Entry<D>>>, AllocError>
+    ensures { IfOk result (λ fates. (rows : List TableRow) (q : ℤ) → row_at (outcome rows (map step_of plan.now)) q ≡ unwrap_or (fate_of (get int_cmp fates q)) (row_at rows q)) }
 {
-    let mut rows = IndexMap::with_hasher(alloc, keys);
+    let mut rows = BTreeMap::new(alloc);
     for step in plan {
         note(&mut rows, step)?;
     }
     Ok(rows)
 }
 
+/// The ids that a plan touches, rising.
+fn rising_ids<'a, const D: usize>(
+    alloc: Global,
+    fates: &BTreeMap<i64, Option<&'a Entry<D>>>,
+) -> Result<Vec<i64>, AllocError>
+    ensures rising { IfOk result (λ ids. AllPairs ◌<ℤ◌ ids.items) }
+    ensures all { IfOk result (λ ids. (q : ℤ) → list_any (int_eq q) ids.items ≡ is_some (get int_cmp fates.now q)) }
+{
+    // The contract of `len` says that the ids rise.
+    let _ = fates.len();
+    fates.keys().copied().collect(alloc)
+}
+
 /// The row that has the id after the plan.
 fn row_after<'a, const D: usize>(
     store: &'a Store<D>,
-    fates: &IndexMap<i64, Option<&'a Entry<D>>, RandomState>,
+    fates: &BTreeMap<i64, Option<&'a Entry<D>>>,
     id: &i64,
 ) -> Option<RowView<'a, D>>
     ensures { option_map view_row result ≡ rows_after store.now.rows fates.now id.now }
@@ -101,7 +114,7 @@ fn shown_before<'a, const D: usize>(
 /// The row that has the id after the plan, where the filter holds of it.
 fn shown_after<'a, const D: usize>(
     store: &'a Store<D>,
-    fates: &IndexMap<i64, Option<&'a Entry<D>>, RandomState>,
+    fates: &BTreeMap<i64, Option<&'a Entry<D>>>,
     condition: &Filter,
     id: &i64,
 ) -> Option<RowView<'a, D>>
@@ -139,6 +152,7 @@ fn push_change(
 }
 
 /// What changes in a view at one id: the row that leaves it, and the row that comes.
+#[derive(Drop)]
 struct RowChange {
     left: Option<Items<Value>>,
     came: Option<Items<Value>>,
@@ -187,7 +201,7 @@ fn change_at<'a, const D: usize>(
     alloc: Global,
     view: &Watched,
     store: &'a Store<D>,
-    fates: &IndexMap<i64, Option<&'a Entry<D>>, RandomState>,
+    fates: &BTreeMap<i64, Option<&'a Entry<D>>>,
     id: &i64,
 ) -> Result<RowChange, AllocError>
     ensures { IfOk result (λ c. changes_of view.now.name c.left c.came ≡ changes_at view.now store.now.rows (rows_after store.now.rows fates.now) id.now) }
@@ -223,7 +237,7 @@ fn stage_view<'a, const D: usize>(
     staged: &mut Vec<Change>,
     view: &Watched,
     store: &'a Store<D>,
-    fates: &IndexMap<i64, Option<&'a Entry<D>>, RandomState>,
+    fates: &BTreeMap<i64, Option<&'a Entry<D>>>,
     ids: &[i64],
 ) -> Result<(), AllocError>
     ensures { OnOk result (map change_of staged.new.items ≡ map change_of staged.old.items ++ flat_map (changes_at view.now store.now.rows (rows_after store.now.rows fates.now)) ids.now) }
@@ -236,11 +250,11 @@ fn stage_view<'a, const D: usize>(
 }
 
 /// What the plan changes in the views, in the order in which they were named.
-pub(crate) fn stage<'a, const D: usize>(
+fn stage<'a, const D: usize>(
     alloc: Global,
     views: &[Watched],
     store: &'a Store<D>,
-    fates: &IndexMap<i64, Option<&'a Entry<D>>, RandomState>,
+    fates: &BTreeMap<i64, Option<&'a Entry<D>>>,
     ids: &[i64],
 ) -> Result<Vec<Change>, AllocError>
     ensures { IfOk result (λ staged. map change_of staged.items ≡ flat_map (λ w. flat_map (changes_at w store.now.rows (rows_after store.now.rows fates.now)) ids.now) views.now) }
@@ -250,4 +264,32 @@ pub(crate) fn stage<'a, const D: usize>(
         stage_view(alloc, &mut staged, view, store, fates, ids)?;
     }
     Ok(staged)
+}
+
+/// What a plan touches.
+#[derive(Drop)]
+pub(crate) struct Touched {
+    /// The ids, rising.
+    pub(crate) ids: Vec<i64>,
+    /// What changes in the views.
+    pub(crate) changes: Vec<Change>,
+}
+
+/// What a plan touches, and what it changes in the views.
+pub(crate) fn touch<'a, const D: usize>(
+    alloc: Global,
+    views: &[Watched],
+    store: &'a Store<D>,
+    plan: &'a [Step<D>],
+) -> Result<Touched, AllocError>
+    ensures ids { IfOk result (λ touched. DifferAt touched.ids.items store.now.rows (outcome store.now.rows (map step_of plan.now))) }
+    ensures changes { IfOk result (λ touched. (columns : Columns) → All (IsKept columns store.now.rows) views.now
+        → map change_of touched.changes.items ≡ deltas columns (map view_of views.now) store.now.rows (outcome store.now.rows (map step_of plan.now))) }
+{
+    // The contract of `len` says that the ids of the rows rise.
+    let _ = store.len();
+    let fates = fates(alloc, plan)?;
+    let ids = rising_ids(alloc, &fates)?;
+    let changes = stage(alloc, views, store, &fates, ids.as_slice())?;
+    Ok(Touched { ids, changes })
 }

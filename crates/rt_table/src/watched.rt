@@ -1,13 +1,14 @@
 //! Views, and the rows that a condition picks.
 
-ghost use Rattle.std.specs.Prelude.{◌≡◌, ◌≤◌, ◌+◌, ℤ, List, All, Some, filter, map, length, IfOk, IfErr, OnOk, OnErr, MatchResult};
+ghost use Rattle.std.specs.Prelude.{◌≡◌, ◌≤◌, ◌<◌, ◌+◌, ℕ, ℤ, slice_index_or, List, All, Some, filter, map, length, IfOk, IfErr, OnOk, OnErr, MatchResult};
 ghost use Rattle.std.specs.List.{list_any, filter_map};
 ghost use Rattle.std.specs.Ordering.{int_eq};
 ghost use Rattle.indexmap.specs.IndexSet.{contains, spare};
-ghost use Rattle.rt_row.specs.Columns.{has_name};
+ghost use Rattle.rt_row.specs.Columns.{Columns, has_name};
 ghost use Rattle.rt_row.specs.Rows.{TableRow, AreRising, row_at, values_of};
 ghost use Rattle.rt_row.specs.Filters.{admits, IsUnknown};
-ghost use Rattle.rt_table.specs.Watching.{view_of, IsKept};
+ghost use Rattle.rt_table.specs.Watching.{view_of, IsKept, IsRoomier};
+ghost use Rattle.rt_table.specs.declared.watched.Watched.{Watched};
 
 use indexmap::IndexSet;
 use rt_row::{Filter, Schema};
@@ -114,4 +115,23 @@ pub(crate) fn watch<const D: usize>(
     let found = store.picked(alloc, &filter)?;
     let ids = id_set(alloc, keys, found.ids.as_slice())?;
     Ok(Watched { name, filter, ids })
+}
+
+fn reserve_each(views: &mut [Watched], ids: usize) -> Result<(), AllocError>
+    ensures same { (k : ℕ) (w : Watched) → k < length views.old → IsRoomier (slice_index_or views.old k w) (slice_index_or views.new k w) }
+    ensures ok { OnOk result (All (λ w. ids ≤ spare w.ids) views.new) }
+{
+    for at in 0..views.len() {
+        views[at].ids.reserve(ids)?;
+    }
+    Ok(())
+}
+
+/// Makes room in each view for so many more ids. The views stay, also after a refusal.
+pub(crate) fn reserve_ids(views: &mut Vec<Watched>, ids: usize) -> Result<(), AllocError>
+    ensures views { map view_of views.new.items ≡ map view_of views.old.items }
+    ensures kept { (columns : Columns) (rows : List TableRow) → All (IsKept columns rows) views.old.items → All (IsKept columns rows) views.new.items }
+    ensures ok { OnOk result (All (λ w. ids ≤ spare w.ids) views.new.items) }
+{
+    reserve_each(views.as_mut_slice(), ids)
 }

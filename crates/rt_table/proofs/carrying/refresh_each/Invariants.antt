@@ -1,7 +1,7 @@
 use Rattle.std.proofs.Common.{◌≡◌, ◌≤◌, ◌<◌, ℕ, length, get_or}
 use Rattle.rt_table.specs.declared.watched.Watched.{Watched}
 use Rattle.rt_table.specs.Watching.{IsRefreshed}
-use Rattle.rt_table.proofs.carrying.refresh_all.Given as goal
+use Rattle.rt_table.proofs.carrying.refresh_each.Given as goal
 
 abbrev pub invariant-loop-at : goal.invariant-loop-at
 invariant-loop-at g l = record {
