@@ -1,20 +1,18 @@
 -- What a plan changes in a view, from the ids that it touches.
-use Rattle.std.proofs.Common.{◌≡◌, ℕ, ◌<◌, ℤ, Bool, true, false, cond, not, ◌||◌, List, [], ◌∷◌, ◌++◌, map, filter, Option, Some, None, refl, sym, ap, subst, ◌∙◌, arith}
+use Rattle.std.proofs.Common.{◌≡◌, ℕ, ℤ, Bool, true, false, cond, ◌||◌, List, [], ◌∷◌, ◌++◌, map, filter, Option, Some, None, refl, sym, ap, ◌∙◌}
 use Rattle.std.specs.Prelude.{AllPairs, ◌<ℤ◌, is_some}
 use Rattle.std.specs.List.{list_any, flat_map, All, AllByRecursion}
 use Rattle.std.proofs.lemmas.List.Elements.{filter_agree, recursion_from_All}
 use Rattle.std.specs.Ordering.{int_eq}
-use Rattle.std.specs.Cmp.Lexicographic.{pointwise}
 use Rattle.std.proofs.lemmas.Cmp.{lists_equiv}
-use Rattle.rt_sql.specs.declared.value.Value.{Value}
 use Rattle.rt_sql.specs.ValueLaws.{same_value-equiv}
 use Rattle.rt_row.specs.Columns.{Columns}
 use Rattle.rt_row.specs.Rows.{TableRow, AreRising, row_at, values_of}
 use Rattle.rt_row.specs.Conditions.{holds, picked}
 use Rattle.rt_row.specs.Filters.{admits}
-use Rattle.rt_row.specs.Views.{View, ViewChange, same_row, change_at, ids_of_both, delta, deltas, left, came}
-use Rattle.rt_store.proofs.Order.{eq_same, eq_from}
-use Rattle.rt_store.proofs.Sorted.{kept, at_key, Rises, rises, rising, at_key-filter, at_key-placed, rises-placed, rises-filter, same_lists}
+use Rattle.rt_row.specs.Views.{ViewChange, same_row, change_at, ids_of_both, delta, deltas}
+use Rattle.rt_store.proofs.Order.{eq_from}
+use Rattle.rt_store.proofs.Sorted.{kept, at_key, Rises, rises, at_key-filter, at_key-placed, rises-placed, rises-filter, same_lists}
 use Rattle.rt_table.specs.declared.watched.Watched.{Watched}
 use Rattle.rt_table.specs.Watching.{view_of, shown, IsKept}
 use Rattle.rt_table.specs.Preparing.{DifferAt}
@@ -76,7 +74,7 @@ module _ {Y : Type 0} (g : ℤ → List Y) where
   same_listed xs ys xrise yrise agree =
       skipped xs
       ∙ ap (flat_map g) (same_lists own (filter lists_some xs) (filter lists_some ys) (rises-filter own lists_some xs xrise) (rises-filter own lists_some ys yrise)
-          (λ q. at_key-filter own lists_some xs xrise q ∙ agree_at xs ys q (lists_some q) refl (agree q) ∙ sym (at_key-filter own lists_some ys yrise q)))
+      (λ q. at_key-filter own lists_some xs xrise q ∙ agree_at xs ys q (lists_some q) refl (agree q) ∙ sym (at_key-filter own lists_some ys yrise q)))
       ∙ sym (skipped ys)
 
 -- ---- the ids of both
@@ -165,16 +163,16 @@ module _ (columns : Columns) (before after : List TableRow) (touched : List ℤ)
   one_view : (w : Watched) → IsKept columns before w → flat_map (changes_at w before then_at) touched ≡ delta w.name (picked columns w.filter.cond before) (picked columns w.filter.cond after)
   one_view w is =
       let was : (q : ℤ) → row_at (picked columns w.filter.cond before) q ≡ shown (admits w.filter) (row_at before q) =
-          picked_at columns before w (rises (λ r. r.id) before before_rise) is before (rises (λ r. r.id) before before_rise) in
+      picked_at columns before w (rises (λ r. r.id) before before_rise) is before (rises (λ r. r.id) before before_rise) in
       let now : (q : ℤ) → row_at (picked columns w.filter.cond after) q ≡ shown (admits w.filter) (row_at after q) =
-          picked_at columns before w (rises (λ r. r.id) before before_rise) is after (rises (λ r. r.id) after after_rise) in
+      picked_at columns before w (rises (λ r. r.id) before before_rise) is after (rises (λ r. r.id) after after_rise) in
       let shown_differ : DifferAt touched (picked columns w.filter.cond before) (picked columns w.filter.cond after) =
-          λ q none. now q ∙ ap (shown (admits w.filter)) (differ q none) ∙ sym (was q) in
+      λ q none. now q ∙ ap (shown (admits w.filter)) (differ q none) ∙ sym (was q) in
       let picked_rise : Rises (λ r. r.id) (picked columns w.filter.cond after) = rises-filter (λ r. r.id) (holds columns w.filter.cond) after (rises (λ r. r.id) after after_rise) in
       flat_map_same (changes_at w before then_at) (λ q. change_at w.name (row_at (picked columns w.filter.cond before) q) (row_at (picked columns w.filter.cond after) q))
       (λ q. ap (λ (o : Option TableRow). change_at w.name o (shown (admits w.filter) (then_at q))) (sym (was q))
-          ∙ ap (λ (o : Option TableRow). change_at w.name (row_at (picked columns w.filter.cond before) q) (shown (admits w.filter) o)) (sym (is_then q))
-          ∙ ap (λ (o : Option TableRow). change_at w.name (row_at (picked columns w.filter.cond before) q) o) (sym (now q)))
+      ∙ ap (λ (o : Option TableRow). change_at w.name (row_at (picked columns w.filter.cond before) q) (shown (admits w.filter) o)) (sym (is_then q))
+      ∙ ap (λ (o : Option TableRow). change_at w.name (row_at (picked columns w.filter.cond before) q) o) (sym (now q)))
       touched
       ∙ sym (delta_touched w.name (picked columns w.filter.cond before) (picked columns w.filter.cond after) touched shown_differ picked_rise (rises own touched touched_rise))
 

@@ -3,3 +3,4 @@ pub mod Viewing
 pub mod Noting
 pub mod Refreshing
 pub mod Deltas
+pub mod Readying

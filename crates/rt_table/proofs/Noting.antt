@@ -1,5 +1,5 @@
 -- What is known of the ids that steps touch.
-use Rattle.std.proofs.Common.{◌≡◌, ℕ, ◌+◌, ◌<◌, ℤ, Bool, true, false, cond, not, List, [], ◌∷◌, ◌++◌, map, take, length, get_or, Option, Some, None, refl, sym, ap, ◌∙◌, arith}
+use Rattle.std.proofs.Common.{◌≡◌, ℕ, ◌+◌, ◌<◌, ℤ, Bool, true, false, cond, not, List, [], ◌∷◌, ◌++◌, map, take, length, get_or, Option, Some, None, refl, sym, ap, ◌∙◌}
 use Rattle.std.specs.Prelude.{if◌then◌else◌, is_some}
 use Rattle.std.specs.Ordering.{int_eq}
 use Rattle.std.specs.Option.{unwrap_or}
@@ -8,8 +8,7 @@ use Rattle.std.proofs.lemmas.List.{map_more}
 use Rattle.std.specs.List.{list_any}
 use Rattle.rt_row.specs.Rows.{TableRow, AreRising, row_at, with_row, without_id}
 use Rattle.rt_row.specs.Edits.{Step, Leaves, Comes, Becomes, after_step, outcome}
-use Rattle.rt_store.proofs.Order.{eq_same, eq_from}
-use Rattle.rt_store.proofs.Sorted.{at_key, at_key-placed, at_key-taken, Rises, rises, rising, rises-placed, rises-taken}
+use Rattle.rt_store.proofs.Sorted.{at_key-placed, at_key-taken, Rises, rises, rising, rises-placed, rises-taken}
 use Rattle.rt_table.specs.Fates.{Fate, noted}
 use Rattle.rt_table.specs.Preparing.{DifferAt}
 

@@ -3,7 +3,6 @@ use Rattle.std.proofs.Common.{◌≡◌, ℕ, ◌+◌, ◌<◌, ℤ, pos, Bool, 
 use Rattle.std.specs.Prelude.{◌<ℤ◌, is_some}
 use Rattle.std.specs.List.{AllByRecursion, list_any, filter_map, cons_option}
 use Rattle.std.specs.Ordering.{int_eq}
-use Rattle.std.specs.Option.{option_map_or}
 use Rattle.std.proofs.lemmas.List.Elements.{All-filter, All-from_recursion, recursion_from_All, filter_map-append}
 use Rattle.std.proofs.lemmas.List.{take_more, map-append, append-nil}
 use Rattle.rt_sql.specs.declared.value.Value.{Value}

@@ -1,8 +1,7 @@
 -- The views of a table, looked up by name.
-use Rattle.std.proofs.Common.{◌≡◌, ℕ, zero, suc, ◌<◌, Bool, true, false, cond, not, ◌||◌, List, [], ◌∷◌, map, filter, length, get_or, Option, Some, None, Result, Ok, refl, sym, ap, ◌∙◌, arith}
+use Rattle.std.proofs.Common.{◌≡◌, ℕ, zero, suc, ◌<◌, Bool, true, false, cond, not, ◌||◌, List, [], ◌∷◌, map, filter, length, get_or, Some, None, Ok, refl, sym, ap, ◌∙◌, arith}
 use Rattle.std.specs.Prelude.{position}
-use Rattle.std.specs.List.{list_any, remove, position_or_len}
-use Rattle.std.proofs.lemmas.List.Quantifiers.{position-Some}
+use Rattle.std.specs.List.{list_any, remove}
 use Rattle.std.proofs.lemmas.List.Elements.{filter_agree}
 use Rattle.rt_row.proofs.Filters.{any_position}
 use Rattle.rt_sql.specs.declared.value.Value.{Value}

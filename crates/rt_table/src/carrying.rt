@@ -89,11 +89,7 @@ fn refresh<const D: usize>(view: &mut Watched, store: &Store<D>, touched: &[i64]
 }
 
 /// Brings each view up to date at the ids that a plan touched.
-fn refresh_each<const D: usize>(
-    views: &mut [Watched],
-    store: &Store<D>,
-    touched: &[i64],
-)
+fn refresh_each<const D: usize>(views: &mut [Watched], store: &Store<D>, touched: &[i64])
     requires { All (λ w. length touched.now ≤ spare w.ids) views.old }
     ensures { (k : ℕ) (w : Watched) → k < length views.old → IsRefreshed store.now.rows touched.now (slice_index_or views.old k w) (slice_index_or views.new k w) }
 {

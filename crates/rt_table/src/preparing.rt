@@ -62,6 +62,15 @@ fn fates<'a, const D: usize>(
     Ok(rows)
 }
 
+fn ids_of<'a, const D: usize>(
+    alloc: Global,
+    fates: &BTreeMap<i64, Option<&'a Entry<D>>>,
+) -> Result<Vec<i64>, AllocError>
+    ensures { IfOk result (λ ids. ids.items ≡ keys fates.now) }
+{
+    fates.keys().copied().collect(alloc)
+}
+
 /// The ids that a plan touches, rising.
 fn rising_ids<'a, const D: usize>(
     alloc: Global,
@@ -72,7 +81,8 @@ fn rising_ids<'a, const D: usize>(
 {
     // The contract of `len` says that the ids rise.
     let _ = fates.len();
-    fates.keys().copied().collect(alloc)
+    let ids = ids_of(alloc, fates)?;
+    Ok(ids)
 }
 
 /// The row that has the id after the plan.

@@ -1,6 +1,5 @@
-use Rattle.std.proofs.Common.{◌≡◌, sym, ap, ◌∙◌}
-use Rattle.rt_row.specs.Tables.{has_view, is_view}
-use Rattle.rt_table.specs.Held.{Held}
+use Rattle.std.proofs.Common.{sym, ◌∙◌}
+use Rattle.rt_row.specs.Tables.{is_view}
 use Rattle.rt_table.specs.Watching.{view_of}
 use Rattle.rt_table.proofs.Viewing.{any_mapped}
 use Rattle.rt_table.proofs.table.Table.has_view.Goals as goal

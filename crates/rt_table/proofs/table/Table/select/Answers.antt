@@ -1,9 +1,3 @@
-use Rattle.std.proofs.Common.{◌≡◌, true, sym, ap, map, filter, Ok, Result, List, ◌∙◌}
-use Rattle.rt_sql.specs.declared.refusal.Refusal.{Refusal}
-use Rattle.rt_row.specs.Rows.{TableRow, values_of}
-use Rattle.rt_row.specs.Conditions.{picked, has_columns}
-use Rattle.rt_row.specs.Filters.{admits, IsFilterOf}
-use Rattle.rt_row.specs.Tables.{select}
 use Rattle.rt_table.specs.TableInside.{held}
 use Rattle.rt_table.proofs.Viewing.{selected}
 use Rattle.rt_table.proofs.table.Table.select.Goals as goal
