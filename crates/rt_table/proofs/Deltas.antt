@@ -18,7 +18,7 @@ use Rattle.rt_table.specs.Watching.{view_of, shown, IsKept}
 use Rattle.rt_table.specs.Preparing.{DifferAt}
 use Rattle.rt_table.specs.Fates.{changes_at}
 
-abbrev own : ℤ → ℤ
+abbrev pub own : ℤ → ℤ
 own id = id
 
 -- ---- lists of ids
@@ -27,7 +27,7 @@ there_or : (b : Bool) (q x : ℤ) (l : Bool) (o : Option ℤ) → (b ≡ true �
 there_or true q x l o same later = ap (λ (z : ℤ). Some z) (same refl)
 there_or false q x l o same later = later
 
-at_itself : (ids : List ℤ) (q : ℤ) → at_key own ids q ≡ cond (list_any (int_eq q) ids) (Some q) None
+pub at_itself : (ids : List ℤ) (q : ℤ) → at_key own ids q ≡ cond (list_any (int_eq q) ids) (Some q) None
 at_itself [] q = refl
 at_itself (x ∷ ids) q = there_or (int_eq q x) q x (list_any (int_eq q) ids) (at_key own ids q) (λ is. sym (eq_from q x is)) (at_itself ids q)
 
@@ -83,7 +83,7 @@ above_map : (q : ℤ) (rows : List TableRow) → AllByRecursion (λ r. q <ℤ r.
 above_map q [] above = tt
 above_map q (r ∷ rows) above = (above.0, above_map q rows above.1)
 
-rises-ids : (rows : List TableRow) → Rises (λ r. r.id) rows → Rises own (map (λ (r : TableRow). r.id) rows)
+pub rises-ids : (rows : List TableRow) → Rises (λ r. r.id) rows → Rises own (map (λ (r : TableRow). r.id) rows)
 rises-ids [] rise = tt
 rises-ids (r ∷ rows) rise = (above_map r.id rows rise.0, rises-ids rows rise.1)
 

@@ -4,3 +4,4 @@ pub mod Noting
 pub mod Refreshing
 pub mod Deltas
 pub mod Readying
+pub mod Showing

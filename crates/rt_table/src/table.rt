@@ -6,7 +6,7 @@ ghost use Rattle.rt_sql.specs.Name.{same_name};
 
 use crate::carrying::{apply, refresh_all};
 use crate::preparing::{Touched, touch};
-use crate::watched::{Change, Picked, Watched, pick, reserve_ids, watch};
+use crate::watched::{Change, Picked, Watched, pick, reserve_ids, rows_of, watch};
 use rt_row::{Filter, Schema, Step};
 use rt_sql::{Cond, Name, Refusal};
 use rt_store::Store;
@@ -128,6 +128,22 @@ impl<const D: usize> Table<D> {
     {
         let condition = Filter::new(alloc, &self.columns, cond)?;
         Ok(pick(alloc, &self.store, &condition)?)
+    }
+
+    /// The rows of a view, by rising id.
+    ///
+    /// # Errors
+    ///
+    /// `NoSuchView` where no view of this table has the name, and `OutOfMemory`.
+    pub fn view(&self, alloc: Global, name: &Name) -> Result<Picked, Refusal>
+        ensures ok { IfOk result (λ picked. Shows (view self.now.lists name.now) picked.rows.items) }
+        ensures err { IfErr result (Refuses (view self.now.lists name.now)) }
+    {
+        let Some(at) = position(self.views.as_slice(), name) else {
+            return Err(Refusal::NoSuchView);
+        };
+        let rows = rows_of(alloc, &self.store, &self.views[at])?;
+        Ok(Picked { rows, visited: 0 })
     }
 
     /// Names a view of the rows that a condition picks. A refusal changes nothing.
