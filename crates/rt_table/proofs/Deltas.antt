@@ -35,7 +35,7 @@ is_there : (b : Bool) (q : ℤ) → is_some (cond b (Some q) None) ≡ b
 is_there true q = refl
 is_there false q = refl
 
-any_own : (ids : List ℤ) (q : ℤ) → list_any (int_eq q) ids ≡ is_some (at_key own ids q)
+pub any_own : (ids : List ℤ) (q : ℤ) → list_any (int_eq q) ids ≡ is_some (at_key own ids q)
 any_own ids q = sym (ap (λ (o : Option ℤ). is_some o) (at_itself ids q) ∙ is_there (list_any (int_eq q) ids) q)
 
 -- ---- where nothing changes, nothing is listed
@@ -87,7 +87,7 @@ pub rises-ids : (rows : List TableRow) → Rises (λ r. r.id) rows → Rises own
 rises-ids [] rise = tt
 rises-ids (r ∷ rows) rise = (above_map r.id rows rise.0, rises-ids rows rise.1)
 
-rises-both : (before after : List TableRow) → Rises (λ r. r.id) after → Rises own (ids_of_both before after)
+pub rises-both : (before after : List TableRow) → Rises (λ r. r.id) after → Rises own (ids_of_both before after)
 rises-both [] after rise = rises-ids after rise
 rises-both (r ∷ before) after rise = rises-placed own (ids_of_both before after) r.id (rises-both before after rise)
 
@@ -103,7 +103,7 @@ in_more : (b : Bool) (r : TableRow) (o : Option ℤ) (p a : Option TableRow) →
 in_more true r o p a same = refl
 in_more false r o p a same = same
 
-in_both : (before after : List TableRow) (q : ℤ) → is_some (at_key own (ids_of_both before after) q) ≡ (is_some (row_at before q) || is_some (row_at after q))
+pub in_both : (before after : List TableRow) (q : ℤ) → is_some (at_key own (ids_of_both before after) q) ≡ (is_some (row_at before q) || is_some (row_at after q))
 in_both [] after q = in_ids after q
 in_both (r ∷ before) after q =
     ap (λ (o : Option ℤ). is_some o) (at_key-placed own (ids_of_both before after) r.id q)

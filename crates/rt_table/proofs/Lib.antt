@@ -5,3 +5,4 @@ pub mod Refreshing
 pub mod Deltas
 pub mod Readying
 pub mod Showing
+pub mod Replaying

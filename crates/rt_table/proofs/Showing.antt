@@ -40,7 +40,7 @@ find_choice : {X Y : Type 0} (f : X → Y) (b : Bool) (x : X) (o : Option X) (p 
 find_choice f true x o p same = refl
 find_choice f false x o p same = same
 
-find_mapped : {X Y : Type 0} (p : Y → Bool) (f : X → Y) (xs : List X) → find p (map f xs) ≡ option_map f (find (λ x. p (f x)) xs)
+pub find_mapped : {X Y : Type 0} (p : Y → Bool) (f : X → Y) (xs : List X) → find p (map f xs) ≡ option_map f (find (λ x. p (f x)) xs)
 find_mapped p f [] = refl
 find_mapped p f (x ∷ xs) = find_choice f (p (f x)) x _ _ (find_mapped p f xs)
 

@@ -4,3 +4,4 @@ pub mod Replies
 pub mod TableInside
 pub mod Preparing
 pub mod Fates
+pub mod Laws

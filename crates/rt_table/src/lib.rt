@@ -2,6 +2,7 @@
 #![tactic(auto)]
 
 mod carrying;
+pub mod laws;
 mod preparing;
 mod table;
 mod watched;
