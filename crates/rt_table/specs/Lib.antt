@@ -5,3 +5,4 @@ pub mod TableInside
 pub mod Preparing
 pub mod Fates
 pub mod Laws
+pub mod AnyAxes
