@@ -3,9 +3,9 @@ use Rattle.std.proofs.Common.{◌≡◌, ℕ, ◌+◌, ◌<◌, ℤ, pos, Bool, 
 use Rattle.std.specs.Prelude.{◌<ℤ◌, is_some}
 use Rattle.std.specs.List.{AllByRecursion, list_any, filter_map, cons_option}
 use Rattle.std.specs.Ordering.{int_eq}
-use Rattle.std.specs.Option.{option_map_or}
 use Rattle.std.proofs.lemmas.List.Elements.{All-filter, All-from_recursion, recursion_from_All, filter_map-append}
 use Rattle.std.proofs.lemmas.List.{take_more, map-append, append-nil}
+use Rattle.std.proofs.lemmas.Cmp.{int_eq_equiv}
 use Rattle.rt_sql.specs.declared.value.Value.{Value}
 use Rattle.rt_row.specs.Rows.{TableRow, AreRising, row_at, values_of}
 use Rattle.rt_store.proofs.Order.{eq_same, eq_above}
@@ -68,3 +68,25 @@ pub some_looked : (rows : List TableRow) (ids : List ℤ) (i : ℕ) (lists : Lis
     → values ≡ values_of r → lists ≡ map values_of (filter_map (row_at rows) (take i ids)) → lists ++ values ∷ [] ≡ map values_of (filter_map (row_at rows) (take (i + 1) ids))
 some_looked rows ids i lists r values within found copied so_far =
     rw (so_far, copied) (sym (ap (map values_of) (next_looked rows ids i (Some r) within found) ∙ map-append values_of (filter_map (row_at rows) (take i ids)) (r ∷ [])))
+
+or_assoc : (a b c : Bool) → (a || (b || c)) ≡ ((a || b) || c)
+or_assoc true b c = refl
+or_assoc false b c = refl
+
+one_more : (t b : Bool) → cond t true b ≡ (b || (t || false))
+one_more true true = refl
+one_more true false = refl
+one_more false true = refl
+one_more false false = refl
+
+any_append : (p : ℤ → Bool) (xs ys : List ℤ) → list_any p (xs ++ ys) ≡ (list_any p xs || list_any p ys)
+any_append p [] ys = refl
+any_append p (x ∷ xs) ys = ap (λ (b : Bool). p x || b) (any_append p xs ys) ∙ or_assoc (p x) (list_any p xs) (list_any p ys)
+
+-- one id more is listed
+pub any_more : (ids : List ℤ) (i : ℕ) (q : ℤ) (b : Bool) → i < length ids → b ≡ list_any (int_eq q) (take i ids) → cond (int_eq (get_or ids i (pos 0)) q) true b ≡ list_any (int_eq q) (take (i + 1) ids)
+any_more ids i q b within same =
+    ap (λ (t : Bool). cond t true b) (int_eq_equiv.symm (get_or ids i (pos 0)) q)
+    ∙ one_more (int_eq q (get_or ids i (pos 0))) b
+    ∙ ap (λ (a : Bool). a || (int_eq q (get_or ids i (pos 0)) || false)) same
+    ∙ sym (ap (list_any (int_eq q)) (take_more ids i (pos 0) within) ∙ any_append (int_eq q) (take i ids) (get_or ids i (pos 0) ∷ []))

@@ -1,5 +1,5 @@
 -- What a table's fields are to hold. Source: own.
-use Rattle.std.specs.Prelude.{◌≡◌, ◌≤◌, ℕ, List, map}
+use Rattle.std.specs.Prelude.{◌≡◌, ◌≤◌, ℕ, map}
 use Rattle.std.specs.List.{All}
 use Rattle.indexmap.specs.IndexSet.{spare}
 use Rattle.rt_row.specs.Rows.{AreRising}

@@ -1,8 +1,8 @@
 -- A view as a table keeps it: with the ids of its rows. Source: own.
-use Rattle.std.specs.Prelude.{◌≡◌, ℤ, Bool, false, List, Option}
+use Rattle.std.specs.Prelude.{◌≡◌, ℤ, Bool, false, List, Option, Some, None, if◌then◌else◌}
 use Rattle.std.specs.Ordering.{int_eq}
 use Rattle.std.specs.Option.{option_map_or}
-use Rattle.std.specs.List.{list_any, AllByRecursion}
+use Rattle.std.specs.List.{list_any}
 use Rattle.rt_row.specs.Columns.{Columns}
 use Rattle.rt_row.specs.Rows.{TableRow, row_at}
 use Rattle.rt_row.specs.Filters.{IsFilterOf, admits}
@@ -30,3 +30,21 @@ KeepsIds p rows ids = (id : ℤ) → list_any (int_eq id) ids ≡ is_picked p (r
 pub record IsKept (columns : Columns) (rows : List TableRow) (watched : Watched) : Type 0 where
   pub filter_is : IsFilterOf columns watched.filter.cond watched.filter
   pub ids_are : KeepsIds (admits watched.filter) rows watched.ids.keys
+
+-- the row, where it passes
+abbrev pub shown : (TableRow → Bool) → Option TableRow → Option TableRow
+shown p None = None
+shown p (Some row) = if p row then Some row else None
+
+-- a view after a plan: at the touched ids it has those whose rows it shows now
+pub record IsRefreshed (rows : List TableRow) (touched : List ℤ) (old new : Watched) : Type 0 where
+  pub name_is : new.name ≡ old.name
+  pub filter_is : new.filter ≡ old.filter
+  pub ids_are : (id : ℤ) → list_any (int_eq id) new.ids.keys
+      ≡ (if list_any (int_eq id) touched then is_picked (admits old.filter) (row_at rows id) else list_any (int_eq id) old.ids.keys)
+
+-- the same view, whatever its room
+pub record IsRoomier (old new : Watched) : Type 0 where
+  pub name_is : new.name ≡ old.name
+  pub filter_is : new.filter ≡ old.filter
+  pub keys_are : new.ids.keys ≡ old.ids.keys

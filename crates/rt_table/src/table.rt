@@ -1,16 +1,19 @@
 //! A table of `D` axes.
 
-ghost use Rattle.std.specs.Prelude.{◌≡◌, ◌≤◌, ◌<◌, [], not, filter, length, nat_lt, Ok, IfOk, IfErr, OnOk, OnErr};
+ghost use Rattle.std.specs.Prelude.{◌≡◌, ◌≤◌, ◌<◌, [], not, map, filter, length, position, nat_lt, Ok, IfOk, IfErr, OnOk, OnErr};
 ghost use Rattle.std.specs.List.{list_any};
 ghost use Rattle.rt_sql.specs.Name.{same_name};
 
-use crate::watched::{Change, Picked, Watched, pick, watch};
-use rt_row::{Filter, Schema};
+use crate::carrying::{apply, refresh_all};
+use crate::preparing::{Touched, touch};
+use crate::watched::{Change, Picked, Watched, pick, reserve_ids, rows_of, watch};
+use rt_row::{Filter, Schema, Step};
 use rt_sql::{Cond, Name, Refusal};
 use rt_store::Store;
 use std::alloc::{AllocError, Global};
 use std::hash::RandomState;
 use std::marker::Model;
+use std::mem;
 
 fn has_view(views: &[Watched], name: &Name) -> bool
     ensures { result ≡ list_any (λ w. same_name name.now w.name) views.now }
@@ -18,11 +21,19 @@ fn has_view(views: &[Watched], name: &Name) -> bool
     views.iter().any(|view| name.is_same(&view.name))
 }
 
-/// The view goes; no other one has its name.
+fn position(views: &[Watched], name: &Name) -> Option<usize>
+    ensures { result ≡ position (λ w. same_name name.now w.name) views.now }
+{
+    views.iter().position(|view| name.is_same(&view.name))
+}
+
+/// Each view of that name goes.
 fn forget(views: &mut Vec<Watched>, name: &Name)
     ensures { views.new.items ≡ filter (λ w. not (same_name name.now w.name)) views.old.items }
 {
-    views.retain(|view| !name.is_same(&view.name));
+    while let Some(at) = position(views.as_slice(), name) {
+        let _ = views.remove(at);
+    }
 }
 
 /// A table of `D` axes: its columns, its rows by rising id, and its views in the order in which they were named.
@@ -51,7 +62,12 @@ impl<const D: usize> Model for Table<D> {
 
 impl<const D: usize> Table<D> {
     ghost use Rattle.rt_row.specs.Tables.{new_table, has_view, select, watch, unwatch, view};
+    ghost use Rattle.rt_row.specs.Edits.{outcome};
+    ghost use Rattle.rt_row.specs.Entries.{step_of};
+    ghost use Rattle.rt_row.specs.Views.{deltas};
     ghost use Rattle.rt_table.specs.Replies.{Refuses, Shows};
+    ghost use Rattle.rt_table.specs.Preparing.{ApplyInTurn, IsReady};
+    ghost use Rattle.rt_table.specs.Watching.{change_of};
 
     /// A table of these columns, without rows and views. Look-ups hash by `keys`, which are to be random where
     /// others choose the ids.
@@ -114,6 +130,22 @@ impl<const D: usize> Table<D> {
         Ok(pick(alloc, &self.store, &condition)?)
     }
 
+    /// The rows of a view, by rising id.
+    ///
+    /// # Errors
+    ///
+    /// `NoSuchView` where no view of this table has the name, and `OutOfMemory`.
+    pub fn view(&self, alloc: Global, name: &Name) -> Result<Picked, Refusal>
+        ensures ok { IfOk result (λ picked. Shows (view self.now.lists name.now) picked.rows.items) }
+        ensures err { IfErr result (Refuses (view self.now.lists name.now)) }
+    {
+        let Some(at) = position(self.views.as_slice(), name) else {
+            return Err(Refusal::NoSuchView);
+        };
+        let rows = rows_of(alloc, &self.store, &self.views[at])?;
+        Ok(Picked { rows, visited: 0 })
+    }
+
     /// Names a view of the rows that a condition picks. A refusal changes nothing.
     ///
     /// # Errors
@@ -130,6 +162,35 @@ impl<const D: usize> Table<D> {
         let view = watch(alloc, self.keys, &self.columns, &self.store, name, cond)?;
         self.views.push(view)?;
         Ok(())
+    }
+
+    /// Makes the table ready for a plan: reserves what carrying it out takes, and stages what it changes in the
+    /// views. Rows and views stay, also after a refusal.
+    pub fn prepare(&mut self, alloc: Global, plan: &[Step<D>]) -> Result<(), AllocError>
+        requires { ApplyInTurn self.old.lists.rows (map step_of plan.now) }
+        ensures lists { self.new.lists ≡ self.old.lists }
+        ensures ok { OnOk result (IsReady self.new (map step_of plan.now)) }
+    {
+        let touched = touch(alloc, self.views.as_slice(), &self.store, plan)?;
+        self.store.reserve(alloc, plan.len())?;
+        reserve_ids(&mut self.views, touched.ids.len())?;
+        let Touched { ids, changes } = touched;
+        self.touched = ids;
+        self.staged = changes;
+        Ok(())
+    }
+
+    /// Carries out the plan that the table is ready for. It takes no memory, and nothing refuses it.
+    pub fn commit(&mut self, plan: Vec<Step<D>>) -> Vec<Change>
+        requires { IsReady self.old (map step_of plan.items) }
+        ensures lists { self.new.lists ≡ record self.old.lists { rows = outcome self.old.lists.rows (map step_of plan.entry.items) } }
+        ensures changed { map change_of result.items ≡ deltas self.old.lists.columns self.old.lists.views self.old.lists.rows self.new.lists.rows }
+    {
+        apply(&mut self.store, plan);
+        // The contract of `len` says that the ids rise.
+        let _ = self.store.len();
+        refresh_all(&mut self.views, &self.store, self.touched.as_slice());
+        mem::replace(&mut self.staged, Vec::new(self.alloc))
     }
 
     /// Forgets a view. It takes no memory; a refusal changes nothing.

@@ -1,5 +1,5 @@
 use Rattle.std.proofs.Common.{ap, map, ◌∙◌}
-use Rattle.rt_row.specs.Rows.{row_at, values_of}
+use Rattle.rt_row.specs.Rows.{values_of}
 use Rattle.rt_row.specs.Filters.{admits}
 use Rattle.rt_table.proofs.Picking.{looked_up}
 use Rattle.rt_table.proofs.watched.pick.Goals as goal
