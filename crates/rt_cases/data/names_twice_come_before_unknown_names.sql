@@ -1,0 +1,3 @@
+CREATE VIRTUAL TABLE t USING rtree_i32(id,minX,maxX);
+INSERT INTO t(z,z) VALUES(1,2);
+UPDATE t SET z=1, z=2;

@@ -1,0 +1,2 @@
+CREATE VIRTUAL TABLE t USING rtree_i32(id,minX,maxX,+n TEXT);
+INSERT INTO t VALUES(1,0,1,'ÿ');

@@ -1,0 +1,8 @@
+CREATE VIRTUAL TABLE t USING rtree_i32(id,minX,maxX);
+INSERT INTO t VALUES(1,0,0);
+INSERT INTO t VALUES(2,0,0);
+.watch v FROM t
+UPDATE t SET id=id-1;
+INSERT OR REPLACE INTO t VALUES(1,0,0);
+UPDATE t SET minX=minX;
+.view v

@@ -1,0 +1,5 @@
+CREATE VIRTUAL TABLE t USING rtree_i32(id,minX,maxX,+n TEXT);
+INSERT INTO t VALUES(1,0,1,NULL),(2,0,1,5),(3,0,1,'5'),(4,0,1,'b'),(5,0,1,X'00');
+.watch v FROM t WHERE n IS NULL
+UPDATE t SET n=NULL WHERE n>'5';
+UPDATE t SET n=0 WHERE id=1;

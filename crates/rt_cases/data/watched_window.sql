@@ -1,0 +1,8 @@
+CREATE VIRTUAL TABLE t USING rtree_i32(id,minX,maxX,+n TEXT);
+INSERT INTO t VALUES(1,0,5,'a');
+.watch v FROM t WHERE maxX<=5
+.view v
+INSERT OR REPLACE INTO t VALUES(1,0,9,'b');
+UPDATE t SET maxX=4;
+UPDATE t SET n=NULL WHERE id=1;
+DELETE FROM t;
