@@ -137,10 +137,10 @@ module _ (view : List ℕ) (before after : List TableRow) where
   all_turns (x ∷ ids) shown rise was q =
       let here : at shown x ≡ option_map values_of (row_at before x) = was x (ap (λ (b : Bool). b || list_any (int_eq x) ids) (eq_same x)) in
       let turned : (z : ℤ) → at (replayed shown (turn x)) z ≡ cond (int_eq z x) (option_map values_of (row_at after x)) (at shown z) =
-          λ z. one_turn view shown x z (row_at before x) (row_at after x) (has_its_id before x) (has_its_id after x) here in
+      λ z. one_turn view shown x z (row_at before x) (row_at after x) (has_its_id before x) (has_its_id after x) here in
       let later : (z : ℤ) → list_any (int_eq z) ids ≡ true → at (replayed shown (turn x)) z ≡ option_map values_of (row_at before z) =
-          λ z there. turned z ∙ ap (λ (b : Bool). cond b (option_map values_of (row_at after x)) (at shown z)) (past_first x ids z rise.0 there)
-              ∙ was z (ap (λ (b : Bool). int_eq z x || b) there ∙ or_true (int_eq z x)) in
+      λ z there. turned z ∙ ap (λ (b : Bool). cond b (option_map values_of (row_at after x)) (at shown z)) (past_first x ids z rise.0 there)
+      ∙ was z (ap (λ (b : Bool). int_eq z x || b) there ∙ or_true (int_eq z x)) in
       ap (λ (s : Shown). at s q) (replayed-append shown (turn x) (flat_map turn ids))
       ∙ all_turns ids (replayed shown (turn x)) rise.1 later q
       ∙ join (int_eq q x) (list_any (int_eq q) ids) (option_map values_of (row_at after q)) (at (replayed shown (turn x)) q) (at shown q) (turned q ∙ here_after (int_eq q x) q x (at shown q) (eq_from q x)) (past_first x ids q rise.0)
@@ -176,8 +176,8 @@ replay view before after before_rise after_rise =
     same_lists printed_id (replayed (map values_of before) (delta view before after)) (map values_of after)
     (rises_turns view before after (ids_of_both before after) (map values_of before) (rises_values before before_rise)) (rises_values after after_rise)
     (λ q. all_turns view before after (ids_of_both before after) (map values_of before) (rises-both before after after_rise) (λ z there. at_values before z) q
-        ∙ shown_after (list_any (int_eq q) (ids_of_both before after)) (row_at before q) (row_at after q) (at (map values_of before) q) (at (map values_of after) q) (at_values before q) (at_values after q)
-            (any_own (ids_of_both before after) q ∙ in_both before after q))
+    ∙ shown_after (list_any (int_eq q) (ids_of_both before after)) (row_at before q) (row_at after q) (at (map values_of before) q) (at (map values_of after) q) (at_values before q) (at_values after q)
+    (any_own (ids_of_both before after) q ∙ in_both before after q))
 
 pub changes_replay : ChangesReplay
 changes_replay columns view rows steps rise =

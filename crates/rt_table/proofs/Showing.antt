@@ -68,7 +68,8 @@ no_view lists name views same none =
 
 pub view_shown : (lists : TableLists) (name : List ℕ) (views : List Watched) (at : ℕ) (w : Watched) → lists.views ≡ map view_of views → position (λ (w : Watched). is_view name (view_of w)) views ≡ Some at
     → w ≡ get_or views at w → IsKept lists.columns lists.rows w → (values : List (List Value)) → values ≡ map values_of (filter (admits w.filter) lists.rows) → Shows (view lists name) values
-view_shown lists name views at w same placed read kept values shown =
-    (picked lists.columns w.filter.cond lists.rows,
-     ap (viewed lists) (ap (find (is_view name)) same ∙ found_view (is_view name) view_of views at w placed read),
-     shown ∙ ap (map values_of) (filter_agree (admits w.filter) (holds lists.columns w.filter.cond) kept.filter_is.same lists.rows))
+view_shown lists name views at w same placed read kept values shown = (
+  picked lists.columns w.filter.cond lists.rows,
+  ap (viewed lists) (ap (find (is_view name)) same ∙ found_view (is_view name) view_of views at w placed read),
+  shown ∙ ap (map values_of) (filter_agree (admits w.filter) (holds lists.columns w.filter.cond) kept.filter_is.same lists.rows),
+)

@@ -30,4 +30,4 @@ abbrev pub ChangesReplay : Type 0
 ChangesReplay =
     (columns : Columns) (view : View) (rows : List TableRow) (steps : List Step) → AreRising rows
     → replayed (map values_of (picked columns view.cond rows)) (delta view.name (picked columns view.cond rows) (picked columns view.cond (outcome rows steps)))
-        ≡ map values_of (picked columns view.cond (outcome rows steps))
+    ≡ map values_of (picked columns view.cond (outcome rows steps))

@@ -20,5 +20,5 @@ returns-clause-ok g c =
     let placed : position (λ (w : Watched). is_view c.args.name.now (view_of w)) c.self.inside.views.items ≡ Some c.in-Some.at = rw c.as_slice.ensures.value at (sym c.in-Some.ensures) in
     let within = (position-Some (λ (w : Watched). is_view c.args.name.now (view_of w)) c.self.inside.views.items c.in-Some.at c.index.result.now placed).0 in
     let kept : IsKept c.self.inside.columns c.self.inside.store.rows c.index.result.now =
-        subst (λ (w : Watched). IsKept c.self.inside.columns c.self.inside.store.rows w) (sym c.index.ensures) (c.self.invariant.kept c.in-Some.at c.index.result.now within) in
+    subst (λ (w : Watched). IsKept c.self.inside.columns c.self.inside.store.rows w) (sym c.index.ensures) (c.self.invariant.kept c.in-Some.at c.index.result.now within) in
     rw (← c.self.view_is) (view_shown (held c.self.inside).lists c.args.name.now c.self.inside.views.items c.in-Some.at c.index.result.now refl placed c.index.ensures kept _ c.in_ok-rows.ensures)
