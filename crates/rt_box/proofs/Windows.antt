@@ -224,21 +224,21 @@ pub sides_here : (P : Ends → Interval → Type 0) (es : List Ends) (b : List I
 sides_here P es b i here x in_es in_b x_is holds e d =
     rw (get_or_default es i e here in_es, get_or_default b i d x in_b, ← x_is) holds
 
-pub Admits-at : (es : List Ends) (window b : List Interval) (i : ℕ) (e : Ends) (x : Interval) →
-    in_order es ≡ window → i < length es → x ≡ get_or b i x → Admits window b → AdmitsSide (get_or es i e) x
-Admits-at es window b i e x window_is h x_is admitted =
-    let whole : Admits (in_order es) b = rw window_is admitted in
-    rw x_is (Admits-side es b i e x h whole)
+pub side_here : (P : Ends → Interval → Type 0) (es : List Ends) (b : List Interval) (i : ℕ) (here : Ends) (x : Interval) → x ≡ get_or b i x →
+    ((e : Ends) (d : Interval) → P (get_or es i e) (get_or b i d)) → P (get_or es i here) x
+side_here P es b i here x x_is holds = rw x_is (holds here x)
+
+pub Admits-sides : (es : List Ends) (window b : List Interval) (i : ℕ) (e : Ends) (d : Interval) →
+    in_order es ≡ window → i < length es → Admits window b → AdmitsSide (get_or es i e) (get_or b i d)
+Admits-sides es window b i e d window_is h admitted = Admits-side es b i e d h (rw window_is admitted)
 
 pub Admits-all : (es : List Ends) (window b : List Interval) → in_order es ≡ window → length es ≡ length b →
     ((i : ℕ) (e : Ends) (d : Interval) → i < length es → AdmitsSide (get_or es i e) (get_or b i d)) → Admits window b
 Admits-all es window b window_is same h = rw (← window_is) (Admits-from_sides es b same h)
 
-pub MayHold-at : (axes : ℕ) (es : List Ends) (window b : List Interval) (i : ℕ) (e : Ends) (x : Interval) →
-    in_order es ≡ window → i < length es → x ≡ get_or b i x → MayHold axes window b → MayHoldSide (get_or es i e) x
-MayHold-at axes es window b i e x window_is h x_is held =
-    let whole : MayHold axes (in_order es) b = rw window_is held in
-    rw x_is (MayHold-side axes es b i e x h whole)
+pub MayHold-sides : (axes : ℕ) (es : List Ends) (window b : List Interval) (i : ℕ) (e : Ends) (d : Interval) →
+    in_order es ≡ window → i < length es → MayHold axes window b → MayHoldSide (get_or es i e) (get_or b i d)
+MayHold-sides axes es window b i e d window_is h held = MayHold-side axes es b i e d h (rw window_is held)
 
 pub MayHold-all : (axes : ℕ) (es : List Ends) (window b : List Interval) → in_order es ≡ window → length es ≡ axes → IsBox axes b →
     ((i : ℕ) (e : Ends) (d : Interval) → i < length es → MayHoldSide (get_or es i e) (get_or b i d)) → MayHold axes window b

@@ -73,7 +73,7 @@ impl Interval {
     pub(crate) fn includes(self, number: i32) -> bool
         ensures { IsTrue result ↔ Includes self number }
     {
-        self.lo <= number && number <= self.hi
+        (self.lo <= number) & (number <= self.hi)
     }
 
     /// The numbers of this interval up to `value`.

@@ -7,6 +7,9 @@ use crate::op6::Op6;
 use crate::rect::Rect;
 use std::marker::Model;
 
+// A search tests each box of a node, and which of them pass can't be foreseen: with `&` in the place of `&&` the tests
+// have no branches.
+
 /// The numbers that a window allows the two ends of a box on one axis.
 #[derive(Clone, Copy, Debug, PartialEq, Eq)]
 struct Ends {
@@ -18,7 +21,7 @@ impl Ends {
     fn admits(self, side: Interval) -> bool
         ensures { IsTrue result ↔ AdmitsSide self side }
     {
-        self.lo.includes(side.lo) && self.hi.includes(side.hi)
+        self.lo.includes(side.lo) & self.hi.includes(side.hi)
     }
 
     /// Whether an interval that is admitted fits into `side`. It is enough to try the longest: from the
@@ -28,13 +31,7 @@ impl Ends {
     {
         let least = self.lo.lo.max(side.lo);
         let greatest = self.hi.hi.min(side.hi);
-        if least > self.lo.hi {
-            return false;
-        }
-        if greatest < self.hi.lo {
-            return false;
-        }
-        least <= greatest
+        (least <= self.lo.hi) & (self.hi.lo <= greatest) & (least <= greatest)
     }
 }
 
@@ -104,12 +101,11 @@ impl<const D: usize> Window<D> {
     pub fn admits(&self, rect: &Rect<D>) -> bool
         ensures { IsTrue result ↔ Admits self.now rect.now }
     {
+        let mut admitted = true;
         for axis in 0..rect.axes() {
-            if !self.axes[axis].admits(rect.range(axis)) {
-                return false;
-            }
+            admitted &= self.axes[axis].admits(rect.range(axis));
         }
-        true
+        admitted
     }
 
     /// Whether some box that lies in the given one is admitted.
@@ -117,12 +113,11 @@ impl<const D: usize> Window<D> {
     pub fn may_hold(&self, rect: &Rect<D>) -> bool
         ensures { IsTrue result ↔ MayHold D self.now rect.now }
     {
+        let mut held = true;
         for axis in 0..rect.axes() {
-            if !self.axes[axis].may_hold(rect.range(axis)) {
-                return false;
-            }
+            held &= self.axes[axis].may_hold(rect.range(axis));
         }
-        true
+        held
     }
 }
 

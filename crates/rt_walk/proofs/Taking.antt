@@ -1,6 +1,7 @@
 -- What a search takes from a node, cell by cell.
 use Rattle.std.proofs.Common.{◌≡◌, ℕ, ◌+◌, ◌<◌, List, [], ◌∷◌, ◌++◌, length, map, get_or, take, append_assoc, append-nil, arith, refl, ap, sym, ◌∙◌, subst, inl, inr}
 use Rattle.std.specs.List.{count_by}
+use Rattle.std.proofs.Math.Seq.{take-append_seam}
 use Rattle.std.proofs.lemmas.Bool.{cases_Bool, cases_eq}
 use Rattle.std.proofs.lemmas.List.{take_more, get_or_default, get_or-map}
 use Rattle.std.proofs.lemmas.List.Elements.{All-nil, All-push, Contains-append_left, Contains-push, Contains-push_cases}
@@ -14,6 +15,10 @@ use Rattle.rt_walk.specs.declared.searching.Row.{Row}
 use Rattle.rt_walk.specs.Search.{times, row_of, LeadsInto}
 use Rattle.rt_walk.specs.Visits.{TakesRows, TakesChildren}
 use Rattle.rt_walk.proofs.Totals.{times-append, times-one, times-other}
+
+-- what was appended is taken back
+pub taken-back : {A : Type 0} (xs ys : List A) (x : A) (n : ℕ) → n ≡ length xs → ys ≡ take n (xs ++ x ∷ []) → ys ≡ xs
+taken-back xs ys x n n_is e = e ∙ ap (λ k. take k (xs ++ x ∷ [])) n_is ∙ take-append_seam xs (x ∷ [])
 
 module _ {D : ℕ} where
   -- the cell whose box was read

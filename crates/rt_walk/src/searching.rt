@@ -8,7 +8,7 @@ ghost use Rattle.rt_walk.specs.Search.{row_of, Finds};
 ghost use Rattle.rt_walk.specs.Visits.{TakesRows, TakesChildren, Visits};
 
 use rt_box::{Rect, Window};
-use rt_node::{Arena, Cell, Node, key_of, node_at};
+use rt_node::{Arena, Cell, MOST_CELLS, Node, key_of, node_at};
 use std::alloc::{AllocError, Global};
 
 /// A row that a search found.
@@ -48,6 +48,9 @@ pub(crate) fn child_of<const D: usize>(cell: &Cell<D>) -> usize
     key_of(cell.number)
 }
 
+// Which cells pass a window's test can't be foreseen. So each is taken, and taken back where it doesn't pass: that
+// moves the end of a vector with no branch.
+
 /// Takes the rows of a leaf that the window admits.
 fn take_rows<const D: usize>(
     rows: &mut Vec<Row<D>>,
@@ -57,9 +60,11 @@ fn take_rows<const D: usize>(
     ensures { OnOk result (TakesRows window.now node.now.cells rows.old.items rows.new.items) }
 {
     let boxes = node.boxes();
+    rows.reserve(boxes.len())?;
     for at in 0..boxes.len() {
-        if window.admits(&boxes[at]) {
-            rows.push(row_of(&node.cell(at)))?;
+        rows.push_reserved(row_of(&node.cell(at)));
+        if !window.admits(&boxes[at]) {
+            let _ = rows.pop();
         }
     }
     Ok(())
@@ -74,9 +79,11 @@ fn take_children<const D: usize>(
     ensures { OnOk result (TakesChildren window.now node.now.cells keys.old.items keys.new.items) }
 {
     let boxes = node.boxes();
+    keys.reserve(boxes.len())?;
     for at in 0..boxes.len() {
-        if window.may_hold(&boxes[at]) {
-            keys.push(child_of(&node.cell(at)))?;
+        keys.push_reserved(child_of(&node.cell(at)));
+        if !window.may_hold(&boxes[at]) {
+            let _ = keys.pop();
         }
     }
     Ok(())
@@ -124,7 +131,7 @@ pub fn search<const D: usize>(
         rows: Vec::new(alloc),
         visited: 0,
     };
-    let mut keys = Vec::new(alloc);
+    let mut keys = Vec::with_capacity(alloc, 2 * MOST_CELLS)?;
     keys.push(tree.root)?;
     let _ = tree.nodes.capacity();
     while let Some(key) = keys.pop() {

@@ -1,7 +1,7 @@
 use Rattle.std.proofs.Common.{◌≡◌, true, ℤ, ◌≤ℤ◌, w32, FitsSigned, arith, rules}
 use lib.Signed.{le_z}
 use Rattle.std.specs.Int.{int_min, int_max}
-use Rattle.std.proofs.lemmas.Bool.{false≢true}
+use Rattle.std.proofs.lemmas.Bool.{and_parts, and_from}
 use Rattle.std.proofs.lemmas.Int.{ints, clamps, to_z-of_z}
 use Rattle.rt_box.proofs.Windows.{MayHoldSide-from, MayHoldSide-low, MayHoldSide-high, MayHoldSide-order}
 use Rattle.rt_box.proofs.window.Ends.may_hold.Goals as goal
@@ -9,6 +9,9 @@ use Rattle.rt_box.proofs.window.Ends.may_hold.Goals.{After-min-greatest}
 
 passes : (a b : ℤ) → a ≤ℤ b → le_z a b ≡ true
 passes a b h = grind (arith, ints)
+
+passed : (a b : ℤ) → le_z a b ≡ true → a ≤ℤ b
+passed a b h = grind (arith, ints)
 
 least_is : (c : After-min-greatest) → c.max-least.result ≡ int_max c.args.self.lo.lo c.args.side.lo
 least_is c =
@@ -22,18 +25,6 @@ greatest_is c =
     let side_fits : FitsSigned w32 c.args.side.hi = search rules in
     omega (arith, ints, clamps)
 
-pub returns-then-least-self : goal.returns-then-least-self
-returns-then-least-self c =
-    let fits : FitsSigned w32 c.max-least.result = search rules in
-    let ends_fit : FitsSigned w32 c.args.self.lo.hi = search rules in
-    ((λ f. absurd (false≢true f)), (λ m. absurd (omega (arith, ints, MayHoldSide-low c.args.self c.args.side c.max-least.result (least_is (goal.at.returns-then-least-self c).After-min-greatest) m))))
-
-pub returns-then-greatest-self : goal.returns-then-greatest-self
-returns-then-greatest-self c =
-    let fits : FitsSigned w32 c.min-greatest.result = search rules in
-    let ends_fit : FitsSigned w32 c.args.self.hi.lo = search rules in
-    ((λ f. absurd (false≢true f)), (λ m. absurd (omega (arith, ints, MayHoldSide-high c.args.self c.args.side c.min-greatest.result (greatest_is (goal.at.returns-then-greatest-self c).After-min-greatest) m))))
-
 pub returns : goal.returns
 returns c =
     let least_fits : FitsSigned w32 c.max-least.result = search rules in
@@ -41,9 +32,14 @@ returns c =
     let lo_fits : FitsSigned w32 c.args.self.lo.hi = search rules in
     let hi_fits : FitsSigned w32 c.args.self.hi.lo = search rules in
     let least = least_is (goal.at.returns c).After-min-greatest in
-    let greatest = greatest_is (goal.at.returns c).After-min-greatest in (
-      (λ t. MayHoldSide-from c.args.self c.args.side c.max-least.result c.min-greatest.result least greatest
-          (omega (arith, ints)) (omega (arith, ints)) (omega (arith, ints, t))),
-      (λ m. let order : c.max-least.result ≤ℤ c.min-greatest.result = MayHoldSide-order _ _ _ _ least greatest m in
-          rw (to_z-of_z w32 c.max-least.result least_fits, to_z-of_z w32 c.min-greatest.result greatest_fits) (passes _ _ order)),
+    let greatest = greatest_is (goal.at.returns c).After-min-greatest in
+    rw (to_z-of_z w32 c.max-least.result least_fits, to_z-of_z w32 c.args.self.lo.hi lo_fits, to_z-of_z w32 c.args.self.hi.lo hi_fits, to_z-of_z w32 c.min-greatest.result greatest_fits) (
+      (λ t.
+          let sides = and_parts _ _ t in
+          let ends = and_parts _ _ sides.0 in
+          MayHoldSide-from c.args.self c.args.side c.max-least.result c.min-greatest.result least greatest
+          (passed _ _ ends.0) (passed _ _ ends.1) (passed _ _ sides.1)),
+      (λ m. and_from _ _
+          (and_from _ _ (passes _ _ (MayHoldSide-low _ _ _ least m)) (passes _ _ (MayHoldSide-high _ _ _ greatest m)))
+          (passes _ _ (MayHoldSide-order _ _ _ _ least greatest m))),
     )

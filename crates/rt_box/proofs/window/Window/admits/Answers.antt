@@ -1,21 +1,22 @@
 use Rattle.std.proofs.Common.{◌<◌, length, arith, refl, below_more}
-use Rattle.std.proofs.lemmas.Bool.{false≢true}
+use Rattle.std.proofs.lemmas.Bool.{and_parts, and_from}
 use Rattle.rt_box.specs.Ends.{AdmitsSide}
-use Rattle.rt_box.proofs.Windows.{sides_here, Admits-at, Admits-all}
+use Rattle.rt_box.proofs.Windows.{sides_here, side_here, Admits-sides, Admits-all}
 use Rattle.rt_box.proofs.window.Window.admits.Goals as goal
 
-pub returns-then-not-admits : goal.returns-then-not-admits
-returns-then-not-admits g c =
-    let within : c.loop-axis.axis < length c.self.inside.axes = omega arith in (
-      (λ f. absurd (false≢true f)),
-      (λ h. c.if-not-admits.ensures.1 (Admits-at _ _ _ _ _ _ c.self.view_is within c.range.ensures.value h)),
-    )
-
 pub loop-axis-preserved : goal.loop-axis-preserved
-loop-axis-preserved g c =
-    below_more _ _ c.loop-axis.invariant
-    (sides_here AdmitsSide c.self.inside.axes c.args.rect.now c.loop-axis.axis _ c.range.result (omega arith) (omega arith) c.range.ensures.value (c.if-not-admits.ensures.0 refl))
+loop-axis-preserved g c = (
+  (λ t.
+      let both = and_parts _ _ t in
+      below_more _ _ (c.loop-axis.invariant.0 both.0)
+      (sides_here AdmitsSide c.self.inside.axes c.args.rect.now c.loop-axis.axis _ c.range.result (omega arith) (omega arith) c.range.ensures.value (c.admits-admitted.ensures.0 both.1))),
+  (λ h. and_from _ _
+      (c.loop-axis.invariant.1 (λ i below. h i (omega arith)))
+      (c.admits-admitted.ensures.1 (side_here AdmitsSide c.self.inside.axes c.args.rect.now c.loop-axis.axis _ c.range.result c.range.ensures.value (h c.loop-axis.axis (omega arith))))),
+)
 
 pub returns : goal.returns
-returns g c =
-    ((λ _. Admits-all _ _ _ c.self.view_is (omega arith) (λ i e d within. c.loop-axis.invariant i (omega arith) e d)), (λ _. refl))
+returns g c = (
+  (λ t. Admits-all _ _ _ c.self.view_is (omega arith) (λ i e d within. c.loop-axis.invariant.0 t i (omega arith) e d)),
+  (λ h. c.loop-axis.invariant.1 (λ i below e d. Admits-sides _ _ _ i e d c.self.view_is (omega arith) h)),
+)
