@@ -3,7 +3,7 @@
 # make check  proves what changed
 # make cases  runs the worked scripts and dumps of crates/rt_cases
 # make test   proves everything from nothing, tries the edits that must fail, and runs all tests
-# make bench  prints how long the choices of the R*-tree take
+# make bench  prints how long the choices of the R*-tree take, and the calls of whole trees, beside Boost's where that is installed
 
 SHELL := /bin/bash
 
@@ -27,7 +27,7 @@ test: tools
 	rt ci
 
 bench: tools
-	@cd crates/rt_bench && rt run -- choices 2> /dev/null
+	@scripts/bench
 
 tools:
 	@command -v rt > /dev/null || { echo "juicedelta: the command rt (the Rattle toolchain) is missing" >&2; exit 1; }

@@ -1,9 +1,9 @@
 -- What a search takes from a node, cell by cell.
 use Rattle.std.proofs.Common.{◌≡◌, ℕ, ◌+◌, ◌<◌, List, [], ◌∷◌, ◌++◌, length, map, get_or, take, append_assoc, append-nil, arith, refl, ap, sym, ◌∙◌, subst, inl, inr}
 use Rattle.std.specs.List.{count_by}
-use Rattle.std.proofs.Math.Seq.{take-append_seam}
+use Rattle.std.proofs.Math.Seq.{take-append_seam, take-length}
 use Rattle.std.proofs.lemmas.Bool.{cases_Bool, cases_eq}
-use Rattle.std.proofs.lemmas.List.{take_more, get_or_default, get_or-map}
+use Rattle.std.proofs.lemmas.List.{take_more, get_or_default, get_or-map, length-append}
 use Rattle.std.proofs.lemmas.List.Elements.{All-nil, All-push, Contains-append_left, Contains-push, Contains-push_cases}
 use Rattle.rt_box.specs.declared.interval.Interval.{Interval}
 use Rattle.rt_box.specs.Window.{Admits, MayHold}
@@ -19,6 +19,12 @@ use Rattle.rt_walk.proofs.Totals.{times-append, times-one, times-other}
 -- what was appended is taken back
 pub taken-back : {A : Type 0} (xs ys : List A) (x : A) (n : ℕ) → n ≡ length xs → ys ≡ take n (xs ++ x ∷ []) → ys ≡ xs
 taken-back xs ys x n n_is e = e ∙ ap (λ k. take k (xs ++ x ∷ [])) n_is ∙ take-append_seam xs (x ∷ [])
+
+-- what was appended stays
+pub taken-stays : {A : Type 0} (xs ys : List A) (x : A) (n : ℕ) → n ≡ length xs + 1 → ys ≡ take n (xs ++ x ∷ []) → ys ≡ xs ++ x ∷ []
+taken-stays xs ys x n n_is e =
+    let all : n ≡ length (xs ++ x ∷ []) = omega (arith, length-append xs (x ∷ []), n_is) in
+    e ∙ ap (λ k. take k (xs ++ x ∷ [])) all ∙ take-length (xs ++ x ∷ [])
 
 module _ {D : ℕ} where
   -- the cell whose box was read

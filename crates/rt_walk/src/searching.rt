@@ -48,8 +48,8 @@ pub(crate) fn child_of<const D: usize>(cell: &Cell<D>) -> usize
     key_of(cell.number)
 }
 
-// Which cells pass a window's test can't be foreseen. So each is taken, and taken back where it doesn't pass: that
-// moves the end of a vector with no branch.
+// Which cells pass a window's test can't be foreseen. So each is taken, and taken back where it doesn't pass: the end of
+// the vector moves by what the test gave, with no branch.
 
 /// Takes the rows of a leaf that the window admits.
 fn take_rows<const D: usize>(
@@ -62,10 +62,9 @@ fn take_rows<const D: usize>(
     let boxes = node.boxes();
     rows.reserve(boxes.len())?;
     for at in 0..boxes.len() {
+        let kept = rows.len() + usize::from(window.admits(&boxes[at]));
         rows.push_reserved(row_of(&node.cell(at)));
-        if !window.admits(&boxes[at]) {
-            let _ = rows.pop();
-        }
+        rows.truncate(kept);
     }
     Ok(())
 }
@@ -81,10 +80,9 @@ fn take_children<const D: usize>(
     let boxes = node.boxes();
     keys.reserve(boxes.len())?;
     for at in 0..boxes.len() {
+        let kept = keys.len() + usize::from(window.may_hold(&boxes[at]));
         keys.push_reserved(child_of(&node.cell(at)));
-        if !window.may_hold(&boxes[at]) {
-            let _ = keys.pop();
-        }
+        keys.truncate(kept);
     }
     Ok(())
 }
