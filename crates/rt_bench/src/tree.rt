@@ -14,14 +14,14 @@ use std::time::Instant;
 
 /// How the rows lie.
 #[derive(Clone, Copy)]
-enum Shape {
+pub(crate) enum Shape {
     Uniform,
     Clustered,
     Dense,
     Sorted,
 }
 
-const SHAPES: [(Shape, &str); 4] = [
+pub(crate) const SHAPES: [(Shape, &str); 4] = [
     (Shape::Uniform, "uniform"),
     (Shape::Clustered, "clustered"),
     (Shape::Dense, "dense"),
@@ -69,7 +69,7 @@ fn ends(shape: Shape, row: u64, axis: u64) -> (i64, i64) {
 }
 
 /// The box of the row with this number, wider by `grow` at each end.
-fn rect_of<const D: usize>(shape: Shape, row: u64, grow: i64) -> Option<Rect<D>>
+pub(crate) fn rect_of<const D: usize>(shape: Shape, row: u64, grow: i64) -> Option<Rect<D>>
     requires some { 1 ≤ D }
     requires few { D ≤ 3 }
 {
@@ -141,9 +141,9 @@ const MOST_ROWS: usize = 1 << 20;
 
 /// How rows are drawn, and how many.
 #[derive(Clone, Copy)]
-struct Load {
-    shape: Shape,
-    rows: u64,
+pub(crate) struct Load {
+    pub(crate) shape: Shape,
+    pub(crate) rows: u64,
 }
 
 /// The nanoseconds since the start, shared among so many calls.
@@ -151,7 +151,7 @@ fn share<R: Clock>(rt: &R, start: &Instant, calls: u64) -> io::Result<u128> {
     Ok(start.elapsed(rt)?.as_nanos() / u128::from(calls.max(1)))
 }
 
-fn time_insertions<R: Clock, const D: usize>(
+pub(crate) fn time_insertions<R: Clock, const D: usize>(
     rt: &R,
     tree: &mut Tree<D>,
     load: Load,

@@ -1,0 +1,107 @@
+//! Times of a choice on nodes and new boxes of a tree that was built row by row.
+
+use crate::tree::{Load, SHAPES, rect_of, time_insertions};
+use rt_box::{Capacity, Rect};
+use rt_check::Shadow;
+use rt_choice::choose_subtree;
+use rt_tree::Tree;
+use std::alloc::{AllocError, Global};
+use std::hash::RandomState;
+use std::io;
+use std::rt::Clock;
+use std::time::Instant;
+
+/// A node above the leaves: its level, its cells' boxes, and the numbers of its children.
+#[derive(Drop)]
+struct Above {
+    level: u8,
+    boxes: Vec<Rect<2>>,
+    children: Vec<i64>,
+}
+
+/// The nodes above the leaves, each at its number less one; leaves have no cells there.
+fn nodes_above(alloc: Global, shadow: &Shadow<2>) -> Result<Vec<Above>, AllocError> {
+    let mut nodes = Vec::new(alloc);
+    for node in shadow.nodes() {
+        let (mut boxes, mut children) = (Vec::new(alloc), Vec::new(alloc));
+        for cell in node.cells.as_slice() {
+            let Some(rect) = Rect::new(cell.lo, cell.hi) else {
+                continue;
+            };
+            if node.level > 0 {
+                boxes.push(rect)?;
+                children.push(cell.number)?;
+            }
+        }
+        nodes.push(Above {
+            level: node.level,
+            boxes,
+            children,
+        })?;
+    }
+    Ok(nodes)
+}
+
+/// The node above the leaves that a new box is led to.
+fn node_for<'a>(nodes: &'a [Above], rect: &Rect<2>) -> Option<&'a Above> {
+    let mut number = 1i64;
+    for _ in 0..20 {
+        let node = nodes.get(usize::try_from(number.wrapping_sub(1)).ok()?)?;
+        if node.level <= 1 {
+            return Some(node);
+        }
+        number = *node.children.get(choice(node, false, rect)?)?;
+    }
+    None
+}
+
+/// The child that the box goes into.
+fn choice(node: &Above, above_leaves: bool, rect: &Rect<2>) -> Option<usize> {
+    let boxes = node.boxes.as_slice();
+    if boxes.is_empty() || boxes.len() > 52 {
+        return None;
+    }
+    Some(choose_subtree(boxes, above_leaves, rect))
+}
+
+/// The nanoseconds of a choice above the leaves, over the boxes of rows that would come next.
+fn time_choices<R: Clock>(rt: &R, nodes: &[Above], load: Load) -> io::Result<(u128, u64)> {
+    const CHOICES: u64 = 20_000;
+    let mut time = 0u128;
+    let mut sum = 0u64;
+    for next in 1..=CHOICES {
+        let Some(rect) = rect_of(load.shape, load.rows.wrapping_add(next), 0) else {
+            continue;
+        };
+        let Some(node) = node_for(nodes, &rect) else {
+            continue;
+        };
+        let start = Instant::now(rt)?;
+        for _ in 0..20 {
+            let at = choice(node, true, &rect).unwrap_or(0);
+            sum = sum.wrapping_add(at as u64);
+        }
+        time = time.wrapping_add(start.elapsed(rt)?.as_nanos());
+    }
+    Ok((time / (20 * u128::from(CHOICES)), sum))
+}
+
+/// Prints the nanoseconds of a choice above the leaves in trees of 100,000 rows, for the boxes that come next.
+pub fn report(rt: &HostRuntime) -> io::Result<()> {
+    let Some(capacity) = Capacity::new(51) else {
+        return Ok(());
+    };
+    for (shape, name) in SHAPES {
+        let load = Load {
+            shape,
+            rows: 100_000,
+        };
+        let mut tree = Tree::<2>::new(rt.alloc(), RandomState::new(rt)?, capacity)?;
+        let _ = time_insertions(rt, &mut tree, load)?;
+        let shadow = tree.shadow(rt.alloc(), RandomState::new(rt)?)?;
+        let nodes = nodes_above(rt.alloc(), &shadow)?;
+        let (time, sum) = time_choices(rt, nodes.as_slice(), load)?;
+        println!(rt; "a built tree, {name}: choice above leaves {time} ns ({sum})")?;
+    }
+    Ok(())
+}
