@@ -1,3 +1,0 @@
-pub mod RowsLemmas
-pub mod SessionLemmas
-pub mod RisingLemmas

@@ -1,6 +1,1 @@
-pub mod Rows
-pub mod Put
 pub mod Session
-pub mod SessionInside
-pub mod Steps
-pub mod Laws

@@ -1,16 +1,16 @@
 //! The tables of a script's run, and the answer to each statement.
-//!
-//! - `Session`: the tables under their names. `step` carries a statement out, or refuses it, and a
-//!   refusal leaves the tables as they were.
-//! - `Reply`, `Row`: what a statement answers.
-//! - `laws`: whatever statements are carried out, the rows of a table stand by rising id.
-//!
-//! Any statement may be refused for want of memory, and that refusal too leaves the tables.
 #![tactic(auto)]
 
-pub mod laws;
-mod rows;
-mod session;
+ghost use Rattle.std.specs.Prelude.{◌≡◌, [], Err};
+ghost use Rattle.rt_sql.specs.declared.statement.Stmt.TheVariants.{Unwatch};
+ghost use Rattle.rt_sql.specs.declared.refusal.Refusal.TheVariants.{NoSuchView};
+ghost use Rattle.rt_session.specs.Session.{empty, answer, NoTree};
 
-pub use rows::Row;
-pub use session::{Reply, Session};
+mod reply;
+
+pub use reply::{Change, Reply};
+
+/// A law to be.
+pub fn begins()
+    ensures { answer NoTree (empty 5) (Unwatch []) ≡ Err NoSuchView }
+{}
