@@ -2,12 +2,11 @@
 -- Source: SQLite's documentation (The SQLite R*Tree Module; CREATE TABLE; DROP TABLE; SELECT); the limits, the order of
 -- the refusals and the commands on views are own.
 use Rattle.std.specs.Prelude.{◌≡◌, ◌≢◌, ℕ, Bool, true, false, not, ◌&&◌, if◌then◌else◌, nat_le, List, [], ◌∷◌, ◌++◌, length, map, filter, find, is_some, sum_by, slice_get, Option, Some, None, Result, Ok, Err}
-use Rattle.std.specs.List.{list_any, list_all}
+use Rattle.std.specs.List.{list_all}
 use Rattle.std.specs.Option.{option_map_or}
 use Rattle.rt_sql.specs.Name.{same_name}
 use Rattle.rt_sql.specs.declared.value.Value.{Value}
 use Rattle.rt_sql.specs.declared.statement.ColumnDef.{ColumnDef}
-use Rattle.rt_sql.specs.declared.statement.Rule.{Rule}
 use Rattle.rt_sql.specs.declared.statement.Test.{Test}
 use Rattle.rt_sql.specs.declared.statement.Stmt.{Stmt}
 use Rattle.rt_sql.specs.declared.statement.Stmt.TheVariants.{Create, Drop, Insert, Update, Delete, Select, Check, Watch, Unwatch, View, Nodes}
@@ -16,7 +15,7 @@ use Rattle.rt_sql.specs.declared.refusal.Refusal.TheVariants.{OutOfMemory, Synta
 use Rattle.rt_row.specs.Columns.{Columns, columns_of, has_name}
 use Rattle.rt_row.specs.Rows.{TableRow, values_of}
 use Rattle.rt_row.specs.Conditions.{value_in}
-use Rattle.rt_row.specs.Edits.{Setting, Steps, and_then, insert, update, delete}
+use Rattle.rt_row.specs.Edits.{Steps, and_then, insert, update, delete}
 use Rattle.rt_row.specs.Views.{ViewChange}
 use Rattle.rt_row.specs.Tables.{TableLists, new_table, edited, select, watch, unwatch, view, has_view}
 use Rattle.rt_session.specs.declared.reply.Change.{Change}
@@ -85,7 +84,7 @@ created state name if_absent columns =
     if is_some (table_of state name) then (if if_absent then Ok (Nothing, state) else Err TableAlreadyExists)
     else (if nat_le most_tables (length state.tables) then Err TooManyTablesOrViews
     else and_then (columns_of columns) (λ c.
-        Ok (Nothing, record state { tables = state.tables ++ record { name = name; table = new_table c } ∷ [] })))
+    Ok (Nothing, record state { tables = state.tables ++ record { name = name; table = new_table c } ∷ [] })))
 
 abbrev pub is_watched : TableLists → Bool
 is_watched t = not (nat_le (length t.views) 0)

@@ -1,0 +1,9 @@
+//! What holds of every session, as laws of the definitions that the contracts cite. Each function does
+//! nothing: its contract is the law.
+
+ghost use Rattle.rt_session.specs.Laws.{RowsAlwaysRise};
+
+/// Whatever statements a session carries out, the rows of each of its tables stand by rising id.
+pub fn rows_always_rise()
+    ensures { RowsAlwaysRise }
+{}
