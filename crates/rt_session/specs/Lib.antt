@@ -1,2 +1,3 @@
 pub mod Session
 pub mod Laws
+pub mod Worked
