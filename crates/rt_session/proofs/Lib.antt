@@ -1,1 +1,4 @@
 pub mod RisingLemmas
+pub mod Places
+pub mod Outcomes
+pub mod Columns

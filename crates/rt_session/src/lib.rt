@@ -1,7 +1,19 @@
 //! The tables of a script's run, and the answer to each statement.
+//!
+//! - `Session`: the tables under their names. `step` carries a statement out, or refuses it, and a
+//!   refusal leaves the tables as they were.
+//! - `Reply`, `Change`: what a statement answers.
+//! - `laws`: whatever statements are carried out, the rows of a table stand by rising id.
+//!
+//! Any statement may be refused for want of memory, and that refusal too leaves the tables.
 #![tactic(auto)]
 
+mod edits;
 pub mod laws;
 mod reply;
+mod selecting;
+mod session;
+mod tables;
 
 pub use reply::{Change, Reply};
+pub use session::Session;

