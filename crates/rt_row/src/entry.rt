@@ -1,7 +1,8 @@
 //! A row as a table keeps it.
 
 ghost use Rattle.std.specs.Prelude.{◌≡◌, ◌*◌, ◌<◌, ◌∷◌, ◌++◌, map, slice_index_or, IfOk};
-ghost use Rattle.rt_sql.specs.declared.value.Value.TheVariants.{Int};
+ghost use Rattle.rt_sql.specs.declared.value.Value.TheVariants.{Null, Int};
+ghost use Rattle.rt_row.specs.Entries.{field_value};
 ghost use Rattle.rt_box.specs.Rect.{coordinates};
 
 use rt_box::Rect;
@@ -36,6 +37,16 @@ fn coordinate<const D: usize>(rect: &Rect<D>, place: usize) -> i32
     if place % 2 == 0 { range.lo } else { range.hi }
 }
 
+/// The auxiliary value at that place among them.
+fn kept(more: &[Value], place: usize) -> Field<'_>
+    ensures { field_value result ≡ slice_index_or more.now place Null }
+{
+    if place >= more.len() {
+        return Field::Missing;
+    }
+    Field::Kept(&more[place])
+}
+
 /// The id and the coordinates.
 fn numbers<const D: usize>(alloc: Global, id: i64, rect: &Rect<D>) -> Result<Vec<Value>, AllocError>
     ensures { IfOk result (λ values. values.items ≡ Int id ∷ map Int (coordinates rect.now)) }
@@ -59,13 +70,36 @@ fn push_copies(alloc: Global, values: &mut Vec<Value>, more: &[Value]) -> Result
 }
 
 impl<const D: usize> Entry<D> {
-    ghost use Rattle.rt_sql.specs.declared.value.Value.TheVariants.{Null};
+    ghost use Rattle.rt_row.specs.Entries.{row_of, view_row};
+
+    /// The row, looked at where it stands.
+    pub fn view(&self) -> RowView<'_, D>
+        ensures { view_row result ≡ row_of self.now }
+    {
+        RowView {
+            id: self.id,
+            rect: self.rect,
+            more: self.more.as_slice(),
+        }
+    }
+}
+
+/// A row looked at where it stands: nothing of it is copied but its id and its box. A table may keep
+/// boxes and auxiliary values apart.
+#[derive(Clone, Copy)]
+pub struct RowView<'a, const D: usize> {
+    pub id: i64,
+    pub rect: Rect<D>,
+    pub more: &'a [Value],
+}
+
+impl<'a, const D: usize> RowView<'a, D> {
     ghost use Rattle.rt_row.specs.Rows.{values_of};
-    ghost use Rattle.rt_row.specs.Entries.{row_of, field_value};
+    ghost use Rattle.rt_row.specs.Entries.{view_row};
 
     /// The value of the column at that place.
-    pub fn value_at(&self, place: usize) -> Field<'_>
-        ensures { field_value result ≡ slice_index_or (values_of (row_of self.now)) place Null }
+    pub fn value_at(&self, place: usize) -> Field<'a>
+        ensures { field_value result ≡ slice_index_or (values_of (view_row self.now)) place Null }
     {
         let axes = self.rect.axes();
         if place == 0 {
@@ -74,18 +108,26 @@ impl<const D: usize> Entry<D> {
         if place <= 2 * axes {
             return Field::Number(i64::from(coordinate(&self.rect, place - 1)));
         }
-        match self.more.get(place - 1 - 2 * axes) {
-            Some(value) => Field::Kept(value),
-            None => Field::Missing,
-        }
+        kept(self.more, place - 1 - 2 * axes)
     }
 
     /// A copy of the row's values, column by column.
     pub fn values(&self, alloc: Global) -> Result<Items<Value>, AllocError>
-        ensures { IfOk result (λ row. row ≡ values_of (row_of self.now)) }
+        ensures { IfOk result (λ row. row ≡ values_of (view_row self.now)) }
     {
         let mut values = numbers(alloc, self.id, &self.rect)?;
-        push_copies(alloc, &mut values, self.more.as_slice())?;
+        push_copies(alloc, &mut values, self.more)?;
         Ok(Items::from_vec(values))
     }
+}
+
+/// One change of the rows of a table.
+#[derive(Debug, Drop)]
+pub enum Step<const D: usize> {
+    /// The row of that id goes.
+    Leaves(i64),
+    /// A row comes, whose id no row has.
+    Comes(Entry<D>),
+    /// A row stands in the place of the one of that id; the id may change.
+    Becomes(i64, Entry<D>),
 }

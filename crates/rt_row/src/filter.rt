@@ -4,9 +4,9 @@ ghost use Rattle.std.specs.Prelude.{◌≡◌, zip, MatchResult};
 ghost use Rattle.std.specs.List.{list_all};
 ghost use Rattle.rt_row.specs.Conditions.{column_of};
 ghost use Rattle.rt_row.specs.Filters.{value_passes, passes_at, ArePlaces, IsFilterOf, IsUnknown};
-ghost use Rattle.rt_row.specs.Entries.{row_of, field_value};
+ghost use Rattle.rt_row.specs.Entries.{view_row, field_value};
 
-use crate::entry::{Entry, Field};
+use crate::entry::{Field, RowView};
 use crate::schema::Schema;
 use crate::values::{compares, is_null};
 use rt_sql::{Cond, Name, Refusal, Test, Value};
@@ -43,18 +43,18 @@ fn field_passes(field: Field<'_>, test: &Test) -> bool
     }
 }
 
-fn passes_at<const D: usize>(row: &Entry<D>, test: &Test, place: usize) -> bool
-    ensures { result ≡ passes_at (row_of row.now) (test.now, place) }
+fn passes_at<const D: usize>(row: &RowView<'_, D>, test: &Test, place: usize) -> bool
+    ensures { result ≡ passes_at (view_row row.now) (test.now, place) }
 {
     field_passes(row.value_at(place), test)
 }
 
-fn passes_all<const D: usize>(row: &Entry<D>, tests: &[Test], places: &[usize]) -> bool
-    ensures { result ≡ list_all (passes_at (row_of row.now)) (zip tests.now places.now) }
+fn passes_all<const D: usize>(row: &RowView<'_, D>, tests: &[Test], places: &[usize]) -> bool
+    ensures { result ≡ list_all (passes_at (view_row row.now)) (zip tests.now places.now) }
 {
     tests.iter().zip(places).all(
         |pair: (&Test, &usize)| -> bool
-            ensures { result ≡ passes_at (row_of row.entry.now) (pair.entry.0.now, pair.entry.1.now) }
+            ensures { result ≡ passes_at (view_row row.entry.now) (pair.entry.0.now, pair.entry.1.now) }
         { passes_at(row, pair.0, *pair.1) },
     )
 }
@@ -111,8 +111,8 @@ impl Filter {
     }
 
     /// Whether the condition holds of a row. Nothing is copied.
-    pub fn holds<const D: usize>(&self, row: &Entry<D>) -> bool
-        ensures { result ≡ admits self.now (row_of row.now) }
+    pub fn holds<const D: usize>(&self, row: &RowView<'_, D>) -> bool
+        ensures { result ≡ admits self.now (view_row row.now) }
     {
         passes_all(row, self.cond.as_slice(), self.places.as_slice())
     }

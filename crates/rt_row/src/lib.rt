@@ -1,8 +1,9 @@
 //! The rows of a table, and what columns, conditions and statements mean for them.
 //!
 //! - `Schema` is what a CREATE makes of its columns; names are compared without ASCII case.
-//! - `Entry` is a row as a table keeps it. `value_at` looks at one of its values where it stands, and
-//!   `values` copies them all, column by column.
+//! - `Entry` is a row as a table keeps it, and `RowView` a row looked at where it stands. `value_at` looks at
+//!   one of its values, and `values` copies them all, column by column.
+//! - `Step` is one change of the rows of a table.
 //! - `Filter` is a condition whose columns were looked up once; `holds` says of which rows it holds, and
 //!   compares no name and copies nothing.
 //! - `compares` holds two values against one another: nothing is converted, and NULL is never equal.
@@ -16,7 +17,7 @@ mod filter;
 mod schema;
 mod values;
 
-pub use entry::{Entry, Field};
+pub use entry::{Entry, Field, RowView, Step};
 pub use filter::Filter;
 pub use schema::Schema;
 pub use values::compares;

@@ -1,0 +1,82 @@
+-- A table that was made ready for a plan.
+use Rattle.std.proofs.Common.{◌≡◌, ℕ, ◌+◌, ◌≤◌, ℤ, Bool, true, false, cond, ◌||◌, List, [], ◌∷◌, map, length, Option, Some, refl, sym, subst, arith}
+use Rattle.std.specs.Prelude.{AllPairs, ◌<ℤ◌, is_some}
+use Rattle.std.specs.List.{All, AllByRecursion, list_any}
+use Rattle.std.specs.List.Sorted.{IsStrictlySortedBy}
+use Rattle.std.specs.Ordering.{int_eq, int_cmp}
+use Rattle.std.specs.declared.cmp.Ordering.TheVariants.{Less}
+use Rattle.std.specs.BTreeMap.{BTreeMap, keys, get}
+use Rattle.std.specs.Map.{keys_of, lookup}
+use Rattle.std.proofs.lemmas.Cmp.{int_ranked}
+use Rattle.std.proofs.lemmas.List.Elements.{All-map}
+use Rattle.indexmap.specs.IndexSet.{spare}
+use Rattle.rt_row.specs.Columns.{Columns}
+use Rattle.rt_row.specs.Rows.{TableRow}
+use Rattle.rt_row.specs.Edits.{Step, Leaves, Comes, Becomes, outcome}
+use Rattle.rt_row.specs.Views.{View, deltas}
+use Rattle.rt_store.proofs.Sorted.{Rises, rising}
+use Rattle.rt_table.specs.declared.watched.Watched.{Watched}
+use Rattle.rt_table.specs.declared.watched.Change.{Change}
+use Rattle.rt_table.specs.Held.{Held}
+use Rattle.rt_table.specs.Watching.{view_of, change_of}
+use Rattle.rt_table.specs.Preparing.{ApplyInTurn, places, places_all, DifferAt, IsReady}
+
+-- ---- the ids of a map
+
+all_less : (x : ℤ) (ks : List ℤ) → AllByRecursion (λ y. int_cmp x y ≡ Less) ks → AllByRecursion (λ y. x <ℤ y) ks
+all_less x [] less = tt
+all_less x (k ∷ ks) less = (int_ranked x k Less (sym less.0), all_less x ks less.1)
+
+rises_sorted : (ks : List ℤ) → IsStrictlySortedBy int_cmp ks → Rises (λ z. z) ks
+unfolding IsStrictlySortedBy
+rises_sorted [] sorted = tt
+rises_sorted (k ∷ ks) sorted = (all_less k ks sorted.0, rises_sorted ks sorted.1)
+
+pub rising_sorted : (ks : List ℤ) → IsStrictlySortedBy int_cmp ks → AllPairs ◌<ℤ◌ ks
+rising_sorted ks sorted = rising (λ z. z) ks (rises_sorted ks sorted)
+
+some_first : {V : Type 0} (b later : Bool) (v : V) (o : Option V) → later ≡ is_some o → (b || later) ≡ is_some (cond b (Some v) o)
+some_first true later v o same = refl
+some_first false later v o same = same
+
+any_key : {V : Type 0} (entries : List (ℤ × V)) (q : ℤ) → list_any (int_eq q) (keys_of entries) ≡ is_some (lookup (int_eq q) entries)
+any_key [] q = refl
+any_key (e ∷ entries) q = some_first (int_eq q e.0) _ e.1 _ (any_key entries q)
+
+pub any_listed : {V : Type 0} (fates : BTreeMap ℤ V) (q : ℤ) → list_any (int_eq q) (keys fates) ≡ is_some (get int_cmp fates q)
+any_listed fates q = any_key fates.entries q
+
+-- ---- room
+
+place_more : (step : Step) (placed more : ℕ) → placed ≤ more → places step + placed ≤ more + 1
+place_more (Leaves id) placed more le = omega arith
+place_more (Comes r) placed more le = omega arith
+place_more (Becomes id r) placed more le = omega arith
+
+places_few : (steps : List Step) → places_all steps ≤ length steps
+places_few [] = omega arith
+places_few (step ∷ steps) = let h = place_more step (places_all steps) (length steps) (places_few steps) in omega arith
+
+abbrev made : Columns → List TableRow → List View → ℕ → List ℕ → List ℤ → List Change → Held
+made columns rows views room id_rooms touched changes = record {
+  lists = record { columns = columns; rows = rows; views = views };
+  room = room;
+  id_rooms = id_rooms;
+  touched = touched;
+  staged = map change_of changes;
+}
+
+pub ready : (columns : Columns) (rows now : List TableRow) (views new : List Watched) (room : ℕ) (touched : List ℤ) (changes : List Change) (steps : List Step) → now ≡ rows → map view_of new ≡ map view_of views
+    → ApplyInTurn rows steps → length steps ≤ room → DifferAt touched rows (outcome rows steps) → All (λ w. length touched ≤ spare w.ids) new
+    → map change_of changes ≡ deltas columns (map view_of views) rows (outcome rows steps)
+    → IsReady (made columns now (map view_of new) room (map (λ (w : Watched). spare w.ids) new) touched changes) steps
+ready columns rows now views new room touched changes steps same_rows same_views apply fits differ roomy staged =
+    subst (λ (rs : List TableRow). IsReady (made columns rs (map view_of new) room (map (λ (w : Watched). spare w.ids) new) touched changes) steps) (sym same_rows)
+    (subst (λ (vs : List View). IsReady (made columns rows vs room (map (λ (w : Watched). spare w.ids) new) touched changes) steps) (sym same_views)
+    (record {
+      apply = apply;
+      room = let few = places_few steps in omega arith;
+      touched = differ;
+      id_rooms = All-map (λ room. length touched ≤ room) (λ (w : Watched). spare w.ids) new roomy;
+      staged = staged;
+    }))

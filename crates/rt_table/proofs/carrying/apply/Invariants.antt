@@ -1,0 +1,16 @@
+use Rattle.std.proofs.Common.{◌≡◌, ◌≤◌, map}
+use Rattle.std.specs.Vec.Iter.{into_iter_items, into_iter_len}
+use Rattle.rt_row.specs.Edits.{outcome}
+use Rattle.rt_row.specs.Entries.{step_of}
+use Rattle.rt_table.specs.Preparing.{ApplyInTurn, places_all}
+use Rattle.rt_table.proofs.carrying.apply.Given as goal
+
+abbrev pub invariant-loop-step : goal.invariant-loop-step
+invariant-loop-step g l = record {
+  ends : outcome l.store.rows (map step_of (into_iter_items l.steps)) ≡ outcome l.fn.store.rows (map step_of l.fn.plan.items);
+  apply : ApplyInTurn l.store.rows (map step_of (into_iter_items l.steps));
+  room : places_all (map step_of (into_iter_items l.steps)) ≤ l.store.room;
+}
+
+abbrev pub decreases-loop-step : goal.decreases-loop-step
+decreases-loop-step g l = into_iter_len l.steps

@@ -1,0 +1,10 @@
+use Rattle.std.proofs.Common.{◌≡◌, ◌++◌, map, take}
+use Rattle.std.specs.List.{flat_map}
+use Rattle.rt_table.specs.Watching.{change_of}
+use Rattle.rt_table.specs.Fates.{rows_after, changes_at}
+use Rattle.rt_table.proofs.preparing.stage_view.Given as goal
+
+abbrev pub invariant-loop-id : goal.invariant-loop-id
+invariant-loop-id g l =
+    map change_of l.staged.items
+    ≡ map change_of l.fn.staged.items ++ flat_map (changes_at l.view l.store.rows (rows_after l.store.rows l.fates)) (take l.id-index l.ids)

@@ -1,0 +1,27 @@
+use Rattle.std.proofs.Common.{◌≤◌, length, map, lit<, sym, subst}
+use Rattle.std.specs.List.{All}
+use Rattle.indexmap.specs.IndexSet.{spare}
+use Rattle.rt_row.specs.Edits.{outcome}
+use Rattle.rt_row.specs.Entries.{step_of}
+use Rattle.rt_table.specs.declared.watched.Watched.{Watched}
+use Rattle.rt_table.specs.Held.{Held}
+use Rattle.rt_table.specs.Preparing.{DifferAt}
+use Rattle.rt_table.proofs.Refreshing.{All-unmapped}
+use Rattle.rt_table.proofs.table.Table.commit.Goals as goal
+
+pub refresh_all-requires : goal.refresh_all-requires
+refresh_all-requires g c =
+    let rooms : All (λ room. length c.self.inside.touched.items ≤ room) (map (λ (w : Watched). spare w.ids) c.self.inside.views.items) =
+    subst (λ (h : Held). All (λ room. length h.touched ≤ room) h.id_rooms) (sym c.self.view_is) c.requires.id_rooms in
+    (lit< tt, rw c.as_slice.ensures.value (All-unmapped (λ room. length c.self.inside.touched.items ≤ room) (λ (w : Watched). spare w.ids) c.self.inside.views.items rooms))
+
+pub invariant_of-self : goal.invariant_of-self
+invariant_of-self g c =
+    let differ : DifferAt c.self.inside.touched.items c.self.inside.store.rows (outcome c.self.inside.store.rows (map step_of c.args.plan.items)) =
+    subst (λ (h : Held). DifferAt h.touched h.lists.rows (outcome h.lists.rows (map step_of c.args.plan.items))) (sym c.self.view_is) c.requires.touched in
+    record {
+      few = c.self.invariant.few;
+      axes_are = c.self.invariant.axes_are;
+      rising = c.len.ensures.rising;
+      kept = c.refresh_all.ensures.kept c.self.inside.columns c.self.inside.store.rows (rw (c.as_slice.ensures.value, c.apply.ensures) differ) c.self.invariant.kept;
+    }

@@ -1,0 +1,11 @@
+use Rattle.std.proofs.Common.{arith, ◌∙◌}
+use Rattle.rt_table.proofs.Picking.{none_looked, some_looked}
+use Rattle.rt_table.proofs.watched.rows_at.Goals as goal
+
+pub loop-id-preserved-in_default : goal.loop-id-preserved-in_default
+loop-id-preserved-in_default g c = none_looked c.args.store.now.rows c.args.ids.now c.loop-id.id-index _ (omega arith) c.in_default.ensures c.loop-id.invariant
+
+pub loop-id-preserved : goal.loop-id-preserved
+loop-id-preserved g c =
+    c.in_ok-push.ensures.items
+    ∙ some_looked c.args.store.now.rows c.args.ids.now c.loop-id.id-index _ _ _ (omega arith) c.in-Some.ensures c.in_ok-values.ensures c.loop-id.invariant

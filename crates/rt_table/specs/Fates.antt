@@ -1,0 +1,43 @@
+-- What is known of the ids that steps touch: which row has them afterwards. Source: own.
+use Rattle.std.specs.Prelude.{ℕ, ℤ, true, false, List, ◌++◌, Option, Some, None, if◌then◌else◌}
+use Rattle.std.specs.Borrow.{Bor}
+use Rattle.std.specs.Option.{option_map, option_to_list, unwrap_or}
+use Rattle.std.specs.BTreeMap.{BTreeMap, get}
+use Rattle.rt_sql.specs.declared.value.Value.{Value}
+use Rattle.std.specs.Ordering.{int_eq, int_cmp}
+use Rattle.rt_row.specs.declared.entry.Entry.{Entry}
+use Rattle.rt_row.specs.Rows.{TableRow, row_at}
+use Rattle.rt_row.specs.Filters.{admits}
+use Rattle.rt_row.specs.Views.{ViewChange, change_at}
+use Rattle.rt_table.specs.declared.watched.Watched.{Watched}
+use Rattle.rt_table.specs.Watching.{shown}
+use Rattle.rt_row.specs.Entries.{row_of}
+use Rattle.rt_row.specs.Edits.{Step, Leaves, Comes, Becomes}
+
+-- the row that has a touched id afterwards, if one has
+abbrev pub Fate : Type 0
+Fate = Option TableRow
+
+abbrev pub fate_of : {D : _} → Option (Option (Bor (Entry D))) → Option Fate
+fate_of fate = option_map (λ row. option_map (λ entry. row_of entry.now) row) fate
+
+-- one step more
+abbrev pub noted : Step → ℤ → Option Fate → Option Fate
+noted (Leaves id) q fate = if int_eq q id then Some None else fate
+noted (Comes row) q fate = if int_eq q row.id then Some (Some row) else fate
+noted (Becomes id row) q fate = if int_eq q row.id then Some (Some row) else (if int_eq q id then Some None else fate)
+
+-- what changes in a view at an id
+abbrev pub changes_at : Watched → List TableRow → (ℤ → Option TableRow) → ℤ → List ViewChange
+changes_at watched before after id =
+    change_at watched.name (shown (admits watched.filter) (row_at before id)) (shown (admits watched.filter) (after id))
+
+-- the row of each id afterwards
+abbrev pub rows_after : {D : _} → List TableRow → BTreeMap ℤ (Option (Bor (Entry D))) → ℤ → Option TableRow
+rows_after before fates id = unwrap_or (fate_of (get int_cmp fates id)) (row_at before id)
+
+-- the row that left, and then the row that came
+abbrev pub changes_of : List ℕ → Option (List Value) → Option (List Value) → List ViewChange
+changes_of view left came =
+    option_to_list (option_map (λ row. record { view = view; came = false; row = row }) left)
+    ++ option_to_list (option_map (λ row. record { view = view; came = true; row = row }) came)

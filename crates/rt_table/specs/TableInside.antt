@@ -1,0 +1,24 @@
+-- What a table's fields are to hold. Source: own.
+use Rattle.std.specs.Prelude.{◌≡◌, ◌≤◌, ℕ, map}
+use Rattle.std.specs.List.{All}
+use Rattle.indexmap.specs.IndexSet.{spare}
+use Rattle.rt_row.specs.Rows.{AreRising}
+use Rattle.rt_table.specs.declared.table.Table.TheInside.{Inside}
+use Rattle.rt_table.specs.Held.{Held}
+use Rattle.rt_table.specs.Watching.{view_of, change_of, IsKept}
+
+abbrev pub held : {D : _} → Inside D → Held
+held t = record {
+  lists = record { columns = t.columns; rows = t.store.rows; views = map view_of t.views.items };
+  room = t.store.room;
+  id_rooms = map (λ w. spare w.ids) t.views.items;
+  touched = t.touched.items;
+  staged = map change_of t.staged.items;
+}
+
+-- one to three axes, and views of the rows that are there
+pub record IsWhole (D : ℕ) (t : Inside D) : Type 0 where
+  pub few : D ≤ 3
+  pub axes_are : t.columns.axes ≡ D
+  pub rising : AreRising t.store.rows
+  pub kept : All (IsKept t.columns t.store.rows) t.views.items

@@ -1,0 +1,173 @@
+//! A table, whatever its number of axes.
+
+ghost use Rattle.std.specs.Prelude.{◌≡◌, ◌<◌, length, nat_lt, Ok, IfOk, IfErr, OnOk, OnErr};
+
+use crate::table::Table;
+use crate::watched::Picked;
+use rt_row::Schema;
+use rt_sql::{Cond, Name, Refusal};
+use std::alloc::{AllocError, Global};
+use std::hash::RandomState;
+use std::marker::Model;
+
+#[derive(Drop)]
+enum Axes {
+    One(Table<1>),
+    Two(Table<2>),
+    Three(Table<3>),
+}
+
+/// A table of one, two or three axes.
+#[derive(Drop)]
+pub struct AnyTable {
+    axes: Axes,
+}
+
+impl Model for AnyTable {
+    ghost use Rattle.rt_table.specs.Held.{Held};
+
+    ghost Value = { Held };
+
+    ghost use Rattle.rt_table.specs.AnyAxes.{held_by};
+
+    ghost view = { λ table. held_by table.axes };
+}
+
+impl AnyTable {
+    ghost use Rattle.rt_row.specs.Tables.{new_table, has_view, select, watch, unwatch, view};
+    ghost use Rattle.rt_table.specs.Replies.{Refuses, Shows};
+
+    /// A table of these columns, without rows and views. Look-ups hash by `keys`, which are to be random where
+    /// others choose the ids.
+    pub fn new(alloc: Global, keys: RandomState, columns: Schema) -> Result<AnyTable, AllocError>
+        ensures { IfOk result (λ table. table.lists ≡ new_table columns) }
+    {
+        let number = columns.axes();
+        if number == 1 {
+            let table = Table::new(alloc, keys, columns)?;
+            return Ok(AnyTable {
+                axes: Axes::One(table),
+            });
+        }
+        if number == 2 {
+            let table = Table::new(alloc, keys, columns)?;
+            return Ok(AnyTable {
+                axes: Axes::Two(table),
+            });
+        }
+        let table = Table::new(alloc, keys, columns)?;
+        Ok(AnyTable {
+            axes: Axes::Three(table),
+        })
+    }
+
+    /// How many rows there are.
+    pub fn len(&self) -> usize
+        ensures { result ≡ length self.now.lists.rows }
+    {
+        match &self.axes {
+            Axes::One(table) => table.len(),
+            Axes::Two(table) => table.len(),
+            Axes::Three(table) => table.len(),
+        }
+    }
+
+    /// The columns.
+    pub fn schema(&self) -> &Schema
+        ensures { result.now ≡ self.now.lists.columns }
+    {
+        match &self.axes {
+            Axes::One(table) => table.schema(),
+            Axes::Two(table) => table.schema(),
+            Axes::Three(table) => table.schema(),
+        }
+    }
+
+    /// Whether the table has a view.
+    pub fn watched(&self) -> bool
+        ensures { result ≡ nat_lt 0 (length self.now.lists.views) }
+    {
+        match &self.axes {
+            Axes::One(table) => table.watched(),
+            Axes::Two(table) => table.watched(),
+            Axes::Three(table) => table.watched(),
+        }
+    }
+
+    /// Whether the table has a view of that name; ASCII case doesn't matter.
+    pub fn has_view(&self, name: &Name) -> bool
+        ensures { result ≡ has_view self.now.lists name.now }
+    {
+        match &self.axes {
+            Axes::One(table) => table.has_view(name),
+            Axes::Two(table) => table.has_view(name),
+            Axes::Three(table) => table.has_view(name),
+        }
+    }
+
+    /// The rows that a condition picks, by rising id.
+    ///
+    /// # Errors
+    ///
+    /// `NoSuchColumn` where a test looks at a column that the table hasn't, and `OutOfMemory`.
+    pub fn select(&self, alloc: Global, cond: Cond) -> Result<Picked, Refusal>
+        ensures ok { IfOk result (λ picked. Shows (select self.now.lists cond) picked.rows.items) }
+        ensures err { IfErr result (Refuses (select self.now.lists cond)) }
+    {
+        match &self.axes {
+            Axes::One(table) => table.select(alloc, cond),
+            Axes::Two(table) => table.select(alloc, cond),
+            Axes::Three(table) => table.select(alloc, cond),
+        }
+    }
+
+    /// The rows of a view, by rising id.
+    ///
+    /// # Errors
+    ///
+    /// `NoSuchView` where no view of this table has the name, and `OutOfMemory`.
+    pub fn view(&self, alloc: Global, name: &Name) -> Result<Picked, Refusal>
+        ensures ok { IfOk result (λ picked. Shows (view self.now.lists name.now) picked.rows.items) }
+        ensures err { IfErr result (Refuses (view self.now.lists name.now)) }
+    {
+        match &self.axes {
+            Axes::One(table) => table.view(alloc, name),
+            Axes::Two(table) => table.view(alloc, name),
+            Axes::Three(table) => table.view(alloc, name),
+        }
+    }
+
+    /// Names a view of the rows that a condition picks. A refusal changes nothing.
+    ///
+    /// # Errors
+    ///
+    /// `ViewAlreadyExists` where a view of this table has the name, `NoSuchColumn`, and `OutOfMemory`.
+    pub fn watch(&mut self, alloc: Global, name: Name, cond: Cond) -> Result<(), Refusal>
+        ensures ok { OnOk result (watch self.old.lists name cond ≡ Ok self.new.lists) }
+        ensures err { IfErr result (Refuses (watch self.old.lists name cond)) }
+        ensures refused { OnErr result (self.new ≡ self.old) }
+    {
+        match &mut self.axes {
+            Axes::One(table) => table.watch(alloc, name, cond),
+            Axes::Two(table) => table.watch(alloc, name, cond),
+            Axes::Three(table) => table.watch(alloc, name, cond),
+        }
+    }
+
+    /// Forgets a view. It takes no memory; a refusal changes nothing.
+    ///
+    /// # Errors
+    ///
+    /// `NoSuchView` where no view of this table has the name.
+    pub fn unwatch(&mut self, name: &Name) -> Result<(), Refusal>
+        ensures ok { OnOk result (unwatch self.old.lists name.now ≡ Ok self.new.lists) }
+        ensures err { IfErr result (λ refusal. unwatch self.old.lists name.now ≡ Err refusal) }
+        ensures refused { OnErr result (self.new ≡ self.old) }
+    {
+        match &mut self.axes {
+            Axes::One(table) => table.unwatch(name),
+            Axes::Two(table) => table.unwatch(name),
+            Axes::Three(table) => table.unwatch(name),
+        }
+    }
+}

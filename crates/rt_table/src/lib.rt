@@ -1,0 +1,21 @@
+//! A table: its columns, its rows and its views.
+//!
+//! - `Table` selects, names and forgets views, and shows them. `prepare` makes it ready for a plan, a list of steps:
+//!   it reserves what the plan takes and stages what it changes in the views. `commit` then carries the plan out,
+//!   with no memory and no refusal, and hands out the changes.
+//! - `AnyTable` is a table whatever its number of axes.
+//! - `laws`: the changes of a view turn the rows that it showed into those that it shows.
+//!
+//! A view keeps the ids of its rows; a plan looks again at the ids that it touches, and at no others.
+#![tactic(auto)]
+
+mod any_table;
+mod carrying;
+pub mod laws;
+mod preparing;
+mod table;
+mod watched;
+
+pub use any_table::AnyTable;
+pub use table::Table;
+pub use watched::{Change, Picked};

@@ -1,0 +1,212 @@
+//! A table of `D` axes.
+
+ghost use Rattle.std.specs.Prelude.{◌≡◌, ◌≤◌, ◌<◌, [], not, map, filter, length, position, nat_lt, Ok, IfOk, IfErr, OnOk, OnErr};
+ghost use Rattle.std.specs.List.{list_any};
+ghost use Rattle.rt_sql.specs.Name.{same_name};
+
+use crate::carrying::{apply, refresh_all};
+use crate::preparing::{Touched, touch};
+use crate::watched::{Change, Picked, Watched, pick, reserve_ids, rows_of, watch};
+use rt_row::{Filter, Schema, Step};
+use rt_sql::{Cond, Name, Refusal};
+use rt_store::Store;
+use std::alloc::{AllocError, Global};
+use std::hash::RandomState;
+use std::marker::Model;
+use std::mem;
+
+fn has_view(views: &[Watched], name: &Name) -> bool
+    ensures { result ≡ list_any (λ w. same_name name.now w.name) views.now }
+{
+    views.iter().any(|view| name.is_same(&view.name))
+}
+
+fn position(views: &[Watched], name: &Name) -> Option<usize>
+    ensures { result ≡ position (λ w. same_name name.now w.name) views.now }
+{
+    views.iter().position(|view| name.is_same(&view.name))
+}
+
+/// Each view of that name goes.
+fn forget(views: &mut Vec<Watched>, name: &Name)
+    ensures { views.new.items ≡ filter (λ w. not (same_name name.now w.name)) views.old.items }
+{
+    while let Some(at) = position(views.as_slice(), name) {
+        let _ = views.remove(at);
+    }
+}
+
+/// A table of `D` axes: its columns, its rows by rising id, and its views in the order in which they were named.
+#[derive(Drop)]
+pub struct Table<const D: usize> {
+    alloc: Global,
+    keys: RandomState,
+    columns: Schema,
+    store: Store<D>,
+    views: Vec<Watched>,
+    touched: Vec<i64>,
+    staged: Vec<Change>,
+}
+
+impl<const D: usize> Model for Table<D> {
+    ghost use Rattle.rt_table.specs.Held.{Held};
+
+    ghost Value = { Held };
+
+    ghost use Rattle.rt_table.specs.TableInside.{held, IsWhole};
+
+    ghost view = { held };
+
+    ghost invariant = { IsWhole D };
+}
+
+impl<const D: usize> Table<D> {
+    ghost use Rattle.rt_row.specs.Tables.{new_table, has_view, select, watch, unwatch, view};
+    ghost use Rattle.rt_row.specs.Edits.{outcome};
+    ghost use Rattle.rt_row.specs.Entries.{step_of};
+    ghost use Rattle.rt_row.specs.Views.{deltas};
+    ghost use Rattle.rt_table.specs.Replies.{Refuses, Shows};
+    ghost use Rattle.rt_table.specs.Preparing.{ApplyInTurn, IsReady};
+    ghost use Rattle.rt_table.specs.Watching.{change_of};
+
+    /// A table of these columns, without rows and views. Look-ups hash by `keys`, which are to be random where
+    /// others choose the ids.
+    pub fn new(alloc: Global, keys: RandomState, columns: Schema) -> Result<Table<D>, AllocError>
+        requires { columns.axes ≡ D }
+        ensures { IfOk result (λ table. table.lists ≡ new_table columns) }
+    {
+        // The contract of `axes` says that there are three at most.
+        let _ = columns.axes();
+        let store = Store::new(alloc)?;
+        Ok(Table {
+            alloc,
+            keys,
+            columns,
+            store,
+            views: Vec::new(alloc),
+            touched: Vec::new(alloc),
+            staged: Vec::new(alloc),
+        })
+    }
+
+    /// How many rows there are.
+    pub fn len(&self) -> usize
+        ensures { result ≡ length self.now.lists.rows }
+    {
+        self.store.len()
+    }
+
+    /// The columns.
+    pub fn schema(&self) -> &Schema
+        ensures { result.now ≡ self.now.lists.columns }
+    {
+        &self.columns
+    }
+
+    /// Whether the table has a view.
+    pub fn watched(&self) -> bool
+        ensures { result ≡ nat_lt 0 (length self.now.lists.views) }
+    {
+        !self.views.is_empty()
+    }
+
+    /// Whether the table has a view of that name; ASCII case doesn't matter.
+    pub fn has_view(&self, name: &Name) -> bool
+        ensures { result ≡ has_view self.now.lists name.now }
+    {
+        has_view(self.views.as_slice(), name)
+    }
+
+    /// The rows that a condition picks, by rising id.
+    ///
+    /// # Errors
+    ///
+    /// `NoSuchColumn` where a test looks at a column that the table hasn't, and `OutOfMemory`.
+    pub fn select(&self, alloc: Global, cond: Cond) -> Result<Picked, Refusal>
+        ensures ok { IfOk result (λ picked. Shows (select self.now.lists cond) picked.rows.items) }
+        ensures err { IfErr result (Refuses (select self.now.lists cond)) }
+    {
+        let condition = Filter::new(alloc, &self.columns, cond)?;
+        Ok(pick(alloc, &self.store, &condition)?)
+    }
+
+    /// The rows of a view, by rising id.
+    ///
+    /// # Errors
+    ///
+    /// `NoSuchView` where no view of this table has the name, and `OutOfMemory`.
+    pub fn view(&self, alloc: Global, name: &Name) -> Result<Picked, Refusal>
+        ensures ok { IfOk result (λ picked. Shows (view self.now.lists name.now) picked.rows.items) }
+        ensures err { IfErr result (Refuses (view self.now.lists name.now)) }
+    {
+        let Some(at) = position(self.views.as_slice(), name) else {
+            return Err(Refusal::NoSuchView);
+        };
+        let rows = rows_of(alloc, &self.store, &self.views[at])?;
+        Ok(Picked { rows, visited: 0 })
+    }
+
+    /// Names a view of the rows that a condition picks. A refusal changes nothing.
+    ///
+    /// # Errors
+    ///
+    /// `ViewAlreadyExists` where a view of this table has the name, `NoSuchColumn`, and `OutOfMemory`.
+    pub fn watch(&mut self, alloc: Global, name: Name, cond: Cond) -> Result<(), Refusal>
+        ensures ok { OnOk result (watch self.old.lists name cond ≡ Ok self.new.lists) }
+        ensures err { IfErr result (Refuses (watch self.old.lists name cond)) }
+        ensures refused { OnErr result (self.new ≡ self.old) }
+    {
+        if self.has_view(&name) {
+            return Err(Refusal::ViewAlreadyExists);
+        }
+        let view = watch(alloc, self.keys, &self.columns, &self.store, name, cond)?;
+        self.views.push(view)?;
+        Ok(())
+    }
+
+    /// Makes the table ready for a plan: reserves what carrying it out takes, and stages what it changes in the
+    /// views. Rows and views stay, also after a refusal.
+    pub fn prepare(&mut self, alloc: Global, plan: &[Step<D>]) -> Result<(), AllocError>
+        requires { ApplyInTurn self.old.lists.rows (map step_of plan.now) }
+        ensures lists { self.new.lists ≡ self.old.lists }
+        ensures ok { OnOk result (IsReady self.new (map step_of plan.now)) }
+    {
+        let touched = touch(alloc, self.views.as_slice(), &self.store, plan)?;
+        self.store.reserve(alloc, plan.len())?;
+        reserve_ids(&mut self.views, touched.ids.len())?;
+        let Touched { ids, changes } = touched;
+        self.touched = ids;
+        self.staged = changes;
+        Ok(())
+    }
+
+    /// Carries out the plan that the table is ready for. It takes no memory, and nothing refuses it.
+    pub fn commit(&mut self, plan: Vec<Step<D>>) -> Vec<Change>
+        requires { IsReady self.old (map step_of plan.items) }
+        ensures lists { self.new.lists ≡ record self.old.lists { rows = outcome self.old.lists.rows (map step_of plan.entry.items) } }
+        ensures changed { map change_of result.items ≡ deltas self.old.lists.columns self.old.lists.views self.old.lists.rows self.new.lists.rows }
+    {
+        apply(&mut self.store, plan);
+        // The contract of `len` says that the ids rise.
+        let _ = self.store.len();
+        refresh_all(&mut self.views, &self.store, self.touched.as_slice());
+        mem::replace(&mut self.staged, Vec::new(self.alloc))
+    }
+
+    /// Forgets a view. It takes no memory; a refusal changes nothing.
+    ///
+    /// # Errors
+    ///
+    /// `NoSuchView` where no view of this table has the name.
+    pub fn unwatch(&mut self, name: &Name) -> Result<(), Refusal>
+        ensures ok { OnOk result (unwatch self.old.lists name.now ≡ Ok self.new.lists) }
+        ensures err { IfErr result (λ refusal. unwatch self.old.lists name.now ≡ Err refusal) }
+        ensures refused { OnErr result (self.new ≡ self.old) }
+    {
+        if !self.has_view(name) {
+            return Err(Refusal::NoSuchView);
+        }
+        forget(&mut self.views, name);
+        Ok(())
+    }
+}

@@ -1,0 +1,183 @@
+//! Views, and the rows that a condition picks.
+
+ghost use Rattle.std.specs.Prelude.{◌≡◌, ◌≤◌, ◌<◌, ◌+◌, ℕ, ℤ, slice_index_or, AllPairs, ◌<ℤ◌, List, All, Some, filter, map, length, IfOk, IfErr, OnOk, OnErr, MatchResult};
+ghost use Rattle.std.specs.List.{list_any, filter_map};
+ghost use Rattle.std.specs.Ordering.{int_eq};
+ghost use Rattle.indexmap.specs.IndexSet.{contains, spare};
+ghost use Rattle.rt_row.specs.Columns.{Columns, has_name};
+ghost use Rattle.rt_row.specs.Rows.{TableRow, AreRising, row_at, values_of};
+ghost use Rattle.rt_row.specs.Filters.{admits, IsUnknown};
+ghost use Rattle.rt_table.specs.Watching.{view_of, KeepsIds, IsKept, IsRoomier};
+ghost use Rattle.rt_table.specs.declared.watched.Watched.{Watched};
+
+use indexmap::IndexSet;
+use rt_row::{Filter, Schema};
+use rt_sql::{Cond, Items, Name, Refusal, Value};
+use rt_store::Store;
+use std::alloc::{AllocError, Global};
+use std::collections::BTreeSet;
+use std::hash::RandomState;
+
+/// The rows that a condition picks.
+#[derive(Debug, Drop)]
+pub struct Picked {
+    /// Whole rows by rising id, each as its values column by column.
+    pub rows: Vec<Items<Value>>,
+    /// How many nodes of a tree were looked at.
+    pub visited: u64,
+}
+
+/// A row that came into a view, or left it.
+#[derive(Debug, Drop)]
+pub struct Change {
+    /// The view's name, as it was written when it was named.
+    pub view: Name,
+    /// Whether the row came; else it left.
+    pub came: bool,
+    /// The row's values, column by column.
+    pub row: Items<Value>,
+}
+
+/// A view: its name, the condition that its rows meet, and their ids.
+#[derive(Drop)]
+pub(crate) struct Watched {
+    pub(crate) name: Name,
+    pub(crate) filter: Filter,
+    pub(crate) ids: IndexSet<i64, RandomState>,
+}
+
+/// The set of these ids.
+fn id_set(
+    alloc: Global,
+    keys: RandomState,
+    ids: &[i64],
+) -> Result<IndexSet<i64, RandomState>, AllocError>
+    ensures { IfOk result (λ set. (q : ℤ) → list_any (int_eq q) set.keys ≡ list_any (int_eq q) ids.now) }
+{
+    let mut set = IndexSet::with_hasher(alloc, keys);
+    for id in ids {
+        set.insert(*id)?;
+    }
+    Ok(set)
+}
+
+/// The whole rows of these ids; an id that no row has is passed over.
+fn rows_at<const D: usize>(
+    alloc: Global,
+    store: &Store<D>,
+    ids: &[i64],
+) -> Result<Vec<Items<Value>>, AllocError>
+    ensures { IfOk result (λ lists. lists.items ≡ map values_of (filter_map (row_at store.now.rows) ids.now)) }
+{
+    // The contract of `len` says that there are three axes at most.
+    let _ = store.len();
+    let mut rows = Vec::with_capacity(alloc, ids.len())?;
+    for id in ids {
+        let Some(row) = store.find(id) else {
+            continue;
+        };
+        rows.push(row.values(alloc)?)?;
+    }
+    Ok(rows)
+}
+
+/// The rows of which the filter holds.
+pub(crate) fn pick<const D: usize>(
+    alloc: Global,
+    store: &Store<D>,
+    condition: &Filter,
+) -> Result<Picked, AllocError>
+    ensures { IfOk result (λ picked. picked.rows.items ≡ map values_of (filter (admits condition.now) store.now.rows)) }
+{
+    let _ = store.len();
+    let found = store.picked(alloc, condition)?;
+    let rows = rows_at(alloc, store, found.ids.as_slice())?;
+    Ok(Picked {
+        rows,
+        visited: found.visited,
+    })
+}
+
+/// The same ids in an ordered set.
+fn ordered(alloc: Global, ids: &[i64]) -> Result<BTreeSet<i64>, AllocError>
+    ensures { IfOk result (λ set. (q : ℤ) → list_any (int_eq q) set.keys ≡ list_any (int_eq q) ids.now) }
+{
+    let mut set = BTreeSet::new(alloc);
+    for id in ids {
+        set.insert(*id)?;
+    }
+    Ok(set)
+}
+
+fn ids_of(alloc: Global, set: &BTreeSet<i64>) -> Result<Vec<i64>, AllocError>
+    ensures { IfOk result (λ ids. ids.items ≡ set.now.keys) }
+{
+    set.iter().copied().collect(alloc)
+}
+
+/// The ids of the set, rising.
+fn rising(alloc: Global, ids: &IndexSet<i64, RandomState>) -> Result<Vec<i64>, AllocError>
+    ensures rising { IfOk result (λ listed. AllPairs ◌<ℤ◌ listed.items) }
+    ensures all { IfOk result (λ listed. (q : ℤ) → list_any (int_eq q) listed.items ≡ list_any (int_eq q) ids.now.keys) }
+{
+    let set = ordered(alloc, ids.as_slice())?;
+    // The contract of `len` says that the ids rise.
+    let _ = set.len();
+    let listed = ids_of(alloc, &set)?;
+    Ok(listed)
+}
+
+/// The rows that a view shows, looked up by its ids.
+pub(crate) fn rows_of<const D: usize>(
+    alloc: Global,
+    store: &Store<D>,
+    view: &Watched,
+) -> Result<Vec<Items<Value>>, AllocError>
+    requires { KeepsIds (admits view.now.filter) store.now.rows view.now.ids.keys }
+    ensures { IfOk result (λ lists. lists.items ≡ map values_of (filter (admits view.now.filter) store.now.rows)) }
+{
+    // The contract of `len` says that the ids of the rows rise.
+    let _ = store.len();
+    let ids = rising(alloc, &view.ids)?;
+    let rows = rows_at(alloc, store, ids.as_slice())?;
+    Ok(rows)
+}
+
+/// A view of the rows as they are now.
+pub(crate) fn watch<const D: usize>(
+    alloc: Global,
+    keys: RandomState,
+    columns: &Schema,
+    store: &Store<D>,
+    name: Name,
+    cond: Cond,
+) -> Result<Watched, Refusal>
+    ensures ok { IfOk result (λ watched. (view_of watched ≡ record { name = name; cond = cond }) × IsKept columns.now store.now.rows watched) }
+    ensures err { IfErr result (IsUnknown columns.now cond) }
+{
+    let filter = Filter::new(alloc, columns, cond)?;
+    // The contract of `len` says that the ids rise.
+    let _ = store.len();
+    let found = store.picked(alloc, &filter)?;
+    let ids = id_set(alloc, keys, found.ids.as_slice())?;
+    Ok(Watched { name, filter, ids })
+}
+
+fn reserve_each(views: &mut [Watched], ids: usize) -> Result<(), AllocError>
+    ensures same { (k : ℕ) (w : Watched) → k < length views.old → IsRoomier (slice_index_or views.old k w) (slice_index_or views.new k w) }
+    ensures ok { OnOk result (All (λ w. ids ≤ spare w.ids) views.new) }
+{
+    for at in 0..views.len() {
+        views[at].ids.reserve(ids)?;
+    }
+    Ok(())
+}
+
+/// Makes room in each view for so many more ids. The views stay, also after a refusal.
+pub(crate) fn reserve_ids(views: &mut Vec<Watched>, ids: usize) -> Result<(), AllocError>
+    ensures views { map view_of views.new.items ≡ map view_of views.old.items }
+    ensures kept { (columns : Columns) (rows : List TableRow) → All (IsKept columns rows) views.old.items → All (IsKept columns rows) views.new.items }
+    ensures ok { OnOk result (All (λ w. ids ≤ spare w.ids) views.new.items) }
+{
+    reserve_each(views.as_mut_slice(), ids)
+}
