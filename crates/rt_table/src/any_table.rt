@@ -94,6 +94,17 @@ impl AnyTable {
         }
     }
 
+    /// How many views the table has.
+    pub fn view_count(&self) -> usize
+        ensures { result ≡ length self.now.lists.views }
+    {
+        match &self.axes {
+            Axes::One(table) => table.view_count(),
+            Axes::Two(table) => table.view_count(),
+            Axes::Three(table) => table.view_count(),
+        }
+    }
+
     /// Whether the table has a view of that name; ASCII case doesn't matter.
     pub fn has_view(&self, name: &Name) -> bool
         ensures { result ≡ has_view self.now.lists name.now }

@@ -110,6 +110,13 @@ impl<const D: usize> Table<D> {
         !self.views.is_empty()
     }
 
+    /// How many views the table has.
+    pub fn view_count(&self) -> usize
+        ensures { result ≡ length self.now.lists.views }
+    {
+        self.views.len()
+    }
+
     /// Whether the table has a view of that name; ASCII case doesn't matter.
     pub fn has_view(&self, name: &Name) -> bool
         ensures { result ≡ has_view self.now.lists name.now }
