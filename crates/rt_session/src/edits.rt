@@ -32,7 +32,7 @@ pub(crate) fn carry_out(
 ) -> Result<Items<Change>, Refusal>
     ensures { AnswersUnlessMemory (edited_by edit table.old.lists) result table.old.lists table.new.lists }
 {
-    let _ = table.views();
+    let _ = table.len();
     let _ = edit;
     Err(Refusal::OutOfMemory)
 }

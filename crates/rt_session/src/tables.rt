@@ -34,7 +34,7 @@ pub(crate) fn have_views(tables: &[Named], many: usize) -> bool
 {
     let mut missing = many;
     for named in tables {
-        let views = named.table.views();
+        let views = named.table.view_count();
         if views >= missing {
             return true;
         }
