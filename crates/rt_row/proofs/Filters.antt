@@ -14,10 +14,10 @@ use Rattle.rt_row.specs.Conditions.{column_of, value_in, passes, holds, has_colu
 use Rattle.rt_row.specs.Rows.{TableRow, values_of}
 use Rattle.rt_row.specs.Filters.{value_passes, passes_at, ArePlaces}
 
-less : (n m : ℕ) → nat_lt n m ≡ nat_lt (1 + n) (suc m)
+pub less : (n m : ℕ) → nat_lt n m ≡ nat_lt (1 + n) (suc m)
 less n m = grind (arith, nat_tests)
 
-first : (m : ℕ) → true ≡ nat_lt 0 (suc m)
+pub first : (m : ℕ) → true ≡ nat_lt 0 (suc m)
 first m = grind (arith, nat_tests)
 
 any_here : (b tail : Bool) (n m : ℕ) → tail ≡ nat_lt n m →
@@ -43,7 +43,7 @@ absent names name e = any_position (same_name name) names ∙ none_here _ _ e
 pub present : (names : List (List ℕ)) (name : List ℕ) (place : ℕ) → place_of names name ≡ Some place → has_name names name ≡ true
 present names name place e = any_position (same_name name) names ∙ some_here _ _ place e
 
-value_there : (names : List (List ℕ)) (values : List Value) (name : List ℕ) (place : ℕ) → place_of names name ≡ Some place →
+pub value_there : (names : List (List ℕ)) (values : List Value) (name : List ℕ) (place : ℕ) → place_of names name ≡ Some place →
     slice_index_or values place Null ≡ value_in names values name
 value_there names values name place e = sym (ap (λ (o : Option ℕ). option_map_or (λ (k : ℕ). slice_index_or values k Null) o Null) e)
 

@@ -1,2 +1,5 @@
 pub mod Places
 pub mod Filters
+pub mod Boxes
+pub mod Arranging
+pub mod Setting

@@ -5,9 +5,11 @@ use Rattle.rt_row.specs.declared.entry.Entry.{Entry}
 use Rattle.rt_row.specs.declared.entry.RowView.{RowView}
 use Rattle.rt_row.specs.declared.entry.Step as declared
 use Rattle.rt_row.specs.declared.entry.Step.TheVariants as step
+use Rattle.rt_row.specs.declared.candidate.Candidate as made
 use Rattle.rt_row.specs.declared.entry.Field.{Field}
 use Rattle.rt_row.specs.declared.entry.Field.TheVariants.{Number, Kept, Missing}
 use Rattle.rt_row.specs.Rows.{TableRow}
+use Rattle.rt_row.specs.Candidates.{Candidate}
 use Rattle.rt_row.specs.Edits.{Step, Leaves, Comes, Becomes}
 
 -- the row that an entry is
@@ -17,6 +19,10 @@ row_of entry = record { id = entry.id; box = entry.rect; more = entry.more }
 -- the row that is looked at
 abbrev pub view_row : {D : _} → RowView D → TableRow
 view_row view = record { id = view.id; box = view.rect; more = view.more.now }
+
+-- the candidate that a candidate with a box of axes is
+abbrev pub candidate_as : {D : _} → made.Candidate D → Candidate
+candidate_as candidate = record { id = candidate.id; box = candidate.rect; more = candidate.more }
 
 -- the step that a step of entries is
 abbrev pub step_of : {D : _} → declared.Step D → Step

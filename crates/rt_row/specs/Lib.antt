@@ -9,4 +9,6 @@ pub mod Tables
 pub mod Answers
 pub mod Entries
 pub mod Filters
+pub mod Arrangements
+pub mod Settings
 pub mod Worked

@@ -4,20 +4,28 @@
 //! - `Entry` is a row as a table keeps it, and `RowView` a row looked at where it stands. `value_at` looks at
 //!   one of its values, and `values` copies them all, column by column.
 //! - `Step` is one change of the rows of a table.
+//! - `Candidate` is what a new row will be, made of its values; `Arrangement` has the columns that an INSERT
+//!   lists, and `Settings` what an UPDATE sets. Both look their columns up once.
 //! - `Filter` is a condition whose columns were looked up once; `holds` says of which rows it holds, and
 //!   compares no name and copies nothing.
 //! - `compares` holds two values against one another: nothing is converted, and NULL is never equal.
 //!
 //! What inserting, deleting, updating and watching do to the rows of a table is defined in `specs/` over plain
-//! lists; no function of this crate carries them out.
+//! lists; the crates above carry them out.
 #![tactic(auto)]
 
+mod arrangement;
+mod candidate;
 mod entry;
 mod filter;
 mod schema;
+mod settings;
 mod values;
 
+pub use arrangement::Arrangement;
+pub use candidate::Candidate;
 pub use entry::{Entry, Field, RowView, Step};
 pub use filter::Filter;
 pub use schema::Schema;
+pub use settings::Settings;
 pub use values::compares;

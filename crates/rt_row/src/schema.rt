@@ -1,6 +1,6 @@
 //! The columns of a table.
 
-ghost use Rattle.std.specs.Prelude.{◌≡◌, ◌≤◌, length, map, IfOk};
+ghost use Rattle.std.specs.Prelude.{◌≡◌, ◌≤◌, ◌+◌, ◌*◌, length, map, IfOk};
 ghost use Rattle.std.specs.List.{list_all};
 ghost use Rattle.rt_row.specs.Columns.{has_name, place_of, are_distinct, plain_columns, is_column_list, columns_of};
 ghost use Rattle.rt_row.specs.Answers.{Gives};
@@ -81,14 +81,14 @@ pub struct Schema {
 }
 
 impl Model for Schema {
-    ghost use Rattle.std.specs.Prelude.{◌≤◌, length};
+    ghost use Rattle.std.specs.Prelude.{◌+◌, ◌*◌, ◌≤◌, length};
     ghost use Rattle.rt_row.specs.Columns.{Columns};
 
     ghost Value = { Columns };
 
     ghost view = { λ schema. record { axes = schema.axes; names = schema.names.items } };
 
-    ghost invariant = { λ schema. (1 ≤ schema.axes) × (schema.axes ≤ 3) };
+    ghost invariant = { λ schema. (1 ≤ schema.axes) × (schema.axes ≤ 3) × (1 + 2 * schema.axes ≤ length schema.names.items) };
 }
 
 impl Schema {
@@ -120,9 +120,10 @@ impl Schema {
         self.axes
     }
 
-    /// The number of columns.
+    /// The number of columns: the id's, two for each axis, and those of the auxiliary ones.
     pub fn len(&self) -> usize
-        ensures { result ≡ length self.now.names }
+        ensures value { result ≡ length self.now.names }
+        ensures least { 1 + 2 * self.now.axes ≤ result }
     {
         self.names.len()
     }

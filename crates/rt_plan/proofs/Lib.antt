@@ -1,0 +1,4 @@
+pub mod Ids
+pub mod Drafting
+pub mod Counting
+pub mod Putting
