@@ -18,9 +18,10 @@ use Rattle.rt_row.specs.Columns.{are_distinct, columns_of}
 use Rattle.rt_row.specs.Edits.{and_then}
 use Rattle.rt_row.specs.Tables.{TableLists, edited, new_table, watch, view}
 use Rattle.rt_table.specs.Held.{Held}
+use Rattle.rt_table.specs.Watching.{change_of as view_change}
 use Rattle.rt_table.specs.Replies.{Refuses, Shows}
 use Rattle.rt_session.specs.declared.edits.Edit.{Edit}
-use Rattle.rt_session.specs.declared.reply.Change.{Change}
+use Rattle.rt_table.specs.declared.watched.Change.{Change}
 use Rattle.rt_session.specs.declared.reply.Reply.TheVariants.{Nothing, Rows, Changes}
 use Rattle.rt_session.specs.declared.tables.Named.{Named}
 use Rattle.rt_session.specs.Session.{State, NamedTable, is_named, table_of, with_table, without_table, created, dropped, is_watched, count_views, watched_by, now_watched, viewed, carried_out, on_table, change_of}
@@ -225,3 +226,16 @@ no_view_more state name table cond there new many =
       | None ↦ λ no_table. absurd (let none : ⊥ = cc in none)
       | Some t ↦ λ _. rw (new, many) refl
     ] there
+
+-- ---- edits
+
+same_changes : (changes : List Change) → map change_of (map view_change changes) ≡ changes
+same_changes [] = refl
+same_changes (c ∷ cs) = ap (λ (ds : List Change). c ∷ ds) (same_changes cs)
+
+-- what a table answered to an edit
+pub done : (edit : Edit) (t after : TableLists) (changes : List Change) → edited t (steps_of edit t) ≡ Ok (map view_change changes, after) → edited_by edit t ≡ Ok (changes, after)
+done edit t after changes is = rw (is, same_changes changes) refl
+
+pub not_done : (edit : Edit) (t : TableLists) (refusal : Refusal) → Refuses (edited t (steps_of edit t)) refusal → refusal ≢ OutOfMemory → edited_by edit t ≡ Err refusal
+not_done edit t refusal refuses other = rw (refused (edited t (steps_of edit t)) refusal refuses other) refl

@@ -18,7 +18,7 @@ use Rattle.rt_row.specs.Conditions.{value_in}
 use Rattle.rt_row.specs.Edits.{Steps, and_then, insert, update, delete}
 use Rattle.rt_row.specs.Views.{ViewChange}
 use Rattle.rt_row.specs.Tables.{TableLists, new_table, edited, select, watch, unwatch, view, has_view}
-use Rattle.rt_session.specs.declared.reply.Change.{Change}
+use Rattle.rt_table.specs.declared.watched.Change.{Change}
 use Rattle.rt_session.specs.declared.reply.Reply.{Reply}
 use Rattle.rt_session.specs.declared.reply.Reply.TheVariants.{Nothing, Rows, Changes}
 

@@ -7,7 +7,7 @@ use Rattle.rt_row.specs.Edits.{Steps, and_then, insert, update, delete}
 use Rattle.rt_row.specs.Tables.{TableLists, edited}
 use Rattle.rt_session.specs.declared.edits.Edit.{Edit}
 use Rattle.rt_session.specs.declared.edits.Edit.TheVariants.{Insert, Update, Delete}
-use Rattle.rt_session.specs.declared.reply.Change.{Change}
+use Rattle.rt_table.specs.declared.watched.Change.{Change}
 use Rattle.rt_session.specs.declared.reply.Reply.TheVariants.{Rows}
 use Rattle.rt_session.specs.Session.{State, Outcome, change_of}
 

@@ -18,7 +18,7 @@ use Rattle.rt_sql.specs.declared.refusal.Refusal.TheVariants.{SyntaxError, NoSuc
 use Rattle.rt_row.specs.Rows.{TableRow}
 use Rattle.rt_row.specs.Edits.{and_then}
 use Rattle.rt_row.specs.Tables.{new_table}
-use Rattle.rt_session.specs.declared.reply.Change.{Change}
+use Rattle.rt_table.specs.declared.watched.Change.{Change}
 use Rattle.rt_session.specs.declared.reply.Reply.{Reply}
 use Rattle.rt_session.specs.declared.reply.Reply.TheVariants.{Nothing, Rows, Changes}
 use Rattle.rt_session.specs.Session.{State, NoTree, Outcome, state_after, empty, answer}

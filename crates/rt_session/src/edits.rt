@@ -2,9 +2,8 @@
 
 ghost use Rattle.rt_session.specs.Steps.{AnswersUnlessMemory, edited_by};
 
-use crate::reply::Change;
 use rt_sql::{Cond, Items, Name, Refusal, Rule, Source, Value};
-use rt_table::AnyTable;
+use rt_table::{AnyTable, Change};
 use std::alloc::Global;
 
 /// What a statement does to the rows of its table.
@@ -26,13 +25,28 @@ pub(crate) enum Edit {
 
 /// Carries an edit out on a table, and answers what it changed in the table's views.
 pub(crate) fn carry_out(
-    _alloc: Global,
+    alloc: Global,
     table: &mut AnyTable,
     edit: Edit,
 ) -> Result<Items<Change>, Refusal>
     ensures { AnswersUnlessMemory (edited_by edit table.old.lists) result table.old.lists table.new.lists }
 {
-    let _ = table.len();
-    let _ = edit;
-    Err(Refusal::OutOfMemory)
+    match edit {
+        Edit::Insert {
+            rule,
+            columns,
+            rows,
+        } => {
+            let changes = table.insert(alloc, rule, &columns, rows.as_slice())?;
+            Ok(Items::from_vec(changes))
+        }
+        Edit::Update { sets, cond } => {
+            let changes = table.update(alloc, sets.as_slice(), cond)?;
+            Ok(Items::from_vec(changes))
+        }
+        Edit::Delete { cond } => {
+            let changes = table.delete(alloc, cond)?;
+            Ok(Items::from_vec(changes))
+        }
+    }
 }

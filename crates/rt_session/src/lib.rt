@@ -15,5 +15,6 @@ mod selecting;
 mod session;
 mod tables;
 
-pub use reply::{Change, Reply};
+pub use reply::Reply;
+pub use rt_table::Change;
 pub use session::Session;

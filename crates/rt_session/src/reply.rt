@@ -1,17 +1,7 @@
 //! What statements answer.
 
-use rt_sql::{Items, Name, Value};
-
-/// A row that came into a watched view, or left it.
-#[derive(Debug, Drop)]
-pub struct Change {
-    /// The view's name, with the letters in which it was given.
-    pub view: Name,
-    /// Whether the row came into the view; else it left.
-    pub came: bool,
-    /// The row's values, column by column.
-    pub row: Items<Value>,
-}
+use rt_sql::{Items, Value};
+use rt_table::Change;
 
 /// What a statement that was carried out shows.
 #[derive(Debug, Drop)]
