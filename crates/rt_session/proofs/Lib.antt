@@ -1,3 +1,4 @@
-pub mod RowsLemmas
-pub mod SessionLemmas
 pub mod RisingLemmas
+pub mod Places
+pub mod Outcomes
+pub mod Columns

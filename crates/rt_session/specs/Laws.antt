@@ -1,7 +1,7 @@
 -- What holds of every session, over the definitions that the contracts cite (own).
 use Rattle.std.specs.Prelude.{◌≡◌, ℕ, List, [], ◌∷◌, All}
 use Rattle.rt_sql.specs.declared.statement.Stmt.{Stmt}
-use Rattle.rt_session.specs.Rows.{IsRising}
+use Rattle.rt_row.specs.Rows.{AreRising}
 use Rattle.rt_session.specs.Session.{State, empty, Outcome, state_after, Answers}
 
 -- the statements, one after the other, lead from one state to the other
@@ -13,4 +13,4 @@ LeadTo old (statement ∷ statements) new =
 -- whatever statements a session carries out, the rows of each table stand by rising id
 abbrev pub RowsAlwaysRise : Type 0
 RowsAlwaysRise =
-    (capacity : ℕ) (statements : List Stmt) (state : State) → LeadTo (empty capacity) statements state → All (λ t. IsRising t.rows) state.tables
+    (capacity : ℕ) (statements : List Stmt) (state : State) → LeadTo (empty capacity) statements state → All (λ t. AreRising t.table.rows) state.tables

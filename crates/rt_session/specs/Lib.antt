@@ -1,6 +1,6 @@
-pub mod Rows
-pub mod Put
 pub mod Session
-pub mod SessionInside
 pub mod Steps
+pub mod Selecting
+pub mod SessionInside
 pub mod Laws
+pub mod Worked

@@ -1,27 +1,36 @@
--- What a session answers to a statement, over plain lists of tables and rows.
--- Source: SQLite's documentation (The SQLite R*Tree Module); the limits and the order of refusals are own.
-use Rattle.std.specs.Prelude.{◌≡◌, ◌≢◌, ℕ, Bool, not, ◌||◌, false, if◌then◌else◌, nat_le, List, [], ◌∷◌, ◌++◌, length, find, is_some, Option, Some, None, Result, Ok, Err}
-use Rattle.std.specs.List.{list_any}
+-- What a session answers to a statement, over plain lists of tables.
+-- Source: SQLite's documentation (The SQLite R*Tree Module; CREATE TABLE; DROP TABLE; SELECT); the limits, the order of
+-- the refusals and the commands on views are own.
+use Rattle.std.specs.Prelude.{◌≡◌, ◌≢◌, ℕ, Bool, true, false, not, ◌&&◌, if◌then◌else◌, nat_le, List, [], ◌∷◌, ◌++◌, length, map, filter, find, is_some, sum_by, slice_get, Option, Some, None, Result, Ok, Err}
+use Rattle.std.specs.List.{list_all}
+use Rattle.std.specs.Option.{option_map_or}
 use Rattle.rt_sql.specs.Name.{same_name}
 use Rattle.rt_sql.specs.declared.value.Value.{Value}
 use Rattle.rt_sql.specs.declared.statement.ColumnDef.{ColumnDef}
 use Rattle.rt_sql.specs.declared.statement.Test.{Test}
 use Rattle.rt_sql.specs.declared.statement.Stmt.{Stmt}
-use Rattle.rt_sql.specs.declared.statement.Stmt.TheVariants.{Create, Insert, Select}
-use Rattle.rt_sql.specs.declared.statement.Rule.TheVariants.{Abort}
+use Rattle.rt_sql.specs.declared.statement.Stmt.TheVariants.{Create, Drop, Insert, Update, Delete, Select, Check, Watch, Unwatch, View, Nodes}
 use Rattle.rt_sql.specs.declared.refusal.Refusal.{Refusal}
-use Rattle.rt_sql.specs.declared.refusal.Refusal.TheVariants.{OutOfMemory, SyntaxError, NoSuchTable, TableAlreadyExists, BadColumnList, TooManyTablesOrViews}
-use Rattle.rt_session.specs.declared.rows.Row.{Row}
-use Rattle.rt_session.specs.declared.session.Table.{Table}
-use Rattle.rt_session.specs.declared.session.Reply.{Reply}
-use Rattle.rt_session.specs.declared.session.Reply.TheVariants.{Nothing, Rows}
-use Rattle.rt_session.specs.Put.{candidate_of, put}
-use Rattle.rt_session.specs.Steps.{and_then}
+use Rattle.rt_sql.specs.declared.refusal.Refusal.TheVariants.{OutOfMemory, SyntaxError, NoSuchTable, TableAlreadyExists, NoSuchColumn, NoSuchView, ViewAlreadyExists, TableIsWatched, TooManyTablesOrViews}
+use Rattle.rt_row.specs.Columns.{Columns, columns_of, has_name}
+use Rattle.rt_row.specs.Rows.{TableRow, values_of}
+use Rattle.rt_row.specs.Conditions.{value_in}
+use Rattle.rt_row.specs.Edits.{Steps, and_then, insert, update, delete}
+use Rattle.rt_row.specs.Views.{ViewChange}
+use Rattle.rt_row.specs.Tables.{TableLists, new_table, edited, select, watch, unwatch, view, has_view}
+use Rattle.rt_table.specs.declared.watched.Change.{Change}
+use Rattle.rt_session.specs.declared.reply.Reply.{Reply}
+use Rattle.rt_session.specs.declared.reply.Reply.TheVariants.{Nothing, Rows, Changes}
+
+-- a table under its name
+pub record NamedTable : Type 0 where
+  pub name : List ℕ
+  pub table : TableLists
 
 -- the capacity of the nodes of each table, and the tables, in the order in which they were made
 pub record State : Type 0 where
   pub capacity : ℕ
-  pub tables : List Table
+  pub tables : List NamedTable
 
 -- no table yet
 abbrev pub empty : ℕ → State
@@ -44,57 +53,129 @@ pub data Shadow : Type 0 where
 abbrev pub MayChoose : State → Stmt → Shadow → Type 0
 MayChoose old statement NoTree = Unit {0}
 
-abbrev pub is_named : List ℕ → Table → Bool
-is_named name table = same_name name table.name
+-- ---- tables by their names
 
-abbrev pub table_of : List Table → List ℕ → Option Table
-table_of tables name = find (is_named name) tables
+abbrev pub is_named : List ℕ → NamedTable → Bool
+is_named name t = same_name name t.name
 
--- the tables, where the one of this name has these rows
-abbrev pub with_rows : List Table → List ℕ → List Row → List Table
-with_rows [] name rows = []
-with_rows (t ∷ ts) name rows = if is_named name t then record t { rows = rows } ∷ ts else t ∷ with_rows ts name rows
+abbrev pub table_of : State → List ℕ → Option NamedTable
+table_of state name = find (is_named name) state.tables
 
--- an id and one pair of coordinates, of three names
-abbrev pub is_column_list : List ColumnDef → Bool
-is_column_list (a ∷ b ∷ c ∷ []) = not (same_name a.name b.name || (same_name a.name c.name || same_name b.name c.name))
-is_column_list _ = false
+-- the table of that name is now this one
+abbrev pub with_table : State → List ℕ → TableLists → State
+with_table state name table =
+    record state { tables = map (λ t. if is_named name t then record t { table = table } else t) state.tables }
 
-abbrev pub has_auxiliary : List ColumnDef → Bool
-has_auxiliary columns = list_any (λ c. c.auxiliary) columns
+abbrev pub without_table : State → List ℕ → State
+without_table state name = record state { tables = filter (λ t. not (is_named name t)) state.tables }
+
+-- the outcome on the table of that name
+abbrev pub on_table : Option NamedTable → (TableLists → Outcome) → Outcome
+on_table None next = Err NoSuchTable
+on_table (Some t) next = next t.table
+
+-- ---- CREATE and DROP
+
+abbrev pub most_tables : ℕ
+most_tables = 64
 
 abbrev pub created : State → List ℕ → Bool → List ColumnDef → Outcome
 created state name if_absent columns =
-    if has_auxiliary columns then Err SyntaxError
-    else (if is_some (table_of state.tables name) then (if if_absent then Ok (Nothing, state) else Err TableAlreadyExists)
-    else (if nat_le 64 (length state.tables) then Err TooManyTablesOrViews
-    else (if not (is_column_list columns) then Err BadColumnList
-    else Ok (Nothing, record state { tables = state.tables ++ record { name = name; columns = columns; rows = [] } ∷ [] }))))
+    if is_some (table_of state name) then (if if_absent then Ok (Nothing, state) else Err TableAlreadyExists)
+    else (if nat_le most_tables (length state.tables) then Err TooManyTablesOrViews
+    else and_then (columns_of columns) (λ c.
+    Ok (Nothing, record state { tables = state.tables ++ record { name = name; table = new_table c } ∷ [] })))
 
-abbrev pub inserted_into : State → Option Table → List ℕ → List Value → Outcome
-inserted_into state None name values = Err NoSuchTable
-inserted_into state (Some table) name values =
-    and_then (and_then (candidate_of values) (put table.rows)) (λ rows. Ok (Nothing, record state { tables = with_rows state.tables name rows }))
+abbrev pub is_watched : TableLists → Bool
+is_watched t = not (nat_le (length t.views) 0)
 
-abbrev pub inserted : State → List ℕ → List (List Value) → Outcome
-inserted state name (values ∷ []) = inserted_into state (table_of state.tables name) name values
-inserted state name _ = Err SyntaxError
+abbrev pub dropped : State → List ℕ → Bool → Outcome
+dropped state name if_there =
+    if if_there && not (is_some (table_of state name)) then Ok (Nothing, state)
+    else on_table (table_of state name) (λ t. if is_watched t then Err TableIsWatched else Ok (Nothing, without_table state name))
 
-abbrev pub selected_from : State → Option Table → Outcome
-selected_from state None = Err NoSuchTable
-selected_from state (Some table) = Ok (Rows table.rows, state)
+-- ---- INSERT, UPDATE and DELETE
 
-abbrev pub selected : State → List ℕ → List Test → Outcome
-selected state name [] = selected_from state (table_of state.tables name)
-selected state name _ = Err SyntaxError
+abbrev pub change_of : ViewChange → Change
+change_of c = record { view = c.view; came = c.came; row = c.row }
+
+-- the steps are taken on the table of that name, and their changes of its views are shown
+abbrev pub carried_out : State → List ℕ → TableLists → Steps → Outcome
+carried_out state name t steps =
+    and_then (edited t steps) (λ done. Ok (Changes (map change_of done.0), with_table state name done.1))
+
+-- ---- SELECT
+
+-- the order is by the id, or none is given
+abbrev pub is_by_id : Columns → Option (List ℕ) → Bool
+is_by_id columns None = true
+is_by_id columns (Some name) = option_map_or (same_name name) (slice_get columns.names 0) false
+
+-- the columns are the table's
+abbrev pub are_columns : Columns → Option (List (List ℕ)) → Bool
+are_columns columns None = true
+are_columns columns (Some names) = list_all (has_name columns.names) names
+
+-- the values of those columns, or of all
+abbrev pub shown : Columns → Option (List (List ℕ)) → TableRow → List Value
+shown columns None row = values_of row
+shown columns (Some names) row = map (value_in columns.names (values_of row)) names
+
+abbrev pub selected : State → Option (List (List ℕ)) → List Test → Option (List ℕ) → TableLists → Outcome
+selected state names cond order t =
+    if not (are_columns t.columns names && is_by_id t.columns order) then Err NoSuchColumn
+    else and_then (select t cond) (λ rows. Ok (Rows (map (shown t.columns names) rows), state))
+
+-- ---- views
+
+abbrev pub most_views : ℕ
+most_views = 64
+
+-- how many views the tables have in all
+abbrev pub count_views : State → ℕ
+count_views state = sum_by (λ t. length t.table.views) state.tables
+
+-- the table that has the view of that name
+abbrev pub watched_by : State → List ℕ → Option NamedTable
+watched_by state name = find (λ t. has_view t.table name) state.tables
+
+abbrev pub now_watched : State → List ℕ → List ℕ → List Test → TableLists → Outcome
+now_watched state name table cond t =
+    if is_some (watched_by state name) then Err ViewAlreadyExists
+    else (if nat_le most_views (count_views state) then Err TooManyTablesOrViews
+    else and_then (watch t name cond) (λ after. Ok (Nothing, with_table state table after)))
+
+-- the outcome on the table that has the view
+abbrev pub on_watched : Option NamedTable → (NamedTable → Outcome) → Outcome
+on_watched None next = Err NoSuchView
+on_watched (Some t) next = next t
+
+abbrev pub now_unwatched : State → List ℕ → NamedTable → Outcome
+now_unwatched state name t = and_then (unwatch t.table name) (λ after. Ok (Nothing, with_table state t.name after))
+
+abbrev pub viewed : State → List ℕ → NamedTable → Outcome
+viewed state name t = and_then (view t.table name) (λ rows. Ok (Rows (map values_of rows), state))
+
+-- ---- all statements
 
 -- the reply and the state afterwards, or the refusal, where the table that the statement changes gets this shadow
 abbrev pub answer : Shadow → State → Stmt → Outcome
 answer shadow state (Create name if_absent columns) = created state name if_absent columns
-answer shadow state (Insert Abort name None rows) = inserted state name rows
-answer shadow state (Select None name cond None) = selected state name cond
--- the other statements aren't carried out yet
-answer shadow state _ = Err SyntaxError
+answer shadow state (Drop name if_there) = dropped state name if_there
+answer shadow state (Insert rule name columns rows) =
+    on_table (table_of state name) (λ t. carried_out state name t (insert t.columns t.rows rule columns rows))
+answer shadow state (Update name sets cond) =
+    on_table (table_of state name) (λ t. carried_out state name t (update t.columns t.rows sets cond))
+answer shadow state (Delete name cond) =
+    on_table (table_of state name) (λ t. carried_out state name t (delete t.columns t.rows cond))
+answer shadow state (Select columns name cond order) =
+    on_table (table_of state name) (selected state columns cond order)
+answer shadow state (Watch name table cond) = on_table (table_of state table) (now_watched state name table cond)
+answer shadow state (Unwatch name) = on_watched (watched_by state name) (now_unwatched state name)
+answer shadow state (View name) = on_watched (watched_by state name) (viewed state name)
+-- no table has a tree that could be looked at
+answer shadow state (Check name) = Err SyntaxError
+answer shadow state (Nodes name) = Err SyntaxError
 
 -- the outcomes of a statement: its answer with a shadow that it may choose; a refusal is the answer with any
 abbrev pub Answers : State → Stmt → Outcome → Type 0

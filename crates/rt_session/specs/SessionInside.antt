@@ -1,13 +1,19 @@
--- The map that a session keeps its tables in.
-use Rattle.std.specs.Prelude.{◌≡◌, map}
-use Rattle.std.specs.Str.{str_to_ascii_lowercase}
-use Rattle.indexmap.specs.IndexMap.{keys, values}
+-- The list that a session keeps its tables in (own).
+use Rattle.std.specs.Prelude.{◌≡◌, true, List, map}
+use Rattle.rt_row.specs.Columns.{are_distinct}
+use Rattle.rt_session.specs.declared.tables.Named.{Named}
 use Rattle.rt_session.specs.declared.session.Session.TheInside.{Inside}
-use Rattle.rt_session.specs.Session.{State}
+use Rattle.rt_session.specs.Session.{State, NamedTable}
+
+abbrev pub named_of : Named → NamedTable
+named_of n = record { name = n.name; table = n.table.lists }
 
 abbrev pub state_of : Inside → State
-state_of s = record { capacity = s.capacity; tables = values s.tables }
+state_of s = record { capacity = s.capacity; tables = map named_of s.tables.items }
 
--- each table stands under its folded name
-abbrev pub IsKeyed : Inside → Type 0
-IsKeyed s = map (λ k. k.items) (keys s.tables) ≡ map (λ t. str_to_ascii_lowercase t.name) (values s.tables)
+-- no two tables have one name
+abbrev pub HaveNames : List Named → Type 0
+HaveNames tables = are_distinct (map (λ n. n.name) tables) ≡ true
+
+abbrev pub IsNamed : Inside → Type 0
+IsNamed s = HaveNames s.tables.items

@@ -1,19 +1,36 @@
--- What a call that may run out of memory does.
-use Rattle.std.specs.Prelude.{◌≡◌, ◌≢◌, Result, Ok, Err, MatchResult}
+-- What a call that may run out of memory does (own).
+use Rattle.std.specs.Prelude.{◌≡◌, ◌≢◌, List, map, Result, Ok, Err, MatchResult}
 use Rattle.rt_sql.specs.declared.refusal.Refusal.{Refusal}
 use Rattle.rt_sql.specs.declared.refusal.Refusal.TheVariants.{OutOfMemory}
-
--- the next step, where the first one succeeded
-abbrev pub and_then : {A B : Type 0} → Result A Refusal → (A → Result B Refusal) → Result B Refusal
-and_then (Ok a) next = next a
-and_then (Err refusal) next = Err refusal
-
--- Ok makes of old the new value that was expected. A refusal leaves it, and is the one expected or want of memory.
-abbrev pub ChangesUnlessMemory : {A S : Type 0} → Result S Refusal → Result A Refusal → S → S → Type 0
-ChangesUnlessMemory expected r old new =
-    MatchResult r (λ _. expected ≡ Ok new) (λ refusal. (new ≡ old) × (refusal ≢ OutOfMemory → expected ≡ Err refusal))
+use Rattle.rt_sql.specs.declared.value.Value.{Value}
+use Rattle.rt_row.specs.Edits.{Steps, and_then, insert, update, delete}
+use Rattle.rt_row.specs.Tables.{TableLists, edited}
+use Rattle.rt_session.specs.declared.edits.Edit.{Edit}
+use Rattle.rt_session.specs.declared.edits.Edit.TheVariants.{Insert, Update, Delete}
+use Rattle.rt_table.specs.declared.watched.Change.{Change}
+use Rattle.rt_session.specs.declared.reply.Reply.TheVariants.{Rows}
+use Rattle.rt_session.specs.Session.{State, Outcome, change_of}
 
 -- Ok is the reply and the state that were expected. A refusal leaves the state, and is the one expected or want of memory.
 abbrev pub AnswersUnlessMemory : {A S : Type 0} → Result (A × S) Refusal → Result A Refusal → S → S → Type 0
 AnswersUnlessMemory expected r old new =
     MatchResult r (λ reply. expected ≡ Ok (reply, new)) (λ refusal. (new ≡ old) × (refusal ≢ OutOfMemory → expected ≡ Err refusal))
+
+-- Ok is what was expected. A refusal is the one expected or want of memory.
+abbrev pub GivesUnlessMemory : {A : Type 0} → Result A Refusal → Result A Refusal → Type 0
+GivesUnlessMemory expected r = MatchResult r (λ given. expected ≡ Ok given) (λ refusal. refusal ≢ OutOfMemory → expected ≡ Err refusal)
+
+-- the rows are shown, and the state stays
+abbrev pub ShowsRows : (State → Outcome) → Result (List (List Value)) Refusal → Type 0
+ShowsRows expected r =
+    (state : State) → MatchResult r (λ rows. expected state ≡ Ok (Rows rows, state)) (λ refusal. refusal ≢ OutOfMemory → expected state ≡ Err refusal)
+
+-- what an edit does to the rows of a table
+abbrev pub steps_of : Edit → TableLists → Steps
+steps_of (Insert rule columns rows) t = insert t.columns t.rows rule columns rows
+steps_of (Update sets cond) t = update t.columns t.rows sets cond
+steps_of (Delete cond) t = delete t.columns t.rows cond
+
+-- the changes of its views that are shown, and the table afterwards
+abbrev pub edited_by : Edit → TableLists → Result (List Change × TableLists) Refusal
+edited_by edit t = and_then (edited t (steps_of edit t)) (λ done. Ok (map change_of done.0, done.1))

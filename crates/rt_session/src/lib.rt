@@ -2,15 +2,19 @@
 //!
 //! - `Session`: the tables under their names. `step` carries a statement out, or refuses it, and a
 //!   refusal leaves the tables as they were.
-//! - `Reply`, `Row`: what a statement answers.
+//! - `Reply`, `Change`: what a statement answers.
 //! - `laws`: whatever statements are carried out, the rows of a table stand by rising id.
 //!
 //! Any statement may be refused for want of memory, and that refusal too leaves the tables.
 #![tactic(auto)]
 
+mod edits;
 pub mod laws;
-mod rows;
+mod reply;
+mod selecting;
 mod session;
+mod tables;
 
-pub use rows::Row;
-pub use session::{Reply, Session};
+pub use reply::Reply;
+pub use rt_table::Change;
+pub use session::Session;

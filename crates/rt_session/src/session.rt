@@ -1,49 +1,37 @@
 //! The tables of a session, and what it answers to a statement.
 
-ghost use Rattle.std.specs.Prelude.{◌≡◌, ◌≢◌, [], map, IfOk, IfErr, OnErr, MatchResult, MatchOption, IsTrue, ◌↔◌};
-ghost use Rattle.std.specs.Option.{option_copied};
-ghost use Rattle.std.specs.Str.{str_to_ascii_lowercase};
-ghost use Rattle.rt_session.specs.Session.{empty, CarriesOut, created, inserted, inserted_into, selected, selected_from, table_of, is_column_list, has_auxiliary};
-ghost use Rattle.rt_session.specs.Steps.{AnswersUnlessMemory};
+ghost use Rattle.std.specs.Prelude.{◌≡◌};
+ghost use Rattle.rt_session.specs.Session.{empty, CarriesOut, created, dropped, carried_out, on_table, table_of, now_watched, on_watched, watched_by, now_unwatched, viewed, selected};
+ghost use Rattle.rt_session.specs.Steps.{AnswersUnlessMemory, steps_of};
 
-use crate::rows::{Row, RowList};
-use indexmap::IndexMap;
+use crate::edits::{Edit, carry_out};
+use crate::reply::Reply;
+use crate::selecting::select;
+use crate::tables::{Named, have_views, place_of, place_of_view};
 use rt_box::Capacity;
-use rt_sql::{ColumnDef, Cond, Name, Refusal, Rule, Stmt, Value};
-use sqlite_items::Items;
-use std::alloc::{AllocError, Global};
+use rt_row::Schema;
+use rt_sql::{ColumnDef, Cond, Items, Name, Refusal, Stmt};
+use rt_table::AnyTable;
+use std::alloc::Global;
 use std::hash::RandomState;
 use std::marker::Model;
 
 /// How many tables there are at most. The limit is own.
 const MOST_TABLES: usize = 64;
 
-/// A table, with the columns that it was made with.
-#[derive(Debug, Drop)]
-pub struct Table {
-    name: Name,
-    columns: Items<ColumnDef>,
-    rows: RowList,
-}
+/// How many views the tables have in all at most. The limit is own.
+const MOST_VIEWS: usize = 64;
 
-/// What a statement that was carried out shows.
-#[derive(Debug, Drop)]
-pub enum Reply {
-    /// Of a table made or a row put.
-    Nothing,
-    /// The rows selected, by rising id.
-    Rows(Items<Row>),
-}
-
-/// The tables of a session, each under its name with ASCII case folded.
+/// The tables of a session, each under its name.
 #[derive(Drop)]
 pub struct Session {
     alloc: Global,
     // The capacity of the nodes of each table; no table has any yet.
     capacity: Capacity,
-    // The keys of the hashes of ids, of which no table has any yet.
+    // The keys of the hashes of ids.
     keys: RandomState,
-    tables: IndexMap<Vec<u8>, Table>,
+    // In the order in which they were made.
+    tables: Vec<Named>,
 }
 
 impl Model for Session {
@@ -51,11 +39,11 @@ impl Model for Session {
 
     ghost Value = { State };
 
-    ghost use Rattle.rt_session.specs.SessionInside.{state_of, IsKeyed};
+    ghost use Rattle.rt_session.specs.SessionInside.{state_of, IsNamed};
 
     ghost view = { state_of };
 
-    ghost invariant = { IsKeyed };
+    ghost invariant = { IsNamed };
 }
 
 impl Session {
@@ -66,14 +54,18 @@ impl Session {
     {
         Session {
             alloc,
-            keys,
             capacity,
-            tables: IndexMap::new(alloc),
+            keys,
+            tables: Vec::new(alloc),
         }
     }
 
     /// Carries out a statement, as SQLite's R*Tree module does where the definitions name no rule
-    /// of their own. A refusal leaves the tables as they were.
+    /// of their own.
+    ///
+    /// # Errors
+    ///
+    /// The refusal that the definitions name, or `OutOfMemory`. Either leaves the tables as they were.
     pub fn step(&mut self, statement: Stmt) -> Result<Reply, Refusal>
         ensures { CarriesOut self.old statement result self.new }
     {
@@ -82,20 +74,34 @@ impl Session {
                 table,
                 if_absent,
                 columns,
-            } => self.create(table, if_absent, columns),
+            } => self.create(table, if_absent, &columns),
+            Stmt::Drop { table, if_there } => self.drop_table(&table, if_there),
             Stmt::Insert {
-                rule: Rule::Abort,
+                rule,
                 table,
-                columns: None,
+                columns,
                 rows,
-            } => self.insert_all(&table, &rows),
+            } => self.edit(
+                &table,
+                Edit::Insert {
+                    rule,
+                    columns,
+                    rows,
+                },
+            ),
+            Stmt::Update { table, sets, cond } => self.edit(&table, Edit::Update { sets, cond }),
+            Stmt::Delete { table, cond } => self.edit(&table, Edit::Delete { cond }),
             Stmt::Select {
-                columns: None,
+                columns,
                 table,
                 cond,
-                order: None,
-            } => self.select_all(&table, &cond),
-            _ => Err(Refusal::SyntaxError),
+                order,
+            } => self.select(&columns, &table, cond, &order),
+            Stmt::Watch { view, table, cond } => self.watch(view, &table, cond),
+            Stmt::Unwatch { view } => self.unwatch(&view),
+            Stmt::View { view } => self.view(&view),
+            // No table has a tree that could be looked at.
+            Stmt::Check { .. } | Stmt::Nodes { .. } => Err(Refusal::SyntaxError),
         }
     }
 
@@ -103,113 +109,100 @@ impl Session {
         &mut self,
         name: Name,
         if_absent: bool,
-        columns: Items<ColumnDef>,
+        columns: &Items<ColumnDef>,
     ) -> Result<Reply, Refusal>
-        ensures { AnswersUnlessMemory (created self.old name if_absent columns) result self.old self.new }
+        ensures { AnswersUnlessMemory (created self.old name if_absent columns.now) result self.old self.new }
     {
-        if has_auxiliary(&columns) {
-            return Err(Refusal::SyntaxError);
-        }
-        if self.table(&name)?.is_some() {
-            return if if_absent {
-                Ok(Reply::Nothing)
-            } else {
-                Err(Refusal::TableAlreadyExists)
-            };
+        if place_of(self.tables.as_slice(), &name).is_some() {
+            if if_absent {
+                return Ok(Reply::Nothing);
+            }
+            return Err(Refusal::TableAlreadyExists);
         }
         if self.tables.len() >= MOST_TABLES {
             return Err(Refusal::TooManyTablesOrViews);
         }
-        if !is_column_list(&columns) {
-            return Err(Refusal::BadColumnList);
-        }
-        let key = folded(self.alloc, &name)?;
-        let rows = RowList::new(self.alloc);
-        self.tables.insert(
-            key,
-            Table {
-                name,
-                columns,
-                rows,
-            },
-        )?;
+        let columns = Schema::new(self.alloc, columns.as_slice())?;
+        let table = AnyTable::new(self.alloc, self.keys, columns)?;
+        self.tables.push(Named { name, table })?;
         Ok(Reply::Nothing)
     }
 
-    // Several rows in one statement aren't carried out yet.
-    fn insert_all(&mut self, name: &Name, rows: &Items<Items<Value>>) -> Result<Reply, Refusal>
-        ensures { AnswersUnlessMemory (inserted self.old name.now rows.now) result self.old self.new }
+    fn drop_table(&mut self, name: &Name, if_there: bool) -> Result<Reply, Refusal>
+        ensures { AnswersUnlessMemory (dropped self.old name.now if_there) result self.old self.new }
     {
-        let [values] = rows.as_slice() else {
-            return Err(Refusal::SyntaxError);
-        };
-        self.insert(name, values.as_slice())
-    }
-
-    fn insert(&mut self, name: &Name, values: &[Value]) -> Result<Reply, Refusal>
-        ensures { AnswersUnlessMemory (inserted_into self.old (table_of self.old.tables name.now) name.now values.now) result self.old self.new }
-    {
-        let key = folded(self.alloc, name)?;
-        let Some(table) = self.tables.get_mut(key.as_slice()) else {
+        let Some(at) = place_of(self.tables.as_slice(), name) else {
+            if if_there {
+                return Ok(Reply::Nothing);
+            }
             return Err(Refusal::NoSuchTable);
         };
-        table.rows.insert_values(values)?;
+        if self.tables[at].table.watched() {
+            return Err(Refusal::TableIsWatched);
+        }
+        let _ = self.tables.remove(at);
         Ok(Reply::Nothing)
     }
 
-    fn table(&self, name: &Name) -> Result<Option<&Table>, AllocError>
-        ensures { IfOk result (λ table. option_copied table ≡ table_of self.now.tables name.now) }
+    fn edit(&mut self, name: &Name, edit: Edit) -> Result<Reply, Refusal>
+        ensures { AnswersUnlessMemory (on_table (table_of self.old name.now) (λ t. carried_out self.old name.now t (steps_of edit t))) result self.old self.new }
     {
-        let key = folded(self.alloc, name)?;
-        Ok(self.tables.get(key.as_slice()))
-    }
-
-    // A condition isn't looked at yet.
-    fn select_all(&self, name: &Name, cond: &Cond) -> Result<Reply, Refusal>
-        ensures { AnswersUnlessMemory (selected self.now name.now cond.now) result self.now self.now }
-    {
-        if !cond.is_empty() {
-            return Err(Refusal::SyntaxError);
-        }
-        self.select(name)
-    }
-
-    fn select(&self, name: &Name) -> Result<Reply, Refusal>
-        ensures { AnswersUnlessMemory (selected_from self.now (table_of self.now.tables name.now)) result self.now self.now }
-    {
-        let Some(table) = self.table(name)? else {
+        let Some(at) = place_of(self.tables.as_slice(), name) else {
             return Err(Refusal::NoSuchTable);
         };
-        let rows = Items::from_slice(self.alloc, table.rows.as_slice())?;
+        let changes = carry_out(self.alloc, &mut self.tables[at].table, edit)?;
+        Ok(Reply::Changes(changes))
+    }
+
+    fn watch(&mut self, view: Name, name: &Name, cond: Cond) -> Result<Reply, Refusal>
+        ensures { AnswersUnlessMemory (on_table (table_of self.old name.now) (now_watched self.old view name.now cond)) result self.old self.new }
+    {
+        let Some(at) = place_of(self.tables.as_slice(), name) else {
+            return Err(Refusal::NoSuchTable);
+        };
+        if place_of_view(self.tables.as_slice(), &view).is_some() {
+            return Err(Refusal::ViewAlreadyExists);
+        }
+        if have_views(self.tables.as_slice(), MOST_VIEWS) {
+            return Err(Refusal::TooManyTablesOrViews);
+        }
+        self.tables[at].table.watch(self.alloc, view, cond)?;
+        Ok(Reply::Nothing)
+    }
+
+    fn unwatch(&mut self, view: &Name) -> Result<Reply, Refusal>
+        ensures { AnswersUnlessMemory (on_watched (watched_by self.old view.now) (now_unwatched self.old view.now)) result self.old self.new }
+    {
+        let Some(at) = place_of_view(self.tables.as_slice(), view) else {
+            return Err(Refusal::NoSuchView);
+        };
+        self.tables[at].table.unwatch(view)?;
+        Ok(Reply::Nothing)
+    }
+
+    fn view(&self, view: &Name) -> Result<Reply, Refusal>
+        ensures { AnswersUnlessMemory (on_watched (watched_by self.now view.now) (viewed self.now view.now)) result self.now self.now }
+    {
+        let Some(at) = place_of_view(self.tables.as_slice(), view) else {
+            return Err(Refusal::NoSuchView);
+        };
+        let picked = self.tables[at].table.view(self.alloc, view)?;
+        Ok(Reply::Rows(Items::from_vec(picked.rows)))
+    }
+
+    fn select(
+        &self,
+        columns: &Option<Items<Name>>,
+        name: &Name,
+        cond: Cond,
+        order: &Option<Name>,
+    ) -> Result<Reply, Refusal>
+        ensures { AnswersUnlessMemory (on_table (table_of self.now name.now) (selected self.now columns.now cond order.now)) result self.now self.now }
+    {
+        let Some(at) = place_of(self.tables.as_slice(), name) else {
+            return Err(Refusal::NoSuchTable);
+        };
+        let rows = select(self.alloc, &self.tables[at].table, columns, cond, order)?;
         Ok(Reply::Rows(rows))
     }
-}
-
-fn has_auxiliary(columns: &Items<ColumnDef>) -> bool
-    ensures { result ≡ has_auxiliary columns.now }
-{
-    columns.as_slice().iter().any(|column| column.auxiliary)
-}
-
-// An id and one pair of coordinates, of three names.
-fn is_column_list(columns: &Items<ColumnDef>) -> bool
-    ensures { result ≡ is_column_list columns.now }
-{
-    match columns.as_slice() {
-        [a, b, c] => !(a.name.is_same(&b.name)
-            || a.name.is_same(&c.name)
-            || b.name.is_same(&c.name)),
-        _ => false,
-    }
-}
-
-// The key of a name in the session's map.
-fn folded(alloc: Global, name: &Name) -> Result<Vec<u8>, AllocError>
-    ensures { IfOk result (λ key. key.items ≡ str_to_ascii_lowercase name.now) }
-{
-    name.as_str()
-        .as_bytes()
-        .iter()
-        .map(|byte| byte.to_ascii_lowercase())
-        .collect(alloc)
 }

@@ -6,3 +6,4 @@ pub mod Deltas
 pub mod Readying
 pub mod Showing
 pub mod Replaying
+pub mod Applying

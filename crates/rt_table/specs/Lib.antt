@@ -6,3 +6,4 @@ pub mod Preparing
 pub mod Fates
 pub mod Laws
 pub mod AnyAxes
+pub mod Applying

@@ -1,11 +1,11 @@
 //! A table, whatever its number of axes.
 
-ghost use Rattle.std.specs.Prelude.{◌≡◌, ◌<◌, length, nat_lt, Ok, IfOk, IfErr, OnOk, OnErr};
+ghost use Rattle.std.specs.Prelude.{◌≡◌, ◌<◌, map, length, nat_lt, Ok, IfOk, IfErr, OnOk, OnErr};
 
 use crate::table::Table;
-use crate::watched::Picked;
+use crate::watched::{Change, Picked};
 use rt_row::Schema;
-use rt_sql::{Cond, Name, Refusal};
+use rt_sql::{Cond, Items, Name, Refusal, Rule, Source, Value};
 use std::alloc::{AllocError, Global};
 use std::hash::RandomState;
 use std::marker::Model;
@@ -35,6 +35,9 @@ impl Model for AnyTable {
 
 impl AnyTable {
     ghost use Rattle.rt_row.specs.Tables.{new_table, has_view, select, watch, unwatch, view};
+    ghost use Rattle.rt_row.specs.Edits.{insert, update, delete};
+    ghost use Rattle.rt_row.specs.Tables.{edited};
+    ghost use Rattle.rt_table.specs.Watching.{change_of};
     ghost use Rattle.rt_table.specs.Replies.{Refuses, Shows};
 
     /// A table of these columns, without rows and views. Look-ups hash by `keys`, which are to be random where
@@ -91,6 +94,17 @@ impl AnyTable {
             Axes::One(table) => table.watched(),
             Axes::Two(table) => table.watched(),
             Axes::Three(table) => table.watched(),
+        }
+    }
+
+    /// How many views the table has.
+    pub fn view_count(&self) -> usize
+        ensures { result ≡ length self.now.lists.views }
+    {
+        match &self.axes {
+            Axes::One(table) => table.view_count(),
+            Axes::Two(table) => table.view_count(),
+            Axes::Three(table) => table.view_count(),
         }
     }
 
@@ -168,6 +182,69 @@ impl AnyTable {
             Axes::One(table) => table.unwatch(name),
             Axes::Two(table) => table.unwatch(name),
             Axes::Three(table) => table.unwatch(name),
+        }
+    }
+
+    /// Inserts rows, each among those before it, and answers what changed in the views. A refusal changes nothing.
+    ///
+    /// # Errors
+    ///
+    /// What the plan of an INSERT is refused for, and `OutOfMemory`.
+    pub fn insert(
+        &mut self,
+        alloc: Global,
+        rule: Rule,
+        columns: &Option<Items<Name>>,
+        rows: &[Items<Value>],
+    ) -> Result<Vec<Change>, Refusal>
+        ensures ok { IfOk result (λ changes. edited self.old.lists (insert self.old.lists.columns self.old.lists.rows rule columns.now rows.now) ≡ Ok (map change_of changes.items, self.new.lists)) }
+        ensures err { IfErr result (Refuses (edited self.old.lists (insert self.old.lists.columns self.old.lists.rows rule columns.now rows.now))) }
+        ensures refused { OnErr result (self.new.lists ≡ self.old.lists) }
+    {
+        match &mut self.axes {
+            Axes::One(table) => table.insert(alloc, rule, columns, rows),
+            Axes::Two(table) => table.insert(alloc, rule, columns, rows),
+            Axes::Three(table) => table.insert(alloc, rule, columns, rows),
+        }
+    }
+
+    /// Sets columns of the rows that a condition picks, and answers what changed in the views. A refusal changes
+    /// nothing.
+    ///
+    /// # Errors
+    ///
+    /// What the plan of an UPDATE is refused for, and `OutOfMemory`.
+    pub fn update(
+        &mut self,
+        alloc: Global,
+        sets: &[(Name, Source)],
+        cond: Cond,
+    ) -> Result<Vec<Change>, Refusal>
+        ensures ok { IfOk result (λ changes. edited self.old.lists (update self.old.lists.columns self.old.lists.rows sets.now cond) ≡ Ok (map change_of changes.items, self.new.lists)) }
+        ensures err { IfErr result (Refuses (edited self.old.lists (update self.old.lists.columns self.old.lists.rows sets.now cond))) }
+        ensures refused { OnErr result (self.new.lists ≡ self.old.lists) }
+    {
+        match &mut self.axes {
+            Axes::One(table) => table.update(alloc, sets, cond),
+            Axes::Two(table) => table.update(alloc, sets, cond),
+            Axes::Three(table) => table.update(alloc, sets, cond),
+        }
+    }
+
+    /// Deletes the rows that a condition picks, and answers what changed in the views. A refusal changes nothing.
+    ///
+    /// # Errors
+    ///
+    /// `NoSuchColumn` where a test looks at a column that the table hasn't, and `OutOfMemory`.
+    pub fn delete(&mut self, alloc: Global, cond: Cond) -> Result<Vec<Change>, Refusal>
+        ensures ok { IfOk result (λ changes. edited self.old.lists (delete self.old.lists.columns self.old.lists.rows cond) ≡ Ok (map change_of changes.items, self.new.lists)) }
+        ensures err { IfErr result (Refuses (edited self.old.lists (delete self.old.lists.columns self.old.lists.rows cond))) }
+        ensures refused { OnErr result (self.new.lists ≡ self.old.lists) }
+    {
+        match &mut self.axes {
+            Axes::One(table) => table.delete(alloc, cond),
+            Axes::Two(table) => table.delete(alloc, cond),
+            Axes::Three(table) => table.delete(alloc, cond),
         }
     }
 }

@@ -7,8 +7,9 @@ ghost use Rattle.rt_sql.specs.Name.{same_name};
 use crate::carrying::{apply, refresh_all};
 use crate::preparing::{Touched, touch};
 use crate::watched::{Change, Picked, Watched, pick, reserve_ids, rows_of, watch};
+use rt_plan::{Plan, plan_delete, plan_insert, plan_update};
 use rt_row::{Filter, Schema, Step};
-use rt_sql::{Cond, Name, Refusal};
+use rt_sql::{Cond, Items, Name, Refusal, Rule, Source, Value};
 use rt_store::Store;
 use std::alloc::{AllocError, Global};
 use std::hash::RandomState;
@@ -65,6 +66,8 @@ impl<const D: usize> Table<D> {
     ghost use Rattle.rt_row.specs.Edits.{outcome};
     ghost use Rattle.rt_row.specs.Entries.{step_of};
     ghost use Rattle.rt_row.specs.Views.{deltas};
+    ghost use Rattle.rt_row.specs.Edits.{insert, update, delete};
+    ghost use Rattle.rt_row.specs.Tables.{edited};
     ghost use Rattle.rt_table.specs.Replies.{Refuses, Shows};
     ghost use Rattle.rt_table.specs.Preparing.{ApplyInTurn, IsReady};
     ghost use Rattle.rt_table.specs.Watching.{change_of};
@@ -108,6 +111,13 @@ impl<const D: usize> Table<D> {
         ensures { result ≡ nat_lt 0 (length self.now.lists.views) }
     {
         !self.views.is_empty()
+    }
+
+    /// How many views the table has.
+    pub fn view_count(&self) -> usize
+        ensures { result ≡ length self.now.lists.views }
+    {
+        self.views.len()
     }
 
     /// Whether the table has a view of that name; ASCII case doesn't matter.
@@ -208,5 +218,80 @@ impl<const D: usize> Table<D> {
         }
         forget(&mut self.views, name);
         Ok(())
+    }
+
+    /// Carries a plan out, and answers what it changed in the views. A refusal changes nothing.
+    fn carry_out(&mut self, alloc: Global, plan: Plan<D>) -> Result<Vec<Change>, AllocError>
+        requires { ApplyInTurn self.old.lists.rows plan }
+        ensures ok { IfOk result (λ changes. edited self.old.lists (Ok plan.entry) ≡ Ok (map change_of changes.items, self.new.lists)) }
+        ensures refused { OnErr result (self.new.lists ≡ self.old.lists) }
+    {
+        // The contract of `len` says that there are three axes at most.
+        let _ = self.store.len();
+        let steps = plan.into_steps();
+        self.prepare(alloc, steps.as_slice())?;
+        Ok(self.commit(steps))
+    }
+
+    /// Deletes the rows that a condition picks, and answers what changed in the views. A refusal changes nothing.
+    ///
+    /// # Errors
+    ///
+    /// `NoSuchColumn` where a test looks at a column that the table hasn't, and `OutOfMemory`.
+    pub fn delete(&mut self, alloc: Global, cond: Cond) -> Result<Vec<Change>, Refusal>
+        ensures ok { IfOk result (λ changes. edited self.old.lists (delete self.old.lists.columns self.old.lists.rows cond) ≡ Ok (map change_of changes.items, self.new.lists)) }
+        ensures err { IfErr result (Refuses (edited self.old.lists (delete self.old.lists.columns self.old.lists.rows cond))) }
+        ensures refused { OnErr result (self.new.lists ≡ self.old.lists) }
+    {
+        let plan = plan_delete(alloc, &self.columns, &self.store, cond)?;
+        Ok(self.carry_out(alloc, plan)?)
+    }
+
+    /// Inserts rows, each among those before it, and answers what changed in the views. A refusal changes nothing.
+    ///
+    /// # Errors
+    ///
+    /// What the plan of an INSERT is refused for, and `OutOfMemory`.
+    pub fn insert(
+        &mut self,
+        alloc: Global,
+        rule: Rule,
+        columns: &Option<Items<Name>>,
+        rows: &[Items<Value>],
+    ) -> Result<Vec<Change>, Refusal>
+        ensures ok { IfOk result (λ changes. edited self.old.lists (insert self.old.lists.columns self.old.lists.rows rule columns.now rows.now) ≡ Ok (map change_of changes.items, self.new.lists)) }
+        ensures err { IfErr result (Refuses (edited self.old.lists (insert self.old.lists.columns self.old.lists.rows rule columns.now rows.now))) }
+        ensures refused { OnErr result (self.new.lists ≡ self.old.lists) }
+    {
+        let plan = plan_insert(
+            alloc,
+            self.keys,
+            &self.columns,
+            &self.store,
+            rule,
+            columns,
+            rows,
+        )?;
+        Ok(self.carry_out(alloc, plan)?)
+    }
+
+    /// Sets columns of the rows that a condition picks, and answers what changed in the views. A refusal changes
+    /// nothing.
+    ///
+    /// # Errors
+    ///
+    /// What the plan of an UPDATE is refused for, and `OutOfMemory`.
+    pub fn update(
+        &mut self,
+        alloc: Global,
+        sets: &[(Name, Source)],
+        cond: Cond,
+    ) -> Result<Vec<Change>, Refusal>
+        ensures ok { IfOk result (λ changes. edited self.old.lists (update self.old.lists.columns self.old.lists.rows sets.now cond) ≡ Ok (map change_of changes.items, self.new.lists)) }
+        ensures err { IfErr result (Refuses (edited self.old.lists (update self.old.lists.columns self.old.lists.rows sets.now cond))) }
+        ensures refused { OnErr result (self.new.lists ≡ self.old.lists) }
+    {
+        let plan = plan_update(alloc, self.keys, &self.columns, &self.store, sets, cond)?;
+        Ok(self.carry_out(alloc, plan)?)
     }
 }

@@ -1,0 +1,18 @@
+use Rattle.std.proofs.Common.{◌≡◌, ◌∙◌, true, Some, sym, ap, subst, rules}
+use Rattle.rt_row.specs.Columns.{Columns}
+use Rattle.rt_session.specs.Session.{is_by_id}
+use Rattle.rt_session.specs.Selecting.{ArePlaces}
+use Rattle.rt_session.proofs.Columns.{selected_columns}
+use Rattle.rt_session.proofs.selecting.select.Goals as goal
+
+pub returns : goal.returns
+returns c = λ state.
+    let t = c.args.table.now.lists in
+    let names = c.as_slice.result.now in
+    let by_id : is_by_id t.columns c.args.order.now ≡ true =
+    ap (λ (s : Columns). is_by_id s c.args.order.now) (sym c.schema.ensures) ∙ sym c.is_by_id.ensures ∙ c.if-not-is_by_id.false in
+    let placed : ArePlaces t.columns.names names c.in_ok-places.places.items =
+    subst (λ (s : Columns). ArePlaces s.names names c.in_ok-places.places.items) c.schema-2.ensures c.in_ok-places.ensures.ok in
+    let listed : c.args.columns.now ≡ Some names = search (rules, c.in-Some.is, c.as_slice.ensures) in
+    rw (listed, c.in_ok-rows.ensures, c.as_slice-2.ensures.value, c.as_slice-3.ensures.value)
+    (selected_columns state t names c.args.cond c.args.order.now c.in_ok-places.places.items c.in_ok-picked-2.picked.rows.items placed by_id c.in_ok-picked-2.ensures.ok)

@@ -1,0 +1,246 @@
+-- The definitions, held against worked examples: each says what statements answer, and is proved by running the
+-- definitions.
+use Rattle.std.specs.Prelude.{◌≡◌, ℕ, pos, true, false, List, [], ◌∷◌, ◌++◌, map, codes, Some, None, Result, Ok, Err, refl}
+use Rattle.std.specs.List.{range_with_len}
+use Rattle.rt_box.specs.Interval.{interval}
+use Rattle.rt_sql.specs.declared.value.Value.{Value}
+use Rattle.rt_sql.specs.declared.value.Value.TheVariants.{Int}
+use Rattle.rt_sql.specs.declared.statement.ColumnDef.{ColumnDef}
+use Rattle.rt_sql.specs.declared.statement.Rule.TheVariants.{Abort, Replace}
+use Rattle.rt_sql.specs.declared.statement.Op6.TheVariants.{Gt}
+use Rattle.rt_sql.specs.declared.statement.Source.TheVariants.{Literal}
+use Rattle.rt_sql.specs.declared.statement.Test.{Test}
+use Rattle.rt_sql.specs.declared.statement.Test.TheVariants.{Compare}
+use Rattle.rt_sql.specs.declared.statement.Stmt.{Stmt}
+use Rattle.rt_sql.specs.declared.statement.Stmt.TheVariants.{Create, Drop, Insert, Update, Delete, Select, Check, Watch, Unwatch, View, Nodes}
+use Rattle.rt_sql.specs.declared.refusal.Refusal.{Refusal}
+use Rattle.rt_sql.specs.declared.refusal.Refusal.TheVariants.{SyntaxError, NoSuchTable, TableAlreadyExists, BadColumnList, NoSuchColumn, IdAlreadyTaken, NoSuchView, ViewAlreadyExists, TableIsWatched, TooManyTablesOrViews}
+use Rattle.rt_row.specs.Rows.{TableRow}
+use Rattle.rt_row.specs.Edits.{and_then}
+use Rattle.rt_row.specs.Tables.{new_table}
+use Rattle.rt_table.specs.declared.watched.Change.{Change}
+use Rattle.rt_session.specs.declared.reply.Reply.{Reply}
+use Rattle.rt_session.specs.declared.reply.Reply.TheVariants.{Nothing, Rows, Changes}
+use Rattle.rt_session.specs.Session.{State, NoTree, Outcome, state_after, empty, answer}
+
+-- ---- statements to work with
+
+abbrev plain : List ℕ → ColumnDef
+plain name = record { name = name; auxiliary = false }
+
+abbrev points : List ColumnDef
+points = plain (codes "id") ∷ plain (codes "minX") ∷ plain (codes "maxX") ∷ []
+
+abbrev create : List ℕ → Stmt
+create name = Create name false points
+
+abbrev n : ℕ → Value
+n k = Int (pos k)
+
+-- a row, in the table and as it is shown
+abbrev shown : ℕ → ℕ → ℕ → List Value
+shown id lo hi = n id ∷ n lo ∷ n hi ∷ []
+
+abbrev stored : ℕ → ℕ → ℕ → TableRow
+stored id lo hi = record { id = pos id; box = interval (pos lo) (pos hi) ∷ []; more = [] }
+
+abbrev put : List ℕ → List (List Value) → Stmt
+put name rows = Insert Abort name None rows
+
+abbrev above : ℕ → Test
+above k = Compare (record { column = codes "minX"; op = Gt; value = n k })
+
+abbrev came : List ℕ → List Value → Change
+came view row = record { view = view; came = true; row = row }
+
+abbrev left : List ℕ → List Value → Change
+left view row = record { view = view; came = false; row = row }
+
+-- ---- what a script answers
+
+abbrev run : State → List Stmt → State
+run state [] = state
+run state (statement ∷ statements) = run (state_after state (answer NoTree state statement)) statements
+
+abbrev reply : Outcome → Result Reply Refusal
+reply outcome = and_then outcome (λ given. Ok given.0)
+
+-- what the last statement answers, after the others
+abbrev last : List Stmt → Stmt → Result Reply Refusal
+last statements statement = reply (answer NoTree (run (empty 5) statements) statement)
+
+abbrev tables_after : List Stmt → List (List ℕ)
+tables_after statements = map (λ t. t.name) (run (empty 5) statements).tables
+
+abbrev views_after : List Stmt → List (List (List ℕ))
+views_after statements = map (λ t. map (λ v. v.name) t.table.views) (run (empty 5) statements).tables
+
+-- ---- tables by their names
+
+create-makes_an_empty_table : run (empty 5) (create (codes "t") ∷ []) ≡ record { capacity = 5; tables = record { name = codes "t"; table = new_table (record { axes = 1; names = codes "id" ∷ codes "minX" ∷ codes "maxX" ∷ [] }) } ∷ [] }
+create-makes_an_empty_table = refl
+
+create-again : last (create (codes "t") ∷ []) (create (codes "T")) ≡ Err TableAlreadyExists
+create-again = refl
+
+create-if_absent : answer NoTree (run (empty 5) (create (codes "t") ∷ [])) (Create (codes "T") true []) ≡ Ok (Nothing, run (empty 5) (create (codes "t") ∷ []))
+create-if_absent = refl
+
+create-bad_columns : last [] (Create (codes "t") false (plain (codes "id") ∷ [])) ≡ Err BadColumnList
+create-bad_columns = refl
+
+-- a name that is taken is looked at before the columns
+create-taken_before_columns : last (create (codes "t") ∷ []) (Create (codes "t") false []) ≡ Err TableAlreadyExists
+create-taken_before_columns = refl
+
+-- names of one letter: 64 tables, and the 65th
+abbrev letters : ℕ → List Stmt
+letters many = map (λ k. create (k ∷ [])) (range_with_len 1 many)
+
+create-64th : last (letters 63) (create (codes "_t")) ≡ Ok Nothing
+create-64th = refl
+
+create-65th : last (letters 64) (create (codes "_t")) ≡ Err TooManyTablesOrViews
+create-65th = refl
+
+-- the limit is looked at before the columns
+create-limit_before_columns : last (letters 64) (Create (codes "_t") false []) ≡ Err TooManyTablesOrViews
+create-limit_before_columns = refl
+
+no_table-insert : last [] (put (codes "t") (shown 1 2 3 ∷ [])) ≡ Err NoSuchTable
+no_table-insert = refl
+
+no_table-update : last (create (codes "u") ∷ []) (Update (codes "t") ((codes "minX", Literal (n 0)) ∷ []) []) ≡ Err NoSuchTable
+no_table-update = refl
+
+no_table-delete : last [] (Delete (codes "t") []) ≡ Err NoSuchTable
+no_table-delete = refl
+
+no_table-select : last [] (Select None (codes "t") [] None) ≡ Err NoSuchTable
+no_table-select = refl
+
+no_table-watch : last [] (Watch (codes "v") (codes "t") []) ≡ Err NoSuchTable
+no_table-watch = refl
+
+no_table-drop : last [] (Drop (codes "t") false) ≡ Err NoSuchTable
+no_table-drop = refl
+
+no_table-drop_if_there : last [] (Drop (codes "t") true) ≡ Ok Nothing
+no_table-drop_if_there = refl
+
+drop-of_the_first : tables_after (create (codes "t") ∷ create (codes "u") ∷ create (codes "w") ∷ Drop (codes "T") false ∷ []) ≡ codes "u" ∷ codes "w" ∷ []
+drop-of_the_first = refl
+
+drop-and_create : tables_after (create (codes "t") ∷ create (codes "u") ∷ Drop (codes "t") false ∷ create (codes "t") ∷ []) ≡ codes "u" ∷ codes "t" ∷ []
+drop-and_create = refl
+
+drop-watched : last (create (codes "t") ∷ Watch (codes "v") (codes "t") [] ∷ []) (Drop (codes "t") true) ≡ Err TableIsWatched
+drop-watched = refl
+
+drop-no_longer_watched : last (create (codes "t") ∷ Watch (codes "v") (codes "t") [] ∷ Unwatch (codes "V") ∷ []) (Drop (codes "t") true) ≡ Ok Nothing
+drop-no_longer_watched = refl
+
+-- ---- rows
+
+abbrev filled : List Stmt
+filled = create (codes "t") ∷ put (codes "t") (shown 7 10 11 ∷ shown 2 20 21 ∷ []) ∷ []
+
+select-all : last filled (Select None (codes "t") [] None) ≡ Ok (Rows (shown 2 20 21 ∷ shown 7 10 11 ∷ []))
+select-all = refl
+
+select-by_id : last filled (Select None (codes "t") [] (Some (codes "ID"))) ≡ Ok (Rows (shown 2 20 21 ∷ shown 7 10 11 ∷ []))
+select-by_id = refl
+
+select-by_another_column : last filled (Select None (codes "t") [] (Some (codes "minX"))) ≡ Err NoSuchColumn
+select-by_another_column = refl
+
+select-columns : last filled (Select (Some (codes "maxX" ∷ codes "id" ∷ codes "MAXX" ∷ [])) (codes "t") [] None) ≡ Ok (Rows ((n 21 ∷ n 2 ∷ n 21 ∷ []) ∷ (n 11 ∷ n 7 ∷ n 11 ∷ []) ∷ []))
+select-columns = refl
+
+select-where : last filled (Select None (codes "T") (above 15 ∷ []) None) ≡ Ok (Rows (shown 2 20 21 ∷ []))
+select-where = refl
+
+select-no_such_column : last filled (Select (Some (codes "id" ∷ codes "minY" ∷ [])) (codes "t") [] None) ≡ Err NoSuchColumn
+select-no_such_column = refl
+
+-- a refused row takes those before it with it
+insert-all_or_none : answer NoTree (run (empty 5) filled) (put (codes "t") (shown 3 0 0 ∷ shown 7 0 0 ∷ [])) ≡ Err IdAlreadyTaken
+insert-all_or_none = refl
+
+insert-elsewhere : last (filled ++ create (codes "u") ∷ put (codes "u") (shown 9 0 0 ∷ []) ∷ []) (Select None (codes "t") [] None) ≡ Ok (Rows (shown 2 20 21 ∷ shown 7 10 11 ∷ []))
+insert-elsewhere = refl
+
+delete-where : last (filled ++ Delete (codes "t") (above 15 ∷ []) ∷ []) (Select None (codes "t") [] None) ≡ Ok (Rows (shown 7 10 11 ∷ []))
+delete-where = refl
+
+-- ---- views
+
+abbrev watching : List Stmt
+watching = filled ++ Watch (codes "v") (codes "t") (above 15 ∷ []) ∷ []
+
+watch-shows_nothing : last filled (Watch (codes "v") (codes "t") (above 15 ∷ [])) ≡ Ok Nothing
+watch-shows_nothing = refl
+
+view-rows : last watching (View (codes "V")) ≡ Ok (Rows (shown 2 20 21 ∷ []))
+view-rows = refl
+
+view-missing : last watching (View (codes "w")) ≡ Err NoSuchView
+view-missing = refl
+
+unwatch-missing : last watching (Unwatch (codes "w")) ≡ Err NoSuchView
+unwatch-missing = refl
+
+-- the changes of a statement, by rising id, the row that left before the one that came
+changes-of_an_update : last watching (Update (codes "t") ((codes "minX", Literal (n 16)) ∷ (codes "maxX", Literal (n 30)) ∷ []) []) ≡ Ok (Changes (left (codes "v") (shown 2 20 21) ∷ came (codes "v") (shown 2 16 30) ∷ came (codes "v") (shown 7 16 30) ∷ []))
+changes-of_an_update = refl
+
+-- what a statement made and unmade isn't shown
+changes-of_a_statement : last watching (Insert Replace (codes "t") None (shown 4 50 50 ∷ shown 4 0 0 ∷ [])) ≡ Ok (Changes [])
+changes-of_a_statement = refl
+
+changes-elsewhere : last (watching ++ create (codes "u") ∷ []) (put (codes "u") (shown 9 50 50 ∷ [])) ≡ Ok (Changes [])
+changes-elsewhere = refl
+
+watch-again : last watching (Watch (codes "V") (codes "t") []) ≡ Err ViewAlreadyExists
+watch-again = refl
+
+-- a view's name is one of the session, and not of its table
+watch-name_of_another_tables_view : last (watching ++ create (codes "u") ∷ []) (Watch (codes "V") (codes "u") []) ≡ Err ViewAlreadyExists
+watch-name_of_another_tables_view = refl
+
+watch-name_of_a_table : last watching (Watch (codes "t") (codes "t") []) ≡ Ok Nothing
+watch-name_of_a_table = refl
+
+watch-table_before_name : last watching (Watch (codes "v") (codes "u") []) ≡ Err NoSuchTable
+watch-table_before_name = refl
+
+watch-name_before_columns : last watching (Watch (codes "v") (codes "t") (Compare (record { column = codes "y"; op = Gt; value = n 0 }) ∷ [])) ≡ Err ViewAlreadyExists
+watch-name_before_columns = refl
+
+watch-no_such_column : last watching (Watch (codes "w") (codes "t") (Compare (record { column = codes "y"; op = Gt; value = n 0 }) ∷ [])) ≡ Err NoSuchColumn
+watch-no_such_column = refl
+
+-- views of one letter over two tables in turn: 64 of them, and the 65th
+abbrev watched : ℕ → List Stmt
+watched many =
+    create (codes "t") ∷ create (codes "u")
+    ∷ map (λ k. Watch (k ∷ []) (codes "t") []) (range_with_len 1 32)
+    ++ map (λ k. Watch (k ∷ []) (codes "u") []) (range_with_len 33 many)
+
+watch-64th : last (watched 31) (Watch (codes "_v") (codes "t") []) ≡ Ok Nothing
+watch-64th = refl
+
+watch-65th : last (watched 32) (Watch (codes "_v") (codes "t") []) ≡ Err TooManyTablesOrViews
+watch-65th = refl
+
+-- a view that was forgotten and named again stands last
+unwatch-and_watch : views_after (create (codes "t") ∷ Watch (codes "v") (codes "t") [] ∷ Watch (codes "w") (codes "t") [] ∷ Unwatch (codes "v") ∷ Watch (codes "v") (codes "t") [] ∷ []) ≡ (codes "w" ∷ codes "v" ∷ []) ∷ []
+unwatch-and_watch = refl
+
+-- ---- trees, of which there is none
+
+check-refused : last filled (Check (codes "t")) ≡ Err SyntaxError
+check-refused = refl
+
+nodes-refused : last filled (Nodes (codes "t")) ≡ Err SyntaxError
+nodes-refused = refl

@@ -1,0 +1,15 @@
+//! What statements answer.
+
+use rt_sql::{Items, Value};
+use rt_table::Change;
+
+/// What a statement that was carried out shows.
+#[derive(Debug, Drop)]
+pub enum Reply {
+    /// Of a table or a view that was made or dropped.
+    Nothing,
+    /// The rows selected, or those of a view, by rising id: their values, column by column.
+    Rows(Items<Items<Value>>),
+    /// What an INSERT, UPDATE or DELETE changed in the views of its table.
+    Changes(Items<Change>),
+}

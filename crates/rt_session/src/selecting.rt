@@ -1,0 +1,99 @@
+//! What a SELECT shows of a table.
+
+ghost use Rattle.std.specs.Prelude.{◌≡◌, map, slice_index_or, IfOk, IfErr};
+ghost use Rattle.rt_sql.specs.declared.value.Value.TheVariants.{Null};
+ghost use Rattle.rt_session.specs.Session.{is_by_id, selected};
+ghost use Rattle.rt_session.specs.Selecting.{ArePlaces, IsMissing, values_at};
+ghost use Rattle.rt_session.specs.Steps.{ShowsRows};
+
+use rt_row::Schema;
+use rt_sql::{Cond, Items, Name, Refusal, Value};
+use rt_table::AnyTable;
+use std::alloc::{AllocError, Global};
+
+/// Whether rows by rising id are in the order that is asked for.
+fn is_by_id(schema: &Schema, order: &Option<Name>) -> bool
+    ensures { result ≡ is_by_id schema.now order.now }
+{
+    let Some(name) = order else {
+        return true;
+    };
+    match schema.names().first() {
+        Some(id) => name.is_same(id),
+        None => false,
+    }
+}
+
+/// Where the columns of these names stand.
+fn places_of(alloc: Global, schema: &Schema, names: &[Name]) -> Result<Vec<usize>, Refusal>
+    ensures ok { IfOk result (λ places. ArePlaces schema.now.names names.now places.items) }
+    ensures err { IfErr result (IsMissing schema.now.names names.now) }
+{
+    let mut places = Vec::with_capacity(alloc, names.len())?;
+    for name in names {
+        let Some(place) = schema.place_of(name) else {
+            return Err(Refusal::NoSuchColumn);
+        };
+        places.push(place)?;
+    }
+    Ok(places)
+}
+
+/// A copy of the value at that place, NULL past the last one.
+fn value_at(alloc: Global, row: &[Value], place: usize) -> Result<Value, AllocError>
+    ensures { IfOk result (λ value. value ≡ slice_index_or row.now place Null) }
+{
+    match row.get(place) {
+        Some(value) => value.try_clone(alloc),
+        None => Ok(Value::Null),
+    }
+}
+
+/// Copies of the values at these places.
+fn values_at(alloc: Global, row: &[Value], places: &[usize]) -> Result<Items<Value>, AllocError>
+    ensures { IfOk result (λ values. values ≡ values_at places.now row.now) }
+{
+    let mut values = Vec::with_capacity(alloc, places.len())?;
+    for place in places {
+        values.push(value_at(alloc, row, *place)?)?;
+    }
+    Ok(Items::from_vec(values))
+}
+
+/// Of each row, copies of the values at these places.
+fn columns_of(
+    alloc: Global,
+    rows: &[Items<Value>],
+    places: &[usize],
+) -> Result<Items<Items<Value>>, AllocError>
+    ensures { IfOk result (λ columns. columns ≡ map (values_at places.now) rows.now) }
+{
+    let mut columns = Vec::with_capacity(alloc, rows.len())?;
+    for row in rows {
+        columns.push(values_at(alloc, row.as_slice(), places)?)?;
+    }
+    Ok(Items::from_vec(columns))
+}
+
+/// The rows that a condition picks, by rising id: all of their columns, which aren't copied again, or those listed.
+pub(crate) fn select(
+    alloc: Global,
+    table: &AnyTable,
+    columns: &Option<Items<Name>>,
+    cond: Cond,
+    order: &Option<Name>,
+) -> Result<Items<Items<Value>>, Refusal>
+    ensures { ShowsRows (λ state. selected state columns.now cond order.now table.now.lists) result }
+{
+    if !is_by_id(table.schema(), order) {
+        return Err(Refusal::NoSuchColumn);
+    }
+    let Some(names) = columns else {
+        let picked = table.select(alloc, cond)?;
+        return Ok(Items::from_vec(picked.rows));
+    };
+    let places = places_of(alloc, table.schema(), names.as_slice())?;
+    let picked = table.select(alloc, cond)?;
+    let rows = columns_of(alloc, picked.rows.as_slice(), places.as_slice())?;
+    Ok(rows)
+}
