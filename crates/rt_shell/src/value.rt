@@ -1,6 +1,6 @@
 //! What is printed of a value: the literal of SQL that SQLite's `quote()` gives.
 
-ghost use Rattle.std.specs.Prelude.{◌≡◌, ◌<◌, ◌++◌, ◌==◌, true, codes};
+ghost use Rattle.std.specs.Prelude.{◌≡◌, ◌*◌, ◌<◌, ◌≤◌, ◌++◌, ◌==◌, true, length, take, codes};
 ghost use Rattle.std.specs.Fmt.{digit_glyph, signed_decimal};
 ghost use Rattle.std.specs.List.{flat_map, position};
 ghost use Rattle.rt_bytes.specs.Devices.{WritesTo};
@@ -10,6 +10,9 @@ ghost use Rattle.rt_shell.specs.Lines.{hex_pair, value_text};
 use itoa::Buffer;
 use rt_bytes::{ByteWriter, WriteFault, write_parts, write_whole};
 use rt_sql::Value;
+
+/// How many bytes of a blob are written at a time.
+const BYTES_AT_ONCE: usize = 32;
 
 /// Writes a value: `NULL`, an integer in decimal, a text in quotes with those inside it doubled, or
 /// a blob as `X'..'` with two digits for each byte. After a fault a front of that is written.
@@ -66,19 +69,37 @@ fn write_blob<W: ByteWriter>(bytes: &[u8], writer: &mut W) -> Result<(), WriteFa
     write_whole(writer, b"'")
 }
 
+/// Writes two digits for each byte, of so many bytes at a time as a small buffer takes.
 fn write_hex<W: ByteWriter>(bytes: &[u8], writer: &mut W) -> Result<(), WriteFault>
     ensures { WritesTo W.ByteWriter writer.old writer.new result (flat_map hex_pair bytes.now) }
 {
-    for byte in bytes {
-        write_byte(byte, writer)?;
+    let mut rest = bytes;
+    while !rest.is_empty() {
+        let (front, later) = rest.split_at(rest.len().min(BYTES_AT_ONCE));
+        write_few(front, writer)?;
+        rest = later;
     }
     Ok(())
 }
 
-fn write_byte<W: ByteWriter>(byte: &u8, writer: &mut W) -> Result<(), WriteFault>
-    ensures { WritesTo W.ByteWriter writer.old writer.new result (hex_pair byte.now) }
+fn write_few<W: ByteWriter>(bytes: &[u8], writer: &mut W) -> Result<(), WriteFault>
+    requires { length bytes.now ≤ BYTES_AT_ONCE }
+    ensures { WritesTo W.ByteWriter writer.old writer.new result (flat_map hex_pair bytes.now) }
 {
-    write_whole(writer, &[hex_digit(*byte / 16), hex_digit(*byte % 16)])
+    let mut digits = [0; 2 * BYTES_AT_ONCE];
+    put_digits(bytes, &mut digits);
+    write_whole(writer, &digits[..2 * bytes.len()])
+}
+
+/// Puts the digits of the bytes at the front of the buffer.
+fn put_digits(bytes: &[u8], digits: &mut [u8])
+    requires { 2 * length bytes.now ≤ length digits.old }
+    ensures { take (2 * length bytes.now) digits.new ≡ flat_map hex_pair bytes.now }
+{
+    for (place, byte) in bytes.iter().enumerate() {
+        digits[2 * place] = hex_digit(*byte / 16);
+        digits[2 * place + 1] = hex_digit(*byte % 16);
+    }
 }
 
 /// The hexadecimal digit of that value.
