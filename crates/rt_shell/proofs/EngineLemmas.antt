@@ -12,7 +12,7 @@ use Rattle.rt_sql.specs.declared.refusal.Refusal.TheVariants.{OutOfMemory}
 use Rattle.rt_cut.proofs.CutterFront.{nothing_ready}
 use Rattle.rt_cut.proofs.CutterLaws.{cut_somehow}
 use Rattle.rt_bytes.specs.declared.device.WriteFault.{WriteFault}
-use Rattle.rt_session.specs.declared.session.Reply.{Reply}
+use Rattle.rt_session.specs.declared.reply.Reply.{Reply}
 use Rattle.rt_shell.specs.declared.runner.Engine.{Engine}
 use Rattle.rt_bytes.specs.declared.outcome.Status.{Status}
 use Rattle.rt_bytes.specs.declared.outcome.Status.TheVariants.{Refused}

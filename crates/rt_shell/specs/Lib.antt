@@ -3,3 +3,4 @@ pub mod Engine
 pub mod Transcript
 pub mod Run
 pub mod Laws
+pub mod Worked

@@ -1,20 +1,40 @@
--- The lines that a script's run prints (own; rows as SQLite's shell prints them by default).
-use Rattle.std.specs.Prelude.{ℕ, List, [], ◌++◌, codes, decimal, Result, Ok, Err}
-use Rattle.std.specs.Fmt.{signed_decimal}
-use Rattle.std.specs.List.{flat_map}
+-- The lines that a script's run prints (own; values as SQLite's documentation has them of quote(), Built-In Scalar SQL
+-- Functions).
+use Rattle.std.specs.Prelude.{ℕ, ◌/◌, ◌%◌, true, if◌then◌else◌, List, [], ◌∷◌, ◌++◌, codes, decimal, Result, Ok, Err}
+use Rattle.std.specs.Fmt.{digit_glyph, signed_decimal}
+use Rattle.std.specs.List.{flat_map, join_by}
+use Rattle.rt_sql.specs.Token.{doubled}
 use Rattle.rt_sql.specs.Refusal.{code_of, text_of}
 use Rattle.rt_sql.specs.declared.refusal.Refusal.{Refusal}
-use Rattle.rt_session.specs.declared.rows.Row.{Row}
-use Rattle.rt_session.specs.declared.session.Reply.{Reply}
-use Rattle.rt_session.specs.declared.session.Reply.TheVariants.{Nothing, Rows}
+use Rattle.rt_sql.specs.declared.value.Value.{Value}
+use Rattle.rt_sql.specs.declared.value.Value.TheVariants.{Null, Int, Text, Blob}
+use Rattle.rt_session.specs.declared.reply.Change.{Change}
+use Rattle.rt_session.specs.declared.reply.Reply.{Reply}
+use Rattle.rt_session.specs.declared.reply.Reply.TheVariants.{Nothing, Rows, Changes}
 
--- a row's numbers with bars between them
-abbrev pub row_line : Row → List ℕ
-row_line row = signed_decimal row.id ++ codes "|" ++ signed_decimal row.minimum ++ codes "|" ++ signed_decimal row.maximum ++ codes "\n"
+-- a byte in two hexadecimal digits, with letters in upper case
+abbrev pub hex_pair : ℕ → List ℕ
+hex_pair b = digit_glyph true (b / 16) ∷ digit_glyph true (b % 16) ∷ []
+
+-- a value as a statement could write it: a text in quotes (39), those inside it doubled
+abbrev pub value_text : Value → List ℕ
+value_text Null = codes "NULL"
+value_text (Int n) = signed_decimal n
+value_text (Text t) = codes "'" ++ doubled 39 t ++ codes "'"
+value_text (Blob bytes) = codes "X'" ++ flat_map hex_pair bytes ++ codes "'"
+
+-- a row's values with bars between them
+abbrev pub row_line : List Value → List ℕ
+row_line row = join_by value_text (codes "|") row ++ codes "\n"
+
+-- the row that came into the view of that name, or left it
+abbrev pub change_line : Change → List ℕ
+change_line c = (if c.came then codes "+" else codes "-") ++ c.view ++ codes " " ++ row_line c.row
 
 abbrev pub reply_lines : Reply → List ℕ
 reply_lines Nothing = []
 reply_lines (Rows rows) = flat_map row_line rows
+reply_lines (Changes changes) = flat_map change_line changes
 
 -- the refusal of the piece of this number
 abbrev pub refusal_line : ℕ → Refusal → List ℕ

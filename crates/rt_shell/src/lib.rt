@@ -22,6 +22,7 @@
 pub mod laws;
 mod reply;
 mod runner;
+mod value;
 
 pub use reply::write_reply;
 pub use runner::{Options, run};

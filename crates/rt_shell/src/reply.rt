@@ -1,26 +1,33 @@
 //! What is printed of an answer. Printing takes no memory, so no line is ever cut off by a want of it.
 
-ghost use Rattle.std.specs.List.{flat_map};
+ghost use Rattle.std.specs.Prelude.{◌≡◌, ◌++◌, if◌then◌else◌, codes};
+ghost use Rattle.std.specs.List.{flat_map, join_by};
 ghost use Rattle.rt_bytes.specs.Devices.{WritesTo};
-ghost use Rattle.rt_shell.specs.Lines.{row_line, reply_lines, refusal_line};
+ghost use Rattle.rt_shell.specs.Lines.{value_text, row_line, change_line, reply_lines, refusal_line};
 
+use crate::value::write_value;
 use itoa::Buffer;
-use rt_bytes::{ByteWriter, WriteFault, write_parts};
-use rt_session::{Reply, Row};
-use rt_sql::Refusal;
+use rt_bytes::{ByteWriter, WriteFault, write_parts, write_whole};
+use rt_session::{Change, Reply};
+use rt_sql::{Items, Refusal, Value};
 
-/// Writes the lines of a reply: for each row `id|minimum|maximum`, as SQLite's shell lists rows.
-/// After a fault a front of them is written.
+/// Writes the lines of a reply: a line for each row that it shows, or for each change. After a fault
+/// a front of them is written.
+///
+/// A row's line is its values with bars between them, each as SQLite's `quote()` writes it:
+/// `7|-1|4|'it''s'|X'0AFF'|NULL`. The line of a change is `+V ROW` where the row came into the view
+/// V, and `-V ROW` where it left it.
 pub fn write_reply<W: ByteWriter>(reply: &Reply, writer: &mut W) -> Result<(), WriteFault>
     ensures { WritesTo W.ByteWriter writer.old writer.new result (reply_lines reply.now) }
 {
     match reply {
         Reply::Nothing => Ok(()),
         Reply::Rows(rows) => write_rows(rows.as_slice(), writer),
+        Reply::Changes(changes) => write_changes(changes.as_slice(), writer),
     }
 }
 
-fn write_rows<W: ByteWriter>(rows: &[Row], writer: &mut W) -> Result<(), WriteFault>
+fn write_rows<W: ByteWriter>(rows: &[Items<Value>], writer: &mut W) -> Result<(), WriteFault>
     ensures { WritesTo W.ByteWriter writer.old writer.new result (flat_map row_line rows.now) }
 {
     for row in rows {
@@ -29,19 +36,61 @@ fn write_rows<W: ByteWriter>(rows: &[Row], writer: &mut W) -> Result<(), WriteFa
     Ok(())
 }
 
-fn write_row<W: ByteWriter>(row: &Row, writer: &mut W) -> Result<(), WriteFault>
+fn write_changes<W: ByteWriter>(changes: &[Change], writer: &mut W) -> Result<(), WriteFault>
+    ensures { WritesTo W.ByteWriter writer.old writer.new result (flat_map change_line changes.now) }
+{
+    for change in changes {
+        write_change(change, writer)?;
+    }
+    Ok(())
+}
+
+fn sign(change: &Change) -> &[u8]
+    ensures { result.now ≡ (if change.now.came then codes "+" else codes "-") }
+{
+    if change.came { b"+" } else { b"-" }
+}
+
+fn write_change<W: ByteWriter>(change: &Change, writer: &mut W) -> Result<(), WriteFault>
+    ensures { WritesTo W.ByteWriter writer.old writer.new result (change_line change.now) }
+{
+    let parts: [&[u8]; 3] = [sign(change), change.view.as_str().as_bytes(), b" "];
+    write_parts(writer, &parts)?;
+    write_row(&change.row, writer)
+}
+
+fn write_row<W: ByteWriter>(row: &Items<Value>, writer: &mut W) -> Result<(), WriteFault>
     ensures { WritesTo W.ByteWriter writer.old writer.new result (row_line row.now) }
 {
-    let (mut id, mut minimum, mut maximum) = (Buffer::new(), Buffer::new(), Buffer::new());
-    let parts: [&[u8]; 6] = [
-        id.format(row.id).as_bytes(),
-        b"|",
-        minimum.format(row.minimum).as_bytes(),
-        b"|",
-        maximum.format(row.maximum).as_bytes(),
-        b"\n",
-    ];
-    write_parts(writer, &parts)
+    write_values(row.as_slice(), writer)?;
+    write_whole(writer, b"\n")
+}
+
+fn write_values<W: ByteWriter>(values: &[Value], writer: &mut W) -> Result<(), WriteFault>
+    ensures { WritesTo W.ByteWriter writer.old writer.new result (join_by value_text (codes "|") values.now) }
+{
+    let Some((first, rest)) = values.split_first() else {
+        return Ok(());
+    };
+    write_value(first, writer)?;
+    write_more_values(rest, writer)
+}
+
+/// Writes the values that follow a first one.
+fn write_more_values<W: ByteWriter>(values: &[Value], writer: &mut W) -> Result<(), WriteFault>
+    ensures { WritesTo W.ByteWriter writer.old writer.new result (flat_map (λ value. codes "|" ++ value_text value) values.now) }
+{
+    for value in values {
+        write_after_bar(value, writer)?;
+    }
+    Ok(())
+}
+
+fn write_after_bar<W: ByteWriter>(value: &Value, writer: &mut W) -> Result<(), WriteFault>
+    ensures { WritesTo W.ByteWriter writer.old writer.new result (codes "|" ++ value_text value.now) }
+{
+    write_whole(writer, b"|")?;
+    write_value(value, writer)
 }
 
 /// Writes the line of a refusal, `refused NUMBER CODE: WORDS`, with the number of its piece. After a

@@ -1,15 +1,16 @@
 use Rattle.std.proofs.Common.{arith}
-use Rattle.rt_bytes.proofs.Writing.{WritesAll-part, WritesFront-part, Writes-failed}
+use Rattle.rt_bytes.proofs.Writing.{Writes-failed}
+use Rattle.rt_shell.proofs.Sequences.{WritesAll-item, WritesFront-item}
 use Rattle.rt_shell.specs.Lines.{row_line}
 use Rattle.rt_shell.proofs.reply.write_rows.Goals as goal
 
 pub returns-in_err-write_row : goal.returns-in_err-write_row
 returns-in_err-write_row g c =
     Writes-failed _ _ _ _ _ _ c.from_residual.ensures.0
-    (WritesFront-part row_line _ _ _ _ _ _ c.args.rows.now c.loop-row.row-index _ (omega arith)
+    (WritesFront-item row_line _ _ _ _ _ _ c.args.rows.now c.loop-row.row-index c.row-item.result (omega arith) c.row-item.is
     c.loop-row.invariant c.in_err-write_row.ensures)
 
 pub loop-row-preserved : goal.loop-row-preserved
 loop-row-preserved g c =
-    WritesAll-part row_line _ _ _ _ _ _ c.args.rows.now c.loop-row.row-index _ (omega arith)
+    WritesAll-item row_line _ _ _ _ _ _ c.args.rows.now c.loop-row.row-index c.row-item.result (omega arith) c.row-item.is
     c.loop-row.invariant c.in_ok-write_row.ensures

@@ -1,0 +1,90 @@
+-- The definitions, held against worked examples: each says what a reply prints, and is proved by running the
+-- definitions. The values' texts are those that SQLite's quote() gives.
+use Rattle.std.specs.Prelude.{◌≡◌, ℕ, ◌-◌, ◌^◌, pos, negsuc, true, false, List, [], ◌∷◌, codes, refl}
+use Rattle.std.specs.Fmt.{digits}
+use Rattle.rt_sql.specs.declared.value.Value.{Value}
+use Rattle.rt_sql.specs.declared.value.Value.TheVariants.{Null, Int, Text, Blob}
+use Rattle.rt_session.specs.declared.reply.Reply.TheVariants.{Nothing, Rows, Changes}
+use Rattle.rt_shell.specs.Lines.{value_text, row_line, change_line, reply_lines}
+
+-- ---- values
+
+null : value_text Null ≡ codes "NULL"
+null = refl
+
+integer-zero : value_text (Int (pos 0)) ≡ codes "0"
+unfolding digits
+integer-zero = refl
+
+integer-largest : value_text (Int (pos (2 ^ 63 - 1))) ≡ codes "9223372036854775807"
+unfolding digits
+integer-largest = refl
+
+integer-smallest : value_text (Int (negsuc (2 ^ 63 - 1))) ≡ codes "-9223372036854775808"
+unfolding digits
+integer-smallest = refl
+
+text-plain : value_text (Text (codes "a|b")) ≡ codes "'a|b'"
+text-plain = refl
+
+text-quote : value_text (Text (codes "it's")) ≡ codes "'it''s'"
+text-quote = refl
+
+text-quotes_at_its_ends : value_text (Text (codes "''x'")) ≡ codes "'''''x'''"
+text-quotes_at_its_ends = refl
+
+text-empty : value_text (Text []) ≡ codes "''"
+text-empty = refl
+
+-- the text NULL isn't NULL
+text-null : value_text (Text (codes "NULL")) ≡ codes "'NULL'"
+text-null = refl
+
+blob-bytes : value_text (Blob (0 ∷ 10 ∷ 159 ∷ 171 ∷ 255 ∷ [])) ≡ codes "X'000A9FABFF'"
+blob-bytes = refl
+
+blob-empty : value_text (Blob []) ≡ codes "X''"
+blob-empty = refl
+
+-- ---- rows
+
+row-each_kind : row_line (Int (pos 7) ∷ Int (negsuc 0) ∷ Int (pos 4) ∷ Text (codes "it's") ∷ Blob (10 ∷ 255 ∷ []) ∷ Null ∷ [])
+    ≡ codes "7|-1|4|'it''s'|X'0AFF'|NULL\n"
+unfolding digits
+row-each_kind = refl
+
+row-one_value : row_line (Null ∷ []) ≡ codes "NULL\n"
+row-one_value = refl
+
+-- ---- replies
+
+abbrev box : ℕ → List Value
+box id = Int (pos id) ∷ Int (pos 1) ∷ Int (pos 2) ∷ []
+
+nothing : reply_lines Nothing ≡ []
+nothing = refl
+
+rows-none : reply_lines (Rows []) ≡ []
+rows-none = refl
+
+rows-two : reply_lines (Rows (box 3 ∷ box 12 ∷ [])) ≡ codes "3|1|2\n12|1|2\n"
+unfolding digits
+rows-two = refl
+
+-- a view's name stands as it was given
+change-came : change_line (record { view = codes "Near me"; came = true; row = box 3 }) ≡ codes "+Near me 3|1|2\n"
+unfolding digits
+change-came = refl
+
+change-left : change_line (record { view = codes "v"; came = false; row = box 3 }) ≡ codes "-v 3|1|2\n"
+unfolding digits
+change-left = refl
+
+-- a row that changed left its view, and then came into it
+changes-two : reply_lines (Changes (record { view = codes "v"; came = false; row = box 3 } ∷ record { view = codes "v"; came = true; row = Int (pos 3) ∷ Int (pos 1) ∷ Int (pos 5) ∷ [] } ∷ []))
+    ≡ codes "-v 3|1|2\n+v 3|1|5\n"
+unfolding digits
+changes-two = refl
+
+changes-none : reply_lines (Changes []) ≡ []
+changes-none = refl
