@@ -1,0 +1,5 @@
+//! Tests of tables, over the public calls of `rt_table`.
+#![tactic(auto)]
+
+#[cfg(test)]
+mod full;
