@@ -3,3 +3,4 @@ pub mod Filters
 pub mod Boxes
 pub mod Arranging
 pub mod Setting
+pub mod Ids

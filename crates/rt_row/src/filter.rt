@@ -1,15 +1,16 @@
 //! Which rows a condition picks.
 
-ghost use Rattle.std.specs.Prelude.{◌≡◌, zip, MatchResult};
+ghost use Rattle.std.specs.Prelude.{◌≡◌, zip, true, IfSome, MatchResult};
 ghost use Rattle.std.specs.List.{list_all};
 ghost use Rattle.rt_row.specs.Conditions.{column_of};
 ghost use Rattle.rt_row.specs.Filters.{value_passes, passes_at, ArePlaces, IsFilterOf, IsUnknown};
 ghost use Rattle.rt_row.specs.Entries.{view_row, field_value};
+ghost use Rattle.rt_row.specs.Rows.{TableRow};
 
 use crate::entry::{Field, RowView};
 use crate::schema::Schema;
 use crate::values::{compares, is_null};
-use rt_sql::{Cond, Name, Refusal, Test, Value};
+use rt_sql::{Compare, Cond, Name, Op6, Refusal, Test, Value};
 use std::alloc::Global;
 use std::marker::Model;
 
@@ -56,6 +57,36 @@ fn passes_all<const D: usize>(row: &RowView<'_, D>, tests: &[Test], places: &[us
         |pair: (&Test, &usize)| -> bool
             ensures { result ≡ passes_at (view_row row.entry.now) (pair.entry.0.now, pair.entry.1.now) }
         { passes_at(row, pair.0, *pair.1) },
+    )
+}
+
+/// The id that each row has that passes the test; the id's column stands first.
+fn id_at(test: &Test, place: usize) -> Option<i64>
+    ensures { IfSome result (λ id. (row : TableRow) → passes_at row (test.now, place) ≡ true → row.id ≡ id) }
+{
+    if place != 0 {
+        return None;
+    }
+    match test {
+        Test::Compare(
+            Compare {
+                op: Op6::Eq,
+                value: Value::Int(id),
+                ..
+            },
+        ) => Some(*id),
+        _ => None,
+    }
+}
+
+/// The id that each row has that passes all of the tests.
+fn id_among(tests: &[Test], places: &[usize]) -> Option<i64>
+    ensures { IfSome result (λ id. (row : TableRow) → list_all (passes_at row) (zip tests.now places.now) ≡ true → row.id ≡ id) }
+{
+    tests.iter().zip(places).find_map(
+        |pair: (&Test, &usize)| -> Option<i64>
+            ensures { IfSome result (λ id. (row : TableRow) → passes_at row (pair.entry.0.now, pair.entry.1.now) ≡ true → row.id ≡ id) }
+        { id_at(pair.0, *pair.1) },
     )
 }
 
@@ -115,5 +146,13 @@ impl Filter {
         ensures { result ≡ admits self.now (view_row row.now) }
     {
         passes_all(row, self.cond.as_slice(), self.places.as_slice())
+    }
+
+    /// The id that each row has that the condition picks, where a test compares the id with an
+    /// integer by `=`.
+    pub fn id(&self) -> Option<i64>
+        ensures { IfSome result (λ id. (row : TableRow) → admits self.now row ≡ true → row.id ≡ id) }
+    {
+        id_among(self.cond.as_slice(), self.places.as_slice())
     }
 }

@@ -1,3 +1,4 @@
 pub mod Order
 pub mod Sorted
 pub mod Positions
+pub mod Picked

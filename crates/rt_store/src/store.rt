@@ -3,7 +3,7 @@
 ghost use Rattle.std.specs.Prelude.{◌≡◌, ◌≤◌, ◌<◌, ◌+◌, [], vec_len, vec_capacity, true, false, filter, map, length, IfOk, IfErr, OnOk};
 ghost use Rattle.std.specs.Option.{option_map};
 ghost use Rattle.std.specs.List.{insert};
-ghost use Rattle.rt_row.specs.Rows.{AreRising, row_at, has_id, with_row, without_id, largest_id};
+ghost use Rattle.rt_row.specs.Rows.{TableRow, AreRising, row_at, has_id, with_row, without_id, largest_id};
 ghost use Rattle.rt_row.specs.Entries.{row_of, view_row};
 ghost use Rattle.rt_row.specs.Filters.{admits};
 ghost use Rattle.rt_store.specs.Places.{IsAt, IsGapFor};
@@ -146,11 +146,33 @@ impl<const D: usize> Store<D> {
         }
     }
 
+    /// The id, where its row is there and the condition holds of it. No other row is looked at.
+    fn picked_at(&self, alloc: Global, id: &i64, condition: &Filter) -> Result<Vec<i64>, AllocError>
+        requires fixed { (row : TableRow) → admits condition.now row ≡ true → row.id ≡ id.now }
+        ensures { IfOk result (λ ids. ids.items ≡ map (λ r. r.id) (filter (admits condition.now) self.now.rows)) }
+    {
+        // For the proof: `len` says that the ids rise, and that there are at most three axes.
+        let _ = self.len();
+        let mut ids = Vec::new(alloc);
+        let Some(row) = self.find(id) else {
+            return Ok(ids);
+        };
+        if !condition.holds(&row) {
+            return Ok(ids);
+        }
+        ids.push(*id)?;
+        Ok(ids)
+    }
+
     /// The ids of the rows of which the condition holds, rising.
     pub fn picked(&self, alloc: Global, condition: &Filter) -> Result<Found, AllocError>
         ensures ids { IfOk result (λ found. found.ids.items ≡ map (λ r. r.id) (filter (admits condition.now) self.now.rows)) }
         ensures visited { IfOk result (λ found. found.visited ≡ 0) }
     {
+        if let Some(id) = condition.id() {
+            let ids = self.picked_at(alloc, &id, condition)?;
+            return Ok(Found { ids, visited: 0 });
+        }
         let ids = picked(alloc, self.entries.as_slice(), condition)?;
         Ok(Found { ids, visited: 0 })
     }
