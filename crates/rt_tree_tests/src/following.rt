@@ -129,7 +129,9 @@ fn insert_both<const D: usize>(
     requires few { D ≤ 3 }
 {
     let spans = spans_of(pair.axes, id);
-    let rect = rect_of(&spans).ok_or("no box")?;
+    let Some(rect) = rect_of(&spans) else {
+        return Err(Fail::from("no box"));
+    };
     insert(&mut pair.tree, id, &rect)?;
     pair.plain.insert(rt.alloc(), id, spans)?;
     expect_same(rt, pair)
