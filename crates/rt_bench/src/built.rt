@@ -42,13 +42,14 @@ fn nodes_above(alloc: Global, shadow: &Shadow<2>) -> Result<Vec<Above>, AllocErr
     Ok(nodes)
 }
 
-/// The node above the leaves that a new box is led to.
-fn node_for<'a>(nodes: &'a [Above], rect: &Rect<2>) -> Option<&'a Above> {
+/// The place of the node above the leaves that a new box is led to.
+fn node_for(nodes: &[Above], rect: &Rect<2>) -> Option<usize> {
     let mut number = 1i64;
     for _ in 0..20 {
-        let node = nodes.get(usize::try_from(number.wrapping_sub(1)).ok()?)?;
+        let place = usize::try_from(number.wrapping_sub(1)).ok()?;
+        let node = nodes.get(place)?;
         if node.level <= 1 {
-            return Some(node);
+            return Some(place);
         }
         number = *node.children.get(choice(node, false, rect)?)?;
     }
@@ -65,25 +66,32 @@ fn choice(node: &Above, above_leaves: bool, rect: &Rect<2>) -> Option<usize> {
 }
 
 /// The nanoseconds of a choice above the leaves, over the boxes of rows that would come next.
-fn time_choices<R: Clock>(rt: &R, nodes: &[Above], load: Load) -> io::Result<(u128, u64)> {
-    const CHOICES: u64 = 20_000;
-    let mut time = 0u128;
-    let mut sum = 0u64;
-    for next in 1..=CHOICES {
+fn time_choices<R: Clock>(
+    rt: &R,
+    alloc: Global,
+    nodes: &[Above],
+    load: Load,
+) -> io::Result<(u128, u64)> {
+    let mut due = Vec::new(alloc);
+    for next in 1..=20_000 {
         let Some(rect) = rect_of(load.shape, load.rows.wrapping_add(next), 0) else {
             continue;
         };
-        let Some(node) = node_for(nodes, &rect) else {
+        if let Some(place) = node_for(nodes, &rect) {
+            due.push((place, rect))?;
+        }
+    }
+    let mut sum = 0u64;
+    let start = Instant::now(rt)?;
+    for (place, rect) in due.iter() {
+        let Some(node) = nodes.get(*place) else {
             continue;
         };
-        let start = Instant::now(rt)?;
-        for _ in 0..20 {
-            let at = choice(node, true, &rect).unwrap_or(0);
-            sum = sum.wrapping_add(at as u64);
-        }
-        time = time.wrapping_add(start.elapsed(rt)?.as_nanos());
+        let at = choice(node, true, rect).unwrap_or(0);
+        sum = sum.wrapping_add(at as u64);
     }
-    Ok((time / (20 * u128::from(CHOICES)), sum))
+    let time = start.elapsed(rt)?.as_nanos();
+    Ok((time / (due.len() as u128).max(1), sum))
 }
 
 /// Prints the nanoseconds of a choice above the leaves in trees of 100,000 rows, for the boxes that come next.
@@ -100,7 +108,7 @@ pub fn report(rt: &HostRuntime) -> io::Result<()> {
         let _ = time_insertions(rt, &mut tree, load)?;
         let shadow = tree.shadow(rt.alloc(), RandomState::new(rt)?)?;
         let nodes = nodes_above(rt.alloc(), &shadow)?;
-        let (time, sum) = time_choices(rt, nodes.as_slice(), load)?;
+        let (time, sum) = time_choices(rt, rt.alloc(), nodes.as_slice(), load)?;
         println!(rt; "a built tree, {name}: choice above leaves {time} ns ({sum})")?;
     }
     Ok(())
