@@ -3,6 +3,7 @@ pub mod Shape
 pub mod Kept
 pub mod Rows
 pub mod Reading
+pub mod Boxes
 pub mod Reached
 pub mod Fresh
 pub mod Lookup

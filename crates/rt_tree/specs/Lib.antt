@@ -1,5 +1,6 @@
 pub mod Lists
 pub mod Rows
+pub mod Boxes
 pub mod TreeInside
 pub mod Finding
 pub mod Way

@@ -6,8 +6,8 @@
 //!
 //! - `insert` and `remove` take no memory and don't fail: `reserve` made the room. Of each other row they say that it
 //!   stays, and where no node overflows or gets thin, that no other row moves.
-//! - `is_in_shape` and `is_small` hold of each tree, whatever was done to it: the checker finds no problem, and there
-//!   are few nodes and few levels.
+//! - `is_in_shape`, `has_boxes` and `is_small` hold of each tree, whatever was done to it: the checker finds no problem,
+//!   each cell has a box, and there are few nodes and few levels.
 //! - `search` lists the rows that a window admits, and counts the nodes that it went into.
 #![tactic(auto)]
 

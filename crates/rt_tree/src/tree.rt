@@ -1,9 +1,10 @@
 //! A tree.
 
-ghost use Rattle.std.specs.Prelude.{◌≡◌, ◌<◌, ◌≤◌, ◌+◌, ◌-◌, ◌*◌, ◌/◌, ◌^◌, length, Some, None, IsSome, IfOk, OnOk};
+ghost use Rattle.std.specs.Prelude.{◌≡◌, ◌<◌, ◌≤◌, ◌+◌, ◌-◌, ◌*◌, ◌/◌, ◌^◌, max, length, Some, None, IsSome, IfOk, OnOk};
 ghost use Rattle.rt_box.specs.Capacity.{least_fill};
 ghost use Rattle.rt_tree.specs.Lists.{root_level, empty_lists, IsInShape};
 ghost use Rattle.rt_tree.specs.Rows.{box_of, GainsRow, LosesRow};
+ghost use Rattle.rt_tree.specs.Boxes.{HasBoxes};
 ghost use Rattle.rt_tree.specs.Changes.{IsInsertion, IsRemoval};
 ghost use Rattle.rt_tree.specs.Finding.{FindsIn};
 
@@ -25,6 +26,9 @@ const NODES_AHEAD: usize = 33;
 
 /// The most nodes that a tree has room for, so that a key is a cell's number.
 const MOST_NODES: usize = 1 << 62;
+
+/// The most rows that room is asked for. No machine holds more.
+const MOST_ROWS: usize = 1 << 42;
 
 /// The cells that may wait at once.
 const WAITING_ROOM: usize = 1024;
@@ -59,7 +63,7 @@ impl<const D: usize> Model for Tree<D> {
 
 /// The nodes that there is to be room for where there are so many rows: each but the root has `capacity.least()` cells.
 fn nodes_for(capacity: Capacity, rows: usize) -> usize
-    requires { rows ≤ 2 ^ 22 }
+    requires { rows ≤ 2 ^ 43 }
     ensures { rows + (least_fill capacity - 1) * 33 ≤ (least_fill capacity - 1) * result }
 {
     rows / (capacity.least() - 1) + 1 + NODES_AHEAD
@@ -192,6 +196,14 @@ impl<const D: usize> Tree<D> {
         let _ = self.arena.leaves.len();
     }
 
+    /// A law: each cell of each node has a box of `D` axes. The call does nothing.
+    pub fn has_boxes(&self)
+        ensures { HasBoxes self.now.lists }
+    {
+        // What holds of the nodes is known once they are looked at.
+        let _ = self.arena.nodes.len();
+    }
+
     /// A law: a tree has at most one node for each `capacity.least() - 1` of its rows, and one more, and at most 20
     /// levels of nodes. The call does nothing.
     pub fn is_small(&self)
@@ -217,15 +229,19 @@ impl<const D: usize> Tree<D> {
     ///
     /// # Errors
     ///
-    /// `AllocError` where no memory is left; the tree is as before then.
+    /// `AllocError` where no memory is left, or more rows than 2^42 are asked for, which no machine holds; the tree is as
+    /// before then.
     pub fn reserve(&mut self, more: usize) -> Result<(), AllocError>
-        requires { more ≤ 2 ^ 20 }
         ensures room { OnOk result (more ≤ self.new.spare) }
         ensures keeps { self.old.spare ≤ self.new.spare }
+        ensures most { self.new.spare ≤ max self.old.spare (max more (length self.old.lists.rows)) }
         ensures lists { self.new.lists ≡ self.old.lists }
     {
         if more <= self.spare {
             return Ok(());
+        }
+        if more > MOST_ROWS {
+            return Err(AllocError);
         }
         let rows = self.arena.leaves.len();
         let spare = if more < rows { rows } else { more };

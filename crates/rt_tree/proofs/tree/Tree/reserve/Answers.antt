@@ -1,4 +1,4 @@
-use Rattle.std.proofs.Common.{◌+◌, ◌-◌, ◌≤◌, arith, ap, ◌∙◌, refl}
+use Rattle.std.proofs.Common.{◌+◌, ◌-◌, ◌≤◌, length, arith, ap, ◌∙◌, refl}
 use Rattle.std.proofs.Math.Nat.{mul-le-mul_left}
 use Rattle.rt_box.specs.Capacity.{least_fill}
 use Rattle.indexmap.specs.IndexMap.{spare}
@@ -6,7 +6,9 @@ use Rattle.rt_node.specs.declared.arena.Arena.{Arena}
 use Rattle.rt_node.specs.Whole.{HasRoom, row_count}
 use Rattle.rt_tree.specs.Lists.{TreeLists}
 use Rattle.rt_tree.proofs.Roomier.{outside-same, roomier-kept, grown-room}
+use Rattle.rt_tree.proofs.Changed.{rows-are}
 use Rattle.rt_tree.proofs.tree.Tree.reserve.Goals as goal
+use Rattle.rt_tree.proofs.tree.Tree.reserve.Goals.{then-more-rows, else-more-rows}
 
 pub invariant_of-self : goal.invariant_of-self
 invariant_of-self g c =
@@ -51,3 +53,12 @@ returns-clause-lists g c =
     record { nodes = c.make_room.new.nodes; leaves = c.reserve.new.self; waiting = t.waiting; root = t.root; level = t.level; capacity = t.capacity } in
     outside-same t u c.make_room.ensures.same c.reserve.ensures.entries refl refl refl refl refl
     ∙ ap (λ (v : TreeLists g.row.D). v.lists) c.self.view_is
+
+pub returns-clause-most : goal.returns-clause-most
+returns-clause-most g c =
+    let k = c.self.invariant in
+    let long = ap (λ (v : TreeLists g.row.D). length v.lists.rows) c.self.view_is in
+    elim c.if-more-rows.branch [
+      | then-more-rows w ↦ omega (arith, w.spare-is, rows-are c.self.inside k, long, c.len-rows.ensures.len, k.ids)
+      | else-more-rows w ↦ omega (arith, w.spare-is)
+    ]
