@@ -1,8 +1,10 @@
 -- A condition whose columns were looked up picks the rows that it picks by their names.
-use Rattle.std.proofs.Common.{◌≡◌, ℕ, suc, ◌+◌, Bool, true, false, cond, not, ◌||◌, List, [], ◌∷◌, zip, length, sym, ap, arith, refl, ◌∙◌, nat_lt, Option, Some, None, slice_index_or}
+use Rattle.std.proofs.Common.{◌≡◌, ℕ, suc, ◌+◌, ◌<◌, ◌≤◌, Bool, true, false, cond, not, ◌||◌, List, [], ◌∷◌, zip, length, get_or, take, sym, ap, arith, refl, ◌∙◌, nat_lt, Option, Some, None, slice_index_or}
 use Rattle.std.specs.List.{list_any, list_all, position_or_len}
 use Rattle.std.specs.Option.{option_map_or}
 use Rattle.std.proofs.lemmas.Bool.Decides.{nat_tests}
+use Rattle.std.proofs.lemmas.List.{take_all}
+use Rattle.std.proofs.lemmas.List.Folds.{list_all_at, list_any_more}
 use Rattle.rt_sql.specs.Name.{same_name}
 use Rattle.rt_sql.specs.declared.value.Value.{Value}
 use Rattle.rt_sql.specs.declared.value.Value.TheVariants.{Null}
@@ -72,3 +74,21 @@ has_columns_from columns (test ∷ tests) (place ∷ places) e =
     let here : place_of columns.names (column_of test) ≡ Some place = cc in
     let later : ArePlaces columns.names tests places = cc in
     rw (present columns.names (column_of test) place here) (has_columns_from columns tests places later)
+
+passes_here : (t : Bool) → (t ≡ false → false ≡ true) → t ≡ true
+passes_here true none = refl
+passes_here false none = none refl
+
+-- what passes all of the tests passes each one
+pub passes_each : {X : Type 0} (p : X → Bool) (xs : List X) (n : ℕ) (x : X) → n < length xs → x ≡ get_or xs n x → list_all p xs ≡ true → p x ≡ true
+passes_each p xs n x h is all = passes_here (p x) (λ none. sym (list_all_at p xs n x h (sym (ap p is) ∙ none)) ∙ all)
+
+-- the tests up to one that doesn't fix the id
+pub unfixed_more : {X : Type 0} (p : X → Bool) (xs : List X) (n : ℕ) (x : X) → n < length xs → x ≡ get_or xs n x →
+    list_any p (take n xs) ≡ false → p x ≡ false → list_any p (take (n + 1) xs) ≡ false
+unfixed_more p xs n x h is before here =
+    let there : p (get_or xs n x) ≡ false = sym (ap p is) ∙ here in
+    list_any_more p xs n x h ∙ rw (before, there)
+
+pub unfixed_all : {X : Type 0} (p : X → Bool) (xs : List X) (n : ℕ) → length xs ≤ n → list_any p (take n xs) ≡ false → list_any p xs ≡ false
+unfixed_all p xs n h none = sym (ap (list_any p) (take_all n xs h)) ∙ none

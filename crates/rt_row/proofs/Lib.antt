@@ -3,4 +3,5 @@ pub mod Filters
 pub mod Boxes
 pub mod Arranging
 pub mod Setting
-pub mod Ids
+pub mod Windows
+pub mod Names

@@ -218,7 +218,7 @@ own_there : (before : List (List ℕ)) (name : List ℕ) (rest : List (List ℕ)
 own_there [] name rest = rw (name_itself name)
 own_there (x ∷ before) name rest = true_later (same_name name x) _ (own_there before name rest)
 
-own_rest : (before rest : List (List ℕ)) → list_all (has_name (before ++ rest)) rest ≡ true
+pub own_rest : (before rest : List (List ℕ)) → list_all (has_name (before ++ rest)) rest ≡ true
 own_rest before [] = refl
 own_rest before (name ∷ rest) =
     let later = subst (λ (xs : List (List ℕ)). list_all (has_name xs) rest ≡ true) (append_assoc before (name ∷ []) rest) (own_rest (before ++ name ∷ []) rest) in

@@ -1,8 +1,10 @@
 -- A condition whose columns were looked up: each test has the place of the column that it looks at. Source: own.
-use Rattle.std.specs.Prelude.{◌≡◌, ◌⊎◌, ℕ, Bool, true, false, not, List, map, zip, Some, slice_index_or}
+use Rattle.std.specs.Prelude.{◌≡◌, ◌⊎◌, ℕ, ◌==◌, Bool, true, false, not, ◌&&◌, List, map, zip, Some, slice_index_or}
 use Rattle.std.specs.List.{list_all}
 use Rattle.rt_sql.specs.declared.value.Value.{Value}
 use Rattle.rt_sql.specs.declared.value.Value.TheVariants.{Null}
+use Rattle.rt_sql.specs.declared.statement.Op6.{Op6}
+use Rattle.rt_sql.specs.declared.statement.Op6.TheVariants.{Eq}
 use Rattle.rt_sql.specs.declared.statement.Test.{Test}
 use Rattle.rt_sql.specs.declared.statement.Test.TheVariants.{Compare, IsNull, IsNotNull}
 use Rattle.rt_sql.specs.declared.refusal.Refusal.{Refusal}
@@ -10,6 +12,7 @@ use Rattle.rt_sql.specs.declared.refusal.Refusal.TheVariants.{NoSuchColumn, OutO
 use Rattle.rt_row.specs.Values.{is_null, compares}
 use Rattle.rt_row.specs.Columns.{Columns, place_of}
 use Rattle.rt_row.specs.Conditions.{column_of, has_columns, holds}
+use Rattle.rt_row.specs.Candidates.{is_integer}
 use Rattle.rt_row.specs.Rows.{TableRow, values_of}
 
 pub record Placed : Type 0 where
@@ -37,8 +40,23 @@ ArePlaces names cond places = map (λ (test : Test). place_of names (column_of t
 pub record IsFilterOf (columns : Columns) (cond : List Test) (filter : Placed) : Type 0 where
   pub known : has_columns columns cond ≡ true
   pub cond_is : filter.cond ≡ cond
+  pub places_are : ArePlaces columns.names cond filter.places
   pub same : (row : TableRow) → admits filter row ≡ holds columns cond row
 
 -- why there is none
 abbrev pub IsUnknown : Columns → List Test → Refusal → Type 0
 IsUnknown columns cond refusal = ((refusal ≡ NoSuchColumn) × (has_columns columns cond ≡ false)) ⊎ (refusal ≡ OutOfMemory)
+
+abbrev pub is_equality : Op6 → Bool
+is_equality Eq = true
+is_equality op = false
+
+-- a comparison by `=` with an integer
+abbrev pub is_integer_equality : Test → Bool
+is_integer_equality (Compare c) = is_equality c.op && is_integer c.value
+is_integer_equality (IsNull name) = false
+is_integer_equality (IsNotNull name) = false
+
+-- and of the id: its column stands first
+abbrev pub fixes_id : Test × ℕ → Bool
+fixes_id test = test.1 == 0 && is_integer_equality test.0

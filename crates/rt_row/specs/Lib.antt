@@ -9,6 +9,7 @@ pub mod Tables
 pub mod Answers
 pub mod Entries
 pub mod Filters
+pub mod Windows
 pub mod Arrangements
 pub mod Settings
 pub mod Worked

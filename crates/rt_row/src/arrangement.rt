@@ -1,12 +1,12 @@
 //! The columns that an INSERT lists.
 
-ghost use Rattle.std.specs.Prelude.{◌≡◌, ◌==◌, length, map, IfOk};
+ghost use Rattle.std.specs.Prelude.{◌≡◌, ◌==◌, true, length, map, IfOk};
 ghost use Rattle.std.specs.List.{list_all};
 ghost use Rattle.std.specs.Option.{option_copied};
-ghost use Rattle.rt_row.specs.Columns.{place_of, has_name};
+ghost use Rattle.rt_row.specs.Columns.{place_of, has_name, are_distinct};
 ghost use Rattle.rt_row.specs.Arrangements.{value_at};
 
-use crate::schema::{Schema, are_distinct, has_name, place_of};
+use crate::schema::{Schema, are_listed_once, has_name, place_of};
 use rt_sql::{Items, Name, Refusal, Value};
 use std::alloc::{AllocError, Global};
 use std::marker::Model;
@@ -33,6 +33,18 @@ fn places_of(
     let mut places = Vec::with_capacity(alloc, columns.len())?;
     for column in columns {
         places.push(place_of(names, column))?;
+    }
+    Ok(places)
+}
+
+/// For each column its own place.
+fn own_places(alloc: Global, columns: &[Name]) -> Result<Vec<Option<usize>>, AllocError>
+    requires { are_distinct columns.now ≡ true }
+    ensures { IfOk result (λ places. places.items ≡ map (place_of columns.now) columns.now) }
+{
+    let mut places = Vec::with_capacity(alloc, columns.len())?;
+    for place in 0..columns.len() {
+        places.push(Some(place))?;
     }
     Ok(places)
 }
@@ -75,7 +87,7 @@ impl Arrangement {
     pub fn new(alloc: Global, schema: &Schema, names: &[Name]) -> Result<Arrangement, Refusal>
         ensures { MatchResult result (IsArrangementOf schema.now names.now) (IsBadList schema.now names.now) }
     {
-        if !are_distinct(names) {
+        if !are_listed_once(alloc, names)? {
             return Err(Refusal::BadColumnList);
         }
         if !are_known(schema.names(), names) {
@@ -86,6 +98,16 @@ impl Arrangement {
             width: names.len(),
             places,
         })
+    }
+
+    /// The arrangement of values for all columns in their order. No names are compared.
+    pub fn whole(alloc: Global, schema: &Schema) -> Result<Arrangement, AllocError>
+        ensures { IfOk result (IsArrangementOf schema.now schema.now.names) }
+    {
+        // The contract of `len` says that no two columns have one name.
+        let width = schema.len();
+        let places = own_places(alloc, schema.names())?;
+        Ok(Arrangement { width, places })
     }
 
     /// Whether each list has a value for each name.

@@ -1,15 +1,17 @@
 //! Which rows a condition picks.
 
-ghost use Rattle.std.specs.Prelude.{◌≡◌, zip, true, IfSome, MatchResult};
-ghost use Rattle.std.specs.List.{list_all};
+ghost use Rattle.std.specs.Prelude.{◌≡◌, zip, true, false, IfSome, IfNone, MatchResult};
+ghost use Rattle.std.specs.List.{list_all, list_any};
 ghost use Rattle.rt_row.specs.Conditions.{column_of};
-ghost use Rattle.rt_row.specs.Filters.{value_passes, passes_at, ArePlaces, IsFilterOf, IsUnknown};
+ghost use Rattle.rt_row.specs.Filters.{value_passes, passes_at, fixes_id, ArePlaces, IsFilterOf, IsUnknown};
 ghost use Rattle.rt_row.specs.Entries.{view_row, field_value};
 ghost use Rattle.rt_row.specs.Rows.{TableRow};
 
 use crate::entry::{Field, RowView};
 use crate::schema::Schema;
 use crate::values::{compares, is_null};
+use crate::window::window_of;
+use rt_box::Window;
 use rt_sql::{Compare, Cond, Name, Op6, Refusal, Test, Value};
 use std::alloc::Global;
 use std::marker::Model;
@@ -62,7 +64,8 @@ fn passes_all<const D: usize>(row: &RowView<'_, D>, tests: &[Test], places: &[us
 
 /// The id that each row has that passes the test; the id's column stands first.
 fn id_at(test: &Test, place: usize) -> Option<i64>
-    ensures { IfSome result (λ id. (row : TableRow) → passes_at row (test.now, place) ≡ true → row.id ≡ id) }
+    ensures fixed { IfSome result (λ id. (row : TableRow) → passes_at row (test.now, place) ≡ true → row.id ≡ id) }
+    ensures none { IfNone result (fixes_id (test.now, place) ≡ false) }
 {
     if place != 0 {
         return None;
@@ -81,13 +84,15 @@ fn id_at(test: &Test, place: usize) -> Option<i64>
 
 /// The id that each row has that passes all of the tests.
 fn id_among(tests: &[Test], places: &[usize]) -> Option<i64>
-    ensures { IfSome result (λ id. (row : TableRow) → list_all (passes_at row) (zip tests.now places.now) ≡ true → row.id ≡ id) }
+    ensures fixed { IfSome result (λ id. (row : TableRow) → list_all (passes_at row) (zip tests.now places.now) ≡ true → row.id ≡ id) }
+    ensures none { IfNone result (list_any fixes_id (zip tests.now places.now) ≡ false) }
 {
-    tests.iter().zip(places).find_map(
-        |pair: (&Test, &usize)| -> Option<i64>
-            ensures { IfSome result (λ id. (row : TableRow) → passes_at row (pair.entry.0.now, pair.entry.1.now) ≡ true → row.id ≡ id) }
-        { id_at(pair.0, *pair.1) },
-    )
+    for (test, place) in tests.iter().zip(places) {
+        if let Some(id) = id_at(test, *place) {
+            return Some(id);
+        }
+    }
+    None
 }
 
 /// The places of the columns that the tests look at.
@@ -120,7 +125,9 @@ impl Model for Filter {
 }
 
 impl Filter {
+    ghost use Rattle.std.specs.Prelude.{◌≤◌};
     ghost use Rattle.rt_row.specs.Filters.{admits, IsFilterOf, IsUnknown};
+    ghost use Rattle.rt_row.specs.Windows.{IsWindowAt};
 
     /// The condition over a table of these columns.
     ///
@@ -148,10 +155,19 @@ impl Filter {
         passes_all(row, self.cond.as_slice(), self.places.as_slice())
     }
 
+    /// The window of the condition: what its tests ask of the coordinates of a row's box. A test by `<>` asks nothing.
+    pub fn window<const D: usize>(&self) -> Window<D>
+        requires { D ≤ 3 }
+        ensures { IsWindowAt D self.now result }
+    {
+        window_of(self.cond.as_slice(), self.places.as_slice())
+    }
+
     /// The id that each row has that the condition picks, where a test compares the id with an
-    /// integer by `=`.
+    /// integer by `=`; `None` only where no test does.
     pub fn id(&self) -> Option<i64>
-        ensures { IfSome result (λ id. (row : TableRow) → admits self.now row ≡ true → row.id ≡ id) }
+        ensures fixed { IfSome result (λ id. (row : TableRow) → admits self.now row ≡ true → row.id ≡ id) }
+        ensures none { IfNone result (list_any fixes_id (zip self.now.cond self.now.places) ≡ false) }
     {
         id_among(self.cond.as_slice(), self.places.as_slice())
     }

@@ -1,16 +1,23 @@
 //! The columns of a table.
 
-ghost use Rattle.std.specs.Prelude.{◌≡◌, ◌≤◌, ◌+◌, ◌*◌, length, map, IfOk};
+ghost use Rattle.std.specs.Prelude.{◌≡◌, ◌≤◌, ◌+◌, ◌*◌, ◌||◌, ℕ, List, true, not, length, map, IfOk, OnOk};
 ghost use Rattle.std.specs.List.{list_all};
+ghost use Rattle.std.specs.BTreeSet.{contains_text};
+ghost use Rattle.std.specs.Str.{str_to_ascii_lowercase};
+ghost use Rattle.rt_sql.specs.Name.{same_name};
 ghost use Rattle.rt_row.specs.Columns.{has_name, place_of, are_distinct, plain_columns, is_column_list, columns_of};
 ghost use Rattle.rt_row.specs.Answers.{Gives};
 
 use rt_sql::{ColumnDef, Name, Refusal};
 use std::alloc::{AllocError, Global};
+use std::collections::BTreeSet;
 use std::marker::Model;
 
 /// The most columns that a table may have.
 const MOST_COLUMNS: usize = 100;
+
+/// Up to so many names are compared each with each, which needs no memory.
+pub(crate) const FEW_NAMES: usize = 16;
 
 pub(crate) fn place_of(names: &[Name], name: &Name) -> Option<usize>
     ensures { result ≡ place_of names.now name.now }
@@ -24,6 +31,7 @@ pub(crate) fn has_name(names: &[Name], name: &Name) -> bool
     names.iter().any(|other| name.is_same(other))
 }
 
+/// Whether no name stands twice. Each is compared with each, so this is for short lists.
 pub(crate) fn are_distinct(names: &[Name]) -> bool
     ensures { result ≡ are_distinct names.now }
 {
@@ -35,6 +43,42 @@ pub(crate) fn are_distinct(names: &[Name]) -> bool
         rest = later;
     }
     true
+}
+
+/// Adds a name to the texts of those before it, which are in lower case. Says whether it is new among them.
+pub(crate) fn add_name(
+    alloc: Global,
+    texts: &mut BTreeSet<String>,
+    name: &Name,
+) -> Result<bool, AllocError>
+    ensures new { IfOk result (λ new. new ≡ not (contains_text texts.old (str_to_ascii_lowercase name.now))) }
+    ensures added { OnOk result ((q : List ℕ) → contains_text texts.new (str_to_ascii_lowercase q) ≡ (same_name name.now q || contains_text texts.old (str_to_ascii_lowercase q))) }
+{
+    let new = texts.insert(name.as_str().to_ascii_lowercase(alloc)?)?;
+    Ok(new)
+}
+
+/// The same for a long list, where it doesn't compare each name with each.
+fn are_many_distinct(alloc: Global, names: &[Name]) -> Result<bool, AllocError>
+    ensures { IfOk result (λ distinct. distinct ≡ are_distinct names.now) }
+{
+    let mut texts = BTreeSet::new(alloc);
+    for name in names {
+        if !add_name(alloc, &mut texts, name)? {
+            return Ok(false);
+        }
+    }
+    Ok(true)
+}
+
+/// Whether no name is listed twice, in a list of any length.
+pub(crate) fn are_listed_once(alloc: Global, names: &[Name]) -> Result<bool, AllocError>
+    ensures { IfOk result (λ distinct. distinct ≡ are_distinct names.now) }
+{
+    if names.len() <= FEW_NAMES {
+        return Ok(are_distinct(names));
+    }
+    are_many_distinct(alloc, names)
 }
 
 fn plain_columns(columns: &[ColumnDef]) -> usize
@@ -73,7 +117,7 @@ fn names_of(alloc: Global, columns: &[ColumnDef]) -> Result<Vec<Name>, AllocErro
 }
 
 /// The columns of a table: an id, a minimum and a maximum for each of one to three axes, and
-/// auxiliary columns.
+/// auxiliary columns. No two have one name.
 #[derive(Debug, Drop)]
 pub struct Schema {
     axes: usize,
@@ -81,14 +125,14 @@ pub struct Schema {
 }
 
 impl Model for Schema {
-    ghost use Rattle.std.specs.Prelude.{◌+◌, ◌*◌, ◌≤◌, length};
-    ghost use Rattle.rt_row.specs.Columns.{Columns};
+    ghost use Rattle.std.specs.Prelude.{◌≡◌, ◌+◌, ◌*◌, ◌≤◌, true, length};
+    ghost use Rattle.rt_row.specs.Columns.{Columns, are_distinct};
 
     ghost Value = { Columns };
 
     ghost view = { λ schema. record { axes = schema.axes; names = schema.names.items } };
 
-    ghost invariant = { λ schema. (1 ≤ schema.axes) × (schema.axes ≤ 3) × (1 + 2 * schema.axes ≤ length schema.names.items) };
+    ghost invariant = { λ schema. (1 ≤ schema.axes) × (schema.axes ≤ 3) × (1 + 2 * schema.axes ≤ length schema.names.items) × (are_distinct schema.names.items ≡ true) };
 }
 
 impl Schema {
@@ -124,6 +168,7 @@ impl Schema {
     pub fn len(&self) -> usize
         ensures value { result ≡ length self.now.names }
         ensures least { 1 + 2 * self.now.axes ≤ result }
+        ensures distinct { are_distinct self.now.names ≡ true }
     {
         self.names.len()
     }

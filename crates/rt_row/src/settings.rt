@@ -13,9 +13,10 @@ ghost use Rattle.rt_row.specs.Answers.{GivesAs};
 
 use crate::candidate::{Candidate, is_integer, number_in};
 use crate::entry::{Field, RowView};
-use crate::schema::{Schema, has_name, place_of};
+use crate::schema::{FEW_NAMES, Schema, add_name, has_name, place_of};
 use rt_sql::{Name, Refusal, Source, Value};
 use std::alloc::{AllocError, Global};
+use std::collections::BTreeSet;
 use std::marker::Model;
 
 /// What a set gives its column; the column that it reads is looked up.
@@ -49,6 +50,7 @@ fn is_set(sets: &[(Name, Source)], name: &Name) -> bool
     set_of(sets, name).is_some()
 }
 
+/// Whether no column is set twice. Each is compared with each, so this is for short lists.
 fn are_distinct(sets: &[(Name, Source)]) -> bool
     ensures { result ≡ are_distinct (set_names sets.now) }
 {
@@ -60,6 +62,29 @@ fn are_distinct(sets: &[(Name, Source)]) -> bool
         rest = later;
     }
     true
+}
+
+/// The same for a long list, where it doesn't compare each column with each.
+fn are_many_distinct(alloc: Global, sets: &[(Name, Source)]) -> Result<bool, AllocError>
+    ensures { IfOk result (λ distinct. distinct ≡ are_distinct (set_names sets.now)) }
+{
+    let mut texts = BTreeSet::new(alloc);
+    for set in sets {
+        if !add_name(alloc, &mut texts, &set.0)? {
+            return Ok(false);
+        }
+    }
+    Ok(true)
+}
+
+/// Whether no column is set twice, in a list of any length.
+fn are_set_once(alloc: Global, sets: &[(Name, Source)]) -> Result<bool, AllocError>
+    ensures { IfOk result (λ distinct. distinct ≡ are_distinct (set_names sets.now)) }
+{
+    if sets.len() <= FEW_NAMES {
+        return Ok(are_distinct(sets));
+    }
+    are_many_distinct(alloc, sets)
 }
 
 /// Whether each set is of a column of the table.
@@ -358,7 +383,7 @@ impl Settings {
     pub fn new(alloc: Global, schema: &Schema, sets: &[(Name, Source)]) -> Result<Settings, Refusal>
         ensures { MatchResult result (IsSettingsOf schema.now sets.now) (IsBadSettings schema.now sets.now) }
     {
-        if !are_distinct(sets) {
+        if !are_set_once(alloc, sets)? {
             return Err(Refusal::BadColumnList);
         }
         if !are_known(schema.names(), sets) {

@@ -9,5 +9,6 @@ returns c =
     record {
       known = has_columns_from c.args.schema.now c.args.cond c.in_ok-places.places.items found;
       cond_is = refl;
+      places_are = found;
       same = λ row. admits_same c.args.schema.now c.args.cond c.in_ok-places.places.items row found;
     }

@@ -24,7 +24,7 @@ returns-in_err-readings c =
     let distinct : are_distinct (set_names sets) ≡ true = search rules in
     let known : list_all (λ (set : Setting). has_name names set.0) sets ≡ true = search rules in
     let named : list_all (has_name names) (set_names sets) ≡ true = rw list_all-map known in
-    let p = err_from_is_err_and c.from_residual.result c.from_residual.ensures.1 in
+    let p = err_from_is_err_and c.from_residual-in_err-readings.result c.from_residual-in_err-readings.ensures.1 in
     let why = rw c.names-2.ensures at c.in_err-readings.ensures in
     let bad : IsBadSettings c.args.schema.now sets c.in_err-readings.field-0.0 =
     ⊎_elim (λ h. inr (inl (h.0, distinct, rw named h.1))) (λ h. inr (inr h)) why in
