@@ -1,4 +1,15 @@
 pub mod Order
 pub mod Sorted
-pub mod Positions
 pub mod Picked
+pub mod Heaps
+pub mod Joined
+pub mod Counted
+pub mod Top
+pub mod Moved
+pub mod Kept
+pub mod Staying
+pub mod Soundness
+pub mod Everywhere
+pub mod Alike
+pub mod Found
+pub mod Windows

@@ -1,9 +1,9 @@
 -- What a test leaves of rows by rising key, where only a row of one key may pass.
-use Rattle.std.proofs.Common.{◌≡◌, ℤ, Bool, true, false, cond, List, [], ◌∷◌, map, None, Some, refl, sym, ap, subst, ◌∙◌}
+use Rattle.std.proofs.Common.{◌≡◌, ℤ, Bool, true, false, cond, List, [], ◌∷◌, None, Some, refl, sym, ap, subst, ◌∙◌}
 use Rattle.std.specs.Prelude.{filter}
 use Rattle.std.specs.Ordering.{int_eq}
 use Rattle.rt_store.proofs.Order.{eq_same, eq_from}
-use Rattle.rt_store.proofs.Sorted.{at_key, Rises, IsRising, rises, none_below}
+use Rattle.rt_store.proofs.Sorted.{at_key, Rises, none_below}
 
 module _ {X : Type 0} (key : X → ℤ) (p : X → Bool) (q : ℤ) (fixed : (x : X) → p x ≡ true → key x ≡ q) where
   -- a row of another key fails
@@ -41,14 +41,3 @@ module _ {X : Type 0} (key : X → ℤ) (p : X → Bool) (q : ℤ) (fixed : (x :
   pub one_left : (xs : List X) (y : X) → Rises key xs → at_key key xs q ≡ Some y → filter p xs ≡ cond (p y) (y ∷ []) []
   one_left [] y rise e = cc
   one_left (x ∷ xs) y rise e = one_in x y xs rise (one_left xs y rise.1) (int_eq q (key x)) refl e
-
-  -- the keys of what is left
-  pub no_row : (xs : List X) → at_key key xs q ≡ None → [] ≡ map key (filter p xs)
-  no_row xs e = sym (ap (map key) (none_left xs e))
-
-  pub row_fails : (xs : List X) (y : X) → IsRising key xs → at_key key xs q ≡ Some y → p y ≡ false → [] ≡ map key (filter p xs)
-  row_fails xs y rise e is = sym (ap (map key) (one_left xs y (rises key xs rise) e ∙ ap (λ (c : Bool). cond c (y ∷ []) []) is))
-
-  pub row_passes : (xs : List X) (y : X) → IsRising key xs → at_key key xs q ≡ Some y → p y ≡ true → q ∷ [] ≡ map key (filter p xs)
-  row_passes xs y rise e is =
-      sym (ap (map key) (one_left xs y (rises key xs rise) e ∙ ap (λ (c : Bool). cond c (y ∷ []) []) is) ∙ ap (λ (z : ℤ). z ∷ []) (fixed y is))

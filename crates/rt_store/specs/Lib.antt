@@ -1,2 +1,6 @@
 pub mod Stored
-pub mod Places
+pub mod Trees
+pub mod Picking
+pub mod Moves
+pub mod Ranked
+pub mod StoreInside

@@ -1,12 +1,15 @@
 //! The rows of a table, by rising id.
 //!
-//! - `Store` keeps them: a row is found by its id, placed, or taken out; `picked` names those of which a
-//!   condition holds.
+//! - `Store` keeps them: a row is found by its id, placed, exchanged, or taken out; `picked` names those of which a
+//!   condition holds, and `select` finds them by the condition's window.
 //! - Placing takes no memory: `reserve` makes the room for it before.
 //!
-//! What callers know of a store is the list of its rows and its room, not how the rows are kept.
+//! What callers know of a store is the list of its rows, the tree of their boxes, and its room.
 #![tactic(auto)]
 
+mod finding;
+mod largest;
 mod store;
 
-pub use store::{Found, Store};
+pub use finding::Selected;
+pub use store::Store;

@@ -1,84 +1,122 @@
-//! Rows in a sorted list.
+//! Rows in a tree.
 
-ghost use Rattle.std.specs.Prelude.{◌≡◌, ◌≤◌, ◌<◌, ◌+◌, [], vec_len, vec_capacity, true, false, filter, map, length, IfOk, IfErr, OnOk};
-ghost use Rattle.std.specs.Option.{option_map};
-ghost use Rattle.std.specs.List.{insert};
+ghost use Rattle.std.specs.Prelude.{◌≡◌, ◌≢◌, ◌⊎◌, ◌≤◌, ◌<◌, ◌+◌, ℤ, [], None, Some, true, false, length, IfOk, OnOk};
+ghost use Rattle.std.specs.Option.{option_map, unwrap_or};
+ghost use Rattle.std.specs.Ordering.{int_eq};
+ghost use Rattle.indexmap.specs.IndexMap.{get, spare};
+ghost use Rattle.rt_node.specs.declared.arena.Work.{Work};
+ghost use Rattle.rt_tree.specs.Lists.{empty_lists};
+ghost use Rattle.rt_tree.specs.Changes.{IsInsertion, IsRemoval};
 ghost use Rattle.rt_row.specs.Rows.{TableRow, AreRising, row_at, has_id, with_row, without_id, largest_id};
+ghost use Rattle.rt_row.specs.Edits.{most_rows};
 ghost use Rattle.rt_row.specs.Entries.{row_of, view_row};
-ghost use Rattle.rt_row.specs.Filters.{admits};
-ghost use Rattle.rt_store.specs.Places.{IsAt, IsGapFor};
+ghost use Rattle.rt_store.specs.Trees.{leaf_row, IsTreeOf};
+ghost use Rattle.rt_store.specs.Moves.{stays};
 
-use rt_row::{Entry, Filter, RowView};
+use crate::largest::Largest;
+use indexmap::IndexMap;
+use rt_box::Capacity;
+use rt_check::Shadow;
+use rt_row::{Entry, RowView};
+use rt_sql::{Items, Value};
+use rt_tree::{Row, Tree};
 use std::alloc::{AllocError, Global};
+use std::hash::RandomState;
 use std::marker::Model;
 
-/// The rows of which a condition holds.
-#[derive(Debug, Drop)]
-pub struct Found {
-    /// Their ids, rising.
-    pub ids: Vec<i64>,
-    /// How many nodes of a tree were looked at; a list has none.
-    pub visited: u64,
-}
-
-/// The ids of the entries of which the condition holds.
-fn picked<const D: usize>(
-    alloc: Global,
-    entries: &[Entry<D>],
-    condition: &Filter,
-) -> Result<Vec<i64>, AllocError>
-    ensures { IfOk result (λ ids. ids.items ≡ map (λ r. r.id) (filter (admits condition.now) (map row_of entries.now))) }
-{
-    let mut ids = Vec::new(alloc);
-    for entry in entries {
-        if !condition.holds(&entry.view()) {
-            continue;
-        }
-        ids.push(entry.id)?;
-    }
-    Ok(ids)
-}
-
-/// There is room, so the list takes the entry where it is.
-fn insert_within<const D: usize>(entries: &mut Vec<Entry<D>>, at: usize, entry: Entry<D>)
-    requires place { at ≤ vec_len entries.old }
-    requires room { vec_len entries.old < vec_capacity entries.old }
-    ensures items { entries.new.items ≡ insert entries.old.items at entry.entry }
-    ensures len { vec_len entries.new ≡ vec_len entries.old + 1 }
-    ensures capacity { vec_capacity entries.old ≤ vec_capacity entries.new }
-{
-    let _ = entries.insert(at, entry);
-}
-
-/// The rows of a table with `D` axes, from one to three, by rising id.
+/// The rows of a table with `D` axes, from one to three, by rising id: their boxes in an R*-tree, their auxiliary values
+/// in a map by id.
 #[derive(Drop)]
 pub struct Store<const D: usize> {
-    entries: Vec<Entry<D>>,
+    pub(crate) tree: Tree<D>,
+    notes: IndexMap<i64, Items<Value>, RandomState>,
+    largest: Largest,
+    // No auxiliary values.
+    nothing: Items<Value>,
+    // A row without auxiliary values is taken out with an empty list.
+    alloc: Global,
+}
+
+/// The auxiliary values of the row of that id.
+fn kept<'a>(
+    notes: &'a IndexMap<i64, Items<Value>, RandomState>,
+    nothing: &'a Items<Value>,
+    id: &i64,
+) -> &'a [Value]
+    requires { nothing.now ≡ [] }
+    ensures { result.now ≡ unwrap_or (get int_eq notes.now id.now) [] }
+{
+    match notes.get(id) {
+        Some(more) => more.as_slice(),
+        None => nothing.as_slice(),
+    }
+}
+
+/// The auxiliary values of the row of that id are these from now on. It takes no memory.
+fn keep(notes: &mut IndexMap<i64, Items<Value>, RandomState>, id: &i64, more: Items<Value>)
+    requires { (more ≡ []) ⊎ (1 ≤ spare notes.old) }
+    ensures here { unwrap_or (get int_eq notes.new id.now) [] ≡ more }
+    ensures others { (other : ℤ) → other ≢ id.now → get int_eq notes.new other ≡ get int_eq notes.old other }
+    ensures room { spare notes.old ≤ spare notes.new + 1 }
+    ensures no_note { more ≡ [] → spare notes.old ≤ spare notes.new }
+{
+    if more.is_empty() {
+        let _ = notes.swap_remove(id);
+        return;
+    }
+    // There is room, so the map takes them.
+    let _ = notes.insert(*id, more);
+}
+
+/// The auxiliary values of the row of that id, which leave the map.
+fn take(
+    notes: &mut IndexMap<i64, Items<Value>, RandomState>,
+    alloc: Global,
+    id: &i64,
+) -> Items<Value>
+    ensures value { result ≡ unwrap_or (get int_eq notes.old id.now) [] }
+    ensures gone { get int_eq notes.new id.now ≡ None }
+    ensures others { (other : ℤ) → other ≢ id.now → get int_eq notes.new other ≡ get int_eq notes.old other }
+    ensures room { spare notes.old ≤ spare notes.new }
+{
+    match notes.swap_remove(id) {
+        Some(more) => more,
+        None => Items::new(alloc),
+    }
 }
 
 impl<const D: usize> Model for Store<D> {
-    ghost use Rattle.std.specs.Prelude.{◌-◌, map, vec_len, vec_capacity};
     ghost use Rattle.rt_store.specs.Stored.{Stored};
 
-    ghost Value = { Stored };
+    ghost Value = { Stored D };
 
-    ghost use Rattle.std.specs.Prelude.{◌≤◌};
-    ghost use Rattle.rt_row.specs.Rows.{AreRising};
-    ghost use Rattle.rt_row.specs.Entries.{row_of};
+    ghost use Rattle.rt_store.specs.StoreInside.{stored, IsJoined};
 
-    ghost view = { λ store. record { rows = map row_of store.entries.items; room = vec_capacity store.entries - vec_len store.entries } };
+    ghost view = { stored };
 
-    ghost invariant = { λ store. record { few : D ≤ 3; rising : AreRising (map row_of store.entries.items) } };
+    ghost invariant = { IsJoined D };
 }
 
 impl<const D: usize> Store<D> {
-    /// No rows.
-    pub fn new(alloc: Global) -> Result<Store<D>, AllocError>
-        requires { D ≤ 3 }
-        ensures { IfOk result (λ store. store.rows ≡ []) }
+    /// No rows. The tree's nodes have at most `capacity` cells. Look-ups by id hash by `keys`, which are to be random
+    /// where others choose the ids.
+    ///
+    /// # Errors
+    ///
+    /// `AllocError` where no memory is left.
+    pub fn new(alloc: Global, keys: RandomState, capacity: Capacity) -> Result<Store<D>, AllocError>
+        requires some { 1 ≤ D }
+        requires few { D ≤ 3 }
+        ensures rows { IfOk result (λ store. store.rows ≡ []) }
+        ensures tree { IfOk result (λ store. store.tree ≡ empty_lists capacity) }
     {
+        let tree = Tree::new(alloc, keys, capacity)?;
         Ok(Store {
-            entries: Vec::new(alloc),
+            tree,
+            notes: IndexMap::with_hasher(alloc, keys),
+            largest: Largest::new(alloc),
+            nothing: Items::new(alloc),
+            alloc,
         })
     }
 
@@ -86,53 +124,39 @@ impl<const D: usize> Store<D> {
     pub fn len(&self) -> usize
         ensures value { result ≡ length self.now.rows }
         ensures rising { AreRising self.now.rows }
+        ensures stands { IsTreeOf self.now.rows self.now.tree }
+        ensures most { length self.now.rows ≤ most_rows }
+        ensures some { 1 ≤ D }
         ensures few { D ≤ 3 }
     {
-        self.entries.len()
-    }
-
-    /// Where the row of that id is, or else where it would stand.
-    fn search(&self, id: &i64) -> Result<usize, usize>
-        ensures found { IfOk result (IsAt (map (λ r. r.id) self.now.rows) id.now) }
-        ensures absent { IfErr result (IsGapFor (map (λ r. r.id) self.now.rows) id.now) }
-    {
-        self.entries.binary_search_by_key(
-            id,
-            |row: &Entry<D>| -> i64
-                ensures { result ≡ row.entry.now.id }
-            { row.id },
-        )
-    }
-
-    /// Where the row of that id is.
-    fn place_of(&self, id: &i64) -> usize
-        requires { has_id self.now.rows id.now ≡ true }
-        ensures { IsAt (map (λ r. r.id) self.now.rows) id.now result }
-    {
-        match self.search(id) {
-            Ok(at) => at,
-            Err(at) => at,
-        }
-    }
-
-    /// Where a row of that id would stand.
-    fn gap(&self, id: &i64) -> usize
-        requires { has_id self.now.rows id.now ≡ false }
-        ensures { IsGapFor (map (λ r. r.id) self.now.rows) id.now result }
-    {
-        match self.search(id) {
-            Ok(at) => at,
-            Err(at) => at,
-        }
+        self.tree.is_in_shape();
+        self.tree.len()
     }
 
     /// The row of that id, where it stands.
     pub fn find(&self, id: &i64) -> Option<RowView<'_, D>>
         ensures { option_map view_row result ≡ row_at self.now.rows id.now }
     {
-        match self.search(id) {
-            Ok(at) => Some(self.entries[at].view()),
-            Err(_) => None,
+        // The row of an id has the box that the tree has.
+        self.tree.is_in_shape();
+        let rect = self.tree.get(id)?;
+        Some(RowView {
+            id: *id,
+            rect,
+            more: kept(&self.notes, &self.nothing, id),
+        })
+    }
+
+    /// The row of a box that was found, where it stands: its box isn't looked up again.
+    pub fn view(&self, row: &Row<D>) -> RowView<'_, D>
+        requires { option_map leaf_row (row_at self.now.rows row.now.id) ≡ Some row.now }
+        ensures { Some (view_row result) ≡ row_at self.now.rows row.now.id }
+    {
+        self.tree.is_in_shape();
+        RowView {
+            id: row.id,
+            rect: row.rect,
+            more: kept(&self.notes, &self.nothing, &row.id),
         }
     }
 
@@ -140,71 +164,155 @@ impl<const D: usize> Store<D> {
     pub fn largest(&self) -> Option<i64>
         ensures { result ≡ largest_id self.now.rows }
     {
-        match self.entries.last() {
-            Some(entry) => Some(entry.id),
-            None => None,
-        }
+        self.tree.is_in_shape();
+        self.largest.get()
     }
 
-    /// The id, where its row is there and the condition holds of it. No other row is looked at.
-    fn picked_at(&self, alloc: Global, id: &i64, condition: &Filter) -> Result<Vec<i64>, AllocError>
-        requires fixed { (row : TableRow) → admits condition.now row ≡ true → row.id ≡ id.now }
-        ensures { IfOk result (λ ids. ids.items ≡ map (λ r. r.id) (filter (admits condition.now) self.now.rows)) }
+    /// The tree from outside. Look-ups in it hash by `keys`.
+    ///
+    /// # Errors
+    ///
+    /// `AllocError` where no memory is left.
+    pub fn shadow(&self, alloc: Global, keys: RandomState) -> Result<Shadow<D>, AllocError>
+        ensures { IfOk result (λ shadow. shadow ≡ self.now.tree) }
     {
-        // For the proof: `len` says that the ids rise, and that there are at most three axes.
-        let _ = self.len();
-        let mut ids = Vec::new(alloc);
-        let Some(row) = self.find(id) else {
-            return Ok(ids);
-        };
-        if !condition.holds(&row) {
-            return Ok(ids);
-        }
-        ids.push(*id)?;
-        Ok(ids)
+        self.tree.shadow(alloc, keys)
     }
 
-    /// The ids of the rows of which the condition holds, rising.
-    pub fn picked(&self, alloc: Global, condition: &Filter) -> Result<Found, AllocError>
-        ensures ids { IfOk result (λ found. found.ids.items ≡ map (λ r. r.id) (filter (admits condition.now) self.now.rows)) }
-        ensures visited { IfOk result (λ found. found.visited ≡ 0) }
-    {
-        if let Some(id) = condition.id() {
-            let ids = self.picked_at(alloc, &id, condition)?;
-            return Ok(Found { ids, visited: 0 });
-        }
-        let ids = picked(alloc, self.entries.as_slice(), condition)?;
-        Ok(Found { ids, visited: 0 })
-    }
-
-    /// Makes room for so many more rows. The rows stay, also after a refusal.
-    pub fn reserve(&mut self, alloc: Global, rows: usize) -> Result<(), AllocError>
+    /// Makes room in the tree for so many more rows, and for their ids.
+    fn make_room(&mut self, alloc: Global, rows: usize) -> Result<(), AllocError>
         ensures rows { self.new.rows ≡ self.old.rows }
+        ensures tree { self.new.tree ≡ self.old.tree }
         ensures room { self.old.room ≤ self.new.room }
+        ensures note_room { self.new.note_room ≡ self.old.note_room }
         ensures ok { OnOk result (rows ≤ self.new.room) }
     {
-        self.entries.reserve(rows)
+        if rows <= self.tree.spare() {
+            return Ok(());
+        }
+        // The tree makes room for as many rows as it has, or for more, so their ids are to have room first.
+        let held = self.tree.len();
+        let ids = if rows < held { held } else { rows };
+        self.largest.reserve(alloc, ids, &self.tree)?;
+        self.tree.reserve(rows)?;
+        Ok(())
+    }
+
+    /// Makes room for so many more rows, and for so many with auxiliary values. The rows and the tree stay, also after a
+    /// refusal.
+    ///
+    /// # Errors
+    ///
+    /// `AllocError` where no memory is left.
+    pub fn reserve(&mut self, alloc: Global, rows: usize, notes: usize) -> Result<(), AllocError>
+        ensures rows { self.new.rows ≡ self.old.rows }
+        ensures tree { self.new.tree ≡ self.old.tree }
+        ensures room { self.old.room ≤ self.new.room }
+        ensures note_room { self.old.note_room ≤ self.new.note_room }
+        ensures ok { OnOk result (rows ≤ self.new.room) }
+        ensures notes { OnOk result (notes ≤ self.new.note_room) }
+    {
+        self.make_room(alloc, rows)?;
+        if notes == 0 {
+            return Ok(());
+        }
+        self.notes.reserve(notes)?;
+        Ok(())
     }
 
     /// Places a row. It takes no memory.
     pub fn place(&mut self, row: Entry<D>)
         requires absent { has_id self.old.rows row.id ≡ false }
+        requires few { length self.old.rows < most_rows }
         requires room { 1 ≤ self.old.room }
+        requires note_room { (row.more ≡ []) ⊎ (1 ≤ self.old.note_room) }
         ensures rows { self.new.rows ≡ with_row self.old.rows (row_of row.entry) }
+        ensures tree { (work : Work) × IsInsertion self.old.tree self.new.tree row.entry.id row.entry.rect work }
+        ensures capacity { self.new.tree.capacity ≡ self.old.tree.capacity }
         ensures room { self.old.room ≤ self.new.room + 1 }
+        ensures note_room { self.old.note_room ≤ self.new.note_room + 1 }
+        ensures no_note { row.entry.more ≡ [] → self.old.note_room ≤ self.new.note_room }
     {
-        let at = self.gap(&row.id);
-        insert_within(&mut self.entries, at, row);
+        // The law says before and after which ids the tree has.
+        self.tree.is_in_shape();
+        let Entry { id, rect, more } = row;
+        let _ = self.tree.insert(&id, &rect);
+        self.tree.is_in_shape();
+        self.largest.note(&id);
+        keep(&mut self.notes, &id, more);
     }
 
-    /// Takes out the row of that id.
+    /// Takes out the row of that id. It takes no memory.
     pub fn take_out(&mut self, id: &i64) -> Entry<D>
         requires { has_id self.old.rows id.now ≡ true }
         ensures row { Some (row_of result) ≡ row_at self.old.rows id.now }
         ensures rows { self.new.rows ≡ without_id self.old.rows id.now }
+        ensures tree { IsRemoval self.old.tree self.new.tree id.now result.rect }
+        ensures capacity { self.new.tree.capacity ≡ self.old.tree.capacity }
         ensures room { self.old.room ≤ self.new.room }
+        ensures note_room { self.old.note_room ≤ self.new.note_room }
     {
-        let at = self.place_of(id);
-        self.entries.remove(at)
+        // The law says before and after which ids the tree has.
+        self.tree.is_in_shape();
+        let rect = self.tree.remove(id);
+        self.tree.is_in_shape();
+        self.largest.settle(&self.tree);
+        let more = take(&mut self.notes, self.alloc, id);
+        Entry {
+            id: *id,
+            rect,
+            more,
+        }
+    }
+
+    /// Whether the row has the id, and the box that is there.
+    fn stays(&self, id: &i64, row: &Entry<D>) -> bool
+        ensures { result ≡ stays self.now.rows id.now (row_of row.entry.now) }
+    {
+        self.tree.is_in_shape();
+        if *id != row.id {
+            return false;
+        }
+        match self.tree.get(id) {
+            Some(rect) => rect == row.rect,
+            None => false,
+        }
+    }
+
+    /// The row of that id has these auxiliary values from now on. It takes no memory.
+    fn exchange_notes(&mut self, id: &i64, more: Items<Value>)
+        requires there { has_id self.old.rows id.now ≡ true }
+        requires note_room { (more ≡ []) ⊎ (1 ≤ self.old.note_room) }
+        ensures rows { (row : TableRow) → option_map (λ old. old.box) (row_at self.old.rows id.now) ≡ Some row.box → row.id ≡ id.now → row.more ≡ more → self.new.rows ≡ with_row (without_id self.old.rows id.now) row }
+        ensures tree { self.new.tree ≡ self.old.tree }
+        ensures room { self.old.room ≤ self.new.room }
+        ensures note_room { self.old.note_room ≤ self.new.note_room + 1 }
+        ensures no_note { more ≡ [] → self.old.note_room ≤ self.new.note_room }
+    {
+        self.tree.is_in_shape();
+        keep(&mut self.notes, id, more);
+    }
+
+    /// Puts a row in the place of the one of that id. Where id and box stay, the tree is left alone. It takes no memory.
+    pub fn exchange(&mut self, id: &i64, row: Entry<D>)
+        requires there { has_id self.old.rows id.now ≡ true }
+        requires absent { has_id (without_id self.old.rows id.now) row.id ≡ false }
+        requires room { 1 ≤ self.old.room }
+        requires note_room { (row.more ≡ []) ⊎ (1 ≤ self.old.note_room) }
+        ensures rows { self.new.rows ≡ with_row (without_id self.old.rows id.now) (row_of row.entry) }
+        ensures tree { stays self.old.rows id.now (row_of row.entry) ≡ true → self.new.tree ≡ self.old.tree }
+        ensures capacity { self.new.tree.capacity ≡ self.old.tree.capacity }
+        ensures room { self.old.room ≤ self.new.room + 1 }
+        ensures note_room { self.old.note_room ≤ self.new.note_room + 1 }
+        ensures no_note { row.entry.more ≡ [] → self.old.note_room ≤ self.new.note_room }
+    {
+        // There are few enough rows, and fewer once the old one is out.
+        let _ = self.len();
+        if self.stays(id, &row) {
+            self.exchange_notes(id, row.more);
+            return;
+        }
+        let _ = self.take_out(id);
+        self.place(row);
     }
 }
