@@ -38,6 +38,6 @@ pub fn plan_delete<const D: usize>(
     // The contract of `len` says that there are three axes at most.
     let _ = store.len();
     let filter = Filter::new(alloc, schema, cond)?;
-    let found = store.picked(alloc, &filter)?;
-    Ok(Plan::new(leaving(alloc, found.ids.as_slice())?))
+    let ids = store.picked(alloc, &filter)?;
+    Ok(Plan::new(leaving(alloc, ids.as_slice())?))
 }

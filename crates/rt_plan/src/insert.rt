@@ -1,11 +1,11 @@
 //! What an INSERT does.
 
-ghost use Rattle.std.specs.Prelude.{◌≡◌, ◌≤◌, ◌+◌, ◌*◌, length, map, List};
+ghost use Rattle.std.specs.Prelude.{◌≡◌, ◌≤◌, ◌+◌, ◌*◌, length, map, List, MatchResult};
 ghost use Rattle.std.specs.Option.{option_copied};
 ghost use Rattle.std.specs.Ordering.{int_eq};
 ghost use Rattle.indexmap.specs.IndexMap.{get};
 ghost use Rattle.rt_row.specs.Answers.{GivesAs};
-ghost use Rattle.rt_row.specs.Arrangements.{rearranged};
+ghost use Rattle.rt_row.specs.Arrangements.{IsArrangementOf, IsBadList, rearranged};
 ghost use Rattle.rt_row.specs.Candidates.{candidate_of};
 ghost use Rattle.rt_row.specs.Rows.{TableRow};
 ghost use Rattle.rt_row.specs.Edits.{and_then, id_or_new, put_taken, put_at, put, put_all, listed_columns, insert};
@@ -144,13 +144,17 @@ fn all_steps<const D: usize>(
     Ok(draft.steps)
 }
 
-/// The names that an INSERT lists, or all of the table's.
-fn listed_names<'a>(schema: &'a Schema, listed: &'a Option<Items<Name>>) -> &'a [Name]
-    ensures { result.now ≡ listed_columns schema.now listed.now }
+/// The arrangement of values for the columns that an INSERT lists, or for all of the table's.
+fn arrangement_of(
+    alloc: Global,
+    schema: &Schema,
+    listed: &Option<Items<Name>>,
+) -> Result<Arrangement, Refusal>
+    ensures { MatchResult result (IsArrangementOf schema.now (listed_columns schema.now listed.now)) (IsBadList schema.now (listed_columns schema.now listed.now)) }
 {
     match listed {
-        None => schema.names(),
-        Some(names) => names.as_slice(),
+        None => Ok(Arrangement::whole(alloc, schema)?),
+        Some(names) => Arrangement::new(alloc, schema, names.as_slice()),
     }
 }
 
@@ -178,7 +182,7 @@ pub fn plan_insert<const D: usize>(
 {
     // What the contracts of these say: one to three axes, and columns enough for them.
     let _ = (store.len(), schema.axes(), schema.len());
-    let arrangement = Arrangement::new(alloc, schema, listed_names(schema, listed))?;
+    let arrangement = arrangement_of(alloc, schema, listed)?;
     if !arrangement.fits(lists) {
         return Err(Refusal::WrongNumberOfValues);
     }

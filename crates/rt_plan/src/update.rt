@@ -106,6 +106,6 @@ pub fn plan_update<const D: usize>(
     let _ = (store.len(), schema.axes(), schema.len());
     let settings = Settings::new(alloc, schema, sets)?;
     let filter = Filter::new(alloc, schema, cond)?;
-    let found = store.picked(alloc, &filter)?;
-    Ok(Plan::new(all_steps(alloc, keys, store, &settings, found.ids.as_slice())?))
+    let ids = store.picked(alloc, &filter)?;
+    Ok(Plan::new(all_steps(alloc, keys, store, &settings, ids.as_slice())?))
 }

@@ -12,14 +12,14 @@ use Rattle.rt_plan.proofs.insert.plan_insert.Goals as goal
 pub returns-then-not-fits : goal.returns-then-not-fits
 returns-then-not-fits g c =
     let found : Arranged = c.in_ok-arrangement.arrangement in
-    let is : IsArrangementOf c.args.schema.now (listed_columns c.args.schema.now c.args.listed.now) found = rw c.listed_names.ensures at c.in_ok-arrangement.ensures in
+    let is : IsArrangementOf c.args.schema.now (listed_columns c.args.schema.now c.args.listed.now) found = c.in_ok-arrangement.ensures in
     let wide : list_all (λ (values : List Value). length values == found.width) c.args.lists.now ≡ false = search rules in
     inl (inserts_not c.args.schema.now c.args.store.now.rows c.args.rule c.args.listed.now c.args.lists.now found is wide)
 
 pub returns-in_err-steps : goal.returns-in_err-steps
 returns-in_err-steps g c =
     let found : Arranged = c.in_ok-arrangement.arrangement in
-    let is : IsArrangementOf c.args.schema.now (listed_columns c.args.schema.now c.args.listed.now) found = rw c.listed_names.ensures at c.in_ok-arrangement.ensures in
+    let is : IsArrangementOf c.args.schema.now (listed_columns c.args.schema.now c.args.listed.now) found = c.in_ok-arrangement.ensures in
     let wide : list_all (λ (values : List Value). length values == found.width) c.args.lists.now ≡ true = search rules in
     let p = err_from_is_err_and c.from_residual-in_err-steps.result c.from_residual-in_err-steps.ensures.1 in
     let rows = c.args.store.now.rows in
@@ -30,9 +30,9 @@ returns-in_err-steps g c =
 pub returns : goal.returns
 returns g c =
     let found : Arranged = c.in_ok-arrangement.arrangement in
-    let is : IsArrangementOf c.args.schema.now (listed_columns c.args.schema.now c.args.listed.now) found = rw c.listed_names.ensures at c.in_ok-arrangement.ensures in
+    let is : IsArrangementOf c.args.schema.now (listed_columns c.args.schema.now c.args.listed.now) found = c.in_ok-arrangement.ensures in
     let wide : list_all (λ (values : List Value). length values == found.width) c.args.lists.now ≡ true = search rules in
     let rows = c.args.store.now.rows in
     plans_made (insert c.args.schema.now rows c.args.rule c.args.listed.now c.args.lists.now) (put_all g.row.D c.args.rule rows (map (rearranged found) c.args.lists.now))
-    (map step_of c.in_ok-steps.steps.items) c.new-2.result
-    (inserts g.row.D c.args.schema.now rows c.args.rule c.args.listed.now c.args.lists.now found c.requires is wide) c.in_ok-steps.ensures c.new-2.ensures
+    (map step_of c.in_ok-steps.steps.items) c.new.result
+    (inserts g.row.D c.args.schema.now rows c.args.rule c.args.listed.now c.args.lists.now found c.requires is wide) c.in_ok-steps.ensures c.new.ensures

@@ -15,7 +15,7 @@ returns-in_err-all_steps g c =
     let other = all_set g.row.D c.in_ok-settings.settings rows (filter_map (row_at rows) c.as_slice.result.now) in
     plans_refused (update c.args.schema.now rows c.args.sets.now c.args.cond) other c.in_err-all_steps.field-0.0 p.0 c.from_residual-in_err-all_steps.result p.1 p.2
     (updates_on g.row.D c.args.schema.now rows c.args.sets.now c.in_ok-settings.settings c.args.cond c.in_ok-filter.filter c.as_slice.result.now c.requires c.len.ensures.rising
-    c.in_ok-settings.ensures c.in_ok-filter.ensures (c.as_slice.ensures.value ∙ c.in_ok-found.ensures.ids)) c.in_err-all_steps.ensures
+    c.in_ok-settings.ensures c.in_ok-filter.ensures (c.as_slice.ensures.value ∙ c.in_ok-ids.ensures)) c.in_err-all_steps.ensures
 
 pub returns : goal.returns
 returns g c =
@@ -23,4 +23,4 @@ returns g c =
     let other = all_set g.row.D c.in_ok-settings.settings rows (filter_map (row_at rows) c.as_slice.result.now) in
     plans_made (update c.args.schema.now rows c.args.sets.now c.args.cond) other (map step_of c.in_ok-all_steps.field-0.items) c.new-3.result
     (updates_on g.row.D c.args.schema.now rows c.args.sets.now c.in_ok-settings.settings c.args.cond c.in_ok-filter.filter c.as_slice.result.now c.requires c.len.ensures.rising
-    c.in_ok-settings.ensures c.in_ok-filter.ensures (c.as_slice.ensures.value ∙ c.in_ok-found.ensures.ids)) c.in_ok-all_steps.ensures c.new-3.ensures
+    c.in_ok-settings.ensures c.in_ok-filter.ensures (c.as_slice.ensures.value ∙ c.in_ok-ids.ensures)) c.in_ok-all_steps.ensures c.new-3.ensures
