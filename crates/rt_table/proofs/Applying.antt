@@ -1,22 +1,23 @@
 -- The steps that a statement answers apply to the rows of its table.
-use Rattle.std.proofs.Common.{◌≡◌, ◌∙◌, ℕ, ℤ, Bool, true, false, cond, not, ◌&&◌, ◌||◌, List, [], ◌∷◌, ◌++◌, map, length, Option, Some, None, Result, Ok, Err, IfOk, refl, sym, ap, subst}
+use Rattle.std.proofs.Common.{◌≡◌, ◌∙◌, ℕ, ℤ, Bool, true, false, cond, not, ◌&&◌, ◌||◌, List, [], ◌∷◌, ◌++◌, map, length, Option, Some, None, Result, Ok, Err, IfOk, refl, sym, ap}
 use Rattle.std.specs.Prelude.{◌<ℤ◌, find, filter, is_some, nat_le, ◌==◌, if◌then◌else◌}
 use Rattle.std.specs.List.{AllByRecursion, list_any, list_all}
 use Rattle.std.specs.Ordering.{int_eq}
+use Rattle.std.proofs.lemmas.Bool.{leb-false}
 use Rattle.rt_sql.specs.declared.value.Value.{Value}
 use Rattle.rt_sql.specs.declared.statement.Rule.{Rule}
 use Rattle.rt_sql.specs.declared.statement.Rule.TheVariants.{Abort, Replace, Ignore}
 use Rattle.rt_sql.specs.declared.statement.Test.{Test}
 use Rattle.rt_sql.specs.declared.refusal.Refusal.{Refusal}
-use Rattle.rt_sql.specs.declared.refusal.Refusal.TheVariants.{BadColumnList, NoSuchColumn, WrongNumberOfValues, WrongType, IntegerOutOfRange, IdAlreadyTaken, MinimumAboveMaximum, TableFull, NoIdLeft}
+use Rattle.rt_sql.specs.declared.refusal.Refusal.TheVariants.{BadColumnList, NoSuchColumn, WrongNumberOfValues, WrongType, IntegerOutOfRange, IdAlreadyTaken, MinimumAboveMaximum, TableFull}
 use Rattle.rt_row.specs.Columns.{Columns, has_name, are_distinct}
 use Rattle.rt_row.specs.Conditions.{has_columns, holds, picked}
 use Rattle.rt_row.specs.Candidates.{Candidate, candidate_of, is_integer, id_value, coordinate_values}
 use Rattle.rt_row.specs.Rows.{TableRow, values_of, AreRising, has_id, with_row, without_id}
 use Rattle.rt_row.specs.Edits.{Step, Leaves, Comes, Becomes, Steps, after_step, outcome, and_then, Setting, row_of, put_taken, put_at, id_or_new, unless_ignored, put, put_all, steps_and, arranged, listed_columns, insert, delete, update, update_all, update_row, becomes, become_candidate, new_values, is_summable, sum_fits, columns_read}
-use Rattle.rt_store.proofs.Order.{eq_same, eq_from, eq_below}
-use Rattle.rt_store.proofs.Sorted.{at_key-taken, at_key-placed, Rises, rises, rises-filter}
-use Rattle.rt_table.specs.Preparing.{Applies, ApplyInTurn}
+use Rattle.rt_store.proofs.Order.{eq_same, eq_below}
+use Rattle.rt_store.proofs.Sorted.{at_key-taken, at_key-placed, Rises, rises}
+use Rattle.rt_table.specs.Preparing.{ApplyInTurn}
 use Rattle.rt_table.specs.Applying.{StepsApply}
 
 -- ---- which ids there are
@@ -83,7 +84,7 @@ apply-put_at rule rows c None = tt
 apply-put_at rule rows c (Some id) =
     of_choice (ApplyInTurn rows) (has_id rows id) (put_taken rule id c) (if nat_le 1048576 (length rows) then Err TableFull else Ok (Comes (row_of id c) ∷ []))
     (λ there. apply-put_taken rule rows id c there)
-    (λ new. of_choice (ApplyInTurn rows) (nat_le 1048576 (length rows)) (Err TableFull) (Ok (Comes (row_of id c) ∷ [])) (λ full. tt) (λ room. (new, tt)))
+    (λ new. of_choice (ApplyInTurn rows) (nat_le 1048576 (length rows)) (Err TableFull) (Ok (Comes (row_of id c) ∷ [])) (λ full. tt) (λ room. ((new, leb-false 1048576 (length rows) room), tt)))
 
 apply-unless_ignored : (rule : Rule) (rows : List TableRow) (steps : Steps) → IfOk steps (ApplyInTurn rows) → IfOk (unless_ignored rule steps) (ApplyInTurn rows)
 apply-unless_ignored Abort rows (Ok steps) apply = apply

@@ -7,3 +7,5 @@ pub mod Readying
 pub mod Showing
 pub mod Replaying
 pub mod Applying
+pub mod Moving
+pub mod Counting

@@ -1,7 +1,8 @@
 -- The rows that a condition picks, and their ids.
 use Rattle.std.proofs.Common.{◌≡◌, ℕ, ◌+◌, ◌<◌, ℤ, pos, Bool, true, false, cond, ◌||◌, List, [], ◌∷◌, ◌++◌, map, filter, take, length, get_or, Option, Some, None, refl, sym, ap, ◌∙◌}
 use Rattle.std.specs.Prelude.{◌<ℤ◌, is_some}
-use Rattle.std.specs.List.{AllByRecursion, list_any, filter_map, cons_option}
+use Rattle.std.specs.List.{All, AllByRecursion, list_any, filter_map, cons_option}
+use Rattle.std.specs.Option.{option_map}
 use Rattle.std.specs.Ordering.{int_eq}
 use Rattle.std.proofs.lemmas.List.Elements.{All-filter, All-from_recursion, recursion_from_All, filter_map-append}
 use Rattle.std.proofs.lemmas.List.{take_more, map-append, append-nil}
@@ -10,6 +11,8 @@ use Rattle.rt_sql.specs.declared.value.Value.{Value}
 use Rattle.rt_row.specs.Rows.{TableRow, AreRising, row_at, values_of}
 use Rattle.rt_store.proofs.Order.{eq_same, eq_above}
 use Rattle.rt_store.proofs.Sorted.{kept, at_key, Rises, rises, at_key-filter}
+use Rattle.rt_walk.specs.declared.searching.Row.{Row}
+use Rattle.rt_store.specs.Trees.{leaf_row}
 use Rattle.rt_table.specs.Watching.{is_picked}
 
 module _ {X : Type 0} (key : X → ℤ) where
@@ -90,3 +93,39 @@ any_more ids i q b within same =
     ∙ one_more (int_eq q (get_or ids i (pos 0))) b
     ∙ ap (λ (a : Bool). a || (int_eq q (get_or ids i (pos 0)) || false)) same
     ∙ sym (ap (list_any (int_eq q)) (take_more ids i (pos 0) within) ∙ any_append (int_eq q) (take i ids) (get_or ids i (pos 0) ∷ []))
+
+-- ---- rows that were found with their boxes
+
+module _ (D : ℕ) where
+  same_found : (rows : List TableRow) (xs : List TableRow) → filter_map (λ (row : Row D). row_at rows row.id) (map leaf_row xs) ≡ filter_map (row_at rows) (map (λ (r : TableRow). r.id) xs)
+  same_found rows [] = refl
+  same_found rows (x ∷ xs) = ap (cons_option (row_at rows x.id)) (same_found rows xs)
+
+  -- the rows that are looked up by what was found of those that are picked
+  pub found_up : (p : TableRow → Bool) (rows : List TableRow) (found : List (Row D)) → AreRising rows → found ≡ map leaf_row (filter p rows) →
+      filter_map (λ (row : Row D). row_at rows row.id) found ≡ filter p rows
+  found_up p rows found rise same =
+      ap (filter_map (λ (row : Row D). row_at rows row.id)) same ∙ same_found rows (filter p rows) ∙ looked_up p rows rise
+
+  each_found : (rows : List TableRow) (xs : List TableRow) → AllByRecursion (λ r. row_at rows r.id ≡ Some r) xs →
+      AllByRecursion (λ (row : Row D). option_map leaf_row (row_at rows row.id) ≡ Some row) (map leaf_row xs)
+  each_found rows [] each = tt
+  each_found rows (x ∷ xs) each = (ap (option_map leaf_row) each.0, each_found rows xs each.1)
+
+  -- each that was found is its row's
+  pub all_found : (p : TableRow → Bool) (rows : List TableRow) (found : List (Row D)) → AreRising rows → found ≡ map leaf_row (filter p rows) →
+      All (λ (row : Row D). option_map leaf_row (row_at rows row.id) ≡ Some row) found
+  all_found p rows found rise same =
+      let each : AllByRecursion (λ (r : TableRow). row_at rows r.id ≡ Some r) (filter p rows) =
+      recursion_from_All (λ r. row_at rows r.id ≡ Some r) (filter p rows)
+      (All-filter p (λ r. row_at rows r.id ≡ Some r) rows (All-from_recursion (λ r. row_at rows r.id ≡ Some r) rows (own (λ r. r.id) rows (rises (λ r. r.id) rows rise)))) in
+      rw same (All-from_recursion (λ (row : Row D). option_map leaf_row (row_at rows row.id) ≡ Some row) (map leaf_row (filter p rows)) (each_found rows (filter p rows) each))
+
+-- one more of what was found
+pub found_more : {X : Type 0} (f : X → Option TableRow) (found : List X) (i : ℕ) (lists : List (List Value)) (x : X) (r : TableRow) (values : List Value) → i < length found → x ≡ get_or found i x
+    → Some r ≡ f x → values ≡ values_of r → lists ≡ map values_of (filter_map f (take i found)) → lists ++ values ∷ [] ≡ map values_of (filter_map f (take (i + 1) found))
+found_more f found i lists x r values within here is copied so_far =
+    let next : filter_map f (take (i + 1) found) ≡ filter_map f (take i found) ++ r ∷ [] =
+    ap (filter_map f) (take_more found i x within) ∙ filter_map-append f (take i found) (get_or found i x ∷ [])
+    ∙ ap (λ (o : Option TableRow). filter_map f (take i found) ++ cons_option o []) (ap f (sym here) ∙ sym is) in
+    rw (so_far, copied) (sym (ap (map values_of) next ∙ map-append values_of (filter_map f (take i found)) (r ∷ [])))

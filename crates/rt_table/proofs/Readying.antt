@@ -1,5 +1,5 @@
 -- A table that was made ready for a plan.
-use Rattle.std.proofs.Common.{◌≡◌, ℕ, ◌+◌, ◌≤◌, ℤ, Bool, true, false, cond, ◌||◌, List, [], ◌∷◌, map, length, Option, Some, refl, sym, subst, arith}
+use Rattle.std.proofs.Common.{◌≡◌, ℕ, ◌≤◌, ℤ, Bool, true, false, cond, ◌||◌, List, [], ◌∷◌, map, length, Option, Some, refl, sym, subst}
 use Rattle.std.specs.Prelude.{AllPairs, ◌<ℤ◌, is_some}
 use Rattle.std.specs.List.{All, AllByRecursion, list_any}
 use Rattle.std.specs.List.Sorted.{IsStrictlySortedBy}
@@ -10,16 +10,17 @@ use Rattle.std.specs.Map.{keys_of, lookup}
 use Rattle.std.proofs.lemmas.Cmp.{int_ranked}
 use Rattle.std.proofs.lemmas.List.Elements.{All-map}
 use Rattle.indexmap.specs.IndexSet.{spare}
+use Rattle.rt_check.specs.Shadow.{ShadowLists}
 use Rattle.rt_row.specs.Columns.{Columns}
 use Rattle.rt_row.specs.Rows.{TableRow}
-use Rattle.rt_row.specs.Edits.{Step, Leaves, Comes, Becomes, outcome}
+use Rattle.rt_row.specs.Edits.{Step, outcome}
 use Rattle.rt_row.specs.Views.{View, deltas}
 use Rattle.rt_store.proofs.Sorted.{Rises, rising}
 use Rattle.rt_table.specs.declared.watched.Watched.{Watched}
 use Rattle.rt_table.specs.declared.watched.Change.{Change}
 use Rattle.rt_table.specs.Held.{Held}
 use Rattle.rt_table.specs.Watching.{view_of, change_of}
-use Rattle.rt_table.specs.Preparing.{ApplyInTurn, places, places_all, DifferAt, IsReady}
+use Rattle.rt_table.specs.Preparing.{ApplyInTurn, places_all, notes_all, DifferAt, IsReady}
 
 -- ---- the ids of a map
 
@@ -48,34 +49,28 @@ any_listed fates q = any_key fates.entries q
 
 -- ---- room
 
-place_more : (step : Step) (placed more : ℕ) → placed ≤ more → places step + placed ≤ more + 1
-place_more (Leaves id) placed more le = omega arith
-place_more (Comes r) placed more le = omega arith
-place_more (Becomes id r) placed more le = omega arith
-
-places_few : (steps : List Step) → places_all steps ≤ length steps
-places_few [] = omega arith
-places_few (step ∷ steps) = let h = place_more step (places_all steps) (length steps) (places_few steps) in omega arith
-
-abbrev made : Columns → List TableRow → List View → ℕ → List ℕ → List ℤ → List Change → Held
-made columns rows views room id_rooms touched changes = record {
+abbrev made : {D : ℕ} → Columns → List TableRow → ShadowLists D → List View → ℕ → ℕ → List ℕ → List ℤ → List Change → Held D
+made columns rows tree views room note_room id_rooms touched changes = record {
   lists = record { columns = columns; rows = rows; views = views };
+  tree = tree;
   room = room;
+  note_room = note_room;
   id_rooms = id_rooms;
   touched = touched;
   staged = map change_of changes;
 }
 
-pub ready : (columns : Columns) (rows now : List TableRow) (views new : List Watched) (room : ℕ) (touched : List ℤ) (changes : List Change) (steps : List Step) → now ≡ rows → map view_of new ≡ map view_of views
-    → ApplyInTurn rows steps → length steps ≤ room → DifferAt touched rows (outcome rows steps) → All (λ w. length touched ≤ spare w.ids) new
+pub ready : {D : ℕ} (columns : Columns) (rows now : List TableRow) (tree : ShadowLists D) (views new : List Watched) (room note_room : ℕ) (touched : List ℤ) (changes : List Change) (steps : List Step) → now ≡ rows
+    → map view_of new ≡ map view_of views → ApplyInTurn rows steps → places_all steps ≤ room → notes_all steps ≤ note_room → DifferAt touched rows (outcome rows steps) → All (λ w. length touched ≤ spare w.ids) new
     → map change_of changes ≡ deltas columns (map view_of views) rows (outcome rows steps)
-    → IsReady (made columns now (map view_of new) room (map (λ (w : Watched). spare w.ids) new) touched changes) steps
-ready columns rows now views new room touched changes steps same_rows same_views apply fits differ roomy staged =
-    subst (λ (rs : List TableRow). IsReady (made columns rs (map view_of new) room (map (λ (w : Watched). spare w.ids) new) touched changes) steps) (sym same_rows)
-    (subst (λ (vs : List View). IsReady (made columns rows vs room (map (λ (w : Watched). spare w.ids) new) touched changes) steps) (sym same_views)
+    → IsReady (made columns now tree (map view_of new) room note_room (map (λ (w : Watched). spare w.ids) new) touched changes) steps
+ready columns rows now tree views new room note_room touched changes steps same_rows same_views apply fits notes_fit differ roomy staged =
+    subst (λ (rs : List TableRow). IsReady (made columns rs tree (map view_of new) room note_room (map (λ (w : Watched). spare w.ids) new) touched changes) steps) (sym same_rows)
+    (subst (λ (vs : List View). IsReady (made columns rows tree vs room note_room (map (λ (w : Watched). spare w.ids) new) touched changes) steps) (sym same_views)
     (record {
       apply = apply;
-      room = let few = places_few steps in omega arith;
+      room = fits;
+      note_room = notes_fit;
       touched = differ;
       id_rooms = All-map (λ room. length touched ≤ room) (λ (w : Watched). spare w.ids) new roomy;
       staged = staged;

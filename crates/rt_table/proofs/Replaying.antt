@@ -1,6 +1,6 @@
 -- The changes of a view turn the rows that it showed into the rows that it shows.
 use Rattle.std.proofs.Common.{◌≡◌, ℕ, ℤ, Bool, true, false, cond, not, ◌||◌, List, [], ◌∷◌, ◌++◌, map, Option, Some, None, refl, sym, ap, subst, ◌∙◌}
-use Rattle.std.specs.Prelude.{◌<ℤ◌, is_some, find}
+use Rattle.std.specs.Prelude.{◌<ℤ◌, is_some}
 use Rattle.std.specs.List.{list_any, flat_map, AllByRecursion}
 use Rattle.std.specs.Ordering.{int_eq}
 use Rattle.std.specs.Option.{option_map}
@@ -8,7 +8,7 @@ use Rattle.std.proofs.lemmas.Cmp.{int_eq_equiv}
 use Rattle.std.proofs.lemmas.Slice.Eq.{slice_eq-Decides}
 use Rattle.rt_sql.specs.declared.value.Value.{Value}
 use Rattle.rt_sql.specs.ValueLaws.{same_value-Decides}
-use Rattle.rt_row.specs.Rows.{TableRow, AreRising, row_at, values_of}
+use Rattle.rt_row.specs.Rows.{TableRow, row_at, values_of}
 use Rattle.rt_row.specs.Views.{ViewChange, same_row, left, came, change_at, ids_of_both, delta}
 use Rattle.rt_store.proofs.Order.{eq_same, eq_from, eq_above}
 use Rattle.rt_store.proofs.Sorted.{at_key, Rises, rises, rises-filter, at_key-placed, at_key-taken, rises-placed, rises-taken, same_lists}

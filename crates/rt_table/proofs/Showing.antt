@@ -1,9 +1,7 @@
 -- The rows of a view, from its ids.
-use Rattle.std.proofs.Common.{◌≡◌, ℕ, ◌<◌, ℤ, Bool, true, false, cond, ◌||◌, List, [], ◌∷◌, map, filter, length, get_or, Option, Some, None, Result, Ok, Err, refl, sym, ap, subst, ◌∙◌}
-use Rattle.std.specs.Prelude.{AllPairs, ◌<ℤ◌, is_some, find, position, slice_get, nat_lt}
+use Rattle.std.proofs.Common.{◌≡◌, ℕ, ◌<◌, ℤ, Bool, true, false, cond, ◌||◌, List, [], ◌∷◌, map, filter, length, get_or, Option, Some, None, Result, Ok, Err, IfOk, refl, sym, ap, ◌∙◌}
+use Rattle.std.specs.Prelude.{AllPairs, ◌<ℤ◌, find, position, slice_get}
 use Rattle.std.specs.List.{list_any, filter_map, position_or_len}
-use Rattle.std.specs.List.Sorted.{IsStrictlySortedBy}
-use Rattle.std.specs.Ordering.{int_eq, int_cmp}
 use Rattle.std.specs.Option.{option_map}
 use Rattle.std.proofs.lemmas.Option.{slice_get_read}
 use Rattle.std.proofs.lemmas.List.Folds.{find_at}
@@ -14,9 +12,8 @@ use Rattle.rt_row.specs.Rows.{TableRow, AreRising, row_at, values_of}
 use Rattle.rt_row.specs.Conditions.{holds, picked}
 use Rattle.rt_row.specs.Filters.{admits}
 use Rattle.rt_row.specs.Tables.{TableLists, view, viewed, is_view}
-use Rattle.rt_row.specs.Views.{View}
 use Rattle.std.proofs.lemmas.List.Elements.{filter_agree}
-use Rattle.rt_store.proofs.Sorted.{at_key, rises, rises-filter, same_lists}
+use Rattle.rt_store.proofs.Sorted.{rises, rises-filter, same_lists}
 use Rattle.rt_table.specs.declared.watched.Watched.{Watched}
 use Rattle.rt_table.specs.Watching.{view_of, KeepsIds, IsKept}
 use Rattle.rt_table.specs.Replies.{Shows}
@@ -73,3 +70,9 @@ view_shown lists name views at w same placed read kept values shown = (
   ap (viewed lists) (ap (find (is_view name)) same ∙ found_view (is_view name) view_of views at w placed read),
   shown ∙ ap (map values_of) (filter_agree (admits w.filter) (holds lists.columns w.filter.cond) kept.filter_is.same lists.rows),
 )
+
+-- ---- what holds of a result
+
+pub if_ok : {A E : Type 0} (P Q : A → Type 0) (r : Result A E) → ((a : A) → P a → Q a) → IfOk r P → IfOk r Q
+if_ok P Q (Ok a) next of = next a of
+if_ok P Q (Err e) next of = tt

@@ -5,5 +5,6 @@ pub mod TableInside
 pub mod Preparing
 pub mod Fates
 pub mod Laws
+pub mod AnyTrees
 pub mod AnyAxes
 pub mod Applying

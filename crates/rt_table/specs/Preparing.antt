@@ -1,16 +1,16 @@
 -- When a table is ready for a plan. Source: own.
-use Rattle.std.specs.Prelude.{◌≡◌, ℕ, ◌+◌, ◌≤◌, ℤ, true, false, List, [], ◌∷◌, length}
+use Rattle.std.specs.Prelude.{◌≡◌, ℕ, ◌+◌, ◌≤◌, ◌<◌, ◌==◌, if◌then◌else◌, ℤ, true, false, List, [], ◌∷◌, length}
 use Rattle.std.specs.Ordering.{int_eq}
 use Rattle.std.specs.List.{All, list_any}
 use Rattle.rt_row.specs.Rows.{TableRow, row_at, has_id, without_id}
-use Rattle.rt_row.specs.Edits.{Step, Leaves, Comes, Becomes, after_step, outcome}
+use Rattle.rt_row.specs.Edits.{Step, Leaves, Comes, Becomes, after_step, outcome, most_rows}
 use Rattle.rt_row.specs.Views.{deltas}
 use Rattle.rt_table.specs.Held.{Held}
 
--- the row that goes is there, and the id of the one that comes is free
+-- the row that goes is there, the id of the one that comes is free, and the table isn't full
 abbrev pub Applies : List TableRow → Step → Type 0
 Applies rows (Leaves id) = has_id rows id ≡ true
-Applies rows (Comes row) = has_id rows row.id ≡ false
+Applies rows (Comes row) = (has_id rows row.id ≡ false) × (length rows < most_rows)
 Applies rows (Becomes id row) = (has_id rows id ≡ true) × (has_id (without_id rows id) row.id ≡ false)
 
 -- each of the steps applies to the rows that those before it leave
@@ -28,15 +28,29 @@ abbrev pub places_all : List Step → ℕ
 places_all [] = 0
 places_all (step ∷ steps) = places step + places_all steps
 
+-- how many rows with auxiliary values a step places
+abbrev pub notes : TableRow → ℕ
+notes row = if length row.more == 0 then 0 else 1
+
+abbrev pub notes_of : Step → ℕ
+notes_of (Leaves id) = 0
+notes_of (Comes row) = notes row
+notes_of (Becomes id row) = notes row
+
+abbrev pub notes_all : List Step → ℕ
+notes_all [] = 0
+notes_all (step ∷ steps) = notes_of step + notes_all steps
+
 -- at each other id the rows are the same
 abbrev pub DifferAt : List ℤ → List TableRow → List TableRow → Type 0
 DifferAt ids before after = (id : ℤ) → list_any (int_eq id) ids ≡ false → row_at after id ≡ row_at before id
 
 -- the steps apply, there is room for the rows that they place and in each view for the ids that they touch, and
 -- the changes of the views lie ready
-pub record IsReady (held : Held) (steps : List Step) : Type 0 where
+pub record IsReady {D : ℕ} (held : Held D) (steps : List Step) : Type 0 where
   pub apply : ApplyInTurn held.lists.rows steps
   pub room : places_all steps ≤ held.room
+  pub note_room : notes_all steps ≤ held.note_room
   pub touched : DifferAt held.touched held.lists.rows (outcome held.lists.rows steps)
   pub id_rooms : All (λ room. length held.touched ≤ room) held.id_rooms
   pub staged : held.staged ≡ deltas held.lists.columns held.lists.views held.lists.rows (outcome held.lists.rows steps)

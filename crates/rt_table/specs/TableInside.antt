@@ -7,10 +7,12 @@ use Rattle.rt_table.specs.declared.table.Table.TheInside.{Inside}
 use Rattle.rt_table.specs.Held.{Held}
 use Rattle.rt_table.specs.Watching.{view_of, change_of, IsKept}
 
-abbrev pub held : {D : _} → Inside D → Held
+abbrev pub held : {D : _} → Inside D → Held D
 held t = record {
   lists = record { columns = t.columns; rows = t.store.rows; views = map view_of t.views.items };
+  tree = t.store.tree;
   room = t.store.room;
+  note_room = t.store.note_room;
   id_rooms = map (λ w. spare w.ids) t.views.items;
   touched = t.touched.items;
   staged = map change_of t.staged.items;
@@ -18,6 +20,7 @@ held t = record {
 
 -- one to three axes, and views of the rows that are there
 pub record IsWhole (D : ℕ) (t : Inside D) : Type 0 where
+  pub some : 1 ≤ D
   pub few : D ≤ 3
   pub axes_are : t.columns.axes ≡ D
   pub rising : AreRising t.store.rows

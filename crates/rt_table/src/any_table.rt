@@ -1,9 +1,13 @@
 //! A table, whatever its number of axes.
 
-ghost use Rattle.std.specs.Prelude.{◌≡◌, ◌<◌, map, length, nat_lt, Ok, IfOk, IfErr, OnOk, OnErr};
+ghost use Rattle.std.specs.Prelude.{◌≡◌, ◌<◌, List, [], map, length, nat_lt, Ok, IfOk, IfErr, OnOk, OnErr};
+ghost use Rattle.rt_box.specs.declared.interval.Interval.{Interval};
 
 use crate::table::Table;
 use crate::watched::{Change, Picked};
+use rt_box::Capacity;
+use rt_check::Problem;
+use rt_dump::AnyShadow;
 use rt_row::Schema;
 use rt_sql::{Cond, Items, Name, Refusal, Rule, Source, Value};
 use std::alloc::{AllocError, Global};
@@ -24,9 +28,9 @@ pub struct AnyTable {
 }
 
 impl Model for AnyTable {
-    ghost use Rattle.rt_table.specs.Held.{Held};
+    ghost use Rattle.rt_table.specs.Held.{TableAndTree};
 
-    ghost Value = { Held };
+    ghost Value = { TableAndTree };
 
     ghost use Rattle.rt_table.specs.AnyAxes.{held_by};
 
@@ -39,26 +43,34 @@ impl AnyTable {
     ghost use Rattle.rt_row.specs.Tables.{edited};
     ghost use Rattle.rt_table.specs.Watching.{change_of};
     ghost use Rattle.rt_table.specs.Replies.{Refuses, Shows};
+    ghost use Rattle.rt_row.specs.Windows.{IsWindowOf};
+    ghost use Rattle.rt_table.specs.AnyTrees.{new_tree, FollowsIfTaken, VisitsAny};
 
-    /// A table of these columns, without rows and views. Look-ups hash by `keys`, which are to be random where
-    /// others choose the ids.
-    pub fn new(alloc: Global, keys: RandomState, columns: Schema) -> Result<AnyTable, AllocError>
-        ensures { IfOk result (λ table. table.lists ≡ new_table columns) }
+    /// A table of these columns, without rows and views. The nodes of its tree have at most `capacity` cells. Look-ups
+    /// hash by `keys`, which are to be random where others choose the ids.
+    pub fn new(
+        alloc: Global,
+        keys: RandomState,
+        capacity: Capacity,
+        columns: Schema,
+    ) -> Result<AnyTable, AllocError>
+        ensures lists { IfOk result (λ table. table.lists ≡ new_table columns) }
+        ensures tree { IfOk result (λ table. table.tree ≡ new_tree capacity columns) }
     {
         let number = columns.axes();
         if number == 1 {
-            let table = Table::new(alloc, keys, columns)?;
+            let table = Table::new(alloc, keys, capacity, columns)?;
             return Ok(AnyTable {
                 axes: Axes::One(table),
             });
         }
         if number == 2 {
-            let table = Table::new(alloc, keys, columns)?;
+            let table = Table::new(alloc, keys, capacity, columns)?;
             return Ok(AnyTable {
                 axes: Axes::Two(table),
             });
         }
-        let table = Table::new(alloc, keys, columns)?;
+        let table = Table::new(alloc, keys, capacity, columns)?;
         Ok(AnyTable {
             axes: Axes::Three(table),
         })
@@ -126,6 +138,7 @@ impl AnyTable {
     /// `NoSuchColumn` where a test looks at a column that the table hasn't, and `OutOfMemory`.
     pub fn select(&self, alloc: Global, cond: Cond) -> Result<Picked, Refusal>
         ensures ok { IfOk result (λ picked. Shows (select self.now.lists cond) picked.rows.items) }
+        ensures visited { IfOk result (λ picked. (window : List Interval) × IsWindowOf self.now.lists.columns cond window × VisitsAny self.now.tree window picked.visited) }
         ensures err { IfErr result (Refuses (select self.now.lists cond)) }
     {
         match &self.axes {
@@ -158,6 +171,7 @@ impl AnyTable {
     /// `ViewAlreadyExists` where a view of this table has the name, `NoSuchColumn`, and `OutOfMemory`.
     pub fn watch(&mut self, alloc: Global, name: Name, cond: Cond) -> Result<(), Refusal>
         ensures ok { OnOk result (watch self.old.lists name cond ≡ Ok self.new.lists) }
+        ensures tree { self.new.tree ≡ self.old.tree }
         ensures err { IfErr result (Refuses (watch self.old.lists name cond)) }
         ensures refused { OnErr result (self.new ≡ self.old) }
     {
@@ -175,6 +189,7 @@ impl AnyTable {
     /// `NoSuchView` where no view of this table has the name.
     pub fn unwatch(&mut self, name: &Name) -> Result<(), Refusal>
         ensures ok { OnOk result (unwatch self.old.lists name.now ≡ Ok self.new.lists) }
+        ensures tree { self.new.tree ≡ self.old.tree }
         ensures err { IfErr result (λ refusal. unwatch self.old.lists name.now ≡ Err refusal) }
         ensures refused { OnErr result (self.new ≡ self.old) }
     {
@@ -198,8 +213,9 @@ impl AnyTable {
         rows: &[Items<Value>],
     ) -> Result<Vec<Change>, Refusal>
         ensures ok { IfOk result (λ changes. edited self.old.lists (insert self.old.lists.columns self.old.lists.rows rule columns.now rows.now) ≡ Ok (map change_of changes.items, self.new.lists)) }
+        ensures tree { OnOk result (FollowsIfTaken self.old.lists.rows (insert self.old.lists.columns self.old.lists.rows rule columns.now rows.now) self.old.tree self.new.tree) }
         ensures err { IfErr result (Refuses (edited self.old.lists (insert self.old.lists.columns self.old.lists.rows rule columns.now rows.now))) }
-        ensures refused { OnErr result (self.new.lists ≡ self.old.lists) }
+        ensures refused { OnErr result (self.new ≡ self.old) }
     {
         match &mut self.axes {
             Axes::One(table) => table.insert(alloc, rule, columns, rows),
@@ -221,8 +237,9 @@ impl AnyTable {
         cond: Cond,
     ) -> Result<Vec<Change>, Refusal>
         ensures ok { IfOk result (λ changes. edited self.old.lists (update self.old.lists.columns self.old.lists.rows sets.now cond) ≡ Ok (map change_of changes.items, self.new.lists)) }
+        ensures tree { OnOk result (FollowsIfTaken self.old.lists.rows (update self.old.lists.columns self.old.lists.rows sets.now cond) self.old.tree self.new.tree) }
         ensures err { IfErr result (Refuses (edited self.old.lists (update self.old.lists.columns self.old.lists.rows sets.now cond))) }
-        ensures refused { OnErr result (self.new.lists ≡ self.old.lists) }
+        ensures refused { OnErr result (self.new ≡ self.old) }
     {
         match &mut self.axes {
             Axes::One(table) => table.update(alloc, sets, cond),
@@ -238,13 +255,44 @@ impl AnyTable {
     /// `NoSuchColumn` where a test looks at a column that the table hasn't, and `OutOfMemory`.
     pub fn delete(&mut self, alloc: Global, cond: Cond) -> Result<Vec<Change>, Refusal>
         ensures ok { IfOk result (λ changes. edited self.old.lists (delete self.old.lists.columns self.old.lists.rows cond) ≡ Ok (map change_of changes.items, self.new.lists)) }
+        ensures tree { OnOk result (FollowsIfTaken self.old.lists.rows (delete self.old.lists.columns self.old.lists.rows cond) self.old.tree self.new.tree) }
         ensures err { IfErr result (Refuses (edited self.old.lists (delete self.old.lists.columns self.old.lists.rows cond))) }
-        ensures refused { OnErr result (self.new.lists ≡ self.old.lists) }
+        ensures refused { OnErr result (self.new ≡ self.old) }
     {
         match &mut self.axes {
             Axes::One(table) => table.delete(alloc, cond),
             Axes::Two(table) => table.delete(alloc, cond),
             Axes::Three(table) => table.delete(alloc, cond),
+        }
+    }
+
+    /// The problems of the tree: there are none.
+    ///
+    /// # Errors
+    ///
+    /// `AllocError` where no memory is left.
+    pub fn check(&self, alloc: Global) -> Result<Vec<Problem>, AllocError>
+        ensures { IfOk result (λ problems. problems.items ≡ []) }
+    {
+        match &self.axes {
+            Axes::One(table) => table.check(alloc),
+            Axes::Two(table) => table.check(alloc),
+            Axes::Three(table) => table.check(alloc),
+        }
+    }
+
+    /// The tree from outside.
+    ///
+    /// # Errors
+    ///
+    /// `AllocError` where no memory is left.
+    pub fn nodes(&self, alloc: Global) -> Result<AnyShadow, AllocError>
+        ensures { IfOk result (λ shadow. shadow ≡ self.now.tree) }
+    {
+        match &self.axes {
+            Axes::One(table) => Ok(AnyShadow::One(table.nodes(alloc)?)),
+            Axes::Two(table) => Ok(AnyShadow::Two(table.nodes(alloc)?)),
+            Axes::Three(table) => Ok(AnyShadow::Three(table.nodes(alloc)?)),
         }
     }
 }

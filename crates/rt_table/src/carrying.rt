@@ -9,7 +9,8 @@ ghost use Rattle.rt_row.specs.Rows.{TableRow, row_at};
 ghost use Rattle.rt_row.specs.Filters.{admits};
 ghost use Rattle.rt_row.specs.Edits.{after_step, outcome};
 ghost use Rattle.rt_row.specs.Entries.{step_of};
-ghost use Rattle.rt_table.specs.Preparing.{Applies, ApplyInTurn, places, places_all, DifferAt};
+ghost use Rattle.rt_store.specs.Moves.{move_of, moves, MayFollow};
+ghost use Rattle.rt_table.specs.Preparing.{Applies, ApplyInTurn, places, places_all, notes_of, notes_all, DifferAt};
 ghost use Rattle.rt_table.specs.declared.watched.Watched.{Watched};
 ghost use Rattle.rt_table.specs.Watching.{view_of, is_picked, IsKept, IsRefreshed};
 
@@ -22,8 +23,12 @@ use std::hash::RandomState;
 fn apply_step<const D: usize>(store: &mut Store<D>, step: Step<D>)
     requires applies { Applies store.old.rows (step_of step) }
     requires room { places (step_of step) ≤ store.old.room }
+    requires note_room { notes_of (step_of step) ≤ store.old.note_room }
     ensures rows { store.new.rows ≡ after_step store.old.rows (step_of step.entry) }
+    ensures tree { MayFollow (move_of store.old.rows (step_of step.entry)) store.old.tree store.new.tree }
+    ensures capacity { store.new.tree.capacity ≡ store.old.tree.capacity }
     ensures room { store.old.room ≤ store.new.room + places (step_of step.entry) }
+    ensures note_room { store.old.note_room ≤ store.new.note_room + notes_of (step_of step.entry) }
 {
     // The contract of `len` says that there are three axes at most.
     let _ = store.len();
@@ -32,10 +37,7 @@ fn apply_step<const D: usize>(store: &mut Store<D>, step: Step<D>)
             let _ = store.take_out(&id);
         }
         Step::Comes(row) => store.place(row),
-        Step::Becomes(id, row) => {
-            let _ = store.take_out(&id);
-            store.place(row);
-        }
+        Step::Becomes(id, row) => store.exchange(&id, row),
     }
 }
 
@@ -43,7 +45,10 @@ fn apply_step<const D: usize>(store: &mut Store<D>, step: Step<D>)
 pub(crate) fn apply<const D: usize>(store: &mut Store<D>, plan: Vec<Step<D>>)
     requires apply { ApplyInTurn store.old.rows (map step_of plan.items) }
     requires room { places_all (map step_of plan.items) ≤ store.old.room }
-    ensures { store.new.rows ≡ outcome store.old.rows (map step_of plan.entry.items) }
+    requires note_room { notes_all (map step_of plan.items) ≤ store.old.note_room }
+    ensures rows { store.new.rows ≡ outcome store.old.rows (map step_of plan.entry.items) }
+    ensures tree { MayFollow (moves store.old.rows (map step_of plan.entry.items)) store.old.tree store.new.tree }
+    ensures capacity { store.new.tree.capacity ≡ store.old.tree.capacity }
 {
     let mut steps = plan.into_iter();
     while let Some(step) = steps.next() {

@@ -1,8 +1,8 @@
 //! A table: its columns, its rows and its views.
 //!
-//! - `Table` selects, names and forgets views, and shows them. `prepare` makes it ready for a plan, a list of steps:
-//!   it reserves what the plan takes and stages what it changes in the views. `commit` then carries the plan out,
-//!   with no memory and no refusal, and hands out the changes.
+//! - `Table` selects, names and forgets views, and shows them and the tree of its rows. `prepare` makes it ready for a
+//!   plan, a list of steps: it reserves what the plan takes and stages what it changes in the views. `commit` then
+//!   carries the plan out, with no memory and no refusal, and hands out the changes.
 //! - `AnyTable` is a table whatever its number of axes.
 //! - `laws`: the changes of a view turn the rows that it showed into those that it shows.
 //!
@@ -13,6 +13,7 @@ mod any_table;
 mod carrying;
 pub mod laws;
 mod preparing;
+mod room;
 mod table;
 mod watched;
 

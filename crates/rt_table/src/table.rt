@@ -1,12 +1,16 @@
 //! A table of `D` axes.
 
-ghost use Rattle.std.specs.Prelude.{◌≡◌, ◌≤◌, ◌<◌, [], not, map, filter, length, position, nat_lt, Ok, IfOk, IfErr, OnOk, OnErr};
+ghost use Rattle.std.specs.Prelude.{◌≡◌, ◌≤◌, ◌<◌, List, [], not, map, filter, length, position, nat_lt, Ok, IfOk, IfErr, OnOk, OnErr};
 ghost use Rattle.std.specs.List.{list_any};
+ghost use Rattle.rt_box.specs.declared.interval.Interval.{Interval};
 ghost use Rattle.rt_sql.specs.Name.{same_name};
 
 use crate::carrying::{apply, refresh_all};
 use crate::preparing::{Touched, touch};
+use crate::room::{notes_all, places_all};
 use crate::watched::{Change, Picked, Watched, pick, reserve_ids, rows_of, watch};
+use rt_box::Capacity;
+use rt_check::{Problem, Shadow, check};
 use rt_plan::{Plan, plan_delete, plan_insert, plan_update};
 use rt_row::{Filter, Schema, Step};
 use rt_sql::{Cond, Items, Name, Refusal, Rule, Source, Value};
@@ -52,7 +56,7 @@ pub struct Table<const D: usize> {
 impl<const D: usize> Model for Table<D> {
     ghost use Rattle.rt_table.specs.Held.{Held};
 
-    ghost Value = { Held };
+    ghost Value = { Held D };
 
     ghost use Rattle.rt_table.specs.TableInside.{held, IsWhole};
 
@@ -71,16 +75,26 @@ impl<const D: usize> Table<D> {
     ghost use Rattle.rt_table.specs.Replies.{Refuses, Shows};
     ghost use Rattle.rt_table.specs.Preparing.{ApplyInTurn, IsReady};
     ghost use Rattle.rt_table.specs.Watching.{change_of};
+    ghost use Rattle.rt_row.specs.Windows.{IsWindowOf};
+    ghost use Rattle.rt_tree.specs.Lists.{empty_lists};
+    ghost use Rattle.rt_store.specs.Trees.{Visits};
+    ghost use Rattle.rt_store.specs.Moves.{moves, MayFollow, FollowsSteps};
 
-    /// A table of these columns, without rows and views. Look-ups hash by `keys`, which are to be random where
-    /// others choose the ids.
-    pub fn new(alloc: Global, keys: RandomState, columns: Schema) -> Result<Table<D>, AllocError>
+    /// A table of these columns, without rows and views. The nodes of its tree have at most `capacity` cells. Look-ups
+    /// hash by `keys`, which are to be random where others choose the ids.
+    pub fn new(
+        alloc: Global,
+        keys: RandomState,
+        capacity: Capacity,
+        columns: Schema,
+    ) -> Result<Table<D>, AllocError>
         requires { columns.axes ≡ D }
-        ensures { IfOk result (λ table. table.lists ≡ new_table columns) }
+        ensures lists { IfOk result (λ table. table.lists ≡ new_table columns) }
+        ensures tree { IfOk result (λ table. table.tree ≡ empty_lists capacity) }
     {
-        // The contract of `axes` says that there are three at most.
+        // The contract of `axes` says that there are one to three.
         let _ = columns.axes();
-        let store = Store::new(alloc)?;
+        let store = Store::new(alloc, keys, capacity)?;
         Ok(Table {
             alloc,
             keys,
@@ -134,6 +148,7 @@ impl<const D: usize> Table<D> {
     /// `NoSuchColumn` where a test looks at a column that the table hasn't, and `OutOfMemory`.
     pub fn select(&self, alloc: Global, cond: Cond) -> Result<Picked, Refusal>
         ensures ok { IfOk result (λ picked. Shows (select self.now.lists cond) picked.rows.items) }
+        ensures visited { IfOk result (λ picked. (window : List Interval) × IsWindowOf self.now.lists.columns cond window × Visits self.now.tree window picked.visited) }
         ensures err { IfErr result (Refuses (select self.now.lists cond)) }
     {
         let condition = Filter::new(alloc, &self.columns, cond)?;
@@ -163,6 +178,7 @@ impl<const D: usize> Table<D> {
     /// `ViewAlreadyExists` where a view of this table has the name, `NoSuchColumn`, and `OutOfMemory`.
     pub fn watch(&mut self, alloc: Global, name: Name, cond: Cond) -> Result<(), Refusal>
         ensures ok { OnOk result (watch self.old.lists name cond ≡ Ok self.new.lists) }
+        ensures tree { self.new.tree ≡ self.old.tree }
         ensures err { IfErr result (Refuses (watch self.old.lists name cond)) }
         ensures refused { OnErr result (self.new ≡ self.old) }
     {
@@ -175,14 +191,20 @@ impl<const D: usize> Table<D> {
     }
 
     /// Makes the table ready for a plan: reserves what carrying it out takes, and stages what it changes in the
-    /// views. Rows and views stay, also after a refusal.
+    /// views. Rows, views and the tree stay, also after a refusal.
+    ///
+    /// # Errors
+    ///
+    /// `AllocError` where no memory is left.
     pub fn prepare(&mut self, alloc: Global, plan: &[Step<D>]) -> Result<(), AllocError>
         requires { ApplyInTurn self.old.lists.rows (map step_of plan.now) }
         ensures lists { self.new.lists ≡ self.old.lists }
+        ensures tree { self.new.tree ≡ self.old.tree }
         ensures ok { OnOk result (IsReady self.new (map step_of plan.now)) }
     {
         let touched = touch(alloc, self.views.as_slice(), &self.store, plan)?;
-        self.store.reserve(alloc, plan.len())?;
+        self.store
+            .reserve(alloc, places_all(plan), notes_all(plan))?;
         reserve_ids(&mut self.views, touched.ids.len())?;
         let Touched { ids, changes } = touched;
         self.touched = ids;
@@ -195,9 +217,10 @@ impl<const D: usize> Table<D> {
         requires { IsReady self.old (map step_of plan.items) }
         ensures lists { self.new.lists ≡ record self.old.lists { rows = outcome self.old.lists.rows (map step_of plan.entry.items) } }
         ensures changed { map change_of result.items ≡ deltas self.old.lists.columns self.old.lists.views self.old.lists.rows self.new.lists.rows }
+        ensures tree { FollowsSteps self.old.lists.rows (map step_of plan.entry.items) self.old.tree self.new.tree }
     {
         apply(&mut self.store, plan);
-        // The contract of `len` says that the ids rise.
+        // The contract of `len` says that the ids rise, and that the tree stands for the rows.
         let _ = self.store.len();
         refresh_all(&mut self.views, &self.store, self.touched.as_slice());
         mem::replace(&mut self.staged, Vec::new(self.alloc))
@@ -210,6 +233,7 @@ impl<const D: usize> Table<D> {
     /// `NoSuchView` where no view of this table has the name.
     pub fn unwatch(&mut self, name: &Name) -> Result<(), Refusal>
         ensures ok { OnOk result (unwatch self.old.lists name.now ≡ Ok self.new.lists) }
+        ensures tree { self.new.tree ≡ self.old.tree }
         ensures err { IfErr result (λ refusal. unwatch self.old.lists name.now ≡ Err refusal) }
         ensures refused { OnErr result (self.new ≡ self.old) }
     {
@@ -224,7 +248,9 @@ impl<const D: usize> Table<D> {
     fn carry_out(&mut self, alloc: Global, plan: Plan<D>) -> Result<Vec<Change>, AllocError>
         requires { ApplyInTurn self.old.lists.rows plan }
         ensures ok { IfOk result (λ changes. edited self.old.lists (Ok plan.entry) ≡ Ok (map change_of changes.items, self.new.lists)) }
+        ensures tree { OnOk result (FollowsSteps self.old.lists.rows plan.entry self.old.tree self.new.tree) }
         ensures refused { OnErr result (self.new.lists ≡ self.old.lists) }
+        ensures same_tree { OnErr result (self.new.tree ≡ self.old.tree) }
     {
         // The contract of `len` says that there are three axes at most.
         let _ = self.store.len();
@@ -240,8 +266,10 @@ impl<const D: usize> Table<D> {
     /// `NoSuchColumn` where a test looks at a column that the table hasn't, and `OutOfMemory`.
     pub fn delete(&mut self, alloc: Global, cond: Cond) -> Result<Vec<Change>, Refusal>
         ensures ok { IfOk result (λ changes. edited self.old.lists (delete self.old.lists.columns self.old.lists.rows cond) ≡ Ok (map change_of changes.items, self.new.lists)) }
+        ensures tree { OnOk result (IfOk (delete self.old.lists.columns self.old.lists.rows cond) (λ steps. FollowsSteps self.old.lists.rows steps self.old.tree self.new.tree)) }
         ensures err { IfErr result (Refuses (edited self.old.lists (delete self.old.lists.columns self.old.lists.rows cond))) }
         ensures refused { OnErr result (self.new.lists ≡ self.old.lists) }
+        ensures same_tree { OnErr result (self.new.tree ≡ self.old.tree) }
     {
         let plan = plan_delete(alloc, &self.columns, &self.store, cond)?;
         Ok(self.carry_out(alloc, plan)?)
@@ -260,8 +288,10 @@ impl<const D: usize> Table<D> {
         rows: &[Items<Value>],
     ) -> Result<Vec<Change>, Refusal>
         ensures ok { IfOk result (λ changes. edited self.old.lists (insert self.old.lists.columns self.old.lists.rows rule columns.now rows.now) ≡ Ok (map change_of changes.items, self.new.lists)) }
+        ensures tree { OnOk result (IfOk (insert self.old.lists.columns self.old.lists.rows rule columns.now rows.now) (λ steps. FollowsSteps self.old.lists.rows steps self.old.tree self.new.tree)) }
         ensures err { IfErr result (Refuses (edited self.old.lists (insert self.old.lists.columns self.old.lists.rows rule columns.now rows.now))) }
         ensures refused { OnErr result (self.new.lists ≡ self.old.lists) }
+        ensures same_tree { OnErr result (self.new.tree ≡ self.old.tree) }
     {
         let plan = plan_insert(
             alloc,
@@ -288,10 +318,37 @@ impl<const D: usize> Table<D> {
         cond: Cond,
     ) -> Result<Vec<Change>, Refusal>
         ensures ok { IfOk result (λ changes. edited self.old.lists (update self.old.lists.columns self.old.lists.rows sets.now cond) ≡ Ok (map change_of changes.items, self.new.lists)) }
+        ensures tree { OnOk result (IfOk (update self.old.lists.columns self.old.lists.rows sets.now cond) (λ steps. FollowsSteps self.old.lists.rows steps self.old.tree self.new.tree)) }
         ensures err { IfErr result (Refuses (edited self.old.lists (update self.old.lists.columns self.old.lists.rows sets.now cond))) }
         ensures refused { OnErr result (self.new.lists ≡ self.old.lists) }
+        ensures same_tree { OnErr result (self.new.tree ≡ self.old.tree) }
     {
         let plan = plan_update(alloc, self.keys, &self.columns, &self.store, sets, cond)?;
         Ok(self.carry_out(alloc, plan)?)
+    }
+
+    /// The problems of the tree: there are none.
+    ///
+    /// # Errors
+    ///
+    /// `AllocError` where no memory is left.
+    pub fn check(&self, alloc: Global) -> Result<Vec<Problem>, AllocError>
+        ensures { IfOk result (λ problems. problems.items ≡ []) }
+    {
+        // The contract of `len` says that the tree stands for the rows.
+        let _ = self.store.len();
+        let shadow = self.nodes(alloc)?;
+        check(alloc, &shadow)
+    }
+
+    /// The tree from outside.
+    ///
+    /// # Errors
+    ///
+    /// `AllocError` where no memory is left.
+    pub fn nodes(&self, alloc: Global) -> Result<Shadow<D>, AllocError>
+        ensures { IfOk result (λ shadow. shadow ≡ self.now.tree) }
+    {
+        self.store.shadow(alloc, self.keys)
     }
 }

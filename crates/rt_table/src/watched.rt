@@ -3,10 +3,14 @@
 ghost use Rattle.std.specs.Prelude.{◌≡◌, ◌≤◌, ◌<◌, ◌+◌, ℕ, ℤ, slice_index_or, AllPairs, ◌<ℤ◌, List, All, Some, filter, map, length, IfOk, IfErr, OnOk, OnErr, MatchResult};
 ghost use Rattle.std.specs.List.{list_any, filter_map};
 ghost use Rattle.std.specs.Ordering.{int_eq};
+ghost use Rattle.std.specs.Option.{option_map};
 ghost use Rattle.indexmap.specs.IndexSet.{contains, spare};
+ghost use Rattle.rt_box.specs.declared.interval.Interval.{Interval};
 ghost use Rattle.rt_row.specs.Columns.{Columns, has_name};
 ghost use Rattle.rt_row.specs.Rows.{TableRow, AreRising, row_at, values_of};
 ghost use Rattle.rt_row.specs.Filters.{admits, IsUnknown};
+ghost use Rattle.rt_row.specs.Windows.{IsWindowAt};
+ghost use Rattle.rt_store.specs.Trees.{leaf_row, Visits};
 ghost use Rattle.rt_table.specs.Watching.{view_of, KeepsIds, IsKept, IsRoomier};
 ghost use Rattle.rt_table.specs.declared.watched.Watched.{Watched};
 
@@ -14,6 +18,7 @@ use indexmap::IndexSet;
 use rt_row::{Filter, Schema};
 use rt_sql::{Cond, Items, Name, Refusal, Value};
 use rt_store::Store;
+use rt_tree::Row;
 use std::alloc::{AllocError, Global};
 use std::collections::BTreeSet;
 use std::hash::RandomState;
@@ -23,7 +28,7 @@ use std::hash::RandomState;
 pub struct Picked {
     /// Whole rows by rising id, each as its values column by column.
     pub rows: Vec<Items<Value>>,
-    /// How many nodes of a tree were looked at.
+    /// How many nodes of the table's tree the window of the condition reaches; 0 of a view, which knows its rows.
     pub visited: u64,
 }
 
@@ -81,17 +86,37 @@ fn rows_at<const D: usize>(
     Ok(rows)
 }
 
-/// The rows of which the filter holds.
+/// The whole rows of these boxes.
+fn rows_found<const D: usize>(
+    alloc: Global,
+    store: &Store<D>,
+    found: &[Row<D>],
+) -> Result<Vec<Items<Value>>, AllocError>
+    requires { All (λ row. option_map leaf_row (row_at store.now.rows row.id) ≡ Some row) found.now }
+    ensures { IfOk result (λ lists. lists.items ≡ map values_of (filter_map (λ row. row_at store.now.rows row.id) found.now)) }
+{
+    // The contract of `len` says that there are three axes at most.
+    let _ = store.len();
+    let mut rows = Vec::with_capacity(alloc, found.len())?;
+    for row in found {
+        rows.push(store.view(row).values(alloc)?)?;
+    }
+    Ok(rows)
+}
+
+/// The rows of which the filter holds, and how many nodes of the tree its window reaches.
 pub(crate) fn pick<const D: usize>(
     alloc: Global,
     store: &Store<D>,
     condition: &Filter,
 ) -> Result<Picked, AllocError>
-    ensures { IfOk result (λ picked. picked.rows.items ≡ map values_of (filter (admits condition.now) store.now.rows)) }
+    ensures rows { IfOk result (λ picked. picked.rows.items ≡ map values_of (filter (admits condition.now) store.now.rows)) }
+    ensures visited { IfOk result (λ picked. (window : List Interval) × IsWindowAt D condition.now window × Visits store.now.tree window picked.visited) }
 {
+    // The contract of `len` says that the ids of the rows rise.
     let _ = store.len();
-    let found = store.picked(alloc, condition)?;
-    let rows = rows_at(alloc, store, found.ids.as_slice())?;
+    let found = store.select(alloc, condition)?;
+    let rows = rows_found(alloc, store, found.rows.as_slice())?;
     Ok(Picked {
         rows,
         visited: found.visited,
@@ -159,7 +184,7 @@ pub(crate) fn watch<const D: usize>(
     // The contract of `len` says that the ids rise.
     let _ = store.len();
     let found = store.picked(alloc, &filter)?;
-    let ids = id_set(alloc, keys, found.ids.as_slice())?;
+    let ids = id_set(alloc, keys, found.as_slice())?;
     Ok(Watched { name, filter, ids })
 }
 

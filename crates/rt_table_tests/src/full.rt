@@ -1,5 +1,6 @@
 //! A table with as many rows as it may have.
 
+use rt_box::Capacity;
 use rt_cut::{Ending, Piece};
 use rt_row::Schema;
 use rt_sql::{Items, Refusal, Rule, Stmt, Value, parse};
@@ -18,7 +19,8 @@ fn table(alloc: Global, keys: RandomState) -> Result<AnyTable, Fail> {
         return Err(Fail::from("no CREATE"));
     };
     let schema = Schema::new(alloc, columns.as_slice()).map_err(|_| "no columns")?;
-    Ok(AnyTable::new(alloc, keys, schema)?)
+    let capacity = Capacity::new(51).ok_or("no capacity")?;
+    Ok(AnyTable::new(alloc, keys, capacity, schema)?)
 }
 
 /// Rows of these ids, each at the point 0.

@@ -3,3 +3,5 @@
 
 #[cfg(test)]
 mod full;
+#[cfg(test)]
+mod visited;

@@ -1,4 +1,4 @@
-use Rattle.std.proofs.Common.{◌≡◌, ℤ, pos, cond, true, FitsSigned, w64, to_z-of_z, get_or, rules, arith, ap, ◌∙◌}
+use Rattle.std.proofs.Common.{ℤ, pos, cond, true, FitsSigned, w64, to_z-of_z, get_or, rules, arith, ap, ◌∙◌}
 use Rattle.std.specs.List.{list_any}
 use Rattle.std.specs.Ordering.{int_eq}
 use Rattle.rt_table.proofs.Picking.{any_more}

@@ -1,8 +1,19 @@
-use Rattle.std.proofs.Common.{ap, map, ◌∙◌}
+use Rattle.std.proofs.Common.{ap, map, arith, lit<, ◌∙◌}
 use Rattle.rt_row.specs.Rows.{values_of}
 use Rattle.rt_row.specs.Filters.{admits}
-use Rattle.rt_table.proofs.Picking.{looked_up}
+use Rattle.rt_table.proofs.Picking.{found_up, all_found}
 use Rattle.rt_table.proofs.watched.pick.Goals as goal
 
-pub returns : goal.returns
-returns g c = c.in_ok-rows.ensures ∙ rw (c.as_slice.ensures.value, c.in_ok-found.ensures.ids) (ap (map values_of) (looked_up (admits c.args.condition.now) c.args.store.now.rows c.len.ensures.rising))
+pub rows_found-requires : goal.rows_found-requires
+rows_found-requires g c = (
+  lit< tt,
+  (
+    omega arith,
+    all_found g.row.D (admits c.args.condition.now) c.args.store.now.rows c.as_slice.result.now c.len.ensures.rising (c.as_slice.ensures.value ∙ c.in_ok-found.ensures.rows),
+  ),
+)
+
+pub returns-clause-rows : goal.returns-clause-rows
+returns-clause-rows g c =
+    c.in_ok-rows.ensures
+    ∙ ap (map values_of) (found_up g.row.D (admits c.args.condition.now) c.args.store.now.rows c.as_slice.result.now c.len.ensures.rising (c.as_slice.ensures.value ∙ c.in_ok-found.ensures.rows))

@@ -1,4 +1,3 @@
-use Rattle.std.proofs.Common.{◌≡◌}
 use Rattle.rt_table.proofs.Readying.{rising_sorted}
 use Rattle.rt_table.proofs.watched.rising.Goals as goal
 

@@ -1,4 +1,4 @@
-use Rattle.std.proofs.Common.{◌≡◌, map, ap, ◌∙◌}
+use Rattle.std.proofs.Common.{map, ap, ◌∙◌}
 use Rattle.rt_row.specs.Rows.{values_of}
 use Rattle.rt_row.specs.Filters.{admits}
 use Rattle.rt_table.proofs.Showing.{kept_looked}

@@ -10,6 +10,7 @@ use Rattle.rt_table.proofs.table.Table.unwatch.Goals as goal
 
 pub invariant_of-self : goal.invariant_of-self
 invariant_of-self g c = record {
+  some = c.self.invariant.some;
   few = c.self.invariant.few;
   axes_are = c.self.invariant.axes_are;
   rising = c.self.invariant.rising;
@@ -18,5 +19,5 @@ invariant_of-self g c = record {
 
 pub returns-clause-ok : goal.returns-clause-ok
 returns-clause-ok g c =
-    let there : has_view (held c.self.inside).lists c.args.name.now ≡ true = subst (λ (h : Held). has_view h.lists c.args.name.now ≡ true) (sym c.self.view_is) (sym c.if-not-has_view.ensures) in
+    let there : has_view (held c.self.inside).lists c.args.name.now ≡ true = subst (λ (h : Held g.row.D). has_view h.lists c.args.name.now ≡ true) (sym c.self.view_is) (sym c.if-not-has_view.ensures) in
     rw (← c.self.view_is) (unwatched_of (held c.self.inside).lists c.args.name.now c.self.inside.views.items c.forget.new.views.items refl c.forget.ensures there)

@@ -1,4 +1,4 @@
-use Rattle.std.proofs.Common.{◌≡◌, Ok, IfOk, subst, arith}
+use Rattle.std.proofs.Common.{IfOk, subst, arith}
 use Rattle.rt_row.specs.Edits.{Steps, update}
 use Rattle.rt_table.specs.Held.{Held}
 use Rattle.rt_table.specs.Preparing.{ApplyInTurn}
@@ -10,4 +10,4 @@ carry_out-requires g c =
     let rows = c.self.inside.store.rows in
     let apply : IfOk (update c.self.inside.columns rows c.args.sets.now c.args.cond) (ApplyInTurn rows) = (steps_apply c.self.inside.columns rows c.self.invariant.rising).2 c.args.sets.now c.args.cond in
     let planned : ApplyInTurn rows c.in_ok-plan.plan = subst (λ (r : Steps). IfOk r (ApplyInTurn rows)) c.in_ok-plan.ensures apply in
-    (omega arith, (omega arith, subst (λ (h : Held). ApplyInTurn h.lists.rows c.in_ok-plan.plan) c.self.view_is planned))
+    (omega arith, (omega arith, subst (λ (h : Held g.row.D). ApplyInTurn h.lists.rows c.in_ok-plan.plan) c.self.view_is planned))

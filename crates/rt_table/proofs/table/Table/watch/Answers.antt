@@ -4,6 +4,7 @@ use Rattle.rt_table.proofs.table.Table.watch.Goals as goal
 
 pub invariant_of-self : goal.invariant_of-self
 invariant_of-self g c = record {
+  some = c.self.invariant.some;
   few = c.self.invariant.few;
   axes_are = c.self.invariant.axes_are;
   rising = c.self.invariant.rising;
@@ -12,6 +13,7 @@ invariant_of-self g c = record {
 
 pub invariant_of-self-2 : goal.invariant_of-self-2
 invariant_of-self-2 g c = record {
+  some = c.self.invariant.some;
   few = c.self.invariant.few;
   axes_are = c.self.invariant.axes_are;
   rising = c.self.invariant.rising;

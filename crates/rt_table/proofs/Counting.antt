@@ -1,0 +1,39 @@
+-- The room that a plan takes, counted step by step.
+use Rattle.std.proofs.Common.{◌≡◌, ℕ, ◌+◌, ◌<◌, ◌≤◌, Bool, true, false, List, [], ◌∷◌, ◌++◌, map, take, length, get_or, sym, ap, ◌∙◌, arith}
+use Rattle.std.specs.Prelude.{if◌then◌else◌, ◌==◌}
+use Rattle.std.proofs.lemmas.List.{take_more, map-append}
+use Rattle.rt_row.specs.Edits.{Step, Leaves, Comes, Becomes}
+use Rattle.rt_table.specs.Preparing.{places, places_all, notes_of, notes_all}
+
+pub places_few : (step : Step) → places step ≤ 1
+places_few (Leaves id) = omega arith
+places_few (Comes row) = omega arith
+places_few (Becomes id row) = omega arith
+
+none_or_one : (b : Bool) → (if b then 0 else 1) ≤ 1
+none_or_one true = omega arith
+none_or_one false = omega arith
+
+pub notes_few : (step : Step) → notes_of step ≤ 1
+notes_few (Leaves id) = omega arith
+notes_few (Comes row) = none_or_one (length row.more == 0)
+notes_few (Becomes id row) = none_or_one (length row.more == 0)
+
+places_last : (steps : List Step) (step : Step) → places_all (steps ++ step ∷ []) ≡ places_all steps + places step
+places_last [] step = omega arith
+places_last (first ∷ steps) step = let later = places_last steps step in omega arith
+
+notes_last : (steps : List Step) (step : Step) → notes_all (steps ++ step ∷ []) ≡ notes_all steps + notes_of step
+notes_last [] step = omega arith
+notes_last (first ∷ steps) step = let later = notes_last steps step in omega arith
+
+steps_more : {X : Type 0} (f : X → Step) (xs : List X) (i : ℕ) (x : X) → i < length xs → x ≡ get_or xs i x → map f (take (i + 1) xs) ≡ map f (take i xs) ++ f x ∷ []
+steps_more f xs i x within here =
+    ap (map f) (take_more xs i x within) ∙ map-append f (take i xs) (get_or xs i x ∷ []) ∙ ap (λ (s : Step). map f (take i xs) ++ s ∷ []) (ap f (sym here))
+
+-- one step more
+pub places_more : {X : Type 0} (f : X → Step) (xs : List X) (i : ℕ) (x : X) → i < length xs → x ≡ get_or xs i x → places_all (map f (take (i + 1) xs)) ≡ places_all (map f (take i xs)) + places (f x)
+places_more f xs i x within here = ap places_all (steps_more f xs i x within here) ∙ places_last (map f (take i xs)) (f x)
+
+pub notes_more : {X : Type 0} (f : X → Step) (xs : List X) (i : ℕ) (x : X) → i < length xs → x ≡ get_or xs i x → notes_all (map f (take (i + 1) xs)) ≡ notes_all (map f (take i xs)) + notes_of (f x)
+notes_more f xs i x within here = ap notes_all (steps_more f xs i x within here) ∙ notes_last (map f (take i xs)) (f x)
