@@ -14,17 +14,19 @@ use Rattle.rt_sql.specs.declared.statement.Test.{Test}
 use Rattle.rt_sql.specs.declared.statement.ColumnDef.{ColumnDef}
 use Rattle.rt_sql.specs.declared.refusal.Refusal.{Refusal}
 use Rattle.rt_sql.specs.declared.refusal.Refusal.TheVariants.{OutOfMemory, TableIsWatched, ViewAlreadyExists, TooManyTablesOrViews}
-use Rattle.rt_row.specs.Columns.{are_distinct, columns_of}
+use Rattle.rt_row.specs.Columns.{Columns, are_distinct, columns_of}
 use Rattle.rt_row.specs.Edits.{and_then}
 use Rattle.rt_row.specs.Tables.{TableLists, edited, new_table, watch, view}
-use Rattle.rt_table.specs.Held.{Held}
+use Rattle.rt_dump.specs.declared.dump.AnyShadow.{AnyShadow}
+use Rattle.rt_table.specs.Held.{TableAndTree}
+use Rattle.rt_table.specs.AnyTrees.{new_tree}
 use Rattle.rt_table.specs.Watching.{change_of as view_change}
 use Rattle.rt_table.specs.Replies.{Refuses, Shows}
 use Rattle.rt_session.specs.declared.edits.Edit.{Edit}
 use Rattle.rt_table.specs.declared.watched.Change.{Change}
 use Rattle.rt_session.specs.declared.reply.Reply.TheVariants.{Nothing, Rows, Changes}
 use Rattle.rt_session.specs.declared.tables.Named.{Named}
-use Rattle.rt_session.specs.Session.{State, NamedTable, is_named, table_of, with_table, without_table, created, dropped, is_watched, count_views, watched_by, now_watched, viewed, carried_out, on_table, change_of}
+use Rattle.rt_session.specs.Session.{State, NamedTable, is_named, table_of, with_table, with_tree, without_table, created, dropped, is_watched, count_views, watched_by, now_watched, viewed, carried_out, on_table, change_of}
 use Rattle.rt_session.specs.Steps.{steps_of, edited_by}
 use Rattle.rt_session.specs.SessionInside.{named_of, HaveNames}
 use Rattle.rt_session.proofs.Places.{found_at, not_found, replaced, removed, replaced_by, Distinct, find_mapped, any_mapped, distinct-filter, distinct-one_more}
@@ -64,22 +66,33 @@ module _ (now : State) (capacity : ℕ) (ts : List Named) (is : state_with capac
   pub kept : (new : List Named) → map named_of new ≡ map named_of ts → state_with capacity new ≡ now
   kept new same = ap (λ vs. record { capacity = capacity; tables = vs }) same ∙ is
 
-  module _ (at : ℕ) (t : Named) (within : at < length ts) (read : t ≡ get_or ts at t) (after : Held) where
-    -- another table of the same lists
-    pub kept_at : after.lists ≡ t.table.lists → state_with capacity (set ts at (record t { table = after })) ≡ now
+  module _ (at : ℕ) (t : Named) (within : at < length ts) (read : t ≡ get_or ts at t) (after : TableAndTree) where
+    -- the table stays as it was
+    pub kept_at : after ≡ t.table → state_with capacity (set ts at (record t { table = after })) ≡ now
     kept_at same =
         kept (set ts at (record t { table = after }))
-        (map-set_same named_of ts at (record t { table = after }) t (ap (λ l. record { name = t.name; table = l }) same ∙ ap named_of read))
+        (map-set_same named_of ts at (record t { table = after }) t (ap (λ (h : TableAndTree). named_of (record t { table = h })) same ∙ ap named_of read))
 
-    -- the table of that name is another one
-    pub with_table_at : (name : List ℕ) → same_name name t.name ≡ true → HaveNames ts → state_with capacity (set ts at (record t { table = after })) ≡ with_table now name after.lists
-    with_table_at name same named =
+    -- the table of that name is changed
+    changed_at : (change : NamedTable → NamedTable) → named_of (record t { table = after }) ≡ change (named_of t) → (name : List ℕ) → same_name name t.name ≡ true → HaveNames ts
+        → state_with capacity (set ts at (record t { table = after })) ≡ record now { tables = map (replaced_by name change) now.tables }
+    changed_at change is_changed name same named =
         let within_mapped : at < length (map named_of ts) = rw length-map within in
         let read_mapped : named_of t ≡ get_or (map named_of ts) at (named_of t) = ap named_of read ∙ sym (get_or-map named_of ts at t (named_of t) within) in
-        changed (map (replaced_by name after.lists) now.tables) (set ts at (record t { table = after }))
+        changed (map (replaced_by name change) now.tables) (set ts at (record t { table = after }))
         (map-set named_of ts at (record t { table = after })
-        ∙ replaced name (map named_of ts) at (named_of t) (named_of (record t { table = after })) within_mapped read_mapped same refl (distinct_tables ts named)
-        ∙ ap (map (replaced_by name after.lists)) tables_are)
+        ∙ ap (set (map named_of ts) at) is_changed
+        ∙ replaced name change (map named_of ts) at (named_of t) within_mapped read_mapped same (distinct_tables ts named)
+        ∙ ap (map (replaced_by name change)) tables_are)
+
+    -- the table of that name has other lists and the tree that it had
+    pub with_table_at : (name : List ℕ) → same_name name t.name ≡ true → HaveNames ts → after.tree ≡ t.table.tree → state_with capacity (set ts at (record t { table = after })) ≡ with_table now name after.lists
+    with_table_at name same named tree =
+        changed_at (λ u. record u { table = after.lists }) (ap (λ (s : AnyShadow). record { name = t.name; table = after.lists; tree = s }) tree) name same named
+
+    -- the table of that name has other lists and another tree
+    pub with_tree_at : (name : List ℕ) → same_name name t.name ≡ true → HaveNames ts → state_with capacity (set ts at (record t { table = after })) ≡ with_tree now name after.lists after.tree
+    with_tree_at name same named = changed_at (λ u. record u { table = after.lists; tree = after.tree }) refl name same named
 
   pub without_table_at : (at : ℕ) (t : Named) (within : at < length ts) (read : t ≡ get_or ts at t) (name : List ℕ) → same_name name t.name ≡ true → HaveNames ts
       → state_with capacity (remove ts at) ≡ without_table now name
@@ -91,7 +104,7 @@ module _ (now : State) (capacity : ℕ) (ts : List Named) (is : state_with capac
       ∙ removed name (map named_of ts) at (named_of t) within_mapped read_mapped same (distinct_tables ts named)
       ∙ ap (filter (λ u. not (is_named name u))) tables_are)
 
-pub names_kept : (ts : List Named) (at : ℕ) (t : Named) (after : Held) → t ≡ get_or ts at t → HaveNames ts → HaveNames (set ts at (record t { table = after }))
+pub names_kept : (ts : List Named) (at : ℕ) (t : Named) (after : TableAndTree) → t ≡ get_or ts at t → HaveNames ts → HaveNames (set ts at (record t { table = after }))
 names_kept ts at t after read named = rw (map-set_same (λ n. n.name) ts at (record t { table = after }) t (ap (λ n. n.name) read)) named
 
 -- ---- what follows an edit
@@ -100,11 +113,11 @@ in_turn : {A B C : Type 0} (r : Result A Refusal) (f : A → Result B Refusal) (
 in_turn (Ok a) f g = refl
 in_turn (Err refusal) f g = refl
 
-pub carried : (state : State) (name : List ℕ) (t : TableLists) (edit : Edit) (answer : Result (List Change × TableLists) Refusal) → edited_by edit t ≡ answer
-    → carried_out state name t (steps_of edit t) ≡ and_then answer (λ done. Ok (Changes done.0, with_table state name done.1))
-carried state name t edit answer is =
-    sym (in_turn (edited t (steps_of edit t)) (λ done. Ok (map change_of done.0, done.1)) (λ done. Ok (Changes done.0, with_table state name done.1)))
-    ∙ ap (λ r. and_then r (λ done. Ok (Changes done.0, with_table state name done.1))) is
+pub carried : (tree : AnyShadow) (state : State) (name : List ℕ) (t : TableLists) (edit : Edit) (answer : Result (List Change × TableLists) Refusal) → edited_by edit t ≡ answer
+    → carried_out tree state name t (steps_of edit t) ≡ and_then answer (λ done. Ok (Changes done.0, with_tree state name done.1 tree))
+carried tree state name t edit answer is =
+    sym (in_turn (edited t (steps_of edit t)) (λ done. Ok (map change_of done.0, done.1)) (λ done. Ok (Changes done.0, with_tree state name done.1 tree)))
+    ∙ ap (λ r. and_then r (λ done. Ok (Changes done.0, with_tree state name done.1 tree))) is
 
 -- ---- CREATE and DROP
 
@@ -116,7 +129,7 @@ some_mapped : {X Y : Type 0} (f : X → Y) (o : Option X) → is_some (option_ma
 some_mapped f None = refl
 some_mapped f (Some x) = refl
 
-any_found : {X : Type 0} (p : X → Bool) (xs : List X) → list_any p xs ≡ is_some (find p xs)
+pub any_found : {X : Type 0} (p : X → Bool) (xs : List X) → list_any p xs ≡ is_some (find p xs)
 any_found p [] = refl
 any_found p (x ∷ xs) =
     elim (p x) as (λ b. (b || list_any p xs) ≡ is_some (cond b (Some x) (find p xs))) [
@@ -138,14 +151,17 @@ module _ (now : State) (capacity : ℕ) (ts : List Named) (is : state_with capac
   pub many_tables : length now.tables ≡ length ts
   many_tables = ap length (sym (tables_are now capacity ts is)) ∙ length-map ts named_of
 
-  pub made : (name : List ℕ) (table : Held) (lists : TableLists) → table.lists ≡ lists
-      → state_with capacity (ts ++ record { name = name; table = table } ∷ []) ≡ record now { tables = now.tables ++ record { name = name; table = lists } ∷ [] }
-  made name table lists same =
-      changed now capacity ts is (now.tables ++ record { name = name; table = lists } ∷ []) (ts ++ record { name = name; table = table } ∷ [])
-      (map-append named_of ts (record { name = name; table = table } ∷ []) ∙ ap (λ vs. vs ++ record { name = name; table = table.lists } ∷ []) (tables_are now capacity ts is)
-      ∙ ap (λ l. now.tables ++ record { name = name; table = l } ∷ []) same)
+  pub made : (name : List ℕ) (table : TableAndTree) (c : Columns) → table.lists ≡ new_table c → table.tree ≡ new_tree capacity c
+      → state_with capacity (ts ++ record { name = name; table = table } ∷ []) ≡ record now { tables = now.tables ++ record { name = name; table = new_table c; tree = new_tree now.capacity c } ∷ [] }
+  made name table c same tree =
+      let its : table.tree ≡ new_tree now.capacity c = tree ∙ ap (λ (s : State). new_tree s.capacity c) is in
+      changed now capacity ts is (now.tables ++ record { name = name; table = new_table c; tree = new_tree now.capacity c } ∷ []) (ts ++ record { name = name; table = table } ∷ [])
+      (map-append named_of ts (record { name = name; table = table } ∷ [])
+      ∙ ap (λ vs. vs ++ record { name = name; table = table.lists; tree = table.tree } ∷ []) (tables_are now capacity ts is)
+      ∙ ap (λ l. now.tables ++ record { name = name; table = l; tree = table.tree } ∷ []) same
+      ∙ ap (λ s. now.tables ++ record { name = name; table = new_table c; tree = s } ∷ []) its)
 
-pub names_more : (name : List ℕ) (table : Held) (ts slice : List Named) (result : Option ℕ) → slice ≡ ts → result ≡ position (λ n. same_name name n.name) slice → is_some result ≡ false → HaveNames ts
+pub names_more : (name : List ℕ) (table : TableAndTree) (ts slice : List Named) (result : Option ℕ) → slice ≡ ts → result ≡ position (λ n. same_name name n.name) slice → is_some result ≡ false → HaveNames ts
     → HaveNames (ts ++ record { name = name; table = table } ∷ [])
 names_more name table ts slice result same answer none named =
     let new : list_any (same_name name) (map (λ n. n.name) ts) ≡ false =
@@ -169,7 +185,7 @@ pub many : (n k : ℕ) → k ≤ n → nat_le k n ≡ true
 many n k more = grind (arith, nat_tests)
 
 pub created_new : (state : State) (name : List ℕ) (if_absent : Bool) (columns : List ColumnDef) → is_some (table_of state name) ≡ false → nat_le 64 (length state.tables) ≡ false
-    → created state name if_absent columns ≡ and_then (columns_of columns) (λ c. Ok (Nothing, record state { tables = state.tables ++ record { name = name; table = new_table c } ∷ [] }))
+    → created state name if_absent columns ≡ and_then (columns_of columns) (λ c. Ok (Nothing, record state { tables = state.tables ++ record { name = name; table = new_table c; tree = new_tree state.capacity c } ∷ [] }))
 created_new state name if_absent columns new room = rw (new, room) refl
 
 pub watched_same : (n : ℕ) → not (nat_le n 0) ≡ nat_lt 0 n

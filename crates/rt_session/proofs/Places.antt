@@ -11,7 +11,6 @@ use Rattle.std.proofs.lemmas.List.Quantifiers.{position-Some}
 use Rattle.std.proofs.lemmas.Option.{slice_get_read}
 use Rattle.rt_sql.specs.Name.{same_name}
 use Rattle.rt_row.specs.Columns.{are_distinct, has_name}
-use Rattle.rt_row.specs.Tables.{TableLists}
 use Rattle.rt_session.specs.Session.{NamedTable, is_named}
 
 -- ---- names
@@ -93,8 +92,9 @@ not_found p xs none = find_at p xs ∙ past_end xs (position_or_len p xs) (no_pl
 abbrev pub Distinct : List NamedTable → Type 0
 Distinct tables = are_distinct (map (λ t. t.name) tables) ≡ true
 
-abbrev pub replaced_by : List ℕ → TableLists → NamedTable → NamedTable
-replaced_by name table t = if is_named name t then record t { table = table } else t
+-- the table of that name is changed
+abbrev pub replaced_by : List ℕ → (NamedTable → NamedTable) → NamedTable → NamedTable
+replaced_by name change t = if is_named name t then change t else t
 
 first_apart : (t : NamedTable) (ts : List NamedTable) → Distinct (t ∷ ts) → list_any (is_named t.name) ts ≡ false
 first_apart t ts distinct = sym (any_mapped (same_name t.name) (λ u. u.name) ts) ∙ denied _ (both _ _ distinct).0
@@ -114,24 +114,22 @@ first_other name t ts at u distinct within read is =
     let apart : same_name t.name u.name ≡ false = ap (λ (v : NamedTable). same_name t.name v.name) read ∙ not_any (is_named t.name) ts at u within (first_apart t ts distinct) in
     same_left name u.name t.name is ∙ turned u.name t.name ∙ apart
 
-none_replaced : (name : List ℕ) (table : TableLists) (ts : List NamedTable) → list_any (is_named name) ts ≡ false → map (replaced_by name table) ts ≡ ts
-none_replaced name table [] none = refl
-none_replaced name table (t ∷ ts) none =
+none_replaced : (name : List ℕ) (change : NamedTable → NamedTable) (ts : List NamedTable) → list_any (is_named name) ts ≡ false → map (replaced_by name change) ts ≡ ts
+none_replaced name change [] none = refl
+none_replaced name change (t ∷ ts) none =
     let here : is_named name t ≡ false = (neither _ _ none).0 in
-    let later = none_replaced name table ts (neither (is_named name t) _ none).1 in
+    let later = none_replaced name change ts (neither (is_named name t) _ none).1 in
     rw (here, later)
 
--- a table of that name in the place of the one there
-pub replaced : (name : List ℕ) (ts : List NamedTable) (at : ℕ) (t u : NamedTable) → at < length ts → t ≡ get_or ts at t → is_named name t ≡ true → u.name ≡ t.name → Distinct ts
-    → set ts at u ≡ map (replaced_by name u.table) ts
-replaced name [] at t u within read is same distinct = absurd (omega arith)
-replaced name (x ∷ xs) zero t u within read is same distinct =
+-- the changed table in the place of the one there
+pub replaced : (name : List ℕ) (change : NamedTable → NamedTable) (ts : List NamedTable) (at : ℕ) (t : NamedTable) → at < length ts → t ≡ get_or ts at t → is_named name t ≡ true → Distinct ts
+    → set ts at (change t) ≡ map (replaced_by name change) ts
+replaced name change [] at t within read is distinct = absurd (omega arith)
+replaced name change (x ∷ xs) zero t within read is distinct =
     let here : is_named name x ≡ true = subst (λ (v : NamedTable). is_named name v ≡ true) read is in
-    let alike : u.name ≡ x.name = same ∙ ap (λ (v : NamedTable). v.name) read in
-    let made : u ≡ record x { table = u.table } = ap (λ l. record u { name = l }) alike in
-    rw (here, none_replaced name u.table xs (others name x xs distinct here)) (ap (λ (v : NamedTable). v ∷ xs) made)
-replaced name (x ∷ xs) (suc at) t u within read is same distinct =
-    rw (first_other name x xs at t distinct (omega arith) read is) (ap (λ (vs : List NamedTable). x ∷ vs) (replaced name xs at t u (omega arith) read is same (later_distinct x xs distinct)))
+    rw (here, none_replaced name change xs (others name x xs distinct here)) (ap (λ (v : NamedTable). change v ∷ xs) read)
+replaced name change (x ∷ xs) (suc at) t within read is distinct =
+    rw (first_other name x xs at t distinct (omega arith) read is) (ap (λ (vs : List NamedTable). x ∷ vs) (replaced name change xs at t (omega arith) read is (later_distinct x xs distinct)))
 
 none_left_out : (name : List ℕ) (ts : List NamedTable) → list_any (is_named name) ts ≡ false → filter (λ t. not (is_named name t)) ts ≡ ts
 none_left_out name [] none = refl

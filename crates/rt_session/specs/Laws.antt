@@ -2,6 +2,7 @@
 use Rattle.std.specs.Prelude.{◌≡◌, ℕ, List, [], ◌∷◌, All}
 use Rattle.rt_sql.specs.declared.statement.Stmt.{Stmt}
 use Rattle.rt_row.specs.Rows.{AreRising}
+use Rattle.rt_table.specs.AnyTrees.{StandsFor}
 use Rattle.rt_session.specs.Session.{State, empty, Outcome, state_after, Answers}
 
 -- the statements, one after the other, lead from one state to the other
@@ -14,3 +15,10 @@ LeadTo old (statement ∷ statements) new =
 abbrev pub RowsAlwaysRise : Type 0
 RowsAlwaysRise =
     (capacity : ℕ) (statements : List Stmt) (state : State) → LeadTo (empty capacity) statements state → All (λ t. AreRising t.table.rows) state.tables
+
+-- whatever statements a session carries out, each table has a tree of its rows, of the session's capacity, in which the
+-- checker finds no problem
+abbrev pub TreesAlwaysStand : Type 0
+TreesAlwaysStand =
+    (capacity : ℕ) (statements : List Stmt) (state : State) → LeadTo (empty capacity) statements state
+    → All (λ t. StandsFor capacity t.table.columns t.table.rows t.tree) state.tables

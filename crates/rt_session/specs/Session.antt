@@ -11,21 +11,25 @@ use Rattle.rt_sql.specs.declared.statement.Test.{Test}
 use Rattle.rt_sql.specs.declared.statement.Stmt.{Stmt}
 use Rattle.rt_sql.specs.declared.statement.Stmt.TheVariants.{Create, Drop, Insert, Update, Delete, Select, Check, Watch, Unwatch, View, Nodes}
 use Rattle.rt_sql.specs.declared.refusal.Refusal.{Refusal}
-use Rattle.rt_sql.specs.declared.refusal.Refusal.TheVariants.{OutOfMemory, SyntaxError, NoSuchTable, TableAlreadyExists, NoSuchColumn, NoSuchView, ViewAlreadyExists, TableIsWatched, TooManyTablesOrViews}
+use Rattle.rt_sql.specs.declared.refusal.Refusal.TheVariants.{OutOfMemory, NoSuchTable, TableAlreadyExists, NoSuchColumn, NoSuchView, ViewAlreadyExists, TableIsWatched, TooManyTablesOrViews}
 use Rattle.rt_row.specs.Columns.{Columns, columns_of, has_name}
 use Rattle.rt_row.specs.Rows.{TableRow, values_of}
 use Rattle.rt_row.specs.Conditions.{value_in}
-use Rattle.rt_row.specs.Edits.{Steps, and_then, insert, update, delete}
+use Rattle.rt_row.specs.Edits.{Steps, Setting, and_then, insert, update, delete}
 use Rattle.rt_row.specs.Views.{ViewChange}
 use Rattle.rt_row.specs.Tables.{TableLists, new_table, edited, select, watch, unwatch, view, has_view}
+use Rattle.rt_dump.specs.declared.dump.AnyShadow.{AnyShadow}
+use Rattle.rt_sql.specs.declared.statement.Rule.{Rule}
 use Rattle.rt_table.specs.declared.watched.Change.{Change}
+use Rattle.rt_table.specs.AnyTrees.{new_tree, FollowsIfTaken}
 use Rattle.rt_session.specs.declared.reply.Reply.{Reply}
-use Rattle.rt_session.specs.declared.reply.Reply.TheVariants.{Nothing, Rows, Changes}
+use Rattle.rt_session.specs.declared.reply.Reply.TheVariants.{Nothing, Rows, Changes, Verdict, Dump}
 
--- a table under its name
+-- a table under its name, and the tree of its rows
 pub record NamedTable : Type 0 where
   pub name : List ℕ
   pub table : TableLists
+  pub tree : AnyShadow
 
 -- the capacity of the nodes of each table, and the tables, in the order in which they were made
 pub record State : Type 0 where
@@ -45,14 +49,6 @@ abbrev pub state_after : State → Outcome → State
 state_after old (Ok given) = given.1
 state_after old (Err refusal) = old
 
--- The tree that stands for a table's rows, which the rows don't determine. No table has a tree yet, so there is one.
-pub data Shadow : Type 0 where
-  NoTree : Shadow
-
--- the shadows that the table which a statement changes may have afterwards
-abbrev pub MayChoose : State → Stmt → Shadow → Type 0
-MayChoose old statement NoTree = Unit {0}
-
 -- ---- tables by their names
 
 abbrev pub is_named : List ℕ → NamedTable → Bool
@@ -65,6 +61,11 @@ table_of state name = find (is_named name) state.tables
 abbrev pub with_table : State → List ℕ → TableLists → State
 with_table state name table =
     record state { tables = map (λ t. if is_named name t then record t { table = table } else t) state.tables }
+
+-- and its tree is this one
+abbrev pub with_tree : State → List ℕ → TableLists → AnyShadow → State
+with_tree state name table tree =
+    record state { tables = map (λ t. if is_named name t then record t { table = table; tree = tree } else t) state.tables }
 
 abbrev pub without_table : State → List ℕ → State
 without_table state name = record state { tables = filter (λ t. not (is_named name t)) state.tables }
@@ -84,7 +85,7 @@ created state name if_absent columns =
     if is_some (table_of state name) then (if if_absent then Ok (Nothing, state) else Err TableAlreadyExists)
     else (if nat_le most_tables (length state.tables) then Err TooManyTablesOrViews
     else and_then (columns_of columns) (λ c.
-    Ok (Nothing, record state { tables = state.tables ++ record { name = name; table = new_table c } ∷ [] })))
+    Ok (Nothing, record state { tables = state.tables ++ record { name = name; table = new_table c; tree = new_tree state.capacity c } ∷ [] })))
 
 abbrev pub is_watched : TableLists → Bool
 is_watched t = not (nat_le (length t.views) 0)
@@ -99,10 +100,10 @@ dropped state name if_there =
 abbrev pub change_of : ViewChange → Change
 change_of c = record { view = c.view; came = c.came; row = c.row }
 
--- the steps are taken on the table of that name, and their changes of its views are shown
-abbrev pub carried_out : State → List ℕ → TableLists → Steps → Outcome
-carried_out state name t steps =
-    and_then (edited t steps) (λ done. Ok (Changes (map change_of done.0), with_table state name done.1))
+-- the steps are taken on the table of that name, whose tree is then this one, and their changes of its views are shown
+abbrev pub carried_out : AnyShadow → State → List ℕ → TableLists → Steps → Outcome
+carried_out tree state name t steps =
+    and_then (edited t steps) (λ done. Ok (Changes (map change_of done.0), with_tree state name done.1 tree))
 
 -- ---- SELECT
 
@@ -156,31 +157,64 @@ now_unwatched state name t = and_then (unwatch t.table name) (λ after. Ok (Noth
 abbrev pub viewed : State → List ℕ → NamedTable → Outcome
 viewed state name t = and_then (view t.table name) (λ rows. Ok (Rows (map values_of rows), state))
 
+-- ---- trees
+
+-- the tree of each table is sound, whatever was done to the table
+abbrev pub checked : State → TableLists → Outcome
+checked state t = Ok (Verdict [], state)
+
+abbrev pub dumped : State → Option NamedTable → Outcome
+dumped state None = Err NoSuchTable
+dumped state (Some t) = Ok (Dump t.tree, state)
+
 -- ---- all statements
 
--- the reply and the state afterwards, or the refusal, where the table that the statement changes gets this shadow
-abbrev pub answer : Shadow → State → Stmt → Outcome
-answer shadow state (Create name if_absent columns) = created state name if_absent columns
-answer shadow state (Drop name if_there) = dropped state name if_there
-answer shadow state (Insert rule name columns rows) =
-    on_table (table_of state name) (λ t. carried_out state name t (insert t.columns t.rows rule columns rows))
-answer shadow state (Update name sets cond) =
-    on_table (table_of state name) (λ t. carried_out state name t (update t.columns t.rows sets cond))
-answer shadow state (Delete name cond) =
-    on_table (table_of state name) (λ t. carried_out state name t (delete t.columns t.rows cond))
-answer shadow state (Select columns name cond order) =
-    on_table (table_of state name) (selected state columns cond order)
-answer shadow state (Watch name table cond) = on_table (table_of state table) (now_watched state name table cond)
-answer shadow state (Unwatch name) = on_watched (watched_by state name) (now_unwatched state name)
-answer shadow state (View name) = on_watched (watched_by state name) (viewed state name)
--- no table has a tree that could be looked at
-answer shadow state (Check name) = Err SyntaxError
-answer shadow state (Nodes name) = Err SyntaxError
+-- what an INSERT, an UPDATE and a DELETE do to the rows of a table
+abbrev pub inserting : Rule → Option (List (List ℕ)) → List (List Value) → TableLists → Steps
+inserting rule columns rows t = insert t.columns t.rows rule columns rows
 
--- the outcomes of a statement: its answer with a shadow that it may choose; a refusal is the answer with any
+abbrev pub updating : List Setting → List Test → TableLists → Steps
+updating sets cond t = update t.columns t.rows sets cond
+
+abbrev pub deleting : List Test → TableLists → Steps
+deleting cond t = delete t.columns t.rows cond
+
+-- the reply and the state afterwards, or the refusal, where the table that the statement changes gets this tree
+abbrev pub answer : AnyShadow → State → Stmt → Outcome
+answer tree state (Create name if_absent columns) = created state name if_absent columns
+answer tree state (Drop name if_there) = dropped state name if_there
+answer tree state (Insert rule name columns rows) =
+    on_table (table_of state name) (λ t. carried_out tree state name t (inserting rule columns rows t))
+answer tree state (Update name sets cond) =
+    on_table (table_of state name) (λ t. carried_out tree state name t (updating sets cond t))
+answer tree state (Delete name cond) =
+    on_table (table_of state name) (λ t. carried_out tree state name t (deleting cond t))
+answer tree state (Select columns name cond order) =
+    on_table (table_of state name) (selected state columns cond order)
+answer tree state (Check name) = on_table (table_of state name) (checked state)
+answer tree state (Watch name table cond) = on_table (table_of state table) (now_watched state name table cond)
+answer tree state (Unwatch name) = on_watched (watched_by state name) (now_unwatched state name)
+answer tree state (View name) = on_watched (watched_by state name) (viewed state name)
+answer tree state (Nodes name) = dumped state (table_of state name)
+
+-- The rows of a table don't determine its tree. It has their ids and boxes and the table's capacity, and the checker
+-- finds no problem in it; it stays where no id comes or goes and no box changes; it follows one row that comes, or one
+-- that goes, as an insertion or a removal does.
+abbrev pub MayChooseFor : Option NamedTable → (TableLists → Steps) → AnyShadow → Type 0
+MayChooseFor None edit tree = Unit {0}
+MayChooseFor (Some t) edit tree = FollowsIfTaken t.table.rows (edit t.table) t.tree tree
+
+-- the trees that the table which a statement changes may have afterwards
+abbrev pub MayChoose : State → Stmt → AnyShadow → Type 0
+MayChoose old (Insert rule name columns rows) tree = MayChooseFor (table_of old name) (inserting rule columns rows) tree
+MayChoose old (Update name sets cond) tree = MayChooseFor (table_of old name) (updating sets cond) tree
+MayChoose old (Delete name cond) tree = MayChooseFor (table_of old name) (deleting cond) tree
+MayChoose old statement tree = Unit {0}
+
+-- the outcomes of a statement: its answer with a tree that it may choose; a refusal is the answer with any
 abbrev pub Answers : State → Stmt → Outcome → Type 0
-Answers old statement (Ok given) = (shadow : Shadow) × (answer shadow old statement ≡ Ok given) × MayChoose old statement shadow
-Answers old statement (Err refusal) = (shadow : Shadow) → answer shadow old statement ≡ Err refusal
+Answers old statement (Ok given) = (tree : AnyShadow) × (answer tree old statement ≡ Ok given) × MayChoose old statement tree
+Answers old statement (Err refusal) = (tree : AnyShadow) → answer tree old statement ≡ Err refusal
 
 -- Ok is an outcome with the new state. A refusal leaves the state, and is an outcome or want of memory.
 abbrev pub CarriesOut : State → Stmt → Result Reply Refusal → State → Type 0

@@ -6,7 +6,7 @@ use Rattle.rt_session.specs.declared.session.Session.TheInside.{Inside}
 use Rattle.rt_session.specs.Session.{State, NamedTable}
 
 abbrev pub named_of : Named → NamedTable
-named_of n = record { name = n.name; table = n.table.lists }
+named_of n = record { name = n.name; table = n.table.lists; tree = n.table.tree }
 
 abbrev pub state_of : Inside → State
 state_of s = record { capacity = s.capacity; tables = map named_of s.tables.items }

@@ -7,7 +7,9 @@ use Rattle.rt_row.specs.Edits.{Steps, and_then, insert, update, delete}
 use Rattle.rt_row.specs.Tables.{TableLists, edited}
 use Rattle.rt_session.specs.declared.edits.Edit.{Edit}
 use Rattle.rt_session.specs.declared.edits.Edit.TheVariants.{Insert, Update, Delete}
+use Rattle.rt_dump.specs.declared.dump.AnyShadow.{AnyShadow}
 use Rattle.rt_table.specs.declared.watched.Change.{Change}
+use Rattle.rt_session.specs.declared.reply.Reply.{Reply}
 use Rattle.rt_session.specs.declared.reply.Reply.TheVariants.{Rows}
 use Rattle.rt_session.specs.Session.{State, Outcome, change_of}
 
@@ -16,9 +18,13 @@ abbrev pub AnswersUnlessMemory : {A S : Type 0} → Result (A × S) Refusal → 
 AnswersUnlessMemory expected r old new =
     MatchResult r (λ reply. expected ≡ Ok (reply, new)) (λ refusal. (new ≡ old) × (refusal ≢ OutOfMemory → expected ≡ Err refusal))
 
--- Ok is what was expected. A refusal is the one expected or want of memory.
-abbrev pub GivesUnlessMemory : {A : Type 0} → Result A Refusal → Result A Refusal → Type 0
-GivesUnlessMemory expected r = MatchResult r (λ given. expected ≡ Ok given) (λ refusal. refusal ≢ OutOfMemory → expected ≡ Err refusal)
+-- Ok is the reply and the state that were expected with some tree that may be chosen. A refusal leaves the state, and is
+-- the one expected with any tree or want of memory.
+abbrev pub AnswersByTree : (AnyShadow → Outcome) → (AnyShadow → Type 0) → Result Reply Refusal → State → State → Type 0
+AnswersByTree expected MayBe r old new =
+    MatchResult r
+    (λ reply. (tree : AnyShadow) × (expected tree ≡ Ok (reply, new)) × MayBe tree)
+    (λ refusal. (new ≡ old) × (refusal ≢ OutOfMemory → (tree : AnyShadow) → expected tree ≡ Err refusal))
 
 -- the rows are shown, and the state stays
 abbrev pub ShowsRows : (State → Outcome) → Result (List (List Value)) Refusal → Type 0

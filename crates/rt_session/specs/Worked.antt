@@ -14,14 +14,17 @@ use Rattle.rt_sql.specs.declared.statement.Test.TheVariants.{Compare}
 use Rattle.rt_sql.specs.declared.statement.Stmt.{Stmt}
 use Rattle.rt_sql.specs.declared.statement.Stmt.TheVariants.{Create, Drop, Insert, Update, Delete, Select, Check, Watch, Unwatch, View, Nodes}
 use Rattle.rt_sql.specs.declared.refusal.Refusal.{Refusal}
-use Rattle.rt_sql.specs.declared.refusal.Refusal.TheVariants.{SyntaxError, NoSuchTable, TableAlreadyExists, BadColumnList, NoSuchColumn, IdAlreadyTaken, NoSuchView, ViewAlreadyExists, TableIsWatched, TooManyTablesOrViews}
+use Rattle.rt_sql.specs.declared.refusal.Refusal.TheVariants.{NoSuchTable, TableAlreadyExists, BadColumnList, NoSuchColumn, IdAlreadyTaken, NoSuchView, ViewAlreadyExists, TableIsWatched, TooManyTablesOrViews}
 use Rattle.rt_row.specs.Rows.{TableRow}
 use Rattle.rt_row.specs.Edits.{and_then}
 use Rattle.rt_row.specs.Tables.{new_table}
+use Rattle.rt_dump.specs.declared.dump.AnyShadow.{AnyShadow}
+use Rattle.rt_dump.specs.declared.dump.AnyShadow.TheVariants.{One, Two, Three}
+use Rattle.rt_tree.specs.Lists.{empty_lists}
 use Rattle.rt_table.specs.declared.watched.Change.{Change}
 use Rattle.rt_session.specs.declared.reply.Reply.{Reply}
-use Rattle.rt_session.specs.declared.reply.Reply.TheVariants.{Nothing, Rows, Changes}
-use Rattle.rt_session.specs.Session.{State, NoTree, Outcome, state_after, empty, answer}
+use Rattle.rt_session.specs.declared.reply.Reply.TheVariants.{Nothing, Rows, Changes, Verdict, Dump}
+use Rattle.rt_session.specs.Session.{State, Outcome, state_after, empty, answer}
 
 -- ---- statements to work with
 
@@ -58,16 +61,20 @@ left view row = record { view = view; came = false; row = row }
 
 -- ---- what a script answers
 
+-- What statements answer hangs on no tree but for `.nodes`, so this one is chosen each time.
+abbrev any_tree : AnyShadow
+any_tree = One (empty_lists 0)
+
 abbrev run : State → List Stmt → State
 run state [] = state
-run state (statement ∷ statements) = run (state_after state (answer NoTree state statement)) statements
+run state (statement ∷ statements) = run (state_after state (answer any_tree state statement)) statements
 
 abbrev reply : Outcome → Result Reply Refusal
 reply outcome = and_then outcome (λ given. Ok given.0)
 
 -- what the last statement answers, after the others
 abbrev last : List Stmt → Stmt → Result Reply Refusal
-last statements statement = reply (answer NoTree (run (empty 5) statements) statement)
+last statements statement = reply (answer any_tree (run (empty 5) statements) statement)
 
 abbrev tables_after : List Stmt → List (List ℕ)
 tables_after statements = map (λ t. t.name) (run (empty 5) statements).tables
@@ -77,13 +84,13 @@ views_after statements = map (λ t. map (λ v. v.name) t.table.views) (run (empt
 
 -- ---- tables by their names
 
-create-makes_an_empty_table : run (empty 5) (create (codes "t") ∷ []) ≡ record { capacity = 5; tables = record { name = codes "t"; table = new_table (record { axes = 1; names = codes "id" ∷ codes "minX" ∷ codes "maxX" ∷ [] }) } ∷ [] }
+create-makes_an_empty_table : run (empty 5) (create (codes "t") ∷ []) ≡ record { capacity = 5; tables = record { name = codes "t"; table = new_table (record { axes = 1; names = codes "id" ∷ codes "minX" ∷ codes "maxX" ∷ [] }); tree = One (empty_lists 5) } ∷ [] }
 create-makes_an_empty_table = refl
 
 create-again : last (create (codes "t") ∷ []) (create (codes "T")) ≡ Err TableAlreadyExists
 create-again = refl
 
-create-if_absent : answer NoTree (run (empty 5) (create (codes "t") ∷ [])) (Create (codes "T") true []) ≡ Ok (Nothing, run (empty 5) (create (codes "t") ∷ []))
+create-if_absent : answer any_tree (run (empty 5) (create (codes "t") ∷ [])) (Create (codes "T") true []) ≡ Ok (Nothing, run (empty 5) (create (codes "t") ∷ []))
 create-if_absent = refl
 
 create-bad_columns : last [] (Create (codes "t") false (plain (codes "id") ∷ [])) ≡ Err BadColumnList
@@ -164,7 +171,7 @@ select-no_such_column : last filled (Select (Some (codes "id" ∷ codes "minY" �
 select-no_such_column = refl
 
 -- a refused row takes those before it with it
-insert-all_or_none : answer NoTree (run (empty 5) filled) (put (codes "t") (shown 3 0 0 ∷ shown 7 0 0 ∷ [])) ≡ Err IdAlreadyTaken
+insert-all_or_none : answer any_tree (run (empty 5) filled) (put (codes "t") (shown 3 0 0 ∷ shown 7 0 0 ∷ [])) ≡ Err IdAlreadyTaken
 insert-all_or_none = refl
 
 insert-elsewhere : last (filled ++ create (codes "u") ∷ put (codes "u") (shown 9 0 0 ∷ []) ∷ []) (Select None (codes "t") [] None) ≡ Ok (Rows (shown 2 20 21 ∷ shown 7 10 11 ∷ []))
@@ -237,10 +244,40 @@ watch-65th = refl
 unwatch-and_watch : views_after (create (codes "t") ∷ Watch (codes "v") (codes "t") [] ∷ Watch (codes "w") (codes "t") [] ∷ Unwatch (codes "v") ∷ Watch (codes "v") (codes "t") [] ∷ []) ≡ (codes "w" ∷ codes "v" ∷ []) ∷ []
 unwatch-and_watch = refl
 
--- ---- trees, of which there is none
+-- ---- trees
 
-check-refused : last filled (Check (codes "t")) ≡ Err SyntaxError
-check-refused = refl
+check-new : last (create (codes "t") ∷ []) (Check (codes "T")) ≡ Ok (Verdict [])
+check-new = refl
 
-nodes-refused : last filled (Nodes (codes "t")) ≡ Err SyntaxError
-nodes-refused = refl
+check-filled : last filled (Check (codes "t")) ≡ Ok (Verdict [])
+check-filled = refl
+
+check-changes_nothing : answer any_tree (run (empty 5) filled) (Check (codes "t")) ≡ Ok (Verdict [], run (empty 5) filled)
+check-changes_nothing = refl
+
+no_table-check : last filled (Check (codes "u")) ≡ Err NoSuchTable
+no_table-check = refl
+
+-- one leaf without cells, of the session's capacity
+nodes-new : last (create (codes "t") ∷ []) (Nodes (codes "T")) ≡ Ok (Dump (One (record { capacity = 5; root = pos 1; nodes = record { number = pos 1; level = 0; parent = None; cells = [] } ∷ []; rows = [] })))
+nodes-new = refl
+
+nodes-two_axes : last (Create (codes "t") false (points ++ plain (codes "minY") ∷ plain (codes "maxY") ∷ []) ∷ []) (Nodes (codes "t")) ≡ Ok (Dump (Two (empty_lists 5)))
+nodes-two_axes = refl
+
+nodes-three_axes : last (Create (codes "t") false (points ++ plain (codes "minY") ∷ plain (codes "maxY") ∷ plain (codes "minZ") ∷ plain (codes "maxZ") ∷ []) ∷ []) (Nodes (codes "t")) ≡ Ok (Dump (Three (empty_lists 5)))
+nodes-three_axes = refl
+
+-- the tree of an edited table is the one that was chosen, and that of another table stays
+nodes-edited : last filled (Nodes (codes "t")) ≡ Ok (Dump any_tree)
+nodes-edited = refl
+
+nodes-elsewhere : last (filled ++ create (codes "u") ∷ Delete (codes "t") [] ∷ []) (Nodes (codes "u")) ≡ Ok (Dump (One (empty_lists 5)))
+nodes-elsewhere = refl
+
+-- a view that is named or forgotten leaves the tree
+nodes-watched : last (create (codes "t") ∷ Watch (codes "v") (codes "t") [] ∷ Unwatch (codes "v") ∷ []) (Nodes (codes "t")) ≡ Ok (Dump (One (empty_lists 5)))
+nodes-watched = refl
+
+no_table-nodes : last filled (Nodes (codes "u")) ≡ Err NoSuchTable
+no_table-nodes = refl

@@ -1,6 +1,9 @@
 //! What INSERT, UPDATE and DELETE do to a table.
 
-ghost use Rattle.rt_session.specs.Steps.{AnswersUnlessMemory, edited_by};
+ghost use Rattle.std.specs.Prelude.{◌≡◌, ◌≢◌, Ok, Err, IfOk, IfErr, OnOk, OnErr};
+ghost use Rattle.rt_sql.specs.declared.refusal.Refusal.TheVariants.{OutOfMemory};
+ghost use Rattle.rt_table.specs.AnyTrees.{FollowsIfTaken};
+ghost use Rattle.rt_session.specs.Steps.{edited_by, steps_of};
 
 use rt_sql::{Cond, Items, Name, Refusal, Rule, Source, Value};
 use rt_table::{AnyTable, Change};
@@ -23,13 +26,16 @@ pub(crate) enum Edit {
     },
 }
 
-/// Carries an edit out on a table, and answers what it changed in the table's views.
+/// Carries an edit out on a table, and answers what it changed in the table's views. A refusal changes nothing.
 pub(crate) fn carry_out(
     alloc: Global,
     table: &mut AnyTable,
     edit: Edit,
 ) -> Result<Items<Change>, Refusal>
-    ensures { AnswersUnlessMemory (edited_by edit table.old.lists) result table.old.lists table.new.lists }
+    ensures ok { IfOk result (λ changes. edited_by edit table.old.lists ≡ Ok (changes, table.new.lists)) }
+    ensures tree { OnOk result (FollowsIfTaken table.old.lists.rows (steps_of edit table.old.lists) table.old.tree table.new.tree) }
+    ensures err { IfErr result (λ refusal. refusal ≢ OutOfMemory → edited_by edit table.old.lists ≡ Err refusal) }
+    ensures refused { OnErr result (table.new ≡ table.old) }
 {
     match edit {
         Edit::Insert {

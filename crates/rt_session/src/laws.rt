@@ -1,9 +1,15 @@
 //! What holds of every session, as laws of the definitions that the contracts cite. Each function does
 //! nothing: its contract is the law.
 
-ghost use Rattle.rt_session.specs.Laws.{RowsAlwaysRise};
+ghost use Rattle.rt_session.specs.Laws.{RowsAlwaysRise, TreesAlwaysStand};
 
 /// Whatever statements a session carries out, the rows of each of its tables stand by rising id.
 pub fn rows_always_rise()
     ensures { RowsAlwaysRise }
+{}
+
+/// Whatever statements a session carries out, each of its tables has a tree of its rows, of the session's capacity, in
+/// which the checker finds no problem.
+pub fn trees_always_stand()
+    ensures { TreesAlwaysStand }
 {}

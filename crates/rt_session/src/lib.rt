@@ -3,7 +3,8 @@
 //! - `Session`: the tables under their names. `step` carries a statement out, or refuses it, and a
 //!   refusal leaves the tables as they were.
 //! - `Reply`, `Change`: what a statement answers.
-//! - `laws`: whatever statements are carried out, the rows of a table stand by rising id.
+//! - `laws`: whatever statements are carried out, the rows of a table stand by rising id, and its tree is one of its rows
+//!   in which the checker finds no problem.
 //!
 //! Any statement may be refused for want of memory, and that refusal too leaves the tables.
 #![tactic(auto)]

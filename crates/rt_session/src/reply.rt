@@ -1,10 +1,12 @@
 //! What statements answer.
 
+use rt_check::Problem;
+use rt_dump::AnyShadow;
 use rt_sql::{Items, Value};
 use rt_table::Change;
 
 /// What a statement that was carried out shows.
-#[derive(Debug, Drop)]
+#[derive(Drop)]
 pub enum Reply {
     /// Of a table or a view that was made or dropped.
     Nothing,
@@ -12,4 +14,8 @@ pub enum Reply {
     Rows(Items<Items<Value>>),
     /// What an INSERT, UPDATE or DELETE changed in the views of its table.
     Changes(Items<Change>),
+    /// The problems that the checker finds in a table's tree.
+    Verdict(Items<Problem>),
+    /// A table's tree from outside.
+    Dump(AnyShadow),
 }

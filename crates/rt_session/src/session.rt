@@ -1,8 +1,8 @@
 //! The tables of a session, and what it answers to a statement.
 
 ghost use Rattle.std.specs.Prelude.{◌≡◌};
-ghost use Rattle.rt_session.specs.Session.{empty, CarriesOut, created, dropped, carried_out, on_table, table_of, now_watched, on_watched, watched_by, now_unwatched, viewed, selected};
-ghost use Rattle.rt_session.specs.Steps.{AnswersUnlessMemory, steps_of};
+ghost use Rattle.rt_session.specs.Session.{empty, CarriesOut, MayChooseFor, created, dropped, carried_out, on_table, table_of, now_watched, on_watched, watched_by, now_unwatched, viewed, selected, checked, dumped};
+ghost use Rattle.rt_session.specs.Steps.{AnswersUnlessMemory, AnswersByTree, steps_of};
 
 use crate::edits::{Edit, carry_out};
 use crate::reply::Reply;
@@ -26,7 +26,7 @@ const MOST_VIEWS: usize = 64;
 #[derive(Drop)]
 pub struct Session {
     alloc: Global,
-    // The capacity of the nodes of each table; no table has any yet.
+    // The capacity of the nodes of each table's tree.
     capacity: Capacity,
     // The keys of the hashes of ids.
     keys: RandomState,
@@ -100,8 +100,8 @@ impl Session {
             Stmt::Watch { view, table, cond } => self.watch(view, &table, cond),
             Stmt::Unwatch { view } => self.unwatch(&view),
             Stmt::View { view } => self.view(&view),
-            // No table has a tree that could be looked at.
-            Stmt::Check { .. } | Stmt::Nodes { .. } => Err(Refusal::SyntaxError),
+            Stmt::Check { table } => self.check(&table),
+            Stmt::Nodes { table } => self.nodes(&table),
         }
     }
 
@@ -123,7 +123,7 @@ impl Session {
             return Err(Refusal::TooManyTablesOrViews);
         }
         let columns = Schema::new(self.alloc, columns.as_slice())?;
-        let table = AnyTable::new(self.alloc, self.keys, columns)?;
+        let table = AnyTable::new(self.alloc, self.keys, self.capacity, columns)?;
         self.tables.push(Named { name, table })?;
         Ok(Reply::Nothing)
     }
@@ -145,7 +145,7 @@ impl Session {
     }
 
     fn edit(&mut self, name: &Name, edit: Edit) -> Result<Reply, Refusal>
-        ensures { AnswersUnlessMemory (on_table (table_of self.old name.now) (λ t. carried_out self.old name.now t (steps_of edit t))) result self.old self.new }
+        ensures { AnswersByTree (λ tree. on_table (table_of self.old name.now) (λ t. carried_out tree self.old name.now t (steps_of edit t))) (MayChooseFor (table_of self.old name.now) (steps_of edit)) result self.old self.new }
     {
         let Some(at) = place_of(self.tables.as_slice(), name) else {
             return Err(Refusal::NoSuchTable);
@@ -204,5 +204,25 @@ impl Session {
         };
         let rows = select(self.alloc, &self.tables[at].table, columns, cond, order)?;
         Ok(Reply::Rows(rows))
+    }
+
+    fn check(&self, name: &Name) -> Result<Reply, Refusal>
+        ensures { AnswersUnlessMemory (on_table (table_of self.now name.now) (checked self.now)) result self.now self.now }
+    {
+        let Some(at) = place_of(self.tables.as_slice(), name) else {
+            return Err(Refusal::NoSuchTable);
+        };
+        let problems = self.tables[at].table.check(self.alloc)?;
+        Ok(Reply::Verdict(Items::from_vec(problems)))
+    }
+
+    fn nodes(&self, name: &Name) -> Result<Reply, Refusal>
+        ensures { AnswersUnlessMemory (dumped self.now (table_of self.now name.now)) result self.now self.now }
+    {
+        let Some(at) = place_of(self.tables.as_slice(), name) else {
+            return Err(Refusal::NoSuchTable);
+        };
+        let shadow = self.tables[at].table.nodes(self.alloc)?;
+        Ok(Reply::Dump(shadow))
     }
 }

@@ -2,7 +2,6 @@ use Rattle.std.proofs.Common.{◌≡◌, ◌∙◌, true, false, Ok, ap, sym, re
 use Rattle.std.specs.Prelude.{is_some, nat_le}
 use Rattle.std.proofs.lemmas.Result.{err_from_is_err_and}
 use Rattle.rt_row.specs.Columns.{columns_of}
-use Rattle.rt_row.specs.Tables.{new_table}
 use Rattle.rt_session.specs.Session.{table_of, is_named}
 use Rattle.rt_session.proofs.Outcomes.{some_found, many_tables, made, names_more, ok_columns, err_columns, few, many, created_new}
 use Rattle.rt_session.proofs.session.Session.create.Goals as goal
@@ -47,5 +46,5 @@ returns c =
     let room : nat_le 64 (length c.args.self.now.tables) ≡ false = ap (nat_le 64) long ∙ few c.len.result 64 c.if-len-ge-MOST_TABLES.false in
     let columns : columns_of c.args.columns.now ≡ Ok c.in_ok-columns.columns =
     sym (ap columns_of c.as_slice-2.ensures) ∙ ok_columns (columns_of c.as_slice-2.result.now) c.in_ok-columns.columns c.in_ok-columns.ensures in
-    let state = made c.args.self.now _ c.self.inside.tables.items c.self.view_is c.args.name c.in_ok-table.table (new_table c.in_ok-columns.columns) c.in_ok-table.ensures in
+    let state = made c.args.self.now _ c.self.inside.tables.items c.self.view_is c.args.name c.in_ok-table.table c.in_ok-columns.columns c.in_ok-table.ensures.lists c.in_ok-table.ensures.tree in
     created_new c.args.self.now c.args.name c.args.if_absent c.args.columns.now new room ∙ rw (columns, c.in_ok-push.ensures.items, state) refl

@@ -1,4 +1,4 @@
-use Rattle.std.proofs.Common.{◌≡◌, Some, None, ap, refl}
+use Rattle.std.proofs.Common.{◌≡◌, Some, None, refl}
 use Rattle.std.proofs.lemmas.Result.{err_from_is_err_and}
 use Rattle.std.proofs.lemmas.List.Quantifiers.{position-Some}
 use Rattle.rt_row.specs.Tables.{has_view}
@@ -23,7 +23,7 @@ returns-in_err-unwatch c =
     let within = (position-Some _ c.self.inside.tables.items c.in-Some.at t place).0 in
     let p = err_from_is_err_and c.from_residual.result c.from_residual.ensures.1 in
     rw (p.1, p.2) (
-      kept_at c.args.self.now _ _ c.self.view_is c.in-Some.at t within c.index_mut.ensures.value c.unwatch.new.self (ap (λ h. h.lists) c.in_err-unwatch.ensures.refused),
+      kept_at c.args.self.now _ _ c.self.view_is c.in-Some.at t within c.index_mut.ensures.value c.unwatch.new.self c.in_err-unwatch.ensures.refused,
       λ other. rw (there, c.in_err-unwatch.ensures.err) refl,
     )
 
@@ -36,5 +36,5 @@ returns c =
     let t = c.index_mut.result.now in
     let there : watched_by c.args.self.now c.args.view.now ≡ Some (named_of t) = found c.args.self.now _ _ c.self.view_is (λ t. has_view t.table c.args.view.now) c.in-Some.at t place c.index_mut.ensures.value in
     let within = (position-Some _ c.self.inside.tables.items c.in-Some.at t place).0 in
-    let state = with_table_at c.args.self.now _ _ c.self.view_is c.in-Some.at t within c.index_mut.ensures.value c.unwatch.new.self t.name (same_self t.name) c.self.invariant in
+    let state = with_table_at c.args.self.now _ _ c.self.view_is c.in-Some.at t within c.index_mut.ensures.value c.unwatch.new.self t.name (same_self t.name) c.self.invariant c.unwatch.ensures.tree in
     rw (there, c.in_ok-unwatch.ensures.ok, state) refl

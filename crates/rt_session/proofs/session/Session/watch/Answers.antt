@@ -48,7 +48,7 @@ returns-in_err-watch c =
     ap (nat_le 64) (count_of c.args.self.now _ c.self.inside.tables.items c.as_slice-3.result.now c.self.view_is c.as_slice-3.ensures.value) ∙ sym c.have_views.ensures ∙ c.if-have_views.false in
     let p = err_from_is_err_and c.from_residual.result c.from_residual.ensures.1 in
     rw (p.1, p.2) (
-      kept_at c.args.self.now _ _ c.self.view_is c.in-Some.at t within c.index_mut.ensures.value c.watch.new.self (ap (λ h. h.lists) c.in_err-watch.ensures.refused),
+      kept_at c.args.self.now _ _ c.self.view_is c.in-Some.at t within c.index_mut.ensures.value c.watch.new.self c.in_err-watch.ensures.refused,
       λ other. watched_new c.args.self.now c.args.view c.args.name.now c.args.cond (named_of t) there new room ∙ rw (refused (watch t.table.lists c.args.view c.args.cond) _ c.in_err-watch.ensures.err other) refl,
     )
 
@@ -66,5 +66,5 @@ returns c =
     some_found c.args.self.now _ c.self.inside.tables.items c.self.view_is (λ t. has_view t.table c.args.view) c.as_slice-2.result.now c.place_of_view.result false c.as_slice-2.ensures.value c.place_of_view.ensures (sym c.is_some.ensures ∙ c.if-is_some.false) in
     let room : nat_le 64 (count_views c.args.self.now) ≡ false =
     ap (nat_le 64) (count_of c.args.self.now _ c.self.inside.tables.items c.as_slice-3.result.now c.self.view_is c.as_slice-3.ensures.value) ∙ sym c.have_views.ensures ∙ c.if-have_views.false in
-    let state = with_table_at c.args.self.now _ _ c.self.view_is c.in-Some.at t here.0 c.index_mut.ensures.value c.watch.new.self c.args.name.now same c.self.invariant in
+    let state = with_table_at c.args.self.now _ _ c.self.view_is c.in-Some.at t here.0 c.index_mut.ensures.value c.watch.new.self c.args.name.now same c.self.invariant c.watch.ensures.tree in
     watched_new c.args.self.now c.args.view c.args.name.now c.args.cond (named_of t) there new room ∙ rw (c.in_ok-watch.ensures.ok, state) refl
