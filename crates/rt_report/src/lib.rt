@@ -2,7 +2,7 @@
 //!
 //! `run_check` reads a dump whole, and writes `ok`, a line for each problem of the tree, or the
 //! first fault of the text. Its contract names that report, and `laws` says what it means to be
-//! clean.
+//! clean. `write_verdict` writes the verdict alone, of problems that were found elsewhere.
 #![tactic(auto)]
 
 mod checking;
@@ -10,3 +10,4 @@ pub mod laws;
 mod report;
 
 pub use checking::run_check;
+pub use report::write_verdict;

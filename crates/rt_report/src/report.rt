@@ -9,7 +9,8 @@ use rt_bytes::{ByteWriter, WriteFault, write_parts, write_whole};
 use rt_check::Problem;
 use rt_dump::LineFault;
 
-/// Writes `ok`, or a line for each problem. After a fault a front of that is written.
+/// Writes the verdict on a tree: `ok` where it has no problem, else a line for each problem, as
+/// `C6 node 1 at 2`: its condition, node and position. After a fault a front of that is written.
 pub fn write_verdict<W: ByteWriter>(problems: &[Problem], writer: &mut W) -> Result<(), WriteFault>
     ensures { WritesTo W.ByteWriter writer.old writer.new result (verdict_lines problems.now) }
 {

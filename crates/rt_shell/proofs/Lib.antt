@@ -1,7 +1,9 @@
+pub mod Alike
 pub mod EngineLemmas
 pub mod Pumping
 pub mod Quotes
 pub mod Sequences
+pub mod Standing
 pub mod StepLemmas
 pub mod Taking
 pub mod TranscriptLemmas

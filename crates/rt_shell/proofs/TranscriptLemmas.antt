@@ -1,102 +1,226 @@
--- A script, its options and its marks have a transcript, and only one.
-use Rattle.std.proofs.Common.{◌≡◌, ◌∙◌, ℕ, ◌+◌, Bool, true, false, List, [], ◌∷◌, ◌++◌, Result, Ok, Err, refl, sym, ap, subst}
-use Rattle.std.specs.Prelude.{◌&&◌}
+-- What two runs of one script print, is equal but for dumps, and over plain lists there is a transcript for all marks.
+use Rattle.std.proofs.Common.{◌≡◌, ◌∙◌, inl, inr, ℕ, ◌+◌, Bool, true, false, List, [], ◌∷◌, ◌++◌, Option, Some, None, Result, Ok, Err, refl, sym, ap, subst}
+use Rattle.std.specs.Prelude.{◌&&◌, ◌||◌, if◌then◌else◌}
 use Rattle.std.specs.Bool.{MatchBool}
 use Rattle.std.specs.Result.{is_err}
 use Rattle.rt_bytes.specs.declared.outcome.Status.{Status}
-use Rattle.rt_bytes.specs.declared.outcome.Status.TheVariants.{Refused}
+use Rattle.rt_bytes.specs.declared.outcome.Status.TheVariants.{Clean, Refused}
 use Rattle.rt_cut.specs.Piece.{PieceText}
 use Rattle.rt_cut.proofs.CutterLaws.{cut_one_way, cut_somehow}
+use Rattle.rt_dump.specs.declared.dump.AnyShadow.{AnyShadow}
+use Rattle.rt_dump.specs.Dump.{any_text}
 use Rattle.rt_sql.proofs.Parses.{one_answer, some_answer}
 use Rattle.rt_sql.specs.declared.statement.Stmt.{Stmt}
 use Rattle.rt_sql.specs.declared.refusal.Refusal.{Refusal}
 use Rattle.rt_sql.specs.declared.refusal.Refusal.TheVariants.{OutOfMemory}
+use Rattle.rt_row.specs.Tables.{TableLists}
+use Rattle.rt_table.specs.AnyTrees.{StandsFor}
+use Rattle.rt_session.specs.declared.reply.Reply.{Reply}
+use Rattle.rt_session.specs.Session.{State, NamedTable, Outcome, table_of, is_named, state_after, answer, Answers}
 use Rattle.rt_shell.specs.declared.runner.Options.{Options}
-use Rattle.rt_session.specs.Session.{State, Outcome, Shadow, NoTree, answer, Answers}
+use Rattle.rt_shell.specs.Lines.{reply_lines, refusal_line}
 use Rattle.rt_shell.specs.Transcript.{Marks, Progress, start, AnswersParsed, MayGive, after, lines_of, status_of, Prints}
-use Rattle.rt_shell.specs.Laws.{TranscriptIsDetermined, EveryScriptHasATranscript}
+use Rattle.rt_shell.specs.Laws.{EqualButDumps, ends, lines, dumps, HaveSameRows, TranscriptIsDetermined, no_tree, PlainlyAnswersParsed, PlainlyGives, PlainlyPrints, AnyTrees, EveryScriptHasAPlainTranscript}
+use Rattle.rt_shell.proofs.Alike.{FoundAlike, SameTables, table_alike, SameAnswer, FoundRelated, AreRelated, both_answer}
+use Rattle.rt_shell.proofs.Standing.{IsStanding, found_stands, stands_after}
 
--- ---- only one
+-- ---- the lines of answers
 
-same_answer : (old : State) (statement : Stmt) (one other : Outcome) → Answers old statement one → Answers old statement other → one ≡ other
-same_answer old statement (Ok a) (Ok b) (NoTree, g, _) (NoTree, h, _) = sym g ∙ h
-same_answer old statement (Ok a) (Err b) (NoTree, g, _) h = sym g ∙ h NoTree
-same_answer old statement (Err a) (Ok b) g (NoTree, h, _) = sym (g NoTree) ∙ h
-same_answer old statement (Err a) (Err b) g h = sym (g NoTree) ∙ h NoTree
+-- as far, with the same tables but for their trees
+abbrev pub SameProgress : Progress → Progress → Type 0
+SameProgress p q = SameTables p.state q.state × (q.pieces ≡ p.pieces) × (q.refused ≡ p.refused)
 
-same_answer_parsed : (old : State) (parsed : Result Stmt Refusal) (one other : Outcome) → AnswersParsed old parsed one → AnswersParsed old parsed other → one ≡ other
-same_answer_parsed old (Ok statement) one other g h = same_answer old statement one other g h
-same_answer_parsed old (Err refusal) one other g h = g ∙ sym h
-
-same_outcome : (mark : Bool) (old : State) (piece : PieceText) (one other : Outcome) → MayGive mark old piece one → MayGive mark old piece other → one ≡ other
-same_outcome true old piece one other g h = g ∙ sym h
-same_outcome false old piece one other (p, first, g) (q, second, h) =
-    same_answer_parsed old p one other g (subst (λ r. AnswersParsed old r other) (one_answer piece q p second first) h)
-
--- what is printed from a piece on that has this outcome
-abbrev PrintsFrom : Options → Marks → Progress → List PieceText → List ℕ → Status → Outcome → Type 0
-PrintsFrom options marks p pieces out status outcome =
+-- what is printed from a piece on that has this outcome, where the later pieces print by a rule
+abbrev pub PrintsFrom : (List ℕ → Status → Type 0) → Options → Progress → Outcome → List ℕ → Status → Type 0
+PrintsFrom Rest options p outcome out status =
     (later : List ℕ) × (out ≡ lines_of (p.pieces + 1) outcome ++ later)
-    × MatchBool (options.bail && is_err outcome) ((later ≡ []) × (status ≡ Refused)) (Prints options marks (after p outcome) pieces later status)
+    × MatchBool (options.bail && is_err outcome) ((later ≡ []) × (status ≡ Refused)) (Rest later status)
 
--- later lines that are the same make all lines the same
-abbrev Later : List ℕ → List ℕ → Status → Status → Type 0
-Later one other first second = (one ≡ other) × (first ≡ second)
+no_lines : (T : AnyShadow → AnyShadow → Type 0) → (one other : List ℕ) → one ≡ [] → other ≡ [] → EqualButDumps T one other
+no_lines T one other is are = subst (λ ls. EqualButDumps T ls other) (sym is) (subst (λ ls. EqualButDumps T [] ls) (sym are) ends)
 
-same_from : (options : Options) (marks : Marks) (p : Progress) (pieces : List PieceText) (outcome : Outcome)
-    → ((one other : List ℕ) (first second : Status) → Prints options marks (after p outcome) pieces one first → Prints options marks (after p outcome) pieces other second → (one ≡ other) × (first ≡ second))
-    → (one other : List ℕ) (first second : Status) → PrintsFrom options marks p pieces one first outcome → PrintsFrom options marks p pieces other second outcome → (one ≡ other) × (first ≡ second)
-same_from options marks p pieces outcome rest one other first second (l, g, ends) (m, h, ended) =
-    let both : Later l m first second =
-    elim (options.bail && is_err outcome) as
-    (λ b. MatchBool b ((l ≡ []) × (first ≡ Refused)) (Prints options marks (after p outcome) pieces l first)
-    → MatchBool b ((m ≡ []) × (second ≡ Refused)) (Prints options marks (after p outcome) pieces m second) → Later l m first second) [
-      | true ↦ λ x y. (x.0 ∙ sym y.0, x.1 ∙ sym y.1)
-      | false ↦ λ x y. rest l m first second x y
-    ] ends ended
-    in
-    (g ∙ ap (λ ls. lines_of (p.pieces + 1) outcome ++ ls) both.0 ∙ sym h, both.1)
+module _ (T : AnyShadow → AnyShadow → Type 0) where
+  -- equal but for dumps, and the status is one
+  abbrev pub PrintSame : List ℕ → List ℕ → Status → Status → Type 0
+  PrintSame one other first second = EqualButDumps T one other × (first ≡ second)
 
-same_print : (options : Options) (marks : Marks) (p : Progress) (pieces : List PieceText) (one other : List ℕ) (first second : Status)
-    → Prints options marks p pieces one first → Prints options marks p pieces other second → (one ≡ other) × (first ≡ second)
-same_print options marks p [] one other first second g h = (g.0 ∙ sym h.0, g.1 ∙ sym h.1)
-same_print options marks p (piece ∷ pieces) one other first second (a, gives, l, g, ends) (b, given, m, h, ended) =
-    let same : b ≡ a = same_outcome (marks (p.pieces + 1)) p.state piece b a given gives in
-    let theirs : PrintsFrom options marks p pieces other second b = (m, h, ended) in
-    same_from options marks p pieces a (λ x y s t v w. same_print options marks (after p a) pieces x y s t v w)
-    one other first second (l, g, ends) (subst (PrintsFrom options marks p pieces other second) same theirs)
+  same_reply : (one other : Reply) → (one ≡ other) → (l m : List ℕ) → EqualButDumps T l m → EqualButDumps T (reply_lines one ++ l) (reply_lines other ++ m)
+  same_reply one other is l m rest = subst (λ (r : Reply). EqualButDumps T (reply_lines one ++ l) (reply_lines r ++ m)) is (lines (reply_lines one) rest)
+
+  same_lines : (n : ℕ) (o a : Outcome) → SameAnswer T o a → (l m : List ℕ) → EqualButDumps T l m → EqualButDumps T (lines_of n o ++ l) (lines_of n a ++ m)
+  same_lines n (Ok one) (Ok other) (inl is, _) l m rest = same_reply one.0 other.0 is l m rest
+  same_lines n (Ok one) (Ok other) (inr (tree, given, is, are, related), _) l m rest =
+      subst (λ (r : Reply). EqualButDumps T (reply_lines r ++ l) (reply_lines other.0 ++ m)) (sym is)
+      (subst (λ (r : Reply). EqualButDumps T (any_text tree ++ l) (reply_lines r ++ m)) (sym are) (dumps tree given related rest))
+  same_lines n (Err one) (Err other) is l m rest =
+      subst (λ (r : Refusal). EqualButDumps T (refusal_line n one ++ l) (refusal_line n r ++ m)) is (lines (refusal_line n one) rest)
+  same_lines n (Ok one) (Err other) none l m rest = absurd none
+  same_lines n (Err one) (Ok other) none l m rest = absurd none
+
+  same_kind : (o a : Outcome) → SameAnswer T o a → is_err a ≡ is_err o
+  same_kind (Ok one) (Ok other) same = refl
+  same_kind (Err one) (Err other) same = refl
+  same_kind (Ok one) (Err other) none = absurd none
+  same_kind (Err one) (Ok other) none = absurd none
+
+  same_after : (s u : State) → SameTables s u → (o a : Outcome) → SameAnswer T o a → SameTables (state_after s o) (state_after u a)
+  same_after s u tables (Ok one) (Ok other) same = same.1
+  same_after s u tables (Err one) (Err other) same = tables
+  same_after s u tables (Ok one) (Err other) none = absurd none
+  same_after s u tables (Err one) (Ok other) none = absurd none
+
+  pub same_progress : (p q : Progress) → SameProgress p q → (o a : Outcome) → SameAnswer T o a → SameProgress (after p o) (after q a)
+  same_progress p q same o a alike = (
+    same_after p.state q.state same.0 o a alike,
+    ap (λ n. n + 1) same.1,
+    ap (λ b. b || is_err a) same.2 ∙ ap (λ b. p.refused || b) (same_kind o a alike),
+  )
+
+  -- outcomes that are the same, with later lines that are the same
+  pub same_from : (options : Options) (p q : Progress) → SameProgress p q → (o a : Outcome) → SameAnswer T o a → (Mine Theirs : List ℕ → Status → Type 0)
+      → ((l m : List ℕ) (first second : Status) → Mine l first → Theirs m second → PrintSame l m first second)
+      → (one other : List ℕ) (first second : Status) → PrintsFrom Mine options p o one first → PrintsFrom Theirs options q a other second → PrintSame one other first second
+  same_from options p q same o a alike Mine Theirs rest one other first second (l, is, finish) (m, are, finished) =
+      let finished_so : MatchBool (options.bail && is_err o) ((m ≡ []) × (second ≡ Refused)) (Theirs m second) =
+      subst (λ b. MatchBool (options.bail && b) ((m ≡ []) × (second ≡ Refused)) (Theirs m second)) (same_kind o a alike) finished in
+      let both : PrintSame l m first second =
+      elim (options.bail && is_err o) as
+      (λ b. MatchBool b ((l ≡ []) × (first ≡ Refused)) (Mine l first) → MatchBool b ((m ≡ []) × (second ≡ Refused)) (Theirs m second) → PrintSame l m first second) [
+        | true ↦ λ x y. (no_lines T l m x.0 y.0, x.1 ∙ sym y.1)
+        | false ↦ λ x y. rest l m first second x y
+      ] finish finished_so
+      in
+      let theirs : lines_of (p.pieces + 1) a ++ m ≡ other = ap (λ n. lines_of (n + 1) a ++ m) (sym same.1) ∙ sym are in (
+        subst (λ ls. EqualButDumps T ls other) (sym is)
+            (subst (λ ls. EqualButDumps T (lines_of (p.pieces + 1) o ++ l) ls) theirs (same_lines (p.pieces + 1) o a alike l m both.0)),
+        both.1,
+      )
+
+  -- no piece is left
+  pub same_end : (p q : Progress) → SameProgress p q → (one other : List ℕ) (first second : Status) → (one ≡ []) × (first ≡ status_of p) → (other ≡ []) × (second ≡ status_of q)
+      → PrintSame one other first second
+  same_end p q same one other first second g h =
+      (no_lines T one other g.0 h.0, g.1 ∙ ap (λ b. if b then Refused else Clean) (sym same.2) ∙ sym h.1)
+
+-- an answer with some tree
+answered : (old : State) (statement : Stmt) (outcome : Outcome) → Answers old statement outcome → (tree : AnyShadow) × (answer tree old statement ≡ outcome)
+answered old statement (Ok given) (tree, is, may) = (tree, is)
+answered old statement (Err refusal) is = (no_tree, is no_tree)
+
+same_refusal : (T : AnyShadow → AnyShadow → Type 0) (refusal : Refusal) (o a : Outcome) → o ≡ Err refusal → a ≡ Err refusal → SameAnswer T o a
+same_refusal T refusal o a is are = subst (λ x. SameAnswer T x a) (sym is) (subst (λ x. SameAnswer T (Err refusal) x) (sym are) refl)
+
+-- ---- only one, but for dumps
+
+-- two sessions of the same tables but for their trees, each of which is a tree of the table's rows
+pub record AreTwins (s u : State) : Type 0 where
+  pub same : SameTables s u
+  pub stands : IsStanding s
+  pub other_stands : IsStanding u
+
+related_found : (s u : State) → AreTwins s u → (name : List ℕ) (one other : Option NamedTable) → table_of s name ≡ one → table_of u name ≡ other → FoundAlike one other → FoundRelated HaveSameRows one other
+related_found s u twins name (Some t) (Some v) is are alike = (
+  s.capacity,
+  t.table.columns,
+  t.table.rows,
+  found_stands s.capacity (is_named name) s.tables t twins.stands is,
+  subst (λ (l : TableLists). StandsFor s.capacity l.columns l.rows v.tree) alike.1
+      (subst (λ n. StandsFor n v.table.columns v.table.rows v.tree) twins.same.0 (found_stands u.capacity (is_named name) u.tables v twins.other_stands are)),
+)
+related_found s u twins name None other is are alike = tt
+related_found s u twins name (Some t) None is are alike = tt
+
+related : (s u : State) → AreTwins s u → AreRelated HaveSameRows s u
+related s u twins name = related_found s u twins name (table_of s name) (table_of u name) refl refl (table_alike s u twins.same name)
+
+same_parsed : (s u : State) → AreTwins s u → (parsed : Result Stmt Refusal) (o a : Outcome) → AnswersParsed s parsed o → AnswersParsed u parsed a → SameAnswer HaveSameRows o a
+same_parsed s u twins (Ok statement) o a g h =
+    let mine = answered s statement o g in
+    let theirs = answered u statement a h in
+    subst (λ x. SameAnswer HaveSameRows x a) mine.1
+    (subst (λ x. SameAnswer HaveSameRows (answer mine.0 s statement) x) theirs.1
+    (both_answer HaveSameRows s u twins.same (related s u twins) mine.0 theirs.0 statement))
+same_parsed s u twins (Err refusal) o a g h = same_refusal HaveSameRows refusal o a g h
+
+same_given : (s u : State) → AreTwins s u → (mark : Bool) (piece : PieceText) (o a : Outcome) → MayGive mark s piece o → MayGive mark u piece a → SameAnswer HaveSameRows o a
+same_given s u twins true piece o a g h = same_refusal HaveSameRows OutOfMemory o a g h
+same_given s u twins false piece o a (p, first, g) (q, second, h) =
+    same_parsed s u twins p o a g (subst (λ r. AnswersParsed u r a) (one_answer piece q p second first) h)
+
+stands_given : (s : State) → IsStanding s → (mark : Bool) (piece : PieceText) (o : Outcome) → MayGive mark s piece o → IsStanding (state_after s o)
+stands_given s stands true piece o is = subst (λ x. IsStanding (state_after s x)) (sym is) stands
+stands_given s stands false piece o (Ok statement, parses, answers) = stands_after s stands statement o answers
+stands_given s stands false piece o (Err refusal, parses, is) = subst (λ x. IsStanding (state_after s x)) (sym is) stands
+
+same_print : (options : Options) (marks : Marks) (p q : Progress) → SameProgress p q → IsStanding p.state → IsStanding q.state → (pieces : List PieceText) (one other : List ℕ) (first second : Status)
+    → Prints options marks p pieces one first → Prints options marks q pieces other second → PrintSame HaveSameRows one other first second
+same_print options marks p q same stands other_stands [] one other first second g h = same_end HaveSameRows p q same one other first second g h
+same_print options marks p q same stands other_stands (piece ∷ pieces) one other first second (o, gives, l, is, finish) (a, given, m, are, finished) =
+    let given_so : MayGive (marks (p.pieces + 1)) q.state piece a = subst (λ n. MayGive (marks (n + 1)) q.state piece a) same.1 given in
+    let alike : SameAnswer HaveSameRows o a =
+    same_given p.state q.state (record { same = same.0; stands = stands; other_stands = other_stands }) (marks (p.pieces + 1)) piece o a gives given_so in
+    same_from HaveSameRows options p q same o a alike (Prints options marks (after p o) pieces) (Prints options marks (after q a) pieces)
+    (λ k n s t x y. same_print options marks (after p o) (after q a) (same_progress HaveSameRows p q same o a alike)
+    (stands_given p.state stands (marks (p.pieces + 1)) piece o gives) (stands_given q.state other_stands (marks (q.pieces + 1)) piece a given) pieces k n s t x y)
+    one other first second (l, is, finish) (m, are, finished)
+
+at_start : (options : Options) → SameProgress (start options) (start options)
+at_start options = ((refl, tt), refl, refl)
 
 pub same_transcript : TranscriptIsDetermined
 same_transcript options marks script one other first second (pieces, cut, prints) (others, parted, printed) =
     let same : others ≡ pieces = cut_one_way script others pieces parted cut in
-    same_print options marks (start options) pieces one other first second prints
+    same_print options marks (start options) (start options) (at_start options) tt tt pieces one other first second prints
     (subst (λ ps. Prints options marks (start options) ps other second) same printed)
 
--- ---- at least one
+-- ---- over plain lists
 
-any_shadow : (old : State) (statement : Stmt) (outcome : Outcome) → answer NoTree old statement ≡ outcome → (shadow : Shadow) → answer shadow old statement ≡ outcome
-any_shadow old statement outcome is NoTree = is
+plain_related : (s u : State) → AreRelated AnyTrees s u
+plain_related s u name = any_found (table_of s name) (table_of u name)
+  where
+    any_found : (one other : Option NamedTable) → FoundRelated AnyTrees one other
+    any_found (Some t) (Some v) = tt
+    any_found None other = tt
+    any_found (Some t) None = tt
 
-answered : (old : State) (statement : Stmt) (outcome : Outcome) → answer NoTree old statement ≡ outcome → Answers old statement outcome
-answered old statement (Ok given) is = (NoTree, is, tt)
-answered old statement (Err refusal) is = any_shadow old statement (Err refusal) is
+plain_parsed : (s u : State) → SameTables s u → (parsed : Result Stmt Refusal) (o a : Outcome) → AnswersParsed s parsed o → PlainlyAnswersParsed u parsed a → SameAnswer AnyTrees o a
+plain_parsed s u same (Ok statement) o a g h =
+    let mine = answered s statement o g in
+    subst (λ x. SameAnswer AnyTrees x a) mine.1
+    (subst (λ x. SameAnswer AnyTrees (answer mine.0 s statement) x) (sym h) (both_answer AnyTrees s u same (plain_related s u) mine.0 no_tree statement))
+plain_parsed s u same (Err refusal) o a g h = same_refusal AnyTrees refusal o a g h
 
-answered_parsed : (old : State) (parsed : Result Stmt Refusal) → (outcome : Outcome) × AnswersParsed old parsed outcome
-answered_parsed old (Ok statement) = (answer NoTree old statement, answered old statement (answer NoTree old statement) refl)
-answered_parsed old (Err refusal) = (Err refusal, refl)
+plain_given : (s u : State) → SameTables s u → (mark : Bool) (piece : PieceText) (o a : Outcome) → MayGive mark s piece o → PlainlyGives mark u piece a → SameAnswer AnyTrees o a
+plain_given s u same true piece o a g h = same_refusal AnyTrees OutOfMemory o a g h
+plain_given s u same false piece o a (p, first, g) (q, second, h) =
+    plain_parsed s u same p o a g (subst (λ r. PlainlyAnswersParsed u r a) (one_answer piece q p second first) h)
 
-some_outcome : (mark : Bool) (old : State) (piece : PieceText) → (outcome : Outcome) × MayGive mark old piece outcome
+plain_print : (options : Options) (marks : Marks) (p q : Progress) → SameProgress p q → (pieces : List PieceText) (one other : List ℕ) (first second : Status)
+    → Prints options marks p pieces one first → PlainlyPrints options marks q pieces other second → PrintSame AnyTrees one other first second
+plain_print options marks p q same [] one other first second g h = same_end AnyTrees p q same one other first second g h
+plain_print options marks p q same (piece ∷ pieces) one other first second (o, gives, l, is, finish) (a, given, m, are, finished) =
+    let given_so : PlainlyGives (marks (p.pieces + 1)) q.state piece a = subst (λ n. PlainlyGives (marks (n + 1)) q.state piece a) same.1 given in
+    let alike : SameAnswer AnyTrees o a = plain_given p.state q.state same.0 (marks (p.pieces + 1)) piece o a gives given_so in
+    same_from AnyTrees options p q same o a alike (Prints options marks (after p o) pieces) (PlainlyPrints options marks (after q a) pieces)
+    (λ k n s t x y. plain_print options marks (after p o) (after q a) (same_progress AnyTrees p q same o a alike) pieces k n s t x y)
+    one other first second (l, is, finish) (m, are, finished)
+
+plainly_answered : (old : State) (parsed : Result Stmt Refusal) → (outcome : Outcome) × PlainlyAnswersParsed old parsed outcome
+plainly_answered old (Ok statement) = (answer no_tree old statement, refl)
+plainly_answered old (Err refusal) = (Err refusal, refl)
+
+some_outcome : (mark : Bool) (old : State) (piece : PieceText) → (outcome : Outcome) × PlainlyGives mark old piece outcome
 some_outcome true old piece = (Err OutOfMemory, refl)
 some_outcome false old piece =
     let parsed = some_answer piece in
-    let given = answered_parsed old parsed.0 in
+    let given = plainly_answered old parsed.0 in
     (given.0, (parsed.0, parsed.1, given.1))
 
 abbrev PrintsSomething : Options → Marks → Progress → List PieceText → Type 0
-PrintsSomething options marks p pieces = (out : List ℕ) × (status : Status) × Prints options marks p pieces out status
+PrintsSomething options marks p pieces = (out : List ℕ) × (status : Status) × PlainlyPrints options marks p pieces out status
 
 some_print_after : (options : Options) (marks : Marks) (p : Progress) (piece : PieceText) (pieces : List PieceText) (outcome : Outcome)
-    → MayGive (marks (p.pieces + 1)) p.state piece outcome → PrintsSomething options marks (after p outcome) pieces
+    → PlainlyGives (marks (p.pieces + 1)) p.state piece outcome → PrintsSomething options marks (after p outcome) pieces
     → (stops : Bool) → (options.bail && is_err outcome) ≡ stops → PrintsSomething options marks p (piece ∷ pieces)
 some_print_after options marks p piece pieces outcome gives later true stops =
     (lines_of (p.pieces + 1) outcome ++ [], Refused, (outcome, gives, [], refl, rw stops (refl, refl)))
@@ -109,8 +233,15 @@ some_print options marks p (piece ∷ pieces) =
     let given = some_outcome (marks (p.pieces + 1)) p.state piece in
     some_print_after options marks p piece pieces given.0 given.1 (some_print options marks (after p given.0) pieces) (options.bail && is_err given.0) refl
 
-pub some_transcript : EveryScriptHasATranscript
-some_transcript options marks script =
+pub plain_transcript : EveryScriptHasAPlainTranscript
+plain_transcript options marks script =
     let cut = cut_somehow script in
-    let printed = some_print options marks (start options) cut.0 in
-    (printed.0, printed.1, (cut.0, cut.1, printed.2))
+    let printed = some_print options marks (start options) cut.0 in (
+      printed.0,
+      printed.1,
+      (cut.0, cut.1, printed.2),
+      (λ lines answered transcript.
+          let same : transcript.0 ≡ cut.0 = cut_one_way script transcript.0 cut.0 transcript.1 cut.1 in
+          plain_print options marks (start options) (start options) (at_start options) cut.0 lines printed.0 answered printed.1
+          (subst (λ ps. Prints options marks (start options) ps lines answered) same transcript.2) printed.2),
+    )

@@ -1,16 +1,81 @@
 -- What holds of every script, over the definitions that the contracts cite (own).
-use Rattle.std.specs.Prelude.{◌≡◌, ℕ, List}
+use Rattle.std.specs.Prelude.{◌≡◌, ℕ, ◌+◌, Bool, true, false, ◌&&◌, List, [], ◌∷◌, ◌++◌, Result, Ok, Err}
+use Rattle.std.specs.Bool.{MatchBool}
+use Rattle.std.specs.Result.{is_err}
 use Rattle.rt_bytes.specs.declared.outcome.Status.{Status}
+use Rattle.rt_bytes.specs.declared.outcome.Status.TheVariants.{Refused}
+use Rattle.rt_cut.specs.Piece.{PieceText}
+use Rattle.rt_cut.specs.Pieces.{Pieces}
+use Rattle.rt_dump.specs.declared.dump.AnyShadow.{AnyShadow}
+use Rattle.rt_dump.specs.declared.dump.AnyShadow.TheVariants.{One}
+use Rattle.rt_dump.specs.Dump.{any_text}
+use Rattle.rt_sql.specs.Parse.{Parses}
+use Rattle.rt_sql.specs.declared.statement.Stmt.{Stmt}
+use Rattle.rt_sql.specs.declared.refusal.Refusal.{Refusal}
+use Rattle.rt_sql.specs.declared.refusal.Refusal.TheVariants.{OutOfMemory}
+use Rattle.rt_tree.specs.Lists.{empty_lists}
+use Rattle.rt_row.specs.Columns.{Columns}
+use Rattle.rt_row.specs.Rows.{TableRow}
+use Rattle.rt_table.specs.AnyTrees.{StandsFor}
+use Rattle.rt_session.specs.Session.{State, Outcome, answer}
 use Rattle.rt_shell.specs.declared.runner.Options.{Options}
-use Rattle.rt_shell.specs.Transcript.{Marks, IsTranscript}
+use Rattle.rt_shell.specs.Transcript.{Marks, Progress, start, after, lines_of, status_of, IsTranscript}
 
--- a script prints one thing and ends in one status, given the options and the pieces that memory refuses
+-- two texts that are equal but for dumps: where the one has the dump of a tree, the other has the dump of a tree that
+-- is related to it
+pub data EqualButDumps (Related : AnyShadow → AnyShadow → Type 0) : List ℕ → List ℕ → Type 0 where
+  ends : EqualButDumps Related [] []
+  lines : (text : List ℕ) {one other : List ℕ} → EqualButDumps Related one other → EqualButDumps Related (text ++ one) (text ++ other)
+  dumps : (tree given : AnyShadow) {one other : List ℕ} → Related tree given → EqualButDumps Related one other
+      → EqualButDumps Related (any_text tree ++ one) (any_text given ++ other)
+
+-- trees without a problem, of one capacity and of the same rows
+abbrev pub HaveSameRows : AnyShadow → AnyShadow → Type 0
+HaveSameRows tree given =
+    (capacity : ℕ) × (columns : Columns) × (rows : List TableRow) × StandsFor capacity columns rows tree × StandsFor capacity columns rows given
+
+-- given the options and the pieces that memory refuses, a script prints one thing and ends in one status, but that where
+-- it prints the dump of a tree, it may print that of another tree of the same rows
 abbrev pub TranscriptIsDetermined : Type 0
 TranscriptIsDetermined =
     (options : Options) (marks : Marks) (script one other : List ℕ) (first second : Status)
-    → IsTranscript options marks script one first → IsTranscript options marks script other second → (one ≡ other) × (first ≡ second)
+    → IsTranscript options marks script one first → IsTranscript options marks script other second
+    → EqualButDumps HaveSameRows one other × (first ≡ second)
 
--- and it prints something, whichever pieces memory refuses: none, all, or any
-abbrev pub EveryScriptHasATranscript : Type 0
-EveryScriptHasATranscript =
-    (options : Options) (marks : Marks) (script : List ℕ) → (out : List ℕ) × (status : Status) × IsTranscript options marks script out status
+-- ---- plain lists alone: no table's tree is looked at
+
+-- some tree, the same for each table
+abbrev pub no_tree : AnyShadow
+no_tree = One (empty_lists 0)
+
+abbrev pub PlainlyAnswersParsed : State → Result Stmt Refusal → Outcome → Type 0
+PlainlyAnswersParsed old (Ok statement) outcome = outcome ≡ answer no_tree old statement
+PlainlyAnswersParsed old (Err refusal) outcome = outcome ≡ Err refusal
+
+abbrev pub PlainlyGives : Bool → State → PieceText → Outcome → Type 0
+PlainlyGives true old piece outcome = outcome ≡ Err OutOfMemory
+PlainlyGives false old piece outcome = (parsed : Result Stmt Refusal) × Parses piece parsed × PlainlyAnswersParsed old parsed outcome
+
+abbrev pub PlainlyPrints : Options → Marks → Progress → List PieceText → List ℕ → Status → Type 0
+PlainlyPrints options marks p [] out status = (out ≡ []) × (status ≡ status_of p)
+PlainlyPrints options marks p (piece ∷ pieces) out status =
+    (outcome : Outcome) × PlainlyGives (marks (p.pieces + 1)) p.state piece outcome
+    × (later : List ℕ) × (out ≡ lines_of (p.pieces + 1) outcome ++ later)
+    × MatchBool (options.bail && is_err outcome) ((later ≡ []) × (status ≡ Refused)) (PlainlyPrints options marks (after p outcome) pieces later status)
+
+-- what a script prints over plain lists of rows, which leave open what is printed of a tree
+abbrev pub IsPlainTranscript : Options → Marks → List ℕ → List ℕ → Status → Type 0
+IsPlainTranscript options marks script out status =
+    (pieces : List PieceText) × Pieces script pieces × PlainlyPrints options marks (start options) pieces out status
+
+abbrev pub AnyTrees : AnyShadow → AnyShadow → Type 0
+AnyTrees tree given = Unit {0}
+
+-- Whichever pieces memory refuses, a script prints something over plain lists, and whatever a run prints, is equal to it
+-- but for dumps.
+abbrev pub EveryScriptHasAPlainTranscript : Type 0
+EveryScriptHasAPlainTranscript =
+    (options : Options) (marks : Marks) (script : List ℕ)
+    → (out : List ℕ) × (status : Status) × IsPlainTranscript options marks script out status
+    × ((printed : List ℕ) (answered : Status) → IsTranscript options marks script printed answered
+    → EqualButDumps AnyTrees printed out × (answered ≡ status))

@@ -8,9 +8,11 @@ use Rattle.rt_sql.specs.Refusal.{code_of, text_of}
 use Rattle.rt_sql.specs.declared.refusal.Refusal.{Refusal}
 use Rattle.rt_sql.specs.declared.value.Value.{Value}
 use Rattle.rt_sql.specs.declared.value.Value.TheVariants.{Null, Int, Text, Blob}
+use Rattle.rt_dump.specs.Dump.{any_text}
+use Rattle.rt_report.specs.Report.{verdict_lines}
 use Rattle.rt_table.specs.declared.watched.Change.{Change}
 use Rattle.rt_session.specs.declared.reply.Reply.{Reply}
-use Rattle.rt_session.specs.declared.reply.Reply.TheVariants.{Nothing, Rows, Changes}
+use Rattle.rt_session.specs.declared.reply.Reply.TheVariants.{Nothing, Rows, Changes, Verdict, Dump}
 
 -- a byte in two hexadecimal digits, with letters in upper case
 abbrev pub hex_pair : ℕ → List ℕ
@@ -35,6 +37,8 @@ abbrev pub reply_lines : Reply → List ℕ
 reply_lines Nothing = []
 reply_lines (Rows rows) = flat_map row_line rows
 reply_lines (Changes changes) = flat_map change_line changes
+reply_lines (Verdict problems) = verdict_lines problems
+reply_lines (Dump tree) = any_text tree
 
 -- the refusal of the piece of this number
 abbrev pub refusal_line : ℕ → Refusal → List ℕ

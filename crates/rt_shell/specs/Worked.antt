@@ -4,8 +4,15 @@ use Rattle.std.specs.Prelude.{◌≡◌, ℕ, ◌-◌, ◌^◌, pos, negsuc, tru
 use Rattle.std.specs.Fmt.{digits}
 use Rattle.rt_sql.specs.declared.value.Value.{Value}
 use Rattle.rt_sql.specs.declared.value.Value.TheVariants.{Null, Int, Text, Blob}
-use Rattle.rt_session.specs.declared.reply.Reply.TheVariants.{Nothing, Rows, Changes}
+use Rattle.rt_sql.specs.declared.statement.ColumnDef.{ColumnDef}
+use Rattle.rt_sql.specs.declared.statement.Stmt.{Stmt}
+use Rattle.rt_sql.specs.declared.statement.Stmt.TheVariants.{Create, Check, Nodes}
+use Rattle.rt_check.specs.declared.problem.Condition.TheVariants.{FitsChild, HasCell}
+use Rattle.rt_session.specs.declared.reply.Reply.TheVariants.{Nothing, Rows, Changes, Verdict}
+use Rattle.rt_session.specs.Session.{State, empty, state_after, answer}
 use Rattle.rt_shell.specs.Lines.{value_text, row_line, change_line, reply_lines}
+use Rattle.rt_shell.specs.Transcript.{lines_of}
+use Rattle.rt_shell.specs.Laws.{no_tree}
 
 -- ---- values
 
@@ -88,3 +95,33 @@ changes-two = refl
 
 changes-none : reply_lines (Changes []) ≡ []
 changes-none = refl
+
+-- a line for each problem, of its condition, node and position
+verdict-two : reply_lines (Verdict (record { condition = FitsChild; node = pos 1; position = 2 } ∷ record { condition = HasCell; node = pos 4; position = 1 } ∷ []))
+    ≡ codes "C6 node 1 at 2\nC9 node 4 at 1\n"
+unfolding digits
+verdict-two = refl
+
+-- ---- trees
+
+abbrev plain : List ℕ → ColumnDef
+plain name = record { name = name; auxiliary = false }
+
+-- what the second piece of a script prints, after a table of that name on one axis was made
+abbrev after_create : List ℕ → Stmt → List ℕ
+after_create name statement =
+    let columns = plain (codes "id") ∷ plain (codes "minX") ∷ plain (codes "maxX") ∷ [] in
+    let made : State = state_after (empty 5) (answer no_tree (empty 5) (Create name false columns)) in
+    lines_of 2 (answer no_tree made statement)
+
+check-of_a_new_table : after_create (codes "t") (Check (codes "T")) ≡ codes "ok\n"
+check-of_a_new_table = refl
+
+-- the root is a leaf without cells
+nodes-of_a_new_table : after_create (codes "t") (Nodes (codes "T")) ≡ codes "rtree 1 5 1 1 0\nnode 1 0 - 0\nend\n"
+unfolding digits
+nodes-of_a_new_table = refl
+
+nodes-of_no_table : after_create (codes "t") (Nodes (codes "u")) ≡ codes "refused 2 5: no such table\n"
+unfolding digits
+nodes-of_no_table = refl

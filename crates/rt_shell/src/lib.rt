@@ -5,8 +5,8 @@
 //! - `run`: its contract names the transcript of the script: the lines of its pieces in order, each
 //!   answered from the tables that those before it left. It says so however the reader parts the
 //!   bytes, and of a failed read or write how much of the transcript was written.
-//! - `laws`: a script, its options and the pieces that memory refuses have one transcript and no
-//!   other.
+//! - `laws`: a script, its options and the pieces that memory refuses have one transcript, but that the
+//!   dump of a tree may be that of another tree of the same rows.
 //!
 //! Any piece may be refused for want of memory, and that refusal too leaves the tables.
 //!

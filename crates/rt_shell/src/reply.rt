@@ -8,15 +8,17 @@ ghost use Rattle.rt_shell.specs.Lines.{value_text, row_line, change_line, reply_
 use crate::value::write_value;
 use itoa::Buffer;
 use rt_bytes::{ByteWriter, WriteFault, write_parts, write_whole};
+use rt_dump::write_dump;
+use rt_report::write_verdict;
 use rt_session::{Change, Reply};
 use rt_sql::{Items, Refusal, Value};
 
-/// Writes the lines of a reply: a line for each row that it shows, or for each change. After a fault
-/// a front of them is written.
+/// Writes the lines of a reply: a line for each row that it shows, or for each change; the verdict on
+/// a tree, or its dump. After a fault a front of them is written.
 ///
 /// A row's line is its values with bars between them, each as SQLite's `quote()` writes it:
 /// `7|-1|4|'it''s'|X'0AFF'|NULL`. The line of a change is `+V ROW` where the row came into the view
-/// V, and `-V ROW` where it left it.
+/// V, and `-V ROW` where it left it. A verdict is `ok`, or a line for each problem.
 pub fn write_reply<W: ByteWriter>(reply: &Reply, writer: &mut W) -> Result<(), WriteFault>
     ensures { WritesTo W.ByteWriter writer.old writer.new result (reply_lines reply.now) }
 {
@@ -24,6 +26,8 @@ pub fn write_reply<W: ByteWriter>(reply: &Reply, writer: &mut W) -> Result<(), W
         Reply::Nothing => Ok(()),
         Reply::Rows(rows) => write_rows(rows.as_slice(), writer),
         Reply::Changes(changes) => write_changes(changes.as_slice(), writer),
+        Reply::Verdict(problems) => write_verdict(problems.as_slice(), writer),
+        Reply::Dump(tree) => write_dump(tree, writer),
     }
 }
 
