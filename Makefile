@@ -3,7 +3,8 @@
 # make check  proves what changed
 # make cases  runs the worked scripts and dumps of crates/rt_cases
 # make test   proves everything from nothing, tries the edits that must fail, and runs all tests
-# make bench  prints how long the choices of the R*-tree take, and the calls of whole trees, beside Boost's where that is installed
+# make bench  prints how long the choices of the R*-tree take, and the calls of whole trees, beside Boost's where that is installed,
+#             and whole scripts through bin/rtsh, beside sqlite3's shell where that is installed
 
 SHELL := /bin/bash
 
@@ -28,6 +29,7 @@ test: tools
 
 bench: tools
 	@scripts/bench
+	@if [ -x bin/rtsh ]; then scripts/bench_scripts; else echo "scripts aren't timed: make builds bin/rtsh"; fi
 
 tools:
 	@command -v rt > /dev/null || { echo "juicedelta: the command rt (the Rattle toolchain) is missing" >&2; exit 1; }

@@ -1,0 +1,4 @@
+CREATE VIRTUAL TABLE t USING rtree_i32(id,minX,maxX);
+INSERT INTO t VALUES(1,0,0),(2,1,1),(3,2,2),(4,10,10),(5,11,11),(6,12,12);
+SELECT rtreecheck('t');
+.nodes t
