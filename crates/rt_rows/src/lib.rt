@@ -1,8 +1,6 @@
-//! Whole scripts and dumps, run over memory, whose readers and writers fail, and statements whose memory is refused.
-//! Those that meet no fault stand as files beside `rt_cases`.
+//! Whole scripts and dumps, run over memory, whose readers and writers fail. Those that meet no fault stand as
+//! files beside `rt_cases`.
 #![tactic(auto)]
 
 #[cfg(test)]
 mod faults;
-#[cfg(test)]
-mod growth;
