@@ -1,7 +1,0 @@
-//! Tests of tables, over the public calls of `rt_table`.
-#![tactic(auto)]
-
-#[cfg(test)]
-mod full;
-#[cfg(test)]
-mod visited;
