@@ -1,8 +1,9 @@
 # make        proves all crates side by side, and builds bin/rtsh
-# make demo   compiles rtsh without proving it, runs examples/first.sql and checks examples/faulty.dump with it
+# make demo   compiles rtsh without proving it, runs the scripts of examples/ and checks its dumps with it
 # make check  proves what changed
 # make cases  runs the worked scripts and dumps of crates/rt_cases
-# make test   proves everything from nothing, tries the edits that must fail, and runs all tests
+# make test   holds the documents against the cases, proves everything from nothing, tries the edits that must fail, and
+#             runs all tests
 # make bench  prints how long the choices of the R*-tree take, and the calls of whole trees, beside Boost's where that is installed,
 #             and whole scripts through bin/rtsh, beside sqlite3's shell where that is installed
 
@@ -25,6 +26,7 @@ cases: tools
 	@cd crates/rt_cases && rt run -- data 2> /dev/null
 
 test: tools
+	@scripts/check_documents
 	rt ci
 
 bench: tools

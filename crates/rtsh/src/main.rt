@@ -1,14 +1,22 @@
 //! The shell's program: `rtsh run` runs a script, and `rtsh check` says whether a dump is sound.
 //!
-//! Its exit status is 0 where nothing was refused and no problem found (or help was asked for), 1
-//! where something was, 2 where the command line was refused, and 3 where a file couldn't be
-//! opened, a device failed or memory ran out.
+//! - It reads the command line (`command`), opens the file, and hands over to `rt_shell::run` or
+//!   `rt_report::run_check`, whose contracts say what is written.
+//! - `fault` has what goes to the error output where a run comes to no end, `terminal` what a person at a terminal
+//!   sees there.
+//! - Exit status: 0 where nothing was refused and no problem found (or help was asked for), 1 where something was,
+//!   2 where the command line was refused, and 3 where a file couldn't be opened, a device failed or memory ran out.
+//!
+//! No contract can say what a file or a terminal gave, so the program itself is proved safe and to end, no more.
 #![tactic(auto)]
 
 mod command;
+mod fault;
+mod terminal;
 
 use clap::error::ErrorKind;
 use command::{Asked, asked_by, program};
+use fault::{Cause, Fault, Noting};
 use rt_bytes::{ByteReader, ByteWriter, OverRead, OverWrite, RunFault, Status};
 use rt_report::run_check;
 use rt_shell::run;
@@ -16,42 +24,39 @@ use std::alloc::{AllocError, Global};
 use std::env;
 use std::fs::File;
 use std::hash::RandomState;
-use std::io::{self, BufWriter, IsTerminal};
+use std::io::{self, BufWriter, IsTerminal, Read, Write};
 use std::process::ExitCode;
-use thiserror::Error;
-
-/// Why the program came to no end.
-#[derive(Clone, Copy, Debug, Error)]
-enum Fault {
-    #[error("cannot open file")]
-    OpenFile,
-    #[error(transparent)]
-    Run(#[from] RunFault),
-}
-
-impl From<AllocError> for Fault {
-    fn from(_error: AllocError) -> Fault {
-        Fault::Run(RunFault::Memory)
-    }
-}
+use terminal::{Prompting, hint_at_dump, is_attended};
 
 fn main(rt: HostRuntime) -> ExitCode {
-    match start(&rt) {
+    let Ok(words) = words(&rt) else {
+        return failed(&rt, Fault::Run(RunFault::Memory));
+    };
+    match start(&rt, words.as_slice()) {
         Ok(code) => code,
-        Err(fault) => {
-            let _ = eprintln!(rt; "rtsh: {fault}");
-            ExitCode::from(3)
-        }
+        Err(fault) => failed(&rt, fault),
     }
+}
+
+/// Says why the program came to no end.
+fn failed(rt: &HostRuntime, fault: Fault<'_>) -> ExitCode {
+    let _ = eprintln!(rt; "rtsh: {fault}");
+    ExitCode::from(3)
+}
+
+fn words(rt: &HostRuntime) -> Result<Vec<String>, AllocError> {
+    let Ok(words) = env::args(rt) else {
+        return Err(AllocError);
+    };
+    words.collect(rt.alloc())
 }
 
 /// Judges the command line, and does what it asks for.
-fn start(rt: &HostRuntime) -> Result<ExitCode, Fault> {
-    let words = words(rt)?;
-    let parsed = program(rt.alloc())?.try_get_matches_from(words.as_slice());
+fn start<'a>(rt: &HostRuntime, words: &'a [String]) -> Result<ExitCode, Fault<'a>> {
+    let parsed = program(rt.alloc())?.try_get_matches_from(words);
     let matches = match parsed {
         Ok(matches) => matches,
-        Err(error) => return refused(rt, &error),
+        Err(error) => return refused(rt, words, &error),
     };
     let Some(asked) = asked_by(&matches) else {
         return Ok(ExitCode::from(2));
@@ -62,69 +67,108 @@ fn start(rt: &HostRuntime) -> Result<ExitCode, Fault> {
     }
 }
 
-fn words(rt: &HostRuntime) -> Result<Vec<String>, AllocError> {
-    let Ok(words) = env::args(rt) else {
-        return Err(AllocError);
-    };
-    words.collect(rt.alloc())
-}
-
 /// Prints what is wrong with the command line, or the help that it asked for.
-fn refused(rt: &HostRuntime, error: &clap::Error) -> Result<ExitCode, Fault> {
+fn refused<'a>(
+    rt: &HostRuntime,
+    words: &[String],
+    error: &clap::Error,
+) -> Result<ExitCode, Fault<'a>> {
     if error.kind() == ErrorKind::OutOfMemory {
         return Err(Fault::Run(RunFault::Memory));
     }
     if error.use_stderr() {
         let _ = error.print(rt);
+        hint_at_run(rt, words, error.kind());
         return Ok(ExitCode::from(2));
     }
     match error.print(rt) {
         Ok(()) => Ok(ExitCode::SUCCESS),
-        Err(_) => Err(Fault::Run(RunFault::Write)),
+        Err(reason) => Err(Fault::write(Some(reason))),
     }
 }
 
-fn carry_out(rt: &HostRuntime, asked: &Asked<'_>) -> Result<Status, Fault> {
+/// A word in the place of a command may be a script's path.
+fn hint_at_run(rt: &HostRuntime, words: &[String], kind: ErrorKind) {
+    if kind == ErrorKind::InvalidSubcommand
+        && let Some(word) = words.get(1)
+    {
+        let _ = eprintln!(rt; "\nTo run the script {word}: rtsh run {word}");
+    }
+}
+
+fn carry_out<'a>(rt: &HostRuntime, asked: &Asked<'a>) -> Result<Status, Fault<'a>> {
     let file = match asked {
         Asked::Run(_, file) | Asked::Check(file) => *file,
     };
     match file {
-        None => Ok(read_from(rt, &mut OverRead::new(rt.reader()), asked)?),
-        Some(path) => {
-            let Ok(file) = File::open(rt, path) else {
-                return Err(Fault::OpenFile);
-            };
-            Ok(read_from(rt, &mut OverRead::new(file), asked)?)
+        None => read_input(rt, asked),
+        Some(name) => match File::open(rt, name) {
+            Ok(file) => read_from(rt, file, name, asked),
+            Err(reason) => Err(Fault::OpenFile(Cause { name, reason })),
+        },
+    }
+}
+
+/// Reads standard input, with prompts where a person types it.
+fn read_input<'a>(rt: &HostRuntime, asked: &Asked<'a>) -> Result<Status, Fault<'a>> {
+    let (reader, name) = (rt.reader(), "standard input");
+    if !is_attended(rt) {
+        return read_from(rt, reader, name, asked);
+    }
+    match asked {
+        Asked::Run(_, _) => {
+            let reader = Prompting::new(rt.alloc(), reader, rt)?;
+            read_from(rt, reader, name, asked)
+        }
+        Asked::Check(_) => {
+            hint_at_dump(rt);
+            read_from(rt, reader, name, asked)
         }
     }
 }
 
 /// At a terminal each answer shows at once; else answers are gathered before they are written.
-fn read_from<R: ByteReader>(
+fn read_from<'a, R: Read + Drop>(
     rt: &HostRuntime,
-    reader: &mut R,
-    asked: &Asked<'_>,
-) -> Result<Status, RunFault> {
-    // The source of random bytes is a device too.
-    let Ok(keys) = RandomState::new(rt) else {
-        return Err(RunFault::Read);
+    reader: R,
+    name: &'a str,
+    asked: &Asked<'a>,
+) -> Result<Status, Fault<'a>> {
+    let keys = match RandomState::new(rt) {
+        Ok(keys) => keys,
+        // The source of random bytes is a device too.
+        Err(reason) => return Err(Fault::read("random bytes", Some(reason))),
     };
+    let (alloc, writer) = (rt.alloc(), io::writer(rt));
     if rt.stdout().is_terminal() {
-        return read_and_write(
-            rt.alloc(),
-            keys,
-            reader,
-            &mut OverWrite::new(io::writer(rt)),
-            asked,
-        );
+        return read_and_write(alloc, keys, reader, name, writer, asked);
     }
-    let Ok(buffer) = BufWriter::new(rt.alloc(), io::writer(rt)) else {
-        return Err(RunFault::Memory);
+    let Ok(buffer) = BufWriter::new(alloc, writer) else {
+        return Err(Fault::Run(RunFault::Memory));
     };
-    read_and_write(rt.alloc(), keys, reader, &mut OverWrite::new(buffer), asked)
+    read_and_write(alloc, keys, reader, name, buffer, asked)
 }
 
-fn read_and_write<R: ByteReader, W: ByteWriter>(
+/// Does what is asked, and says of a fault why it came.
+fn read_and_write<'a, R: Read + Drop, W: Write + Drop>(
+    alloc: Global,
+    keys: RandomState,
+    reader: R,
+    name: &'a str,
+    writer: W,
+    asked: &Asked<'a>,
+) -> Result<Status, Fault<'a>> {
+    let mut reader = OverRead::new(Noting::new(reader));
+    let mut writer = OverWrite::new(Noting::new(writer));
+    match answer(alloc, keys, &mut reader, &mut writer, asked) {
+        Ok(status) => Ok(status),
+        Err(RunFault::Read) => Err(Fault::read(name, reader.into_inner().reason())),
+        Err(RunFault::Write) => Err(Fault::write(writer.into_inner().reason())),
+        Err(RunFault::Memory) => Err(Fault::Run(RunFault::Memory)),
+    }
+}
+
+fn answer<R: ByteReader, W: ByteWriter>(
     alloc: Global,
     keys: RandomState,
     reader: &mut R,

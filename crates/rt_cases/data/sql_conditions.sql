@@ -1,0 +1,13 @@
+CREATE VIRTUAL TABLE shops USING rtree_i32(id, west, east, +name, +floors);
+INSERT INTO shops VALUES (1, 0, 10, 'baker', 1), (2, 8, 20, 'market', 2), (3, 30, 40, 'cafe', NULL), (4, 41, 41, X'00', '2');
+SELECT id FROM shops WHERE west <= 10 AND east >= 9;
+SELECT name FROM shops WHERE id = 3;
+SELECT id FROM shops WHERE west >= -1 AND west < 30 AND id <> 1 AND id != 4 AND east == 20;
+SELECT id, floors FROM shops WHERE floors = 2;
+SELECT id, floors FROM shops WHERE floors > 1;
+SELECT id, name FROM shops WHERE name >= 'c';
+SELECT id FROM shops WHERE floors <> 2;
+SELECT id FROM shops WHERE floors = NULL;
+SELECT id FROM shops WHERE floors IS NULL;
+SELECT id FROM shops WHERE floors IS NOT NULL AND west > 0;
+SELECT id FROM shops WHERE id = 1 OR id = 2;

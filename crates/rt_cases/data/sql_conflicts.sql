@@ -1,0 +1,14 @@
+CREATE VIRTUAL TABLE shops USING rtree_i32(id, west, east, +name);
+INSERT INTO shops VALUES (7, 0, 10, 'baker');
+INSERT INTO shops VALUES (7, 20, 30, 'cafe');
+INSERT OR ABORT INTO shops VALUES (7, 20, 30, 'cafe');
+INSERT OR ABORT INTO shops VALUES (8, 30, 20, 'cafe');
+SELECT * FROM shops;
+INSERT OR REPLACE INTO shops VALUES (7, 20, 30, 'cafe');
+SELECT * FROM shops;
+REPLACE INTO shops(id, west, east) VALUES (7, 20, 31);
+SELECT * FROM shops;
+REPLACE INTO shops VALUES (7, 31, 20, NULL);
+INSERT OR IGNORE INTO shops VALUES (7, 0, 1, 'bank'), (8, 5, 4, 'bank'), (9, 4, 5, 'bank');
+SELECT * FROM shops;
+INSERT OR IGNORE INTO shops VALUES (10, 0, 'wide', NULL);

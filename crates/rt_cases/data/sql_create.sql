@@ -1,0 +1,11 @@
+CREATE VIRTUAL TABLE shops USING rtree_i32(id INTEGER PRIMARY KEY, west, east, south, north, +name VARCHAR(20), +floors);
+CREATE VIRTUAL TABLE IF NOT EXISTS Shops USING rtree_i32(id, a, b);
+CREATE VIRTUAL TABLE street USING rtree_i32(id, "from", upto);
+CREATE VIRTUAL TABLE street USING rtree_i32(id, "from", upto);
+CREATE VIRTUAL TABLE space USING rtree_i32(id, x1, x2, y1, y2, z1, z2);
+CREATE VIRTUAL TABLE parks USING rtree_i32(id, west, east, south);
+CREATE VIRTUAL TABLE parks USING rtree_i32(id, west, WEST);
+CREATE VIRTUAL TABLE parks USING rtree_i32(id, west, +name, east);
+DROP TABLE space;
+DROP TABLE space;
+DROP TABLE IF EXISTS space;

@@ -1,0 +1,10 @@
+CREATE VIRTUAL TABLE shops USING rtree_i32(id, west, east, +name);
+INSERT INTO shops VALUES (12, 40, 55, 'baker'), (7, -3, 10, 'cafe'), (9, 20, 30, 'bank');
+SELECT * FROM shops;
+SELECT name, ID, name FROM shops WHERE id >= 9 ORDER BY id;
+SELECT "name" FROM SHOPS ORDER BY id ASC;
+SELECT * FROM shops ORDER BY name;
+SELECT * FROM shops ORDER BY id DESC;
+SELECT count(*) FROM shops;
+SELECT rtreecheck('shops');
+SELECT rtreecheck('parks');

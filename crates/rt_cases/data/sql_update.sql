@@ -1,0 +1,12 @@
+CREATE VIRTUAL TABLE shops USING rtree_i32(id, west, east, +name, +floors);
+INSERT INTO shops VALUES (7, 0, 10, 'baker', 1), (8, 20, 30, 'cafe', 2), (9, 40, 50, 'bank', NULL);
+UPDATE shops SET west = west - 2, east = west + 20, name = 'wide' WHERE id <> 9;
+SELECT * FROM shops;
+UPDATE shops SET id = id + 1;
+UPDATE shops SET id = id - 1;
+UPDATE shops SET id = id + 100 WHERE id = 8;
+UPDATE shops SET floors = floors + 1;
+UPDATE shops SET west = east + 1 WHERE id = 7;
+UPDATE shops SET id = NULL WHERE id = 7;
+UPDATE shops SET name = floors, floors = name WHERE name IS NOT NULL;
+SELECT * FROM shops;

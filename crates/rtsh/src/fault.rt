@@ -1,0 +1,111 @@
+//! Why the program came to no end, and the readers and writers that remember it.
+
+use rt_bytes::RunFault;
+use std::alloc::AllocError;
+use std::fmt;
+use std::io::{self, Read, Write};
+use thiserror::Error;
+
+/// Why the program came to no end.
+#[derive(Clone, Copy, Debug, Error)]
+pub enum Fault<'a> {
+    #[error("cannot open file: {0}")]
+    OpenFile(Cause<'a>),
+    #[error("{0}: {1}")]
+    Device(RunFault, Cause<'a>),
+    #[error(transparent)]
+    Run(#[from] RunFault),
+}
+
+impl<'a> Fault<'a> {
+    /// A read of what has this name failed.
+    pub fn read(name: &'a str, reason: Option<io::Error>) -> Fault<'a> {
+        Fault::of_device(RunFault::Read, name, reason)
+    }
+
+    /// A write to standard output failed.
+    pub fn write(reason: Option<io::Error>) -> Fault<'a> {
+        Fault::of_device(RunFault::Write, "standard output", reason)
+    }
+
+    fn of_device(fault: RunFault, name: &'a str, reason: Option<io::Error>) -> Fault<'a> {
+        match reason {
+            Some(reason) => Fault::Device(fault, Cause { name, reason }),
+            None => Fault::Run(fault),
+        }
+    }
+}
+
+impl<'a> From<AllocError> for Fault<'a> {
+    fn from(_error: AllocError) -> Fault<'a> {
+        Fault::Run(RunFault::Memory)
+    }
+}
+
+/// What failed, a path or a device's name, and the system's reason.
+#[derive(Clone, Copy, Debug)]
+pub struct Cause<'a> {
+    pub name: &'a str,
+    pub reason: io::Error,
+}
+
+impl<'a> fmt::Display for Cause<'a> {
+    fn fmt<W: fmt::Write>(&self, f: &mut fmt::Formatter<W>) -> fmt::Result {
+        let Cause { name, reason } = *self;
+        write!(f, "{name}: {reason}")
+    }
+}
+
+/// A reader or a writer that remembers the reason of its last failure.
+#[derive(Drop)]
+pub struct Noting<T> {
+    inner: T,
+    reason: Option<io::Error>,
+}
+
+impl<T> Noting<T> {
+    /// Nothing has failed yet.
+    pub fn new(inner: T) -> Noting<T> {
+        Noting {
+            inner,
+            reason: None,
+        }
+    }
+
+    /// Why it last failed.
+    pub fn reason(&self) -> Option<io::Error> {
+        self.reason
+    }
+
+    fn note<U>(&mut self, answer: &io::Result<U>) {
+        if let Err(error) = answer {
+            self.reason = Some(*error);
+        }
+    }
+}
+
+impl<R: Read> Read for Noting<R> {
+    ghost remaining = { λ r. R.remaining r.inner };
+
+    fn read(&mut self, buffer: &mut [u8]) -> io::Result<usize> {
+        let answer = self.inner.read(buffer);
+        self.note(&answer);
+        answer
+    }
+}
+
+impl<W: Write> Write for Noting<W> {
+    ghost contents = { λ w. W.contents w.inner };
+
+    fn write(&mut self, bytes: &[u8]) -> io::Result<usize> {
+        let answer = self.inner.write(bytes);
+        self.note(&answer);
+        answer
+    }
+
+    fn flush(&mut self) -> io::Result<()> {
+        let answer = self.inner.flush();
+        self.note(&answer);
+        answer
+    }
+}

@@ -1,8 +1,0 @@
-CREATE VIRTUAL TABLE shops USING rtree_i32(id, west, east);
-INSERT INTO shops VALUES(12, 40, 55);
-INSERT INTO shops VALUES(7, -3, 10);
-INSERT INTO shops VALUES(NULL, 54, 60);
-SELECT * FROM shops;
-INSERT INTO shops VALUES(7, 0, 1);
-INSERT INTO shops VALUES(14, 9, 2);
-SELECT * FROM parks;
