@@ -76,11 +76,12 @@ impl<T> Noting<T> {
     pub fn reason(&self) -> Option<io::Error> {
         self.reason
     }
+}
 
-    fn note<U>(&mut self, answer: &io::Result<U>) {
-        if let Err(error) = answer {
-            self.reason = Some(*error);
-        }
+/// Keeps why a call failed, if it has.
+fn note<T>(reason: &mut Option<io::Error>, answer: &io::Result<T>) {
+    if let Err(error) = answer {
+        *reason = Some(*error);
     }
 }
 
@@ -89,7 +90,7 @@ impl<R: Read> Read for Noting<R> {
 
     fn read(&mut self, buffer: &mut [u8]) -> io::Result<usize> {
         let answer = self.inner.read(buffer);
-        self.note(&answer);
+        note(&mut self.reason, &answer);
         answer
     }
 }
@@ -99,13 +100,13 @@ impl<W: Write> Write for Noting<W> {
 
     fn write(&mut self, bytes: &[u8]) -> io::Result<usize> {
         let answer = self.inner.write(bytes);
-        self.note(&answer);
+        note(&mut self.reason, &answer);
         answer
     }
 
     fn flush(&mut self) -> io::Result<()> {
         let answer = self.inner.flush();
-        self.note(&answer);
+        note(&mut self.reason, &answer);
         answer
     }
 }

@@ -78,7 +78,8 @@ impl<'a, R: Read, E: Eprint> Prompting<'a, R, E> {
     /// Follows the bytes that were read.
     fn follow(&mut self, bytes: &[u8]) {
         let mut rest = bytes;
-        while !rest.is_empty() {
+        // Each turn takes a byte at least.
+        for _turn in 0..bytes.len() {
             let (taken, later) = rest.split_at(self.cutter.feed(rest));
             rest = later;
             let _ = self.pending.extend_from_slice(taken);
