@@ -9,6 +9,9 @@
 //! - `laws` states what searching and splitting rest on, over the definitions that the contracts cite.
 //!
 //! No call takes memory, and none refuses but the two constructors that are themselves the test.
+//!
+//! Stands on nothing but std. Definitions: `specs/Interval.antt` and `Rect.antt` (boxes and measures),
+//! `Window.antt`, `Capacity.antt`, `Laws.antt`.
 #![tactic(auto)]
 
 mod capacity;

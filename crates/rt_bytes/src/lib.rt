@@ -7,6 +7,12 @@
 //!   `UnflushableWriter` fail, for tests.
 //! - `write_whole` and `write_parts` write all that they are given, or a front of it.
 //! - `Status` and `RunFault`: how a run over a reader and a writer ends.
+//!
+//! Whatever a reader gives and a writer takes, what is left, what was written and how many calls failed is said at
+//! each call; a write that failed has written nothing, and a whole write that failed a front.
+//!
+//! Stands on std's `Read` and `Write`. Definitions: `specs/Bytes.antt` (counts, whole writes, fronts),
+//! `Devices.antt` (what is known of a run's reader and writer), `Memory.antt`.
 #![tactic(auto)]
 
 mod counts;

@@ -11,6 +11,9 @@
 //!
 //! Boxes are those of a node's cells, in the order of the cells, and positions in that list count
 //! from 0.
+//!
+//! Stands on `rt_box`. Definitions: `specs/Subtree.antt`, `Split.antt`, `Reinsertion.antt`, and what they cite,
+//! `Sorting.antt`, `Hull.antt`, `Keys.antt`. The other files of `specs/` are for proofs here.
 #![tactic(auto)]
 
 mod hulls;

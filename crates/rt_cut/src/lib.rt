@@ -5,6 +5,12 @@
 //! - `Piece` is such a statement or dot line, and `Ending` says how it ended.
 //! - `text::is_white` is the white space that parts them, and tokens too.
 //! - `laws`: each text is cut in one way.
+//!
+//! A cutter stands at the front of what it was fed, for every text and every way of feeding it, and a piece is
+//! ready exactly where one has ended. Only `Cutter::new` takes memory.
+//!
+//! Stands on nothing but std. Definitions: `specs/Pieces.antt` (the pieces of a whole text), `Text.antt`,
+//! `Cutter.antt` (where a cutter stands).
 #![tactic(auto)]
 
 mod cutter;

@@ -1,5 +1,11 @@
 //! Insertion of a row into an R*-tree (Beckmann, Kriegel, Schneider, Seeger 1990, section 4.3), and the placing of all
 //! cells that wait.
+//!
+//! - `insert_row`: a row comes into a whole tree, which is whole again, and each other row stays in it.
+//! - `settle`: places the cells that wait, the last first, until so many are left.
+//! - `laws`: how many nodes and levels a whole tree has at most.
+//!
+//! Stands on `rt_place` and `rt_node`. Definitions: `specs/Insertion.antt`, `Settling.antt`, `Awaiting.antt`.
 #![tactic(auto)]
 
 mod insert;

@@ -1,4 +1,12 @@
 //! The nodes of an R*-tree, in an arena.
+//!
+//! - `Node` and the calls on a slab of nodes: each changes the one node that it names, and nothing else.
+//! - A sound arena is said node by node: each clause speaks of a node, its parent and its children, so that a
+//!   change of one node is a matter of three.
+//!
+//! Stands on `rt_box` and `rt_choice`. Definitions: `specs/Node.antt`, `Sound.antt` and `Whole.antt` (a sound
+//! arena), `Open.antt` (one in the middle of a change), `Places.antt`, `Changes.antt`, `Homes.antt` (the map from
+//! ids to leaves).
 #![tactic(auto)]
 
 mod access;

@@ -2,6 +2,13 @@
 //! goes down by best children to a node of its level. From there up to the root each overfull node gives up cells, to be
 //! inserted again, or is split, and the boxes of cells above are made the least ones again; an overfull root is split
 //! under a new one.
+//!
+//! - `place_last`: of the cells that wait the last is placed, and the tree is whole again; which cells wait then is
+//!   said.
+//! - `choose_node`: the way down, by best children.
+//!
+//! Stands on `rt_node` and `rt_choice`. Definitions: `specs/Placing.antt` (what it comes to), `Rise.antt`,
+//! `Steps.antt` and `Way.antt` (its parts, and the way up).
 #![tactic(auto)]
 
 mod attach;

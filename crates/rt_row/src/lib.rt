@@ -13,6 +13,10 @@
 //!
 //! What inserting, deleting, updating and watching do to the rows of a table is defined in `specs/` over plain
 //! lists; the crates above carry them out.
+//!
+//! Stands on `rt_sql` (statements, values, refusals) and `rt_box`. Definitions: `specs/Values.antt`,
+//! `Columns.antt`, `Conditions.antt`, `Windows.antt`, `Edits.antt` (what statements do to rows), `Views.antt`,
+//! `Tables.antt`; `Worked.antt` holds them against worked examples.
 #![tactic(auto)]
 
 mod arrangement;

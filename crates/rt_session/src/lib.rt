@@ -7,6 +7,9 @@
 //!   in which the checker finds no problem.
 //!
 //! Any statement may be refused for want of memory, and that refusal too leaves the tables.
+//!
+//! Stands on `rt_table`. Definitions: `specs/Session.antt` (the answer to each statement), `Selecting.antt`,
+//! `Laws.antt`; `Worked.antt` holds them against worked examples.
 #![tactic(auto)]
 
 mod edits;

@@ -6,6 +6,13 @@
 //!   are `Items`, which contracts see as lists.
 //! - `Refusal` has the number and the words that each refusal prints, those of tables and views too.
 //! - `laws`: tokens spell at most one statement, and each piece has one answer.
+//!
+//! A piece is a statement exactly where its tokens spell it; else it is refused by the first reason that applies,
+//! or for want of memory.
+//!
+//! Stands on `rt_cut`. Definitions: `specs/Grammar.antt` (which tokens spell which statement), `Tokens.antt` (the
+//! tokens of a text), `Parse.antt` (what a piece asks for), `Refusal.antt`; `Reading.antt` is how the parser goes
+//! about it.
 #![tactic(auto)]
 
 mod grammar;

@@ -7,6 +7,10 @@
 //! - `laws`: the changes of a view turn the rows that it showed into those that it shows.
 //!
 //! A view keeps the ids of its rows; a plan looks again at the ids that it touches, and at no others.
+//!
+//! Stands on `rt_plan` and `rt_store`. Definitions: `specs/Held.antt` (what a table holds), `Preparing.antt`,
+//! `AnyAxes.antt`, `AnyTrees.antt`, `Replies.antt`, `Laws.antt`; what a statement does to rows and views is in
+//! `rt_row`.
 #![tactic(auto)]
 
 mod any_table;

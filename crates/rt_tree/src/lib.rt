@@ -9,6 +9,10 @@
 //! - `is_in_shape`, `has_boxes` and `is_small` hold of each tree, whatever was done to it: the checker finds no problem,
 //!   each cell has a box, and there are few nodes and few levels.
 //! - `search` lists the rows that a window admits, and counts the nodes that it went into.
+//!
+//! Stands on `rt_node`, `rt_walk`, `rt_insert` and `rt_remove`, and on `rt_check` for the tree from outside.
+//! Definitions: `specs/Lists.antt` (a tree from outside), `Rows.antt`, `Boxes.antt`, `Changes.antt` (insertion and
+//! removal), `Finding.antt`, `Way.antt`.
 #![tactic(auto)]
 
 mod tree;

@@ -7,6 +7,9 @@
 //!
 //! Both ask for a whole tree in which no cell waits, and take memory for what they answer and for a stack of
 //! keys.
+//!
+//! Stands on `rt_node`, and on `rt_check` for the tree from outside. Definitions: `specs/Search.antt`,
+//! `Outside.antt`, `Preorder.antt`, `InOrder.antt`.
 #![tactic(auto)]
 
 pub mod laws;
