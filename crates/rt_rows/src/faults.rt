@@ -29,9 +29,9 @@ const VIEW: Script<'static> = Script {
 
 /// A tree after insertions and removals.
 const TREE: Script<'static> = Script {
-    text: b"CREATE VIRTUAL TABLE t USING rtree_i32(id,minX,maxX); INSERT INTO t VALUES(1,0,0); INSERT INTO t VALUES(2,1,1); INSERT INTO t VALUES(3,2,2); INSERT INTO t VALUES(4,10,10); INSERT INTO t VALUES(5,11,11); INSERT INTO t VALUES(6,12,12); INSERT INTO t VALUES(7,3,3); INSERT INTO t VALUES(8,4,4); INSERT INTO t VALUES(9,5,5); DELETE FROM t WHERE id=1; DELETE FROM t WHERE id>=4 AND id<=5;\n.nodes t",
+    text: b"CREATE VIRTUAL TABLE t USING rtree_i32(id,minX,maxX); INSERT INTO t VALUES(1,0,0); INSERT INTO t VALUES(2,1,1); INSERT INTO t VALUES(3,2,2); INSERT INTO t VALUES(4,10,10); INSERT INTO t VALUES(5,11,11); INSERT INTO t VALUES(6,12,12); INSERT INTO t VALUES(7,3,3); INSERT INTO t VALUES(8,4,4); INSERT INTO t VALUES(9,5,5); DELETE FROM t WHERE id=1; DELETE FROM t WHERE id>=4 AND id<=5;\n.nodes t\n",
     prints: DUMP,
-    answers: &[(392, 198)],
+    answers: &[(393, 198)],
     capacity: 5,
 };
 
