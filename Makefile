@@ -2,8 +2,8 @@
 # make demo   compiles rtsh without proving it, runs the scripts of examples/ and checks its dumps with it
 # make check  proves what changed
 # make cases  runs the worked scripts and dumps of crates/rt_cases
-# make test   holds the documents against the cases, proves everything from nothing, tries the edits that must fail, and
-#             runs all tests
+# make test   holds the documents against the cases, proves everything from nothing, tries the edits that must fail, runs all
+#             tests, and then has allocations, reads and writes of the programs that it built fail, and gives them hard devices
 # make bench  prints how long the choices of the R*-tree take, and the calls of whole trees, beside Boost's where that is installed,
 #             and whole scripts through bin/rtsh, beside sqlite3's shell where that is installed
 
@@ -28,6 +28,7 @@ cases: tools
 test: tools
 	@scripts/check_documents
 	rt ci
+	@scripts/faults
 
 bench: tools
 	@scripts/bench

@@ -1,0 +1,82 @@
+"""Has calls of the proved program fail, and gives it hard devices: see scripts/faults."""
+
+import sys
+import time
+from concurrent.futures import ThreadPoolExecutor
+from pathlib import Path
+
+import calls
+import cases
+import devices
+import rows
+import tests
+from program import Program, Report
+
+AT_ONCE = 4
+
+CALLS = {
+    "each allocation refused": calls.growths_refused,
+    "each write refused": calls.writes_refused,
+    "each read refused": calls.reads_refused,
+    "reads and writes of one byte": calls.small_moves,
+}
+
+# The tests that are run with each allocation refused, by crate.
+TESTS = {
+    "rt_tree_tests": ["growth::refused_growth_changes_nothing"],
+    "rt_rows": ["growth::a_shadow_stays_as_it_was", "growth::a_dump_is_read_or_memory_is_wanting"],
+}
+
+
+def check_calls(report, program, worked):
+    """One check for each worked script or dump and each way to fail."""
+    with ThreadPoolExecutor(AT_ONCE) as pool:
+        started = [
+            (f"{case.name}: {how}", pool.submit(check, program, case))
+            for how, check in CALLS.items()
+            for case in worked
+        ]
+        for name, checked in started:
+            wrong, note = checked.result()
+            report.add(f"{name} ({note})", wrong)
+
+
+def check_tests(report, root, library):
+    """One check for each test whose memory is refused, where the gate has left it."""
+    for crate, names in TESTS.items():
+        path = root / "crates" / crate / "out" / f"{crate}_tests"
+        for name in names:
+            if path.is_file():
+                wrong, refused = tests.growths_refused(Program(path, library), name)
+                report.add(f"{crate} {name}: {refused} allocations refused", wrong)
+            else:
+                report.add(f"{crate} {name}", f"{path} is missing: rt ci builds it")
+
+
+def all_statements(root, program):
+    """A script whose statements show after each other what was changed. What it prints is the program's own answer, beside
+    which runs with a refusal are held."""
+    words, given = ("run", "--capacity", "5"), (root / "faults" / "statements.sql").read_bytes()
+    return cases.Case("all statements", words, given, program.run(words, given))
+
+
+def main(root, library, *paths):
+    """Checks each program of these paths."""
+    report, root = Report(), Path(root)
+    worked = cases.cases(root / "crates" / "rt_cases" / "data")
+    for path in paths:
+        began = time.monotonic()
+        program = Program(path, library)
+        print(f"== {path}", flush=True)
+        for name, check in devices.CHECKS.items():
+            report.add(name, check(program))
+        report.add("1,048,576 rows, and one more", rows.full_table(program))
+        check_calls(report, program, [*worked, all_statements(root, program)])
+        print(f"took {time.monotonic() - began:.0f} s", flush=True)
+    check_tests(report, root, library)
+    print(f"{report.passed} passed, {report.failed} failed")
+    return 1 if report.failed or not paths else 0
+
+
+if __name__ == "__main__":
+    sys.exit(main(*sys.argv[1:]))
