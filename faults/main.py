@@ -1,5 +1,6 @@
 """Has calls of the proved program fail, and gives it hard devices: see scripts/faults."""
 
+import subprocess
 import sys
 import time
 from concurrent.futures import ThreadPoolExecutor
@@ -28,16 +29,31 @@ TESTS = {
 }
 
 
+def tried(check, *given):
+    """What a check answers; a run that doesn't end, or can't be started, is what is wrong."""
+    try:
+        return check(*given)
+    except (subprocess.TimeoutExpired, OSError) as fault:
+        return repr(fault)
+
+
+def check_devices(report, program):
+    """One check for each hard device, and one for the most rows."""
+    for name, check in {**devices.CHECKS, "1,048,576 rows, and one more": rows.full_table}.items():
+        report.add(name, tried(check, program))
+
+
 def check_calls(report, program, worked):
     """One check for each worked script or dump and each way to fail."""
     with ThreadPoolExecutor(AT_ONCE) as pool:
         started = [
-            (f"{case.name}: {how}", pool.submit(check, program, case))
+            (f"{case.name}: {how}", pool.submit(tried, check, program, case))
             for how, check in CALLS.items()
             for case in worked
         ]
         for name, checked in started:
-            wrong, note = checked.result()
+            answer = checked.result()
+            wrong, note = answer if isinstance(answer, tuple) else (answer, "")
             report.add(f"{name} ({note})", wrong)
 
 
@@ -68,9 +84,7 @@ def main(root, library, *paths):
         began = time.monotonic()
         program = Program(path, library)
         print(f"== {path}", flush=True)
-        for name, check in devices.CHECKS.items():
-            report.add(name, check(program))
-        report.add("1,048,576 rows, and one more", rows.full_table(program))
+        check_devices(report, program)
         check_calls(report, program, [*worked, all_statements(root, program)])
         print(f"took {time.monotonic() - began:.0f} s", flush=True)
     check_tests(report, root, library)
