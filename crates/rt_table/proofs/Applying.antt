@@ -1,5 +1,5 @@
 -- The steps that a statement answers apply to the rows of its table.
-use Rattle.std.proofs.Common.{◌≡◌, ◌∙◌, ℕ, ℤ, Bool, true, false, cond, not, ◌&&◌, ◌||◌, List, [], ◌∷◌, ◌++◌, map, length, Option, Some, None, Result, Ok, Err, IfOk, refl, sym, ap}
+use Rattle.std.proofs.Common.{◌≡◌, ◌∙◌, ℕ, ℤ, Bool, true, false, cond, not, ◌&&◌, ◌||◌, List, [], ◌∷◌, ◌++◌, map, length, Option, Some, None, Result, Ok, Err, IfOk, refl, sym, ap, subst}
 use Rattle.std.specs.Prelude.{◌<ℤ◌, find, filter, is_some, nat_le, ◌==◌, if◌then◌else◌}
 use Rattle.std.specs.List.{AllByRecursion, list_any, list_all}
 use Rattle.std.specs.Ordering.{int_eq}
@@ -17,6 +17,7 @@ use Rattle.rt_row.specs.Rows.{TableRow, values_of, AreRising, has_id, with_row, 
 use Rattle.rt_row.specs.Edits.{Step, Leaves, Comes, Becomes, Steps, after_step, outcome, and_then, Setting, row_of, put_taken, put_at, id_or_new, unless_ignored, put, put_all, steps_and, arranged, listed_columns, insert, delete, update, update_all, update_row, becomes, become_candidate, new_values, is_summable, sum_fits, columns_read}
 use Rattle.rt_store.proofs.Order.{eq_same, eq_below}
 use Rattle.rt_store.proofs.Sorted.{at_key-taken, at_key-placed, Rises, rises}
+use Rattle.rt_plan.specs.Plans.{Plans}
 use Rattle.rt_table.specs.Preparing.{ApplyInTurn}
 use Rattle.rt_table.specs.Applying.{StepsApply}
 
@@ -236,3 +237,8 @@ apply-update columns rows sets cond rise =
 
 pub steps_apply : StepsApply
 steps_apply columns rows rise = (λ rule listed lists. apply-insert columns rows rule listed lists, λ cond. apply-delete columns rows cond rise, λ sets cond. apply-update columns rows sets cond rise)
+
+-- what holds of the wanted steps holds of those of a plan
+pub planned : (P : List Step → Type 0) (wanted : Steps) (given : Result (List Step) Refusal) → Plans wanted given → IfOk wanted P → IfOk given P
+planned P wanted (Ok steps) same holds = subst (λ (r : Steps). IfOk r P) same holds
+planned P wanted (Err refusal) same holds = tt

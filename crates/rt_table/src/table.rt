@@ -72,6 +72,7 @@ impl<const D: usize> Table<D> {
     ghost use Rattle.rt_row.specs.Views.{deltas};
     ghost use Rattle.rt_row.specs.Edits.{insert, update, delete};
     ghost use Rattle.rt_row.specs.Tables.{edited};
+    ghost use Rattle.rt_plan.specs.Plans.{Plans};
     ghost use Rattle.rt_table.specs.Replies.{Refuses, Shows};
     ghost use Rattle.rt_table.specs.Preparing.{ApplyInTurn, IsReady};
     ghost use Rattle.rt_table.specs.Watching.{change_of};
@@ -190,6 +191,61 @@ impl<const D: usize> Table<D> {
         Ok(())
     }
 
+    /// The plan of a DELETE: the rows of which the condition holds go, by rising id.
+    ///
+    /// # Errors
+    ///
+    /// `NoSuchColumn` where a test looks at a column that the table hasn't, and `OutOfMemory`.
+    pub fn plan_delete(&self, alloc: Global, cond: Cond) -> Result<Plan<D>, Refusal>
+        ensures plans { Plans (delete self.now.lists.columns self.now.lists.rows cond) result }
+        ensures applies { IfOk result (ApplyInTurn self.now.lists.rows) }
+    {
+        plan_delete(alloc, &self.columns, &self.store, cond)
+    }
+
+    /// The plan of an INSERT: each row comes, among those before it.
+    ///
+    /// # Errors
+    ///
+    /// Those of the rows and their columns, by the rule for conflicts, and `OutOfMemory`.
+    pub fn plan_insert(
+        &self,
+        alloc: Global,
+        rule: Rule,
+        columns: &Option<Items<Name>>,
+        rows: &[Items<Value>],
+    ) -> Result<Plan<D>, Refusal>
+        ensures plans { Plans (insert self.now.lists.columns self.now.lists.rows rule columns.now rows.now) result }
+        ensures applies { IfOk result (ApplyInTurn self.now.lists.rows) }
+    {
+        plan_insert(
+            alloc,
+            self.keys,
+            &self.columns,
+            &self.store,
+            rule,
+            columns,
+            rows,
+        )
+    }
+
+    /// The plan of an UPDATE: the rows of which the condition holds, by rising id, each with these columns set.
+    ///
+    /// # Errors
+    ///
+    /// Those of the columns and their values, and `OutOfMemory`.
+    pub fn plan_update(
+        &self,
+        alloc: Global,
+        sets: &[(Name, Source)],
+        cond: Cond,
+    ) -> Result<Plan<D>, Refusal>
+        ensures plans { Plans (update self.now.lists.columns self.now.lists.rows sets.now cond) result }
+        ensures applies { IfOk result (ApplyInTurn self.now.lists.rows) }
+    {
+        plan_update(alloc, self.keys, &self.columns, &self.store, sets, cond)
+    }
+
     /// Makes the table ready for a plan: reserves what carrying it out takes, and stages what it changes in the
     /// views. Rows, views and the tree stay, also after a refusal.
     ///
@@ -271,7 +327,7 @@ impl<const D: usize> Table<D> {
         ensures refused { OnErr result (self.new.lists ≡ self.old.lists) }
         ensures same_tree { OnErr result (self.new.tree ≡ self.old.tree) }
     {
-        let plan = plan_delete(alloc, &self.columns, &self.store, cond)?;
+        let plan = self.plan_delete(alloc, cond)?;
         Ok(self.carry_out(alloc, plan)?)
     }
 
@@ -293,15 +349,7 @@ impl<const D: usize> Table<D> {
         ensures refused { OnErr result (self.new.lists ≡ self.old.lists) }
         ensures same_tree { OnErr result (self.new.tree ≡ self.old.tree) }
     {
-        let plan = plan_insert(
-            alloc,
-            self.keys,
-            &self.columns,
-            &self.store,
-            rule,
-            columns,
-            rows,
-        )?;
+        let plan = self.plan_insert(alloc, rule, columns, rows)?;
         Ok(self.carry_out(alloc, plan)?)
     }
 
@@ -323,7 +371,7 @@ impl<const D: usize> Table<D> {
         ensures refused { OnErr result (self.new.lists ≡ self.old.lists) }
         ensures same_tree { OnErr result (self.new.tree ≡ self.old.tree) }
     {
-        let plan = plan_update(alloc, self.keys, &self.columns, &self.store, sets, cond)?;
+        let plan = self.plan_update(alloc, sets, cond)?;
         Ok(self.carry_out(alloc, plan)?)
     }
 
