@@ -2,6 +2,8 @@
 #![tactic(auto)]
 
 #[cfg(test)]
+mod committing;
+#[cfg(test)]
 mod full;
 #[cfg(test)]
 mod visited;
