@@ -22,11 +22,13 @@ CALLS = {
     "reads and writes of one byte": calls.small_moves,
 }
 
-# The tests that are run with each allocation refused, by crate.
-TESTS = {
-    "rt_tree_tests": ["growth::refused_growth_changes_nothing"],
-    "rt_rows": ["growth::a_shadow_stays_as_it_was", "growth::a_dump_is_read_or_memory_is_wanting"],
-}
+# Tests, their crates, and how they are tried.
+TESTS = [
+    ("rt_tree_tests", "growth::refused_growth_changes_nothing", tests.growths_refused),
+    ("rt_rows", "growth::a_shadow_stays_as_it_was", tests.growths_refused),
+    ("rt_rows", "growth::a_dump_is_read_or_memory_is_wanting", tests.growths_refused),
+    ("rt_table_tests", "committing::plans_are_carried_out", tests.none_between),
+]
 
 
 def tried(check, *given):
@@ -58,15 +60,13 @@ def check_calls(report, program, worked):
 
 
 def check_tests(report, root, library):
-    """One check for each test whose memory is refused, where the gate has left it."""
-    for crate, names in TESTS.items():
+    """One check for each of the tests, where the gate has left it."""
+    for crate, name, check in TESTS:
         path = root / "crates" / crate / "out" / f"{crate}_tests"
-        for name in names:
-            if path.is_file():
-                wrong, refused = tests.growths_refused(Program(path, library), name)
-                report.add(f"{crate} {name}: {refused} allocations refused", wrong)
-            else:
-                report.add(f"{crate} {name}", f"{path} is missing: rt ci builds it")
+        wrong, note = f"{path} is missing: rt ci builds it", ""
+        if path.is_file():
+            wrong, note = check(Program(path, library), name)
+        report.add(f"{crate} {name} ({note})", wrong)
 
 
 def all_statements(root, program):

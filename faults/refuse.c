@@ -1,6 +1,7 @@
 /* Loaded before a program (LD_PRELOAD), it has calls of the C library fail, as these variables ask:
  *
  *   REFUSE_ALLOCATION=N  the Nth allocation is refused
+ *   BETWEEN=1            of allocations, those alone count that come after a `<` and before a `>` on the error output
  *   REFUSE_READ=N        the Nth read fails
  *   REFUSE_WRITE=N       the Nth write fails, and later ones don't
  *   REFUSE_AFTER=N       writes take N bytes in all, and then fail
@@ -30,7 +31,7 @@ static ssize_t (*next_write)(int, const void *, size_t);
 
 enum { FAILED = 5, NO_MEMORY = 12, NO_SPACE = 28 };
 
-static int counts, told, is_told, is_short;
+static int counts, told, is_told, is_short, has_marks, is_marked;
 static long allocation, failing_read, failing_write, room, empty_room, short_at;
 
 static long number(const char *name) {
@@ -60,6 +61,7 @@ __attribute__((constructor)) static void start(void) {
   empty_room = number("REFUSE_EMPTY");
   short_at = number("SHORT_AT");
   is_short = number("SHORT") > 0;
+  has_marks = number("BETWEEN") > 0;
   told = number("TOLD");
   counts = 1;
 }
@@ -71,7 +73,7 @@ static void tell(void) {
 }
 
 static int is_refused(void) {
-  if (!counts || allocation <= 0 || --allocation)
+  if (!counts || (has_marks && !is_marked) || allocation <= 0 || --allocation)
     return 0;
   tell();
   *__errno_location() = NO_MEMORY;
@@ -123,8 +125,18 @@ static int is_full(long *left, size_t *size) {
   return 0;
 }
 
+/* A text to the error output may be a mark. */
+static void look(const char *text, size_t size) {
+  if (size && *text == '<')
+    is_marked = 1;
+  if (size && *text == '>')
+    is_marked = 0;
+}
+
 ssize_t write(int file, const void *bytes, size_t size) {
   ssize_t taken;
+  if (file == 2)
+    look(bytes, size);
   if (!counts || file == 2)
     return next_write(file, bytes, size);
   if (failing_write > 0 && !--failing_write) {
