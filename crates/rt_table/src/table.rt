@@ -191,7 +191,7 @@ impl<const D: usize> Table<D> {
         Ok(())
     }
 
-    /// The plan of a DELETE: the rows of which the condition holds go, by rising id.
+    /// The plan of a DELETE: the rows of which the condition holds go, by rising id. The table stays.
     ///
     /// # Errors
     ///
@@ -203,11 +203,13 @@ impl<const D: usize> Table<D> {
         plan_delete(alloc, &self.columns, &self.store, cond)
     }
 
-    /// The plan of an INSERT: each row comes, among those before it.
+    /// The plan of an INSERT: each row comes, among those before it; by the rule for conflicts one may be passed over, or
+    /// take the place of another. The table stays.
     ///
     /// # Errors
     ///
-    /// Those of the rows and their columns, by the rule for conflicts, and `OutOfMemory`.
+    /// `BadColumnList`, `NoSuchColumn` and `WrongNumberOfValues` of the statement, `WrongType`, `IntegerOutOfRange`,
+    /// `MinimumAboveMaximum`, `NoIdLeft`, `IdAlreadyTaken` and `TableFull` of a row, and `OutOfMemory`.
     pub fn plan_insert(
         &self,
         alloc: Global,
@@ -229,11 +231,13 @@ impl<const D: usize> Table<D> {
         )
     }
 
-    /// The plan of an UPDATE: the rows of which the condition holds, by rising id, each with these columns set.
+    /// The plan of an UPDATE: the rows of which the condition holds, by rising id, each with these columns set. The table
+    /// stays.
     ///
     /// # Errors
     ///
-    /// Those of the columns and their values, and `OutOfMemory`.
+    /// `BadColumnList` and `NoSuchColumn` of the statement, `WrongType`, `IntegerOutOfRange`, `MinimumAboveMaximum` and
+    /// `IdAlreadyTaken` of a row, and `OutOfMemory`.
     pub fn plan_update(
         &self,
         alloc: Global,
