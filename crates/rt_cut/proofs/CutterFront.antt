@@ -1,14 +1,15 @@
 -- What a front says of the bytes before it, and what one more byte does to it.
-use Rattle.std.proofs.Common.{◌≡◌, ◌≢◌, ℕ, ◌+◌, ◌<◌, true, false, cond, eqb, List, [], ◌∷◌, ◌++◌, length, take, get_or, Option, Some, None, MatchOption, ◌⊎◌, inl, inr, sym, refl, ap, ◌∙◌, subst, ⊎_elim, append_assoc, append-nil, arith}
-use Rattle.std.proofs.lemmas.Bool.{eqb-true, eqb-false, cond_both, cond-true, cond-false, ne_eqb}
-use Rattle.std.proofs.lemmas.List.{take_more}
+use Rattle.std.proofs.Common.{◌≡◌, ◌≢◌, ℕ, ◌+◌, ◌-◌, ◌<◌, true, false, cond, eqb, List, [], ◌∷◌, ◌++◌, length, take, drop, get_or, ◌≤◌, Option, Some, None, MatchOption, ◌⊎◌, inl, inr, sym, refl, ap, ◌∙◌, subst, ⊎_elim, append_assoc, append-nil, arith, one-add, take-append-drop, length-drop, ◌==◌, ◌||◌}
+use Rattle.std.proofs.lemmas.Bool.{eqb-true, eqb-false, cond_both, cond-true, cond-false, ne_eqb, or_parts, not-true, false≢true}
+use Rattle.std.proofs.lemmas.List.{take_more, take_all, length-take-le}
+use Rattle.std.proofs.Math.Seq.{take-append-add}
 use Rattle.std.proofs.lemmas.List.Elements.{All-nil, All-push}
 use Rattle.std.specs.Option.{option_map}
 use Rattle.rt_cut.specs.Piece.{PieceText}
 use Rattle.rt_cut.specs.Pieces.{Atom, Byte, Quoted as QuotedAtom, spelled, spelled_all, IsClosedGap, IsGap, IsOpenComment, IsAtom, AreAtoms, is_gap_byte, BeginsStatement, IsOpenQuote, IsWholePiece, IsLastPiece, held_of, piece_of}
 use Rattle.rt_cut.specs.Text.{is_quote}
 use Rattle.rt_cut.specs.Cutter.{Front, IsOpen, undecided, StopsInGap, StopsInStatement, StopsInDotLine, StopsAt, StandsAt, FinishedAt, last_ending, ending_at, ready_piece}
-use Rattle.rt_cut.specs.CutterStep.{place_after, gap_after, statement_after, held_after, held_in, with_byte, front_after}
+use Rattle.rt_cut.specs.CutterStep.{place_after, gap_after, statement_after, held_after, held_in, with_byte, front_after, is_mark, stays, run_len, with_bytes}
 use Rattle.rt_cut.proofs.CutterAtoms.{spelled_all-push, AreAtoms-push, IsClosedGap-push, comment_in_gap, comment_in_statement, no_comment, dash_alone, slash_alone, line_grows, block_grows, block_to_star, star_to_star, star_to_block, nothing_closes, no_close_in_front, IsClosedBy, line_closes, star_closes, held_of-push}
 use Rattle.rt_cut.proofs.CutterRuns.{piece_then, no_piece, first_whole}
 use Rattle.rt_cut.specs.declared.piece.Ending.{Ending}
@@ -540,3 +541,48 @@ nothing_ready f stands =
       | None ↦ λ waits. refl
       | Some p ↦ λ whole. let first : no_piece ≡ piece_then p [] = first_whole [] [] p whole in cc
     ] (whole_at f [] stands)
+
+-- a byte that leaves the place as it is goes on with what is held
+goes_with : (place : Place) (held : Option (List ℕ)) (x : List ℕ) (b : ℕ) → stays place b ≡ true → StopsAt place held x → StopsAt place (with_byte held b) (x ++ b ∷ [])
+goes_with (In Gap spot) held x b is h = absurd (false≢true is)
+goes_with (In Statement Between) held x b is h =
+    let quote = or_parts (b == 59 || b == 45 || b == 47) (is_quote b) (not-true (is_mark b) is) in
+    let slash = or_parts (b == 59 || b == 45) (b == 47) quote.0 in
+    let dash = or_parts (b == 59) (b == 45) slash.0 in
+    let same : statement_after b ≡ In Statement Between = cond-false _ _ _ dash.0 ∙ cond-false _ _ _ dash.1 ∙ cond-false _ _ _ slash.1 ∙ cond-false _ _ _ quote.1 in
+    subst (λ place. StopsAt place (held_after place held b) (x ++ b ∷ [])) same (stops_after (In Statement Between) held x b (λ e. cc) h)
+goes_with (In Statement AfterDash) held x b is h = absurd (false≢true is)
+goes_with (In Statement AfterSlash) held x b is h = absurd (false≢true is)
+goes_with (In Statement LineComment) held x b is h = absurd (false≢true is)
+goes_with (In Statement BlockComment) held x b is h = absurd (false≢true is)
+goes_with (In Statement AfterStar) held x b is h = absurd (false≢true is)
+goes_with (Quoted quote) held x b is h =
+    let same : place_after (Quoted quote) b ≡ Quoted quote = cond-false _ _ _ (not-true (b == quote) is) in
+    subst (λ place. StopsAt place (held_after place held b) (x ++ b ∷ [])) same (stops_after (Quoted quote) held x b (λ e. cc) h)
+goes_with DotLine held x b is h =
+    let same : place_after DotLine b ≡ DotLine = cond-false _ _ _ (not-true (b == 10) is) in
+    subst (λ place. StopsAt place (held_after place held b) (x ++ b ∷ [])) same (stops_after DotLine held x b (λ e. cc) h)
+goes_with End held x b is h = absurd (false≢true is)
+
+-- the bytes at the front that leave the place as it is
+stops_run : (place : Place) (held : Option (List ℕ)) (x bytes : List ℕ) → StopsAt place held x → StopsAt place (with_bytes held (take (run_len place bytes) bytes)) (x ++ take (run_len place bytes) bytes)
+stops_run place held x [] h = subst (StopsAt place held) (sym (append-nil x)) h
+stops_run place held x (b ∷ bytes) h =
+    let Goal : ℕ → Type 0 = λ n. StopsAt place (with_bytes held (take n (b ∷ bytes))) (x ++ take n (b ∷ bytes)) in
+    cond_both (stays place b) (1 + run_len place bytes) 0 Goal
+    (λ is.
+    let run = take (run_len place bytes) bytes in
+    subst Goal (sym (one-add (run_len place bytes))) (subst (StopsAt place (with_bytes (with_byte held b) run)) (append_assoc x (b ∷ []) run) (stops_run place (with_byte held b) (x ++ b ∷ []) bytes (goes_with place held x b is h))))
+    (λ is. subst (StopsAt place held) (sym (append-nil x)) h)
+
+-- the bytes at the front that leave the place as it is, as a front
+pub stands_run : (f : Front) (bytes : List ℕ) (n : ℕ) → n ≡ run_len f.place bytes → (x : List ℕ) → StandsAt f x → StandsAt (record f { held = with_bytes f.held (take n bytes) }) (x ++ take n bytes)
+stands_run f bytes n is x stands =
+    (stands.0, subst (λ n. StopsAt f.place (with_bytes f.held (take n bytes)) (x ++ take n bytes)) (sym is) (stops_run f.place f.held x bytes stands.1))
+
+-- a front, and more behind it
+pub take_on : (x bytes : List ℕ) (i n : ℕ) → i ≤ length bytes → (x ++ take i bytes) ++ take n (take (length bytes - i) (drop i bytes)) ≡ x ++ take (i + n) bytes
+take_on x bytes i n within =
+    let rest : take (length bytes - i) (drop i bytes) ≡ drop i bytes = ap (λ k. take k (drop i bytes)) (sym (length-drop i bytes)) ∙ take_all (length (drop i bytes)) (drop i bytes) (omega arith) in
+    let more : take (i + n) bytes ≡ take i bytes ++ take n (drop i bytes) = ap (take (i + n)) (sym (take-append-drop i bytes)) ∙ ap (λ k. take (k + n) (take i bytes ++ drop i bytes)) (sym (length-take-le i bytes within)) ∙ take-append-add (take i bytes) (drop i bytes) n in
+    append_assoc x (take i bytes) _ ∙ ap (λ l. x ++ (take i bytes ++ take n l)) rest ∙ ap (λ l. x ++ l) (sym more)

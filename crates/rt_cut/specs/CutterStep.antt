@@ -1,6 +1,7 @@
 -- What one byte does to a cutter, for the contracts of its private steps alone. That these steps cut a
 -- text as Pieces says is proved of them.
-use Rattle.std.specs.Prelude.{◌==◌, ℕ, List, [], ◌∷◌, ◌++◌, length, Option, Some, None, nat_lt, if◌then◌else◌}
+use Rattle.std.specs.Prelude.{◌==◌, ◌||◌, not, ℕ, Bool, false, List, [], ◌∷◌, ◌++◌, length, Option, Some, None, nat_lt, if◌then◌else◌}
+use Rattle.std.specs.List.{prefix_len}
 use Rattle.rt_cut.specs.Pieces.{is_gap_byte}
 use Rattle.rt_cut.specs.Text.{is_quote}
 use Rattle.rt_cut.specs.Cutter.{Front}
@@ -69,3 +70,29 @@ held_after End held b = if b == 10 then held else with_byte held b
 abbrev pub front_after : Front → ℕ → Front
 front_after f b =
     record f { place = place_after f.place b; held = held_after (place_after f.place b) f.held b }
+
+-- the byte ends an atom of a statement, or may begin a comment
+abbrev pub is_mark : ℕ → Bool
+is_mark b = b == 59 || b == 45 || b == 47 || is_quote b
+
+-- the byte is of the piece, and leaves the place as it is
+abbrev pub stays : Place → ℕ → Bool
+stays (In Gap spot) b = false
+stays (In Statement Between) b = not (is_mark b)
+stays (In Statement AfterDash) b = false
+stays (In Statement AfterSlash) b = false
+stays (In Statement LineComment) b = false
+stays (In Statement BlockComment) b = false
+stays (In Statement AfterStar) b = false
+stays (Quoted quote) b = not (b == quote)
+stays DotLine b = not (b == 10)
+stays End b = false
+
+-- how many bytes at the front are such
+abbrev pub run_len : Place → List ℕ → ℕ
+run_len place bytes = prefix_len (stays place) bytes
+
+-- more bytes are held, if there is room for them
+abbrev pub with_bytes : Option (List ℕ) → List ℕ → Option (List ℕ)
+with_bytes held [] = held
+with_bytes held (b ∷ bytes) = with_bytes (with_byte held b) bytes

@@ -1,6 +1,7 @@
 ghost use Rattle.std.specs.Prelude.{◌≡◌, ℕ, ◌+◌, ◌<◌, ◌≤◌, ◌⊎◌, List, [], ◌∷◌, ◌++◌, length, take, IsTrue, IsSome, IsNone, IfSome, IfOk, MatchOption, Some};
 ghost use Rattle.rt_cut.specs.Piece.{PieceText};
 ghost use Rattle.rt_cut.specs.Pieces.{is_gap_byte, IsGap, IsWholePiece, IsLastPiece};
+ghost use Rattle.rt_cut.specs.CutterStep.{is_mark};
 
 use crate::piece::{Ending, Piece};
 use crate::text::is_white;
@@ -47,7 +48,7 @@ enum Place {
 
 impl Place {
     ghost use Rattle.rt_cut.specs.Cutter.{ending_at};
-    ghost use Rattle.rt_cut.specs.CutterStep.{place_after, gap_after, statement_after};
+    ghost use Rattle.rt_cut.specs.CutterStep.{place_after, gap_after, statement_after, stays, run_len};
 
     /// The place after one more byte.
     fn after(self, byte: u8) -> Place
@@ -75,6 +76,30 @@ impl Place {
             (Spot::Between, _) if part == Part::Gap => Place::after_gap(byte),
             (Spot::Between | Spot::AfterDash | Spot::AfterSlash, _) => Place::after_atom(byte),
         }
+    }
+
+    /// The byte is of the piece, and leaves the place as it is.
+    fn stays(self, byte: u8) -> bool
+        ensures { result ≡ stays self byte }
+    {
+        match self {
+            Place::In(Part::Statement, Spot::Between) => !is_mark(byte),
+            Place::Quoted(quote) => byte != quote,
+            Place::DotLine => byte != b'\n',
+            Place::In(_, _) | Place::End => false,
+        }
+    }
+
+    /// How many bytes at the front are such.
+    fn run_len(self, bytes: &[u8]) -> usize
+        ensures value { result ≡ run_len self bytes.now }
+        ensures within { result ≤ length bytes.now }
+    {
+        let mut end = 0;
+        while end < bytes.len() && self.stays(bytes[end]) {
+            end += 1;
+        }
+        end
     }
 
     /// How a piece ended here, if one has: by itself, or with the input.
@@ -116,6 +141,13 @@ impl Place {
             _ => Place::In(Part::Statement, Spot::Between),
         }
     }
+}
+
+/// What may follow the byte in a statement isn't what may follow any other.
+fn is_mark(byte: u8) -> bool
+    ensures { result ≡ is_mark byte }
+{
+    matches!(byte, b';' | b'-' | b'/' | b'\'' | b'"')
 }
 
 fn is_gap_byte(byte: u8) -> bool
@@ -173,7 +205,7 @@ impl Model for Cutter {
 
 impl Cutter {
     ghost use Rattle.rt_cut.specs.Cutter.{StandsAt, FinishedAt, ready_piece};
-    ghost use Rattle.rt_cut.specs.CutterStep.{front_after, with_byte};
+    ghost use Rattle.rt_cut.specs.CutterStep.{front_after, with_byte, with_bytes, run_len};
 
     /// A cutter at the start of a script.
     ///
@@ -203,13 +235,19 @@ impl Cutter {
         if self.ready().is_some() {
             return 0;
         }
-        for (i, byte) in bytes.iter().enumerate() {
-            self.take_byte(*byte);
-            if self.place == Place::End {
-                return i + 1;
+        let mut taken = 0;
+        'taken: while taken < bytes.len() {
+            let run = self.take_run(&bytes[taken..]);
+            taken += run;
+            if run == 0 {
+                self.take_byte(bytes[taken]);
+                taken += 1;
+                if self.place == Place::End {
+                    return taken;
+                }
             }
         }
-        bytes.len()
+        taken
     }
 
     /// The input has ended. What has begun is then the last piece, until `clear`.
@@ -246,6 +284,18 @@ impl Cutter {
         self.finished = false;
     }
 
+    /// Takes the bytes at the front that leave the place as it is, all at once, and says how many.
+    #[tactic(auto, using(crate::proofs::CutterFront::stands_run))]
+    fn take_run(&mut self, bytes: &[u8]) -> usize
+        ensures within { result ≤ length bytes.now }
+        ensures place { self.new.place ≡ self.old.place }
+        ensures stands { (x : List ℕ) → StandsAt self.old x → StandsAt self.new (x ++ take result bytes.now) }
+    {
+        let count = self.place.run_len(bytes);
+        self.hold_all(&bytes[..count]);
+        count
+    }
+
     /// Takes one byte.
     fn take_byte(&mut self, byte: u8)
         ensures { self.new ≡ front_after self.old byte }
@@ -270,6 +320,20 @@ impl Cutter {
         } else if !self.too_long {
             // There is room, which `new` took.
             let _ = self.held.push(byte);
+        }
+    }
+
+    /// Holds more bytes of the piece, or none where it has too many.
+    #[tactic(auto, using(crate::proofs::CutterHolds::bytes_none, crate::proofs::CutterHolds::bytes_short, crate::proofs::CutterHolds::bytes_long))]
+    fn hold_all(&mut self, bytes: &[u8])
+        ensures { self.new ≡ record self.old { held = with_bytes self.old.held bytes.now } }
+    {
+        if bytes.len() > LONGEST_PIECE - self.held.len() {
+            self.held.clear();
+            self.too_long = true;
+        } else if !self.too_long {
+            // There is room, which `new` took.
+            let _ = self.held.extend_from_slice(bytes);
         }
     }
 
