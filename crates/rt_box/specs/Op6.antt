@@ -15,5 +15,9 @@ Compares Ge z value = value ≤ℤ z
 -- a window that is narrowed by the comparison keeps the number: `<>` takes nothing, since an interval
 -- can't have a gap (own)
 abbrev pub Keeps : Op6 → ℤ → ℤ → Type 0
+Keeps Eq z value = Compares Eq z value
 Keeps Ne z value = ⊤
-Keeps op z value = Compares op z value
+Keeps Lt z value = Compares Lt z value
+Keeps Le z value = Compares Le z value
+Keeps Gt z value = Compares Gt z value
+Keeps Ge z value = Compares Ge z value

@@ -60,11 +60,15 @@ module _ {D : ℕ} where
 
   -- a line of a kind where another may be due
   abbrev pub after_kind : Progress D → List (List ℕ) → LineKind → LineKind → Result (Progress D) LineFault
+  after_kind p ws Header kind = Err CountWrong
   after_kind p ws Node Node = after_head p (node_head ws)
+  after_kind p ws Node kind = Err CountWrong
   after_kind p ws Cell Cell = after_cell p (raw_cell D ws)
+  after_kind p ws Cell kind = Err CountWrong
   after_kind p ws Row Row = after_row p (row_entry ws)
+  after_kind p ws Row kind = Err CountWrong
   after_kind p ws End End = Ok p
-  after_kind p ws wanted kind = Err CountWrong
+  after_kind p ws End kind = Err CountWrong
 
   -- a line by its spelling
   abbrev pub after_spelling : Progress D → List (List ℕ) → Option LineKind → Result (Progress D) LineFault

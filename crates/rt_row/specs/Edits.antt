@@ -82,9 +82,12 @@ put_at rule rows c (Some id) =
 
 -- OR IGNORE skips a row whose id is taken or whose minimum is above its maximum
 abbrev pub unless_ignored : Rule → Steps → Steps
+unless_ignored Abort steps = steps
+unless_ignored Replace steps = steps
+unless_ignored Ignore (Ok steps) = Ok steps
 unless_ignored Ignore (Err IdAlreadyTaken) = Ok []
 unless_ignored Ignore (Err MinimumAboveMaximum) = Ok []
-unless_ignored rule steps = steps
+unless_ignored Ignore (Err refusal) = Err refusal
 
 -- a row of these values is put among the rows
 abbrev pub put : ℕ → Rule → List TableRow → List Value → Steps

@@ -24,10 +24,19 @@ rank (Blob b) = 3
 
 -- integers by size, texts and blobs by their bytes, values of two types by their types
 abbrev pub value_cmp : Value → Value → Ordering
+value_cmp Null b = nat_cmp (rank Null) (rank b)
+value_cmp (Int a) Null = nat_cmp (rank (Int a)) (rank Null)
 value_cmp (Int a) (Int b) = int_cmp a b
+value_cmp (Int a) (Text b) = nat_cmp (rank (Int a)) (rank (Text b))
+value_cmp (Int a) (Blob b) = nat_cmp (rank (Int a)) (rank (Blob b))
+value_cmp (Text a) Null = nat_cmp (rank (Text a)) (rank Null)
+value_cmp (Text a) (Int b) = nat_cmp (rank (Text a)) (rank (Int b))
 value_cmp (Text a) (Text b) = slice_cmp nat_cmp a b
+value_cmp (Text a) (Blob b) = nat_cmp (rank (Text a)) (rank (Blob b))
+value_cmp (Blob a) Null = nat_cmp (rank (Blob a)) (rank Null)
+value_cmp (Blob a) (Int b) = nat_cmp (rank (Blob a)) (rank (Int b))
+value_cmp (Blob a) (Text b) = nat_cmp (rank (Blob a)) (rank (Text b))
 value_cmp (Blob a) (Blob b) = slice_cmp nat_cmp a b
-value_cmp a b = nat_cmp (rank a) (rank b)
 
 -- the operator holds of two values that stand so to one another
 abbrev pub keeps : Op6 → Ordering → Bool

@@ -6,10 +6,11 @@ ghost use Rattle.rt_row.specs.Conditions.{column_of};
 ghost use Rattle.rt_row.specs.Filters.{value_passes, passes_at, fixes_id, ArePlaces, IsFilterOf, IsUnknown};
 ghost use Rattle.rt_row.specs.Entries.{view_row, field_value};
 ghost use Rattle.rt_row.specs.Rows.{TableRow};
+ghost use Rattle.rt_sql.specs.declared.value.Value.TheVariants.{Int};
 
 use crate::entry::{Field, RowView};
 use crate::schema::Schema;
-use crate::values::{compares, is_null};
+use crate::values::{compares, is_null, keeps};
 use crate::window::window_of;
 use rt_box::Window;
 use rt_sql::{Compare, Cond, Name, Op6, Refusal, Test, Value};
@@ -36,11 +37,29 @@ fn value_passes(value: &Value, test: &Test) -> bool
     }
 }
 
+/// A number is compared with a number, as of most tests, without a look at types.
+fn number_passes(number: i64, test: &Test) -> bool
+    ensures { result ≡ value_passes (Int number) test.now }
+{
+    match test {
+        Test::Compare(
+            Compare {
+                op,
+                value: Value::Int(other),
+                ..
+            },
+        ) => keeps(*op, number.cmp(other)),
+        Test::Compare(_) | Test::IsNull(_) | Test::IsNotNull(_) => {
+            value_passes(&Value::Int(number), test)
+        }
+    }
+}
+
 fn field_passes(field: Field<'_>, test: &Test) -> bool
     ensures { result ≡ value_passes (field_value field.entry) test.now }
 {
     match field {
-        Field::Number(number) => value_passes(&Value::Int(number), test),
+        Field::Number(number) => number_passes(number, test),
         Field::Kept(value) => value_passes(value, test),
         Field::Missing => value_passes(&Value::Null, test),
     }
@@ -78,7 +97,7 @@ fn id_at(test: &Test, place: usize) -> Option<i64>
                 ..
             },
         ) => Some(*id),
-        _ => None,
+        Test::Compare(_) | Test::IsNull(_) | Test::IsNotNull(_) => None,
     }
 }
 

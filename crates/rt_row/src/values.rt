@@ -34,11 +34,13 @@ fn order(left: &Value, right: &Value) -> Ordering
             left.as_str().as_bytes().cmp(right.as_str().as_bytes())
         }
         (Value::Blob(left), Value::Blob(right)) => left.as_slice().cmp(right.as_slice()),
-        _ => rank(left).cmp(&rank(right)),
+        (Value::Null | Value::Int(_) | Value::Text(_) | Value::Blob(_), _) => {
+            rank(left).cmp(&rank(right))
+        }
     }
 }
 
-fn keeps(op: Op6, order: Ordering) -> bool
+pub(crate) fn keeps(op: Op6, order: Ordering) -> bool
     ensures { result ≡ keeps op order }
 {
     match op {

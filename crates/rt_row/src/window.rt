@@ -53,7 +53,7 @@ fn narrow_by_value<const D: usize>(
 {
     match value {
         Value::Int(number) => window.narrow(coordinate, same_comparison(op), *number),
-        _ => {
+        Value::Null | Value::Text(_) | Value::Blob(_) => {
             if !is_unequal(op) && !compares(op, &Value::Int(0), value) {
                 take_all(window, coordinate);
             }

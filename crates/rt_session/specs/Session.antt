@@ -209,7 +209,14 @@ abbrev pub MayChoose : State → Stmt → AnyShadow → Type 0
 MayChoose old (Insert rule name columns rows) tree = MayChooseFor (table_of old name) (inserting rule columns rows) tree
 MayChoose old (Update name sets cond) tree = MayChooseFor (table_of old name) (updating sets cond) tree
 MayChoose old (Delete name cond) tree = MayChooseFor (table_of old name) (deleting cond) tree
-MayChoose old statement tree = Unit {0}
+MayChoose old (Create name if_absent columns) tree = Unit {0}
+MayChoose old (Drop name if_there) tree = Unit {0}
+MayChoose old (Select columns name cond order) tree = Unit {0}
+MayChoose old (Check name) tree = Unit {0}
+MayChoose old (Watch view name cond) tree = Unit {0}
+MayChoose old (Unwatch view) tree = Unit {0}
+MayChoose old (View view) tree = Unit {0}
+MayChoose old (Nodes name) tree = Unit {0}
 
 -- the outcomes of a statement: its answer with a tree that it may choose; a refusal is the answer with any
 abbrev pub Answers : State → Stmt → Outcome → Type 0

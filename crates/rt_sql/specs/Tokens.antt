@@ -58,8 +58,14 @@ abbrev pub IsBad : Text → Text → Type 0
 IsBad text after = (b : ℕ) × (text ≡ b ∷ after) × ((other : Token) (left : Text) → IsToken other text left → ⊥)
 
 abbrev pub TokenAt : Token → Text → Text → Type 0
+TokenAt (token.Word w) = IsLongest (token.Word w)
+TokenAt (token.Quoted q) = IsLongest (token.Quoted q)
+TokenAt (token.Digits d) = IsLongest (token.Digits d)
+TokenAt (token.Text t) = IsLongest (token.Text t)
+TokenAt (token.Blob h) = IsLongest (token.Blob h)
+TokenAt (token.Sign s) = IsLongest (token.Sign s)
+TokenAt (token.Dot w) = IsLongest (token.Dot w)
 TokenAt token.Bad = IsBad
-TokenAt t = IsLongest t
 
 -- ---- white space and comments
 

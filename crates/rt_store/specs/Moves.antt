@@ -43,7 +43,8 @@ module _ {D : ℕ} where
   MayFollow [] old new = new ≡ old
   MayFollow (Came row ∷ []) old new = (work : Work) × IsInsertion old new row.id row.box work
   MayFollow (Left id ∷ []) old new = (rect : List Interval) × IsRemoval old new id rect
-  MayFollow moves old new = Unit {0}
+  MayFollow (Moved ∷ []) old new = Unit {0}
+  MayFollow (one ∷ next ∷ moves) old new = Unit {0}
 
   -- a tree of the rows before follows the steps
   pub record FollowsSteps (rows : List TableRow) (steps : List Step) (old new : ShadowLists D) : Type 0 where
