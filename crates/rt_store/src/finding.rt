@@ -48,7 +48,7 @@ impl<const D: usize> Store<D> {
         requires stand { All (Stands self.now.rows) rows.now }
         ensures { IfOk result (λ kept. kept.items ≡ filter (passes (admits condition.now) self.now.rows) rows.now) }
     {
-        let mut kept = Vec::new(alloc);
+        let mut kept = Vec::with_capacity(alloc, rows.len())?;
         for row in rows {
             if !condition.holds(&self.view(row)) {
                 continue;

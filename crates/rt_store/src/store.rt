@@ -46,6 +46,10 @@ fn kept<'a>(
     requires { nothing.now ≡ [] }
     ensures { result.now ≡ unwrap_or (get int_eq notes.now id.now) [] }
 {
+    // Most tables keep none, and no id is hashed for nothing.
+    if notes.is_empty() {
+        return nothing.as_slice();
+    }
     match notes.get(id) {
         Some(more) => more.as_slice(),
         None => nothing.as_slice(),
@@ -61,7 +65,9 @@ fn keep(notes: &mut IndexMap<i64, Items<Value>, RandomState>, id: &i64, more: It
     ensures no_note { more ≡ [] → spare notes.old ≤ spare notes.new }
 {
     if more.is_empty() {
-        let _ = notes.swap_remove(id);
+        if !notes.is_empty() {
+            let _ = notes.swap_remove(id);
+        }
         return;
     }
     // There is room, so the map takes them.
@@ -79,6 +85,9 @@ fn take(
     ensures others { (other : ℤ) → other ≢ id.now → get int_eq notes.new other ≡ get int_eq notes.old other }
     ensures room { spare notes.old ≤ spare notes.new }
 {
+    if notes.is_empty() {
+        return Items::new(alloc);
+    }
     match notes.swap_remove(id) {
         Some(more) => more,
         None => Items::new(alloc),
