@@ -2,6 +2,9 @@
 use Rattle.std.specs.Prelude.{◌≡◌, ℕ, ℤ, Bool, true, false, if◌then◌else◌, List, [], ◌∷◌, Option, Some, None, Ok}
 use Rattle.std.specs.Option.{option_map_or}
 use Rattle.std.specs.Ordering.{int_eq}
+use Rattle.indexmap.specs.IndexMap.{get}
+use Rattle.rt_plan.specs.declared.draft.Latest.{Latest}
+use Rattle.rt_plan.specs.declared.draft.Draft.{Draft}
 use Rattle.rt_row.specs.Rows.{TableRow, values_of, has_id}
 use Rattle.rt_row.specs.declared.entry.Step as declared
 use Rattle.rt_row.specs.Entries.{step_of}
@@ -21,6 +24,17 @@ abbrev pub touched_by : (ℤ → Option Bool) → Step → ℤ → Option Bool
 touched_by touched (Leaves old) id = if int_eq old id then Some false else touched id
 touched_by touched (Comes row) id = if int_eq row.id id then Some true else touched id
 touched_by touched (Becomes old row) id = if int_eq row.id id then Some true else (if int_eq old id then Some false else touched id)
+
+-- what a draft's last step left of an id, or else what those before it left
+abbrev pub is_id : Option ℤ → ℤ → Bool
+is_id None id = false
+is_id (Some own) id = int_eq own id
+
+abbrev pub known : (ℤ → Option Bool) → Latest → ℤ → Option Bool
+known before latest id = if is_id latest.came id then Some true else (if is_id latest.left id then Some false else before id)
+
+abbrev pub known_of : {D : _} → Draft D → ℤ → Option Bool
+known_of draft = known (get int_eq draft.touched) draft.latest
 
 abbrev pub one_step : {D : _} → declared.Step D → List Step
 one_step step = step_of step ∷ []

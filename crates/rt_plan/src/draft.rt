@@ -1,11 +1,11 @@
 //! A plan while it is made.
 
-ghost use Rattle.std.specs.Prelude.{◌≡◌, ◌≤◌, ◌∷◌, ◌++◌, ℤ, [], None, map, IfOk, OnOk};
+ghost use Rattle.std.specs.Prelude.{◌≡◌, ◌≤◌, ◌∷◌, ◌++◌, ℤ, Bool, Option, [], None, map, IfOk, OnOk};
 ghost use Rattle.std.specs.Ordering.{int_eq};
 ghost use Rattle.indexmap.specs.IndexMap.{get};
 ghost use Rattle.rt_row.specs.Edits.{row_of as row_from};
 ghost use Rattle.rt_row.specs.Entries.{row_of, step_of, candidate_as};
-ghost use Rattle.rt_plan.specs.Drafts.{is_there, touched_by};
+ghost use Rattle.rt_plan.specs.Drafts.{is_there, touched_by, known, known_of};
 
 use indexmap::IndexMap;
 use rt_row::{Candidate, Entry, Step};
@@ -13,36 +13,71 @@ use rt_store::Store;
 use std::alloc::{AllocError, Global};
 use std::hash::RandomState;
 
-/// The ids that steps touched, and whether a row has each of them now.
+/// The ids that the steps before the last one touched, and whether a row has each of them after those steps.
 type Touched = IndexMap<i64, bool, RandomState>;
 
+/// The id that the last step left without a row, and the one that it gave a row. They go to the other ids that were
+/// touched where another step follows, so that a single step is planned without a map.
+#[derive(Clone, Copy)]
+pub(crate) struct Latest {
+    left: Option<i64>,
+    came: Option<i64>,
+}
+
+impl Latest {
+    fn new(left: Option<i64>, came: Option<i64>) -> Latest
+        ensures left { result.left ≡ left }
+        ensures came { result.came ≡ came }
+    {
+        Latest { left, came }
+    }
+
+    /// What a step touches.
+    fn of<const D: usize>(step: &Step<D>) -> Latest
+        ensures { (before : ℤ → Option Bool) (id : ℤ) → known before result id ≡ touched_by before (step_of step.now) id }
+    {
+        match step {
+            Step::Leaves(id) => Latest::new(Some(*id), None),
+            Step::Comes(row) => Latest::new(None, Some(row.id)),
+            Step::Becomes(id, row) => Latest::new(Some(*id), Some(row.id)),
+        }
+    }
+}
+
+/// What the steps so far left of the id, where they touched it.
+fn known(touched: &Touched, latest: &Latest, id: &i64) -> Option<bool>
+    ensures { result ≡ known (get int_eq touched.now) latest.now id.now }
+{
+    if latest.came == Some(*id) {
+        return Some(true);
+    }
+    if latest.left == Some(*id) {
+        return Some(false);
+    }
+    touched.get(id).copied()
+}
+
 /// Whether a row has the id after the steps so far: the ids that they touched are looked at before the store.
-fn is_there<const D: usize>(store: &Store<D>, touched: &Touched, id: &i64) -> bool
-    ensures { result ≡ is_there store.now.rows (get int_eq touched.now) id.now }
+fn is_there<const D: usize>(store: &Store<D>, draft: &Draft<D>, id: &i64) -> bool
+    ensures { result ≡ is_there store.now.rows (known_of draft.now) id.now }
 {
     // The contract of `len` says that there are three axes at most.
     let _ = store.len();
-    match touched.get(id) {
-        Some(there) => *there,
+    match known(&draft.touched, &draft.latest, id) {
+        Some(there) => there,
         None => store.find(id).is_some(),
     }
 }
 
-/// Notes what a step does to the ids.
-fn touch<const D: usize>(touched: &mut Touched, step: &Step<D>) -> Result<(), AllocError>
-    ensures { OnOk result ((id : ℤ) → get int_eq touched.new id ≡ touched_by (get int_eq touched.old) (step_of step.now) id) }
+/// Notes what the last step did to its ids.
+fn note(touched: &mut Touched, latest: &Latest) -> Result<(), AllocError>
+    ensures { OnOk result ((id : ℤ) → get int_eq touched.new id ≡ known (get int_eq touched.old) latest.now id) }
 {
-    match step {
-        Step::Leaves(id) => {
-            touched.insert(*id, false)?;
-        }
-        Step::Comes(row) => {
-            touched.insert(row.id, true)?;
-        }
-        Step::Becomes(id, row) => {
-            touched.insert(*id, false)?;
-            touched.insert(row.id, true)?;
-        }
+    if let Some(id) = latest.left {
+        touched.insert(id, false)?;
+    }
+    if let Some(id) = latest.came {
+        touched.insert(id, true)?;
     }
     Ok(())
 }
@@ -52,6 +87,7 @@ fn touch<const D: usize>(touched: &mut Touched, step: &Step<D>) -> Result<(), Al
 pub(crate) struct Draft<const D: usize> {
     pub(crate) steps: Vec<Step<D>>,
     pub(crate) touched: Touched,
+    pub(crate) latest: Latest,
 }
 
 impl<const D: usize> Draft<D> {
@@ -59,28 +95,30 @@ impl<const D: usize> Draft<D> {
     pub(crate) fn new(alloc: Global, keys: RandomState) -> Draft<D>
         requires { D ≤ 3 }
         ensures steps { result.steps.items ≡ [] }
-        ensures touched { (id : ℤ) → get int_eq result.touched id ≡ None }
+        ensures known { (id : ℤ) → known_of result id ≡ None }
     {
         Draft {
             steps: Vec::new(alloc),
             touched: IndexMap::with_hasher(alloc, keys),
+            latest: Latest::new(None, None),
         }
     }
 
     /// Whether a row has the id after the steps.
     pub(crate) fn has(&self, store: &Store<D>, id: &i64) -> bool
-        ensures { result ≡ is_there store.now.rows (get int_eq self.now.touched) id.now }
+        ensures { result ≡ is_there store.now.rows (known_of self.now) id.now }
     {
-        is_there(store, &self.touched, id)
+        is_there(store, self, id)
     }
 
     /// Adds a step.
     pub(crate) fn add(&mut self, step: Step<D>) -> Result<(), AllocError>
         requires { D ≤ 3 }
         ensures steps { OnOk result (map step_of self.new.steps.items ≡ map step_of self.old.steps.items ++ step_of step.entry ∷ []) }
-        ensures touched { OnOk result ((id : ℤ) → get int_eq self.new.touched id ≡ touched_by (get int_eq self.old.touched) (step_of step.entry) id) }
+        ensures known { OnOk result ((id : ℤ) → known_of self.new id ≡ touched_by (known_of self.old) (step_of step.entry) id) }
     {
-        touch(&mut self.touched, &step)?;
+        note(&mut self.touched, &self.latest)?;
+        self.latest = Latest::of(&step);
         self.steps.push(step)?;
         Ok(())
     }

@@ -2,8 +2,6 @@
 
 ghost use Rattle.std.specs.Prelude.{◌≡◌, ◌≤◌, ◌+◌, ◌*◌, length, map, List, MatchResult};
 ghost use Rattle.std.specs.Option.{option_copied};
-ghost use Rattle.std.specs.Ordering.{int_eq};
-ghost use Rattle.indexmap.specs.IndexMap.{get};
 ghost use Rattle.rt_row.specs.Answers.{GivesAs};
 ghost use Rattle.rt_row.specs.Arrangements.{IsArrangementOf, IsBadList, rearranged};
 ghost use Rattle.rt_row.specs.Candidates.{candidate_of};
@@ -11,7 +9,7 @@ ghost use Rattle.rt_row.specs.Rows.{TableRow};
 ghost use Rattle.rt_row.specs.Edits.{and_then, id_or_new, put_taken, put_at, put, put_all, listed_columns, insert};
 ghost use Rattle.rt_row.specs.Entries.{step_of, candidate_as};
 ghost use Rattle.rt_plan.specs.Counts.{Counts, is_ignored};
-ghost use Rattle.rt_plan.specs.Drafts.{Knows, one_step, step_given};
+ghost use Rattle.rt_plan.specs.Drafts.{Knows, known_of, one_step, step_given};
 ghost use Rattle.rt_plan.specs.Plans.{Plans};
 
 use crate::count::Count;
@@ -56,7 +54,7 @@ fn placing<const D: usize>(
     candidate: Candidate<D>,
 ) -> Result<Step<D>, Refusal>
     requires { D ≤ 3 }
-    ensures { (now : List TableRow) → Knows store.now.rows (get int_eq draft.now.touched) now → Counts now count.now.largest count.now.room
+    ensures { (now : List TableRow) → Knows store.now.rows (known_of draft.now) now → Counts now count.now.largest count.now.room
         → GivesAs one_step (put_at rule now (candidate_as candidate.entry) (id_or_new now candidate.entry.id)) result }
 {
     let Some(id) = count.id_or_new(&candidate.id) else {
@@ -82,7 +80,7 @@ fn row_step<const D: usize>(
     requires some { 1 ≤ D }
     requires few { D ≤ 3 }
     requires long { 1 + 2 * D ≤ length values.items }
-    ensures { (now : List TableRow) → Knows store.now.rows (get int_eq draft.now.touched) now → Counts now count.now.largest count.now.room
+    ensures { (now : List TableRow) → Knows store.now.rows (known_of draft.now) now → Counts now count.now.largest count.now.room
         → GivesAs one_step (and_then (candidate_of D values.items) (λ c. put_at rule now c (id_or_new now c.id))) result }
 {
     let candidate = Candidate::new(values)?;
@@ -100,7 +98,7 @@ fn step_or_none<const D: usize>(
     requires some { 1 ≤ D }
     requires few { D ≤ 3 }
     requires long { 1 + 2 * D ≤ length values.items }
-    ensures { (now : List TableRow) → Knows store.now.rows (get int_eq draft.now.touched) now → Counts now count.now.largest count.now.room
+    ensures { (now : List TableRow) → Knows store.now.rows (known_of draft.now) now → Counts now count.now.largest count.now.room
         → GivesAs step_given (put D rule now values.items) result }
 {
     match row_step(store, draft, count, rule, values) {

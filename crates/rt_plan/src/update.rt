@@ -2,13 +2,11 @@
 
 ghost use Rattle.std.specs.Prelude.{◌≡◌, ◌≤◌, ◌+◌, ◌*◌, length, map, List};
 ghost use Rattle.std.specs.List.{filter_map};
-ghost use Rattle.std.specs.Ordering.{int_eq};
-ghost use Rattle.indexmap.specs.IndexMap.{get};
 ghost use Rattle.rt_row.specs.Answers.{GivesAs};
 ghost use Rattle.rt_row.specs.Rows.{TableRow, row_at};
 ghost use Rattle.rt_row.specs.Edits.{become_candidate, update};
 ghost use Rattle.rt_row.specs.Entries.{view_row, step_of, candidate_as};
-ghost use Rattle.rt_plan.specs.Drafts.{Knows, one_step, row_set, all_set};
+ghost use Rattle.rt_plan.specs.Drafts.{Knows, known_of, one_step, row_set, all_set};
 ghost use Rattle.rt_plan.specs.Plans.{Plans};
 
 use crate::draft::{Draft, entry_of};
@@ -27,7 +25,7 @@ fn becoming<const D: usize>(
     candidate: Candidate<D>,
 ) -> Result<Step<D>, Refusal>
     requires { D ≤ 3 }
-    ensures { (now : List TableRow) → Knows store.now.rows (get int_eq draft.now.touched) now
+    ensures { (now : List TableRow) → Knows store.now.rows (known_of draft.now) now
         → GivesAs one_step (become_candidate now old.now (candidate_as candidate.entry) candidate.entry.id) result }
 {
     let Some(id) = &candidate.id else {
@@ -51,7 +49,7 @@ fn row_step<const D: usize>(
     requires some { 1 ≤ D }
     requires few { D ≤ 3 }
     requires long { 1 + 2 * D ≤ length settings.now.fills }
-    ensures { (now : List TableRow) → Knows store.now.rows (get int_eq draft.now.touched) now
+    ensures { (now : List TableRow) → Knows store.now.rows (known_of draft.now) now
         → GivesAs one_step (row_set D settings.now now (view_row row.now)) result }
 {
     let candidate = settings.candidate(alloc, row)?;

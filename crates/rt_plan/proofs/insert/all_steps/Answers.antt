@@ -1,11 +1,10 @@
-use Rattle.std.proofs.Common.{arith, ◌+◌, ◌<◌, [], ◌∷◌, map, length, drop, append-nil, sym, ap, ◌∙◌}
-use Rattle.std.specs.Ordering.{int_eq}
+use Rattle.std.proofs.Common.{arith, ◌≡◌, Ok, ◌+◌, ◌<◌, [], ◌∷◌, map, length, drop, append-nil, sym, ap, ◌∙◌}
+use Rattle.std.proofs.lemmas.List.{at_drop_all}
 use Rattle.std.proofs.lemmas.Result.{err_from_is_err_and}
-use Rattle.indexmap.specs.IndexMap.{get}
 use Rattle.rt_row.specs.Arrangements.{rearranged}
-use Rattle.rt_row.specs.Edits.{outcome, put_all}
+use Rattle.rt_row.specs.Edits.{outcome, put_all, steps_and}
 use Rattle.rt_row.specs.Entries.{step_of}
-use Rattle.rt_plan.specs.Drafts.{step_given}
+use Rattle.rt_plan.specs.Drafts.{known_of, step_given}
 use Rattle.rt_plan.proofs.Drafting.{knows_more}
 use Rattle.rt_plan.proofs.Putting.{put_more, put_refused, put_fits, counts_step, left_more}
 use Rattle.rt_plan.proofs.insert.all_steps.Goals as goal
@@ -52,7 +51,7 @@ loop-list-preserved g c =
     let within : c.loop-list.list-index < length lists = omega arith in
     let one = rw c.in-Some.is at c.in_ok-step.ensures (outcome rows done) c.loop-list.invariant.knows c.loop-list.invariant.counts in
     record {
-      knows = knows_more rows (get int_eq c.loop-list.draft.touched) (get int_eq c.add.new.self.touched) done next step c.loop-list.invariant.knows c.in_ok-add.ensures.steps c.in_ok-add.ensures.touched;
+      knows = knows_more rows (known_of c.loop-list.draft) (known_of c.add.new.self) done next step c.loop-list.invariant.knows c.in_ok-add.ensures.steps c.in_ok-add.ensures.known;
       counts = counts_step rows done next step c.loop-list.count.largest c.note.new.self.largest c.loop-list.count.room c.note.new.self.room c.loop-list.invariant.counts
           (put_fits g.row.D c.args.rule (outcome rows done) c.in_ok-values.values.items step one) c.in_ok-add.ensures.steps c.note.ensures.largest c.note.ensures.room;
       rest = put_more g.row.D c.args.rule rows (put_all g.row.D c.args.rule rows (map f lists)) done next (step ∷ []) c.in_ok-values.values.items
@@ -60,3 +59,12 @@ loop-list-preserved g c =
           (left_more f lists c.loop-list.list-index c.list-item.result c.in_ok-values.values.items within c.list-item.is (c.in_ok-values.ensures ∙ ap f c.as_slice.ensures))
           one c.in_ok-add.ensures.steps;
     }
+
+pub returns : goal.returns
+returns g c =
+    let rows = c.args.store.now.rows in
+    let lists = c.args.lists.now in
+    let f = rearranged c.args.arrangement.now in
+    let done = map step_of c.loop-list.draft.steps.items in
+    let left : map f (drop c.loop-list.list-index lists) ≡ [] = at_drop_all (map f) lists c.loop-list.list-index (omega arith) in
+    c.loop-list.invariant.rest ∙ ap (λ ls. steps_and done (put_all g.row.D c.args.rule (outcome rows done) ls)) left ∙ ap Ok (append-nil done)

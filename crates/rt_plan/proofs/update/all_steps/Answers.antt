@@ -1,13 +1,11 @@
 use Rattle.std.proofs.Common.{arith, ◌+◌, ◌<◌, pos, map, length, drop, sym}
 use Rattle.std.specs.List.{filter_map}
-use Rattle.std.specs.Ordering.{int_eq}
 use Rattle.std.proofs.lemmas.List.{at_drop_all}
 use Rattle.std.proofs.lemmas.Result.{err_from_is_err_and}
-use Rattle.indexmap.specs.IndexMap.{get}
 use Rattle.rt_row.specs.Rows.{row_at}
 use Rattle.rt_row.specs.Edits.{outcome}
 use Rattle.rt_row.specs.Entries.{step_of, view_row}
-use Rattle.rt_plan.specs.Drafts.{all_set}
+use Rattle.rt_plan.specs.Drafts.{known_of, all_set}
 use Rattle.rt_plan.proofs.Drafting.{knows_more, left_some, set_more, set_refused, set_all_done}
 use Rattle.rt_plan.proofs.update.all_steps.Goals as goal
 
@@ -29,8 +27,8 @@ loop-id-preserved g c =
     let ids = c.args.ids.now in
     let within : c.loop-id.id-index < length ids = omega arith in
     record {
-      knows = knows_more rows (get int_eq c.loop-id.draft.touched) (get int_eq c.add.new.self.touched) (map step_of c.loop-id.draft.steps.items)
-          (map step_of c.add.new.self.steps.items) (step_of c.in_ok-step.step) c.loop-id.invariant.knows c.in_ok-add.ensures.steps c.in_ok-add.ensures.touched;
+      knows = knows_more rows (known_of c.loop-id.draft) (known_of c.add.new.self) (map step_of c.loop-id.draft.steps.items)
+          (map step_of c.add.new.self.steps.items) (step_of c.in_ok-step.step) c.loop-id.invariant.knows c.in_ok-add.ensures.steps c.in_ok-add.ensures.known;
       rest = set_more g.row.D c.args.settings.now rows (all_set g.row.D c.args.settings.now rows (filter_map (row_at rows) ids)) (map step_of c.loop-id.draft.steps.items)
           (map step_of c.add.new.self.steps.items) (step_of c.in_ok-step.step) (view_row c.in-Some.row) (filter_map (row_at rows) (drop c.loop-id.id-index ids))
           (filter_map (row_at rows) (drop (c.loop-id.id-index + 1) ids)) c.loop-id.invariant.rest
