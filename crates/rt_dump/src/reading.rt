@@ -122,10 +122,8 @@ fn take_kind<const D: usize>(
         (LineKind::Cell, LineKind::Cell) => take_cell(progress, line),
         (LineKind::Row, LineKind::Row) => take_row(progress, line),
         (LineKind::End, LineKind::End) => Ok(()),
-        (
-            LineKind::Header | LineKind::Node | LineKind::Cell | LineKind::Row | LineKind::End,
-            _,
-        ) => Err(StepFault::Line(LineFault::CountWrong)),
+        (LineKind::Header | LineKind::Node | LineKind::Cell | LineKind::Row | LineKind::End, _) =>
+            Err(StepFault::Line(LineFault::CountWrong)),
     }
 }
 

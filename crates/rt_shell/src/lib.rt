@@ -25,6 +25,7 @@
 #![tactic(auto)]
 
 pub mod laws;
+mod line;
 mod reply;
 mod runner;
 mod value;

@@ -5,6 +5,7 @@ ghost use Rattle.std.specs.List.{flat_map, join_by};
 ghost use Rattle.rt_bytes.specs.Devices.{WritesTo};
 ghost use Rattle.rt_shell.specs.Lines.{value_text, row_line, change_line, reply_lines, refusal_line};
 
+use crate::line::short_line;
 use crate::value::write_value;
 use itoa::Buffer;
 use rt_bytes::{ByteWriter, WriteFault, write_parts, write_whole};
@@ -64,6 +65,16 @@ fn write_change<W: ByteWriter>(change: &Change, writer: &mut W) -> Result<(), Wr
 }
 
 fn write_row<W: ByteWriter>(row: &Items<Value>, writer: &mut W) -> Result<(), WriteFault>
+    ensures { WritesTo W.ByteWriter writer.old writer.new result (row_line row.now) }
+{
+    match short_line(row.as_slice()) {
+        Some(line) => write_whole(writer, line.as_slice()),
+        None => write_long_row(row, writer),
+    }
+}
+
+/// Writes a row's line value by value.
+fn write_long_row<W: ByteWriter>(row: &Items<Value>, writer: &mut W) -> Result<(), WriteFault>
     ensures { WritesTo W.ByteWriter writer.old writer.new result (row_line row.now) }
 {
     write_values(row.as_slice(), writer)?;

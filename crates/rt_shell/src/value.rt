@@ -42,7 +42,7 @@ fn write_text<W: ByteWriter>(text: &[u8], writer: &mut W) -> Result<(), WriteFau
     write_whole(writer, b"'")
 }
 
-fn first_quote(text: &[u8]) -> Option<usize>
+pub(crate) fn first_quote(text: &[u8]) -> Option<usize>
     ensures { result ≡ position (λ byte. byte == 39) text.now }
 {
     text.iter().position(|byte| *byte == b'\'')

@@ -2,7 +2,7 @@ use Rattle.std.proofs.Common.{codes}
 use Rattle.std.specs.List.{join_by}
 use Rattle.rt_bytes.proofs.Writing.{Writes-after}
 use Rattle.rt_shell.specs.Lines.{value_text}
-use Rattle.rt_shell.proofs.reply.write_row.Goals as goal
+use Rattle.rt_shell.proofs.reply.write_long_row.Goals as goal
 
 pub returns : goal.returns
 returns g c =
