@@ -71,7 +71,7 @@ abbrev pub front_after : Front → ℕ → Front
 front_after f b =
     record f { place = place_after f.place b; held = held_after (place_after f.place b) f.held b }
 
--- the byte ends an atom of a statement, or may begin a comment
+-- the byte ends a statement, opens a quote, or may begin a comment
 abbrev pub is_mark : ℕ → Bool
 is_mark b = b == 59 || b == 45 || b == 47 || is_quote b
 

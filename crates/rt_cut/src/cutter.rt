@@ -143,7 +143,7 @@ impl Place {
     }
 }
 
-/// What may follow the byte in a statement isn't what may follow any other.
+/// The byte ends a statement, opens a quote, or may begin a comment.
 fn is_mark(byte: u8) -> bool
     ensures { result ≡ is_mark byte }
 {
@@ -205,7 +205,7 @@ impl Model for Cutter {
 
 impl Cutter {
     ghost use Rattle.rt_cut.specs.Cutter.{StandsAt, FinishedAt, ready_piece};
-    ghost use Rattle.rt_cut.specs.CutterStep.{front_after, with_byte, with_bytes, run_len};
+    ghost use Rattle.rt_cut.specs.CutterStep.{front_after, with_byte, with_bytes};
 
     /// A cutter at the start of a script.
     ///

@@ -23,11 +23,11 @@ fn put(line: &mut Line, bytes: &[u8]) -> Option<()>
     line.try_extend_from_slice(bytes).ok()
 }
 
-/// Puts a text in quotes, where it has none inside.
+/// Puts a text in quotes, where it is short and has none inside.
 fn put_text(line: &mut Line, text: &[u8]) -> Option<()>
     ensures { IfSome result (λ _. line.new.items ≡ line.old.items ++ (codes "'" ++ doubled 39 text.now ++ codes "'")) }
 {
-    if first_quote(text).is_some() {
+    if text.len() > MOST_BYTES || first_quote(text).is_some() {
         return None;
     }
     put(line, b"'")?;
