@@ -292,7 +292,9 @@ impl Cutter {
         ensures stands { (x : List ℕ) → StandsAt self.old x → StandsAt self.new (x ++ take result bytes.now) }
     {
         let count = self.place.run_len(bytes);
-        self.hold_all(&bytes[..count]);
+        if count > 0 {
+            self.hold_all(&bytes[..count]);
+        }
         count
     }
 
