@@ -1,5 +1,5 @@
--- What one byte does to a cutter, for the contracts of its private steps alone. That these steps cut a
--- text as Pieces says is proved of them.
+-- What one byte does to a cutter, or several that leave its place as it is, for the contracts of its private steps
+-- alone. That these steps cut a text as Pieces says is proved of them.
 use Rattle.std.specs.Prelude.{◌==◌, ◌||◌, not, ℕ, Bool, false, List, [], ◌∷◌, ◌++◌, length, Option, Some, None, nat_lt, if◌then◌else◌}
 use Rattle.std.specs.List.{prefix_len}
 use Rattle.rt_cut.specs.Pieces.{is_gap_byte}

@@ -25,14 +25,16 @@ touched_by touched (Leaves old) id = if int_eq old id then Some false else touch
 touched_by touched (Comes row) id = if int_eq row.id id then Some true else touched id
 touched_by touched (Becomes old row) id = if int_eq row.id id then Some true else (if int_eq old id then Some false else touched id)
 
--- what a draft's last step left of an id, or else what those before it left
+-- there is an id, and it is this one
 abbrev pub is_id : Option ℤ → ℤ → Bool
 is_id None id = false
 is_id (Some own) id = int_eq own id
 
+-- whether the last step gave the id a row or left it without one; where it did neither, what the steps before it did
 abbrev pub known : (ℤ → Option Bool) → Latest → ℤ → Option Bool
 known before latest id = if is_id latest.came id then Some true else (if is_id latest.left id then Some false else before id)
 
+-- the same of a whole draft
 abbrev pub known_of : {D : _} → Draft D → ℤ → Option Bool
 known_of draft = known (get int_eq draft.touched) draft.latest
 

@@ -37,7 +37,7 @@ fn value_passes(value: &Value, test: &Test) -> bool
     }
 }
 
-/// A number is compared with a number, as of most tests, without a look at types.
+/// Most tests compare a number with a number: then no types are looked at.
 fn number_passes(number: i64, test: &Test) -> bool
     ensures { result ≡ value_passes (Int number) test.now }
 {

@@ -36,7 +36,7 @@ fn put_text(line: &mut Line, text: &[u8]) -> Option<()>
     Some(())
 }
 
-/// Puts a value. One that is long, or takes more than a copy, is left out.
+/// Puts a value, where there is room for it and it takes no more than a copy.
 fn put_value(line: &mut Line, value: &Value) -> Option<()>
     ensures { IfSome result (λ _. line.new.items ≡ line.old.items ++ value_text value.now) }
 {
