@@ -4,4 +4,5 @@ pub mod Boxes
 pub mod Arranging
 pub mod Setting
 pub mod Windows
+pub mod RowLists
 pub mod Names

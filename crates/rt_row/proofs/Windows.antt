@@ -1,14 +1,15 @@
 -- The window of a condition, and the rows that the condition picks.
-use Rattle.std.proofs.Common.{◌≡◌, ℕ, zero, suc, ◌+◌, ◌*◌, ◌<◌, ◌≤◌, ◌↔◌, Bool, true, false, ◌||◌, List, [], ◌∷◌, map, zip, length, get_or, Some, ℤ, pos, All, FitsSigned, w32, arith, refl, sym, ap, subst, inl, inr, take, ◌∙◌}
-use Rattle.std.specs.List.{list_all}
+use Rattle.std.proofs.Common.{◌≡◌, ℕ, zero, suc, ◌+◌, ◌*◌, ◌<◌, ◌≤◌, ◌↔◌, Bool, true, false, not, ◌||◌, ◌&&◌, nat_lt, List, [], ◌∷◌, map, zip, length, get_or, Some, ℤ, pos, All, FitsSigned, w32, arith, refl, sym, ap, subst, inl, inr, take, ◌∙◌}
+use Rattle.std.specs.List.{list_all, AllZip}
 use Rattle.std.proofs.lemmas.List.{get_or-map, get_or_append_left, length-map, take_all}
 use Rattle.std.proofs.lemmas.List.Elements.{All-head, All-tail, All-nil, All-cons, All-more}
-use Rattle.std.proofs.lemmas.Bool.{cases_eq}
+use Rattle.std.proofs.lemmas.Bool.{cases_eq, and_from}
+use Rattle.std.proofs.lemmas.Bool.Decides.{nat_tests}
 use Rattle.rt_box.specs.declared.interval.Interval.{Interval}
-use Rattle.rt_box.specs.Interval.{FitsEnds}
+use Rattle.rt_box.specs.Interval.{FitsEnds, Includes}
 use Rattle.rt_box.specs.Rect.{IsBox, coordinates}
 use Rattle.rt_box.specs.Window.{Allows, Admits, IsUnlimited}
-use Rattle.rt_box.proofs.Narrowing.{length-coordinates, admits_from}
+use Rattle.rt_box.proofs.Narrowing.{length-coordinates, allowed_at, admits_from}
 use Rattle.rt_sql.specs.declared.value.Value.{Value}
 use Rattle.rt_sql.specs.declared.value.Value.TheVariants.{Null, Int}
 use Rattle.rt_sql.specs.declared.statement.Test.{Test}
@@ -18,7 +19,7 @@ use Rattle.rt_row.specs.Columns.{Columns, place_of}
 use Rattle.rt_row.specs.Conditions.{column_of}
 use Rattle.rt_row.specs.Rows.{TableRow, values_of}
 use Rattle.rt_row.specs.Filters.{Placed, value_passes, passes_at, admits, ArePlaces, IsFilterOf}
-use Rattle.rt_row.specs.Windows.{is_unequal, allows, AllowsAt, AllowsAtPlace, IsWindowOf, IsWindowAt, NarrowsTo, NarrowsAt}
+use Rattle.rt_row.specs.Windows.{is_unequal, is_gap, is_said, allows, AllowsAt, AllowsAtPlace, IsWindowOf, IsWindowAt, SaysAll, NarrowsTo, NarrowsAt}
 use Rattle.rt_row.proofs.Boxes.{head, tail}
 
 -- ---- by places and by names
@@ -110,6 +111,63 @@ window-keeps D filter window row at is passes =
     let there : k < length (coordinates row.box) = omega arith in
     (at.exact k (get_or (coordinates row.box) k (pos 0)) within).1
     (fits_at row.box is.fits k (pos 0) there, all_allowed row (zip filter.cond filter.places) k there passes))
+
+-- ---- a row that lies in a window that says all passes
+
+and_parts : (a b : Bool) → (a && b) ≡ true → (a ≡ true) × (b ≡ true)
+and_parts true b e = (refl, e)
+and_parts false b e = cc
+
+-- of a number a test asks no more than it allows, unless it leaves a gap
+said_value : (test : Test) (z : ℤ) → not (is_gap test) ≡ true → allows test z ≡ true → value_passes (Int z) test ≡ true
+said_value (Compare c) z whole e = by (is_unequal c.op) whole e
+  where
+    by : (gap : Bool) → not gap ≡ true → (gap || compares c.op (Int z) c.value) ≡ true → compares c.op (Int z) c.value ≡ true
+    by true whole e = cc
+    by false whole e = e
+said_value (IsNull name) z whole e = cc
+said_value (IsNotNull name) z whole e = refl
+
+-- each coordinate is one that the window allows
+said_here : (row : TableRow) (test : Test) (place k : ℕ) → place ≡ suc k → k < length (coordinates row.box) →
+    not (is_gap test) ≡ true → AllowsAtPlace k (get_or (coordinates row.box) k (pos 0)) (test, place) → passes_at row (test, place) ≡ true
+said_here row test place k at h whole allowed =
+    let there : get_or (values_of row) place Null ≡ Int (get_or (coordinates row.box) k (pos 0)) = rw at (value_is row k Null h) in
+    rw there (said_value test (get_or (coordinates row.box) k (pos 0)) whole (allowed at))
+
+all_said : (n : ℕ) (row : TableRow) (tests : List (Test × ℕ)) → n ≤ length (coordinates row.box) →
+    ((k : ℕ) → k < n → All (AllowsAtPlace k (get_or (coordinates row.box) k (pos 0))) tests) →
+    list_all (is_said n) tests ≡ true → list_all (passes_at row) tests ≡ true
+all_said n row [] long each e = refl
+all_said n row (t ∷ tests) long each e =
+    let both = and_parts (is_said n t) (list_all (is_said n) tests) e in
+    let whole = and_parts (nat_lt 0 t.1 && nat_lt t.1 (suc n)) (not (is_gap t.0)) both.0 in
+    let within = and_parts (nat_lt 0 t.1) (nat_lt t.1 (suc n)) whole.0 in
+    and_from (passes_at row t) (list_all (passes_at row) tests)
+    (by t.0 t.1 within.0 within.1 whole.1 (λ k h. All-head (AllowsAtPlace k (get_or (coordinates row.box) k (pos 0))) t tests (each k h)))
+    (all_said n row tests long (λ k h. All-tail (AllowsAtPlace k (get_or (coordinates row.box) k (pos 0))) t tests (each k h)) both.1)
+  where
+    by : (test : Test) (place : ℕ) → nat_lt 0 place ≡ true → nat_lt place (suc n) ≡ true → not (is_gap test) ≡ true →
+        ((k : ℕ) → k < n → AllowsAtPlace k (get_or (coordinates row.box) k (pos 0)) (test, place)) → passes_at row (test, place) ≡ true
+    by test zero some within whole allowed = absurd (grind (arith, nat_tests))
+    by test (suc k) some within whole allowed =
+        let h : k < n = grind (arith, nat_tests) in
+        said_here row test (suc k) k refl (omega arith) whole (allowed k h)
+
+same_long : (window : List Interval) (numbers : List ℤ) → AllZip Includes window numbers → length window ≡ length numbers
+same_long [] [] each = refl
+same_long [] (z ∷ numbers) each = absurd each
+same_long (i ∷ window) [] each = absurd each
+same_long (i ∷ window) (z ∷ numbers) each = ap suc (same_long window numbers each.1)
+
+pub says-all : (D : ℕ) (filter : Placed) → list_all (is_said (2 * D)) (zip filter.cond filter.places) ≡ true → SaysAll D filter
+says-all D filter e window row at admitted =
+    let same : length window ≡ length (coordinates row.box) = same_long window (coordinates row.box) admitted in
+    all_said (2 * D) row (zip filter.cond filter.places) (omega (arith, at.long))
+    (λ k h.
+    let allowed = allowed_at window row.box k admitted (omega (arith, at.long)) in
+    ((at.exact k (get_or (coordinates row.box) k (pos 0)) h).0 allowed).1)
+    e
 
 -- ---- narrowing by one test after another
 

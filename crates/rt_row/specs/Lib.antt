@@ -1,6 +1,7 @@
 pub mod Values
 pub mod Columns
 pub mod Rows
+pub mod RowLists
 pub mod Conditions
 pub mod Candidates
 pub mod Edits

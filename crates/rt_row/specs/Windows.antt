@@ -1,9 +1,9 @@
 -- The window of a condition: what it asks of each coordinate of a row's box. Source: SQLite's documentation (The SQLite
 -- R*Tree Module, section 3.3: queries by coordinates); what a text, a blob or NULL asks is own.
-use Rattle.std.specs.Prelude.{◌≡◌, ◌≢◌, ℕ, suc, ◌*◌, ◌<◌, ◌↔◌, ℤ, Bool, true, false, ◌||◌, List, All, length, zip, Some, FitsSigned}
+use Rattle.std.specs.Prelude.{◌≡◌, ◌≢◌, ℕ, suc, ◌*◌, ◌<◌, ◌↔◌, ℤ, Bool, true, false, not, ◌||◌, ◌&&◌, nat_lt, List, All, length, zip, Some, FitsSigned}
 use Rattle.std.specs.Int.{w32}
 use Rattle.rt_box.specs.declared.interval.Interval.{Interval}
-use Rattle.rt_box.specs.Window.{Allows}
+use Rattle.rt_box.specs.Window.{Allows, Admits}
 use Rattle.rt_box.specs.Op6.{Keeps}
 use Rattle.rt_box.specs.declared.op6.Op6.{Op6 as WindowOp6}
 use Rattle.rt_sql.specs.declared.statement.Op6.{Op6}
@@ -14,7 +14,8 @@ use Rattle.rt_sql.specs.declared.value.Value.TheVariants.{Int}
 use Rattle.rt_row.specs.Values.{compares}
 use Rattle.rt_row.specs.Columns.{Columns, place_of}
 use Rattle.rt_row.specs.Conditions.{column_of}
-use Rattle.rt_row.specs.Filters.{Placed}
+use Rattle.rt_row.specs.Rows.{TableRow}
+use Rattle.rt_row.specs.Filters.{Placed, admits}
 
 abbrev pub is_unequal : Op6 → Bool
 is_unequal Ne = true
@@ -44,6 +45,19 @@ pub record IsWindowAt (axes : ℕ) (filter : Placed) (window : List Interval) : 
   pub long : length window ≡ 2 * axes
   pub exact : (coordinate : ℕ) (z : ℤ) → coordinate < 2 * axes
       → (Allows window coordinate z ↔ (FitsSigned w32 z × All (AllowsAtPlace coordinate z) (zip filter.cond filter.places)))
+
+-- the test is one of so many coordinates, and no `<>`: the window says all that it asks (own)
+abbrev pub is_gap : Test → Bool
+is_gap (Compare c) = is_unequal c.op
+is_gap (IsNull name) = false
+is_gap (IsNotNull name) = false
+
+abbrev pub is_said : ℕ → Test × ℕ → Bool
+is_said coordinates test = nat_lt 0 test.1 && nat_lt test.1 (suc coordinates) && not (is_gap test.0)
+
+-- a row passes whose box the window admits: nothing is left to be tested (own)
+abbrev pub SaysAll : ℕ → Placed → Type 0
+SaysAll axes filter = (window : List Interval) (row : TableRow) → IsWindowAt axes filter window → Admits window row.box → admits filter row ≡ true
 
 -- of the numbers that the coordinate was allowed, those stay that pass; the other coordinates keep theirs (own)
 pub record NarrowsTo (old new : List Interval) (coordinate : ℕ) (passes : ℤ → Bool) : Type 0 where

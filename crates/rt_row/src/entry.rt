@@ -1,6 +1,6 @@
 //! A row as a table keeps it.
 
-ghost use Rattle.std.specs.Prelude.{◌≡◌, ◌*◌, ◌<◌, ◌∷◌, ◌++◌, map, slice_index_or, IfOk};
+ghost use Rattle.std.specs.Prelude.{◌≡◌, ◌*◌, ◌<◌, ◌≤◌, ◌∷◌, ◌++◌, length, map, slice_index_or, IfOk, OnOk};
 ghost use Rattle.rt_sql.specs.declared.value.Value.TheVariants.{Null, Int};
 ghost use Rattle.rt_row.specs.Entries.{field_value};
 ghost use Rattle.rt_box.specs.Rect.{coordinates};
@@ -47,21 +47,40 @@ fn kept(more: &[Value], place: usize) -> Field<'_>
     Field::Kept(&more[place])
 }
 
-/// The id and the coordinates.
-fn numbers<const D: usize>(alloc: Global, id: i64, rect: &Rect<D>) -> Result<Vec<Value>, AllocError>
-    ensures { IfOk result (λ values. values.items ≡ Int id ∷ map Int (coordinates rect.now)) }
+/// Appends the coordinates.
+fn push_coordinates<const D: usize>(
+    values: &mut Vec<Value>,
+    rect: &Rect<D>,
+) -> Result<(), AllocError>
+    ensures ok { OnOk result (values.new.items ≡ values.old.items ++ map Int (coordinates rect.now)) }
+    ensures longer { length values.old.items ≤ length values.new.items }
 {
-    let places = 2 * rect.axes();
-    let mut values = Vec::with_capacity(alloc, 1 + places)?;
-    values.push(Value::Int(id))?;
-    for place in 0..places {
+    for place in 0..2 * rect.axes() {
         values.push(Value::Int(i64::from(coordinate(rect, place))))?;
     }
-    Ok(values)
+    Ok(())
 }
 
-fn push_copies(alloc: Global, values: &mut Vec<Value>, more: &[Value]) -> Result<(), AllocError>
-    ensures { IfOk result (λ _. values.new.items ≡ values.old.items ++ more.now) }
+/// Appends the id and the coordinates.
+pub(crate) fn push_numbers<const D: usize>(
+    values: &mut Vec<Value>,
+    id: i64,
+    rect: &Rect<D>,
+) -> Result<(), AllocError>
+    ensures ok { OnOk result (values.new.items ≡ values.old.items ++ Int id ∷ map Int (coordinates rect.now)) }
+    ensures longer { length values.old.items ≤ length values.new.items }
+{
+    values.push(Value::Int(id))?;
+    push_coordinates(values, rect)
+}
+
+pub(crate) fn push_copies(
+    alloc: Global,
+    values: &mut Vec<Value>,
+    more: &[Value],
+) -> Result<(), AllocError>
+    ensures ok { OnOk result (values.new.items ≡ values.old.items ++ more.now) }
+    ensures longer { length values.old.items ≤ length values.new.items }
 {
     for value in more {
         values.push(value.try_clone(alloc)?)?;
@@ -115,7 +134,8 @@ impl<'a, const D: usize> RowView<'a, D> {
     pub fn values(&self, alloc: Global) -> Result<Items<Value>, AllocError>
         ensures { IfOk result (λ row. row ≡ values_of (view_row self.now)) }
     {
-        let mut values = numbers(alloc, self.id, &self.rect)?;
+        let mut values = Vec::with_capacity(alloc, 1 + 2 * self.rect.axes())?;
+        push_numbers(&mut values, self.id, &self.rect)?;
         push_copies(alloc, &mut values, self.more)?;
         Ok(Items::from_vec(values))
     }

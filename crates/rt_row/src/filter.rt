@@ -4,6 +4,7 @@ ghost use Rattle.std.specs.Prelude.{◌≡◌, zip, true, false, IfSome, IfNone,
 ghost use Rattle.std.specs.List.{list_all, list_any};
 ghost use Rattle.rt_row.specs.Conditions.{column_of};
 ghost use Rattle.rt_row.specs.Filters.{value_passes, passes_at, fixes_id, ArePlaces, IsFilterOf, IsUnknown};
+ghost use Rattle.rt_row.specs.Windows.{is_said};
 ghost use Rattle.rt_row.specs.Entries.{view_row, field_value};
 ghost use Rattle.rt_row.specs.Rows.{TableRow};
 ghost use Rattle.rt_sql.specs.declared.value.Value.TheVariants.{Int};
@@ -11,7 +12,7 @@ ghost use Rattle.rt_sql.specs.declared.value.Value.TheVariants.{Int};
 use crate::entry::{Field, RowView};
 use crate::schema::Schema;
 use crate::values::{compares, is_null, keeps};
-use crate::window::window_of;
+use crate::window::{is_said, window_of};
 use rt_box::Window;
 use rt_sql::{Compare, Cond, Name, Op6, Refusal, Test, Value};
 use std::alloc::Global;
@@ -114,6 +115,17 @@ fn id_among(tests: &[Test], places: &[usize]) -> Option<i64>
     None
 }
 
+/// Whether a window says all that each of the tests asks.
+fn are_said(coordinates: usize, tests: &[Test], places: &[usize]) -> bool
+    ensures { result ≡ list_all (is_said coordinates) (zip tests.now places.now) }
+{
+    tests.iter().zip(places).all(
+        |pair: (&Test, &usize)| -> bool
+            ensures { result ≡ is_said coordinates (pair.entry.0.now, pair.entry.1.now) }
+        { is_said(coordinates, pair.0, *pair.1) },
+    )
+}
+
 /// The places of the columns that the tests look at.
 fn places_of(alloc: Global, schema: &Schema, cond: &[Test]) -> Result<Vec<usize>, Refusal>
     ensures { MatchResult result (λ places. ArePlaces schema.now.names cond.now places.items) (λ refusal. IsUnknown schema.now cond.now refusal) }
@@ -144,9 +156,9 @@ impl Model for Filter {
 }
 
 impl Filter {
-    ghost use Rattle.std.specs.Prelude.{◌≤◌};
+    ghost use Rattle.std.specs.Prelude.{◌≤◌, ◌*◌};
     ghost use Rattle.rt_row.specs.Filters.{admits, IsFilterOf, IsUnknown};
-    ghost use Rattle.rt_row.specs.Windows.{IsWindowAt};
+    ghost use Rattle.rt_row.specs.Windows.{IsWindowAt, is_said, SaysAll};
 
     /// The condition over a table of these columns.
     ///
@@ -180,6 +192,16 @@ impl Filter {
         ensures { IsWindowAt D self.now result }
     {
         window_of(self.cond.as_slice(), self.places.as_slice())
+    }
+
+    /// Whether its window says all that the condition asks: each test is one of a coordinate, and none is by `<>`. Then
+    /// the condition holds of each row whose box the window admits.
+    pub fn is_said<const D: usize>(&self) -> bool
+        requires { D ≤ 3 }
+        ensures exact { result ≡ list_all (is_said (2 * D)) (zip self.now.cond self.now.places) }
+        ensures all { result ≡ true → SaysAll D self.now }
+    {
+        are_said(2 * D, self.cond.as_slice(), self.places.as_slice())
     }
 
     /// The id that each row has that the condition picks, where a test compares the id with an

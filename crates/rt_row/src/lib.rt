@@ -3,6 +3,7 @@
 //! - `Schema` is what a CREATE makes of its columns; names are compared without ASCII case.
 //! - `Entry` is a row as a table keeps it, and `RowView` a row looked at where it stands. `value_at` looks at
 //!   one of its values, and `values` copies them all, column by column.
+//! - `RowList` is rows one behind the other, whose values stand in one list.
 //! - `Step` is one change of the rows of a table.
 //! - `Candidate` is what a new row will be, made of its values; `Arrangement` has the columns that an INSERT
 //!   lists, and `Settings` what an UPDATE sets. Both look their columns up once.
@@ -23,6 +24,7 @@ mod arrangement;
 mod candidate;
 mod entry;
 mod filter;
+mod row_list;
 mod schema;
 mod settings;
 mod values;
@@ -32,6 +34,7 @@ pub use arrangement::Arrangement;
 pub use candidate::Candidate;
 pub use entry::{Entry, Field, RowView, Step};
 pub use filter::Filter;
+pub use row_list::RowList;
 pub use schema::Schema;
 pub use settings::Settings;
 pub use values::compares;

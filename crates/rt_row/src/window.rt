@@ -3,7 +3,7 @@
 ghost use Rattle.std.specs.Prelude.{◌≡◌, ◌*◌, ◌<◌, ◌≤◌, ◌||◌, false};
 ghost use Rattle.rt_sql.specs.declared.value.Value.TheVariants.{Int};
 ghost use Rattle.rt_row.specs.Values.{compares};
-ghost use Rattle.rt_row.specs.Windows.{is_unequal, allows, IsWindowAt, IsSameComparison, NarrowsTo, NarrowsAt};
+ghost use Rattle.rt_row.specs.Windows.{is_unequal, is_gap, is_said, allows, IsWindowAt, IsSameComparison, NarrowsTo, NarrowsAt};
 
 use crate::values::compares;
 use rt_box::{Op6 as WindowOp6, Window};
@@ -74,6 +74,23 @@ fn narrow_by_test<const D: usize>(window: &mut Window<D>, coordinate: usize, tes
         Test::IsNull(_) => take_all(window, coordinate),
         Test::IsNotNull(_) => {}
     }
+}
+
+/// Whether the test is by `<>`, which would leave a gap.
+fn is_gap(test: &Test) -> bool
+    ensures { result ≡ is_gap test.now }
+{
+    match test {
+        Test::Compare(compare) => is_unequal(compare.op),
+        Test::IsNull(_) | Test::IsNotNull(_) => false,
+    }
+}
+
+/// Whether a window of so many coordinates says all that a test of the column at that place asks.
+pub(crate) fn is_said(coordinates: usize, test: &Test, place: usize) -> bool
+    ensures { result ≡ is_said coordinates (test.now, place) }
+{
+    place >= 1 && place <= coordinates && !is_gap(test)
 }
 
 /// Narrows a window by a test of the column at that place, where a coordinate stands there: the id stands at 0, and

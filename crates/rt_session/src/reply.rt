@@ -2,7 +2,8 @@
 
 use rt_check::Problem;
 use rt_dump::AnyShadow;
-use rt_sql::{Items, Value};
+use rt_row::RowList;
+use rt_sql::Items;
 use rt_table::Change;
 
 /// What a statement that was carried out shows.
@@ -11,7 +12,7 @@ pub enum Reply {
     /// Of a table or a view that was made or dropped.
     Nothing,
     /// The rows selected, or those of a view, by rising id: their values, column by column.
-    Rows(Items<Items<Value>>),
+    Rows(RowList),
     /// What an INSERT, UPDATE or DELETE changed in the views of its table.
     Changes(Items<Change>),
     /// The problems that the checker finds in a table's tree.

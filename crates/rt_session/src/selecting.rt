@@ -6,7 +6,7 @@ ghost use Rattle.rt_session.specs.Session.{is_by_id, selected};
 ghost use Rattle.rt_session.specs.Selecting.{ArePlaces, IsMissing, values_at};
 ghost use Rattle.rt_session.specs.Steps.{ShowsRows};
 
-use rt_row::Schema;
+use rt_row::{RowList, Schema};
 use rt_sql::{Cond, Items, Name, Refusal, Value};
 use rt_table::AnyTable;
 use std::alloc::{AllocError, Global};
@@ -50,29 +50,26 @@ fn value_at(alloc: Global, row: &[Value], place: usize) -> Result<Value, AllocEr
 }
 
 /// Copies of the values at these places.
-fn values_at(alloc: Global, row: &[Value], places: &[usize]) -> Result<Items<Value>, AllocError>
-    ensures { IfOk result (λ values. values ≡ values_at places.now row.now) }
+fn values_at(alloc: Global, row: &[Value], places: &[usize]) -> Result<Vec<Value>, AllocError>
+    ensures { IfOk result (λ values. values.items ≡ values_at places.now row.now) }
 {
     let mut values = Vec::with_capacity(alloc, places.len())?;
     for place in places {
         values.push(value_at(alloc, row, *place)?)?;
     }
-    Ok(Items::from_vec(values))
+    Ok(values)
 }
 
 /// Of each row, copies of the values at these places.
-fn columns_of(
-    alloc: Global,
-    rows: &[Items<Value>],
-    places: &[usize],
-) -> Result<Items<Items<Value>>, AllocError>
+fn columns_of(alloc: Global, rows: &RowList, places: &[usize]) -> Result<RowList, AllocError>
     ensures { IfOk result (λ columns. columns ≡ map (values_at places.now) rows.now) }
 {
-    let mut columns = Vec::with_capacity(alloc, rows.len())?;
-    for row in rows {
-        columns.push(values_at(alloc, row.as_slice(), places)?)?;
+    let values = rows.len().saturating_mul(places.len());
+    let mut columns = RowList::with_capacity(alloc, rows.len(), values)?;
+    for at in 0..rows.len() {
+        columns.push_values(values_at(alloc, rows.row(at), places)?)?;
     }
-    Ok(Items::from_vec(columns))
+    Ok(columns)
 }
 
 /// The rows that a condition picks, by rising id: all of their columns, which aren't copied again, or those listed.
@@ -82,7 +79,7 @@ pub(crate) fn select(
     columns: &Option<Items<Name>>,
     cond: Cond,
     order: &Option<Name>,
-) -> Result<Items<Items<Value>>, Refusal>
+) -> Result<RowList, Refusal>
     ensures { ShowsRows (λ state. selected state columns.now cond order.now table.now.lists) result }
 {
     if !is_by_id(table.schema(), order) {
@@ -90,10 +87,10 @@ pub(crate) fn select(
     }
     let Some(names) = columns else {
         let picked = table.select(alloc, cond)?;
-        return Ok(Items::from_vec(picked.rows));
+        return Ok(picked.rows);
     };
     let places = places_of(alloc, table.schema(), names.as_slice())?;
     let picked = table.select(alloc, cond)?;
-    let rows = columns_of(alloc, picked.rows.as_slice(), places.as_slice())?;
+    let rows = columns_of(alloc, &picked.rows, places.as_slice())?;
     Ok(rows)
 }

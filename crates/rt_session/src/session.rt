@@ -187,7 +187,7 @@ impl Session {
             return Err(Refusal::NoSuchView);
         };
         let picked = self.tables[at].table.view(self.alloc, view)?;
-        Ok(Reply::Rows(Items::from_vec(picked.rows)))
+        Ok(Reply::Rows(picked.rows))
     }
 
     fn select(

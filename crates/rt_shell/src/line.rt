@@ -1,6 +1,6 @@
 //! The line of a row put together, so that it is written at once.
 
-ghost use Rattle.std.specs.Prelude.{◌≡◌, ◌++◌, IfSome, codes};
+ghost use Rattle.std.specs.Prelude.{◌≡◌, ◌++◌, ◌∷◌, [], IfSome, codes};
 ghost use Rattle.std.specs.List.{flat_map};
 ghost use Rattle.rt_sql.specs.Token.{doubled};
 ghost use Rattle.rt_shell.specs.Lines.{value_text, row_line};
@@ -23,6 +23,13 @@ fn put(line: &mut Line, bytes: &[u8]) -> Option<()>
     line.try_extend_from_slice(bytes).ok()
 }
 
+/// Puts a byte at the line's end, where there is room for it.
+fn put_byte(line: &mut Line, byte: u8) -> Option<()>
+    ensures { IfSome result (λ _. line.new.items ≡ line.old.items ++ byte ∷ []) }
+{
+    line.try_push(byte).ok()
+}
+
 /// Puts a text in quotes, where it is short and has none inside.
 fn put_text(line: &mut Line, text: &[u8]) -> Option<()>
     ensures { IfSome result (λ _. line.new.items ≡ line.old.items ++ (codes "'" ++ doubled 39 text.now ++ codes "'")) }
@@ -30,9 +37,9 @@ fn put_text(line: &mut Line, text: &[u8]) -> Option<()>
     if text.len() > MOST_BYTES || first_quote(text).is_some() {
         return None;
     }
-    put(line, b"'")?;
+    put_byte(line, b'\'')?;
     put(line, text)?;
-    put(line, b"'")?;
+    put_byte(line, b'\'')?;
     Some(())
 }
 
@@ -53,21 +60,20 @@ fn put_more(line: &mut Line, values: &[Value]) -> Option<()>
     ensures { IfSome result (λ _. line.new.items ≡ line.old.items ++ flat_map (λ value. codes "|" ++ value_text value) values.now) }
 {
     for value in values {
-        put(line, b"|")?;
+        put_byte(line, b'|')?;
         put_value(line, value)?;
     }
     Some(())
 }
 
-/// The line of a row, where it is short and no value takes more than a copy.
-pub(crate) fn short_line(row: &[Value]) -> Option<Line>
-    ensures { IfSome result (λ line. line.items ≡ row_line row.now) }
+/// Puts the line of a row, where there is room for it and no value takes more than a copy.
+pub(crate) fn put_row(line: &mut Line, row: &[Value]) -> Option<()>
+    ensures { IfSome result (λ _. line.new.items ≡ line.old.items ++ row_line row.now) }
 {
-    let mut line = Line::new();
     if let Some((first, rest)) = row.split_first() {
-        put_value(&mut line, first)?;
-        put_more(&mut line, rest)?;
+        put_value(line, first)?;
+        put_more(line, rest)?;
     }
-    put(&mut line, b"\n")?;
-    Some(line)
+    put_byte(line, b'\n')?;
+    Some(())
 }

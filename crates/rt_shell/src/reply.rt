@@ -5,14 +5,15 @@ ghost use Rattle.std.specs.List.{flat_map, join_by};
 ghost use Rattle.rt_bytes.specs.Devices.{WritesTo};
 ghost use Rattle.rt_shell.specs.Lines.{value_text, row_line, change_line, reply_lines, refusal_line};
 
-use crate::line::short_line;
+use crate::line::{Line, put_row};
 use crate::value::write_value;
 use itoa::Buffer;
 use rt_bytes::{ByteWriter, WriteFault, write_parts, write_whole};
 use rt_dump::write_dump;
 use rt_report::write_verdict;
+use rt_row::RowList;
 use rt_session::{Change, Reply};
-use rt_sql::{Items, Refusal, Value};
+use rt_sql::{Refusal, Value};
 
 /// Writes the lines of a reply: a line for each row that it shows, or for each change; the verdict on
 /// a tree, or its dump. After a fault a front of them is written.
@@ -25,18 +26,18 @@ pub fn write_reply<W: ByteWriter>(reply: &Reply, writer: &mut W) -> Result<(), W
 {
     match reply {
         Reply::Nothing => Ok(()),
-        Reply::Rows(rows) => write_rows(rows.as_slice(), writer),
+        Reply::Rows(rows) => write_rows(rows, writer),
         Reply::Changes(changes) => write_changes(changes.as_slice(), writer),
         Reply::Verdict(problems) => write_verdict(problems.as_slice(), writer),
         Reply::Dump(tree) => write_dump(tree, writer),
     }
 }
 
-fn write_rows<W: ByteWriter>(rows: &[Items<Value>], writer: &mut W) -> Result<(), WriteFault>
+fn write_rows<W: ByteWriter>(rows: &RowList, writer: &mut W) -> Result<(), WriteFault>
     ensures { WritesTo W.ByteWriter writer.old writer.new result (flat_map row_line rows.now) }
 {
-    for row in rows {
-        write_row(row, writer)?;
+    for at in 0..rows.len() {
+        write_row(rows.row(at), writer)?;
     }
     Ok(())
 }
@@ -61,23 +62,24 @@ fn write_change<W: ByteWriter>(change: &Change, writer: &mut W) -> Result<(), Wr
 {
     let parts: [&[u8]; 3] = [sign(change), change.view.as_str().as_bytes(), b" "];
     write_parts(writer, &parts)?;
-    write_row(&change.row, writer)
+    write_row(change.row.as_slice(), writer)
 }
 
-fn write_row<W: ByteWriter>(row: &Items<Value>, writer: &mut W) -> Result<(), WriteFault>
+fn write_row<W: ByteWriter>(row: &[Value], writer: &mut W) -> Result<(), WriteFault>
     ensures { WritesTo W.ByteWriter writer.old writer.new result (row_line row.now) }
 {
-    match short_line(row.as_slice()) {
-        Some(line) => write_whole(writer, line.as_slice()),
+    let mut line = Line::new();
+    match put_row(&mut line, row) {
+        Some(()) => write_whole(writer, line.as_slice()),
         None => write_long_row(row, writer),
     }
 }
 
 /// Writes a row's line value by value.
-fn write_long_row<W: ByteWriter>(row: &Items<Value>, writer: &mut W) -> Result<(), WriteFault>
+fn write_long_row<W: ByteWriter>(row: &[Value], writer: &mut W) -> Result<(), WriteFault>
     ensures { WritesTo W.ByteWriter writer.old writer.new result (row_line row.now) }
 {
-    write_values(row.as_slice(), writer)?;
+    write_values(row, writer)?;
     write_whole(writer, b"\n")
 }
 

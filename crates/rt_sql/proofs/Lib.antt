@@ -9,6 +9,7 @@ mod Numbers
 mod PieceLists
 mod QuoteAtoms
 mod Quotes
+mod Reserved
 mod Separated
 mod Shorter
 mod TokenLists

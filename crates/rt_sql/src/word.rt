@@ -2,11 +2,6 @@ ghost use Rattle.std.specs.Prelude.{◌≡◌};
 ghost use Rattle.std.specs.List.{list_any};
 ghost use Rattle.rt_sql.specs.Word as spec;
 
-const RESERVED: [&str; 21] = [
-    "AND", "BETWEEN", "CREATE", "DELETE", "DROP", "EXISTS", "FROM", "INSERT", "INTO", "IS", "NOT",
-    "NULL", "OR", "ORDER", "SELECT", "SET", "TABLE", "UPDATE", "USING", "VALUES", "WHERE",
-];
-
 /// The word is one of these, in whatever ASCII case.
 fn is_among(word: &str, words: &[&str]) -> bool
     ensures { result ≡ list_any (λ other. spec.same_word word.now other.now) words.now }
@@ -14,10 +9,23 @@ fn is_among(word: &str, words: &[&str]) -> bool
     words.iter().any(|other| word.eq_ignore_ascii_case(other))
 }
 
-/// The word is no name unless it is quoted.
-#[tactic(auto, unfolding(crate::specs::Word::is_reserved))]
+/// The word is no name unless it is quoted. Only words as long as it is are compared with it.
+#[tactic(auto, using(crate::proofs::Reserved::two, crate::proofs::Reserved::three, crate::proofs::Reserved::four, crate::proofs::Reserved::five, crate::proofs::Reserved::six, crate::proofs::Reserved::seven, crate::proofs::Reserved::none))]
 pub fn is_reserved(word: &str) -> bool
     ensures { result ≡ spec.is_reserved word.now }
 {
-    is_among(word, &RESERVED)
+    match word.len() {
+        2 => is_among(word, &["IS", "OR"]),
+        3 => is_among(word, &["AND", "NOT", "SET"]),
+        4 => is_among(word, &["DROP", "FROM", "INTO", "NULL"]),
+        5 => is_among(word, &["ORDER", "TABLE", "USING", "WHERE"]),
+        6 => is_among(
+            word,
+            &[
+                "CREATE", "DELETE", "EXISTS", "INSERT", "SELECT", "UPDATE", "VALUES",
+            ],
+        ),
+        7 => is_among(word, &["BETWEEN"]),
+        _ => false,
+    }
 }

@@ -11,5 +11,6 @@ pub mod Staying
 pub mod Soundness
 pub mod Everywhere
 pub mod Alike
+pub mod Admitted
 pub mod Found
 pub mod Windows

@@ -3,7 +3,7 @@
 ghost use Rattle.std.specs.Prelude.{◌≡◌, ◌≤◌, List, All, true, filter, map, IfOk};
 ghost use Rattle.std.specs.Option.{option_to_list};
 ghost use Rattle.rt_box.specs.declared.interval.Interval.{Interval};
-ghost use Rattle.rt_box.specs.Window.{IsUnlimited};
+ghost use Rattle.rt_box.specs.Window.{IsUnlimited, Admits};
 ghost use Rattle.rt_row.specs.Rows.{TableRow};
 ghost use Rattle.rt_row.specs.Filters.{admits};
 ghost use Rattle.rt_row.specs.Windows.{IsWindowAt};
@@ -13,7 +13,7 @@ ghost use Rattle.rt_store.specs.Picking.{Stands, passes};
 use crate::store::Store;
 use rt_box::Window;
 use rt_row::Filter;
-use rt_tree::Row;
+use rt_tree::{Found, Row};
 use std::alloc::{AllocError, Global};
 
 /// The rows that a condition picks, found by its window.
@@ -58,6 +58,27 @@ impl<const D: usize> Store<D> {
         Ok(kept)
     }
 
+    /// Of rows that a window of the condition admits those of which the condition holds. Where the window says all that
+    /// it asks, no row is looked at again.
+    fn tested_rows(
+        &self,
+        alloc: Global,
+        condition: &Filter,
+        window: &Window<D>,
+        rows: Vec<Row<D>>,
+    ) -> Result<Vec<Row<D>>, AllocError>
+        requires few { D ≤ 3 }
+        requires window { IsWindowAt D condition.now window.now }
+        requires stand { All (Stands self.now.rows) rows.items }
+        requires admitted { All (λ row. Admits window.now row.rect) rows.items }
+        ensures { IfOk result (λ kept. kept.items ≡ filter (passes (admits condition.now) self.now.rows) rows.entry.items) }
+    {
+        if condition.is_said::<D>() {
+            return Ok(rows);
+        }
+        self.passing_rows(alloc, condition, &rows)
+    }
+
     /// Searches by a window of the condition, and keeps the rows of which it holds.
     fn select_by_window(
         &self,
@@ -72,17 +93,17 @@ impl<const D: usize> Store<D> {
         // The rows rise by id and are those of the tree, whose cells have boxes.
         let _ = self.len();
         self.tree.has_boxes();
-        let found = self.tree.search(alloc, window)?;
-        let mut rows = self.passing_rows(alloc, condition, &found.rows)?;
+        let Found {
+            rows: found,
+            visited,
+        } = self.tree.search(alloc, window)?;
+        let mut rows = self.tested_rows(alloc, condition, window, found)?;
         rows.sort_unstable_by_key(
             |row: &Row<D>| -> i64
                 ensures { result ≡ row.entry.now.id }
             { row.id },
         );
-        Ok(Selected {
-            rows,
-            visited: found.visited,
-        })
+        Ok(Selected { rows, visited })
     }
 
     /// The row of an id that the condition fixes, where the condition holds of it.

@@ -1,5 +1,5 @@
 -- A table that was made ready for a plan.
-use Rattle.std.proofs.Common.{◌≡◌, ℕ, ◌≤◌, ℤ, Bool, true, false, cond, ◌||◌, List, [], ◌∷◌, map, length, Option, Some, refl, sym, subst}
+use Rattle.std.proofs.Common.{◌≡◌, ◌≢◌, ap, ℕ, ◌≤◌, ℤ, Bool, true, false, cond, ◌||◌, List, [], ◌∷◌, map, length, Option, Some, refl, sym, subst}
 use Rattle.std.specs.Prelude.{AllPairs, ◌<ℤ◌, is_some}
 use Rattle.std.specs.List.{All, AllByRecursion, list_any}
 use Rattle.std.specs.List.Sorted.{IsStrictlySortedBy}
@@ -61,7 +61,7 @@ made columns rows tree views room note_room id_rooms touched changes = record {
 }
 
 pub ready : {D : ℕ} (columns : Columns) (rows now : List TableRow) (tree : ShadowLists D) (views new : List Watched) (room note_room : ℕ) (touched : List ℤ) (changes : List Change) (steps : List Step) → now ≡ rows
-    → map view_of new ≡ map view_of views → ApplyInTurn rows steps → places_all steps ≤ room → notes_all steps ≤ note_room → DifferAt touched rows (outcome rows steps) → All (λ w. length touched ≤ spare w.ids) new
+    → map view_of new ≡ map view_of views → ApplyInTurn rows steps → places_all steps ≤ room → notes_all steps ≤ note_room → (views ≢ [] → DifferAt touched rows (outcome rows steps)) → All (λ w. length touched ≤ spare w.ids) new
     → map change_of changes ≡ deltas columns (map view_of views) rows (outcome rows steps)
     → IsReady (made columns now tree (map view_of new) room note_room (map (λ (w : Watched). spare w.ids) new) touched changes) steps
 ready columns rows now tree views new room note_room touched changes steps same_rows same_views apply fits notes_fit differ roomy staged =
@@ -71,7 +71,7 @@ ready columns rows now tree views new room note_room touched changes steps same_
       apply = apply;
       room = fits;
       note_room = notes_fit;
-      touched = differ;
+      touched = λ some. differ (λ none. some (ap (map view_of) none));
       id_rooms = All-map (λ room. length touched ≤ room) (λ (w : Watched). spare w.ids) new roomy;
       staged = staged;
     }))

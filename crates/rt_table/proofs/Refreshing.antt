@@ -1,9 +1,9 @@
 -- Views that are brought up to date.
-use Rattle.std.proofs.Common.{◌≡◌, ℕ, zero, suc, ◌<◌, ℤ, Bool, true, false, List, [], ◌∷◌, map, length, get_or, refl, sym, ap, subst, ◌∙◌, arith}
+use Rattle.std.proofs.Common.{◌≡◌, ◌≢◌, ℕ, zero, suc, ◌<◌, ℤ, Bool, true, false, List, [], ◌∷◌, map, length, get_or, refl, sym, ap, subst, ◌∙◌, arith}
 use Rattle.std.specs.Prelude.{if◌then◌else◌}
 use Rattle.std.specs.List.{All, list_any, AllByRecursion}
 use Rattle.std.specs.Ordering.{int_eq}
-use Rattle.std.proofs.lemmas.List.Elements.{All-from_recursion, recursion_from_All}
+use Rattle.std.proofs.lemmas.List.Elements.{All-nil, All-from_recursion, recursion_from_All}
 use Rattle.rt_row.specs.Columns.{Columns}
 use Rattle.rt_row.specs.Rows.{TableRow, row_at}
 use Rattle.rt_row.specs.Filters.{Placed, IsFilterOf, admits}
@@ -46,6 +46,14 @@ same_views (o ∷ old) (n ∷ new) same each =
     let first = each zero o (omega arith) in
     ap (λ (v : View). v ∷ map view_of new) (same_view o n first.0 first.1)
     ∙ ap (λ (vs : List View). view_of o ∷ vs) (same_views old new (omega arith) (λ k w lt. each (suc k) w (omega arith)))
+
+-- where there is no view, there is nothing to be brought up to date
+pub kept_where_any : (columns : Columns) (before after : List TableRow) (touched : List ℤ) (old new : List Watched) → map view_of new ≡ map view_of old
+    → (map view_of old ≢ [] → DifferAt touched before after) → (DifferAt touched before after → All (IsKept columns before) old → All (IsKept columns after) new)
+    → All (IsKept columns before) old → All (IsKept columns after) new
+kept_where_any columns before after touched [] [] same differ refreshed kept = All-nil (IsKept columns after)
+kept_where_any columns before after touched [] (n ∷ new) same differ refreshed kept = cc
+kept_where_any columns before after touched (o ∷ old) new same differ refreshed kept = refreshed (differ (λ none. cc)) kept
 
 -- ---- room
 

@@ -1,5 +1,5 @@
 -- When a table is ready for a plan. Source: own.
-use Rattle.std.specs.Prelude.{◌≡◌, ℕ, ◌+◌, ◌≤◌, ◌<◌, ◌==◌, if◌then◌else◌, ℤ, true, false, List, [], ◌∷◌, length}
+use Rattle.std.specs.Prelude.{◌≡◌, ◌≢◌, ℕ, ◌+◌, ◌≤◌, ◌<◌, ◌==◌, if◌then◌else◌, ℤ, true, false, List, [], ◌∷◌, length}
 use Rattle.std.specs.Ordering.{int_eq}
 use Rattle.std.specs.List.{All, list_any}
 use Rattle.rt_row.specs.Rows.{TableRow, row_at, has_id, without_id}
@@ -45,12 +45,12 @@ notes_all (step ∷ steps) = notes_of step + notes_all steps
 abbrev pub DifferAt : List ℤ → List TableRow → List TableRow → Type 0
 DifferAt ids before after = (id : ℤ) → list_any (int_eq id) ids ≡ false → row_at after id ≡ row_at before id
 
--- the steps apply, there is room for the rows that they place and in each view for the ids that they touch, and
--- the changes of the views lie ready
+-- the steps apply, there is room for the rows that they place and in each view for the ids that they touch, which are
+-- known where there is a view, and the changes of the views lie ready
 pub record IsReady {D : ℕ} (held : Held D) (steps : List Step) : Type 0 where
   pub apply : ApplyInTurn held.lists.rows steps
   pub room : places_all steps ≤ held.room
   pub note_room : notes_all steps ≤ held.note_room
-  pub touched : DifferAt held.touched held.lists.rows (outcome held.lists.rows steps)
+  pub touched : held.lists.views ≢ [] → DifferAt held.touched held.lists.rows (outcome held.lists.rows steps)
   pub id_rooms : All (λ room. length held.touched ≤ room) held.id_rooms
   pub staged : held.staged ≡ deltas held.lists.columns held.lists.views held.lists.rows (outcome held.lists.rows steps)

@@ -137,7 +137,7 @@ impl AnyTable {
     ///
     /// `NoSuchColumn` where a test looks at a column that the table hasn't, and `OutOfMemory`.
     pub fn select(&self, alloc: Global, cond: Cond) -> Result<Picked, Refusal>
-        ensures ok { IfOk result (λ picked. Shows (select self.now.lists cond) picked.rows.items) }
+        ensures ok { IfOk result (λ picked. Shows (select self.now.lists cond) picked.rows) }
         ensures visited { IfOk result (λ picked. (window : List Interval) × IsWindowOf self.now.lists.columns cond window × VisitsAny self.now.tree window picked.visited) }
         ensures err { IfErr result (Refuses (select self.now.lists cond)) }
     {
@@ -154,7 +154,7 @@ impl AnyTable {
     ///
     /// `NoSuchView` where no view of this table has the name, and `OutOfMemory`.
     pub fn view(&self, alloc: Global, name: &Name) -> Result<Picked, Refusal>
-        ensures ok { IfOk result (λ picked. Shows (view self.now.lists name.now) picked.rows.items) }
+        ensures ok { IfOk result (λ picked. Shows (view self.now.lists name.now) picked.rows) }
         ensures err { IfErr result (Refuses (view self.now.lists name.now)) }
     {
         match &self.axes {

@@ -1,6 +1,6 @@
 //! What a plan touches, and what it changes in the views.
 
-ghost use Rattle.std.specs.Prelude.{◌≡◌, ◌≤◌, ◌++◌, ◌∷◌, [], All, ℕ, ℤ, List, AllPairs, ◌<ℤ◌, is_some, map, OnOk, IfOk};
+ghost use Rattle.std.specs.Prelude.{◌≡◌, ◌≢◌, ◌≤◌, ◌++◌, ◌∷◌, [], All, ℕ, ℤ, List, AllPairs, ◌<ℤ◌, is_some, map, OnOk, IfOk};
 ghost use Rattle.std.specs.Ordering.{int_eq, int_cmp};
 ghost use Rattle.std.specs.Option.{option_map, unwrap_or};
 ghost use Rattle.std.specs.List.{list_any, flat_map};
@@ -285,8 +285,20 @@ pub(crate) struct Touched {
     pub(crate) changes: Vec<Change>,
 }
 
+impl Touched {
+    fn nothing(alloc: Global) -> Touched
+        ensures ids { result.ids.items ≡ [] }
+        ensures changes { result.changes.items ≡ [] }
+    {
+        Touched {
+            ids: Vec::new(alloc),
+            changes: Vec::new(alloc),
+        }
+    }
+}
+
 /// What a plan touches, and what it changes in the views.
-pub(crate) fn touch<'a, const D: usize>(
+fn touch<'a, const D: usize>(
     alloc: Global,
     views: &[Watched],
     store: &'a Store<D>,
@@ -302,4 +314,23 @@ pub(crate) fn touch<'a, const D: usize>(
     let ids = rising_ids(alloc, &fates)?;
     let changes = stage(alloc, views, store, &fates, ids.as_slice())?;
     Ok(Touched { ids, changes })
+}
+
+/// What a plan touches, and what it changes in the views. Where there is no view, no ids are gathered.
+pub(crate) fn touch_where_watched<'a, const D: usize>(
+    alloc: Global,
+    views: &[Watched],
+    store: &'a Store<D>,
+    plan: &'a [Step<D>],
+) -> Result<Touched, AllocError>
+    ensures ids { IfOk result (λ touched. views.now ≢ [] → DifferAt touched.ids.items store.now.rows (outcome store.now.rows (map step_of plan.now))) }
+    ensures changes { IfOk result (λ touched. (columns : Columns) → All (IsKept columns store.now.rows) views.now
+        → map change_of touched.changes.items ≡ deltas columns (map view_of views.now) store.now.rows (outcome store.now.rows (map step_of plan.now))) }
+{
+    // The contract of `len` says that there are three axes at most.
+    let _ = store.len();
+    if views.is_empty() {
+        return Ok(Touched::nothing(alloc));
+    }
+    touch(alloc, views, store, plan)
 }

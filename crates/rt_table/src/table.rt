@@ -6,7 +6,7 @@ ghost use Rattle.rt_box.specs.declared.interval.Interval.{Interval};
 ghost use Rattle.rt_sql.specs.Name.{same_name};
 
 use crate::carrying::{apply, refresh_all};
-use crate::preparing::{Touched, touch};
+use crate::preparing::{Touched, touch_where_watched};
 use crate::room::{notes_all, places_all};
 use crate::watched::{Change, Picked, Watched, pick, reserve_ids, rows_of, watch};
 use rt_box::Capacity;
@@ -148,7 +148,7 @@ impl<const D: usize> Table<D> {
     ///
     /// `NoSuchColumn` where a test looks at a column that the table hasn't, and `OutOfMemory`.
     pub fn select(&self, alloc: Global, cond: Cond) -> Result<Picked, Refusal>
-        ensures ok { IfOk result (λ picked. Shows (select self.now.lists cond) picked.rows.items) }
+        ensures ok { IfOk result (λ picked. Shows (select self.now.lists cond) picked.rows) }
         ensures visited { IfOk result (λ picked. (window : List Interval) × IsWindowOf self.now.lists.columns cond window × Visits self.now.tree window picked.visited) }
         ensures err { IfErr result (Refuses (select self.now.lists cond)) }
     {
@@ -162,7 +162,7 @@ impl<const D: usize> Table<D> {
     ///
     /// `NoSuchView` where no view of this table has the name, and `OutOfMemory`.
     pub fn view(&self, alloc: Global, name: &Name) -> Result<Picked, Refusal>
-        ensures ok { IfOk result (λ picked. Shows (view self.now.lists name.now) picked.rows.items) }
+        ensures ok { IfOk result (λ picked. Shows (view self.now.lists name.now) picked.rows) }
         ensures err { IfErr result (Refuses (view self.now.lists name.now)) }
     {
         let Some(at) = position(self.views.as_slice(), name) else {
@@ -262,7 +262,7 @@ impl<const D: usize> Table<D> {
         ensures tree { self.new.tree ≡ self.old.tree }
         ensures ok { OnOk result (IsReady self.new (map step_of plan.now)) }
     {
-        let touched = touch(alloc, self.views.as_slice(), &self.store, plan)?;
+        let touched = touch_where_watched(alloc, self.views.as_slice(), &self.store, plan)?;
         self.store
             .reserve(alloc, places_all(plan), notes_all(plan))?;
         reserve_ids(&mut self.views, touched.ids.len())?;

@@ -1,6 +1,6 @@
 //! Views, and the rows that a condition picks.
 
-ghost use Rattle.std.specs.Prelude.{◌≡◌, ◌≤◌, ◌<◌, ◌+◌, ℕ, ℤ, slice_index_or, AllPairs, ◌<ℤ◌, List, All, Some, filter, map, length, IfOk, IfErr, OnOk, OnErr, MatchResult};
+ghost use Rattle.std.specs.Prelude.{◌≡◌, ◌≤◌, ◌<◌, ◌+◌, ℕ, ℤ, slice_index_or, AllPairs, ◌<ℤ◌, List, [], All, Some, filter, map, length, IfOk, IfErr, OnOk, OnErr, MatchResult};
 ghost use Rattle.std.specs.List.{list_any, filter_map};
 ghost use Rattle.std.specs.Ordering.{int_eq};
 ghost use Rattle.std.specs.Option.{option_map};
@@ -15,7 +15,7 @@ ghost use Rattle.rt_table.specs.Watching.{view_of, KeepsIds, IsKept, IsRoomier};
 ghost use Rattle.rt_table.specs.declared.watched.Watched.{Watched};
 
 use indexmap::IndexSet;
-use rt_row::{Filter, Schema};
+use rt_row::{Filter, RowList, Schema};
 use rt_sql::{Cond, Items, Name, Refusal, Value};
 use rt_store::Store;
 use rt_tree::Row;
@@ -27,7 +27,7 @@ use std::hash::RandomState;
 #[derive(Debug, Drop)]
 pub struct Picked {
     /// Whole rows by rising id, each as its values column by column.
-    pub rows: Vec<Items<Value>>,
+    pub rows: RowList,
     /// How many nodes of the table's tree the window of the condition reaches; 0 of a view, which knows its rows.
     pub visited: u64,
 }
@@ -66,22 +66,35 @@ fn id_set(
     Ok(set)
 }
 
+/// No rows, with room for so many of a table without auxiliary columns.
+fn no_rows<const D: usize>(
+    alloc: Global,
+    store: &Store<D>,
+    rows: usize,
+) -> Result<RowList, AllocError>
+    ensures { IfOk result (λ lists. lists ≡ []) }
+{
+    // The contract of `len` says that there are three axes at most.
+    let _ = store.len();
+    RowList::with_capacity(alloc, rows, rows.saturating_mul(1 + 2 * D))
+}
+
 /// The whole rows of these ids; an id that no row has is passed over.
 fn rows_at<const D: usize>(
     alloc: Global,
     store: &Store<D>,
     ids: &[i64],
-) -> Result<Vec<Items<Value>>, AllocError>
-    ensures { IfOk result (λ lists. lists.items ≡ map values_of (filter_map (row_at store.now.rows) ids.now)) }
+) -> Result<RowList, AllocError>
+    ensures { IfOk result (λ lists. lists ≡ map values_of (filter_map (row_at store.now.rows) ids.now)) }
 {
     // The contract of `len` says that there are three axes at most.
     let _ = store.len();
-    let mut rows = Vec::with_capacity(alloc, ids.len())?;
+    let mut rows = no_rows(alloc, store, ids.len())?;
     for id in ids {
         let Some(row) = store.find(id) else {
             continue;
         };
-        rows.push(row.values(alloc)?)?;
+        rows.push(alloc, &row)?;
     }
     Ok(rows)
 }
@@ -91,15 +104,15 @@ fn rows_found<const D: usize>(
     alloc: Global,
     store: &Store<D>,
     found: &[Row<D>],
-) -> Result<Vec<Items<Value>>, AllocError>
+) -> Result<RowList, AllocError>
     requires { All (λ row. option_map leaf_row (row_at store.now.rows row.id) ≡ Some row) found.now }
-    ensures { IfOk result (λ lists. lists.items ≡ map values_of (filter_map (λ row. row_at store.now.rows row.id) found.now)) }
+    ensures { IfOk result (λ lists. lists ≡ map values_of (filter_map (λ row. row_at store.now.rows row.id) found.now)) }
 {
     // The contract of `len` says that there are three axes at most.
     let _ = store.len();
-    let mut rows = Vec::with_capacity(alloc, found.len())?;
+    let mut rows = no_rows(alloc, store, found.len())?;
     for row in found {
-        rows.push(store.view(row).values(alloc)?)?;
+        rows.push(alloc, &store.view(row))?;
     }
     Ok(rows)
 }
@@ -110,7 +123,7 @@ pub(crate) fn pick<const D: usize>(
     store: &Store<D>,
     condition: &Filter,
 ) -> Result<Picked, AllocError>
-    ensures rows { IfOk result (λ picked. picked.rows.items ≡ map values_of (filter (admits condition.now) store.now.rows)) }
+    ensures rows { IfOk result (λ picked. picked.rows ≡ map values_of (filter (admits condition.now) store.now.rows)) }
     ensures visited { IfOk result (λ picked. (window : List Interval) × IsWindowAt D condition.now window × Visits store.now.tree window picked.visited) }
 {
     // The contract of `len` says that the ids of the rows rise.
@@ -157,9 +170,9 @@ pub(crate) fn rows_of<const D: usize>(
     alloc: Global,
     store: &Store<D>,
     view: &Watched,
-) -> Result<Vec<Items<Value>>, AllocError>
+) -> Result<RowList, AllocError>
     requires { KeepsIds (admits view.now.filter) store.now.rows view.now.ids.keys }
-    ensures { IfOk result (λ lists. lists.items ≡ map values_of (filter (admits view.now.filter) store.now.rows)) }
+    ensures { IfOk result (λ lists. lists ≡ map values_of (filter (admits view.now.filter) store.now.rows)) }
 {
     // The contract of `len` says that the ids of the rows rise.
     let _ = store.len();

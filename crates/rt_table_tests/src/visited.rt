@@ -59,8 +59,9 @@ fn expect(
         return Err(Fail::from("refused"));
     };
     assert_eq!(rt; picked.rows.len(), ids.len());
-    for (row, id) in picked.rows.iter().zip(ids) {
-        assert!(rt; row.as_slice().first() == Some(&Value::Int(*id)));
+    for (at, id) in ids.iter().enumerate() {
+        assert!(rt; at < picked.rows.len());
+        assert!(rt; picked.rows.row(at).first() == Some(&Value::Int(*id)));
     }
     assert_eq!(rt; picked.visited, visited);
     Ok(())

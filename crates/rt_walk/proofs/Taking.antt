@@ -1,6 +1,8 @@
 -- What a search takes from a node, cell by cell.
 use Rattle.std.proofs.Common.{◌≡◌, ℕ, ◌+◌, ◌<◌, List, [], ◌∷◌, ◌++◌, length, map, get_or, take, append_assoc, append-nil, arith, refl, ap, sym, ◌∙◌, subst, inl, inr}
+use Rattle.std.specs.Prelude.{slice_get, Some}
 use Rattle.std.specs.List.{count_by}
+use Rattle.std.specs.Option.{option_to_list}
 use Rattle.std.proofs.Math.Seq.{take-append_seam, take-length}
 use Rattle.std.proofs.lemmas.Bool.{cases_Bool, cases_eq}
 use Rattle.std.proofs.lemmas.List.{take_more, get_or_default, get_or-map, length-append}
@@ -13,7 +15,7 @@ use Rattle.rt_node.proofs.Counts.{count-append, count-one_no}
 use Rattle.rt_node.proofs.Places.{names_key}
 use Rattle.rt_walk.specs.declared.searching.Row.{Row}
 use Rattle.rt_walk.specs.Search.{times, row_of, LeadsInto}
-use Rattle.rt_walk.specs.Visits.{TakesRows, TakesChildren}
+use Rattle.rt_walk.specs.Visits.{rows_at, TakesRows, TakesChildren}
 use Rattle.rt_walk.proofs.Totals.{times-append, times-one, times-other}
 
 -- what was appended is taken back
@@ -44,6 +46,14 @@ module _ {D : ℕ} where
       taken = take_more (c ∷ cs) at c h;
     },
   )
+
+  -- one position more gives one row more
+  pub rows_at-push : (cells : List (Cell D)) (positions : List ℕ) (at : ℕ) (c : Cell D) → slice_get cells at ≡ Some c →
+      rows_at cells (positions ++ at ∷ []) ≡ rows_at cells positions ++ row_of c ∷ []
+  rows_at-push cells [] at c e = rw e refl
+  rows_at-push cells (p ∷ positions) at c e =
+      ap (λ rs. map row_of (option_to_list (slice_get cells p)) ++ rs) (rows_at-push cells positions at c e)
+      ∙ sym (append_assoc (map row_of (option_to_list (slice_get cells p))) (rows_at cells positions) (row_of c ∷ []))
 
   rows-taken : (window : List Interval) (xs : List (Cell D)) (c : Cell D) (old new1 : List (Row D)) → TakesRows window xs old new1 →
       (new2 : List (Row D)) → Admits window c.rect → new2 ≡ new1 ++ row_of c ∷ [] → TakesRows window (xs ++ c ∷ []) old new2

@@ -1,15 +1,18 @@
 //! Searches: the rows whose boxes a window admits.
 
-ghost use Rattle.std.specs.Prelude.{◌≡◌, ◌≤◌, [], IfOk, OnOk};
+ghost use Rattle.std.specs.Prelude.{◌≡◌, ◌≤◌, ◌<◌, ◌++◌, [], All, length, take, IfOk, OnOk};
 ghost use Rattle.slab.specs.Slab.{ContainsKey};
 ghost use Rattle.rt_node.specs.Whole.{IsWhole};
 ghost use Rattle.rt_node.specs.Places.{key_of};
 ghost use Rattle.rt_walk.specs.Search.{row_of, Finds};
-ghost use Rattle.rt_walk.specs.Visits.{TakesRows, TakesChildren, Visits};
+ghost use Rattle.rt_walk.specs.Visits.{rows_at, TakesRows, TakesChildren, Visits};
 
 use rt_box::{Rect, Window};
 use rt_node::{Arena, Cell, MOST_CELLS, Node, key_of, node_at};
 use std::alloc::{AllocError, Global};
+
+/// How many rows a search has room for before it finds the first one.
+const FIRST_ROOM: usize = 32;
 
 /// A row that a search found.
 #[derive(Clone, Copy, Debug)]
@@ -48,8 +51,45 @@ pub(crate) fn child_of<const D: usize>(cell: &Cell<D>) -> usize
     key_of(cell.number)
 }
 
-// Which cells pass a window's test can't be foreseen. So each is taken, and taken back where it doesn't pass: the end of
-// the vector moves by what the test gave, with no branch.
+// Which cells pass a window's test can't be foreseen. So each is taken, and the next one in its place where it doesn't
+// pass: the end of what is taken moves by what the test gave, with no branch.
+
+/// Puts the positions of a leaf's cells that the window admits in front, and answers how many there are.
+fn put_admitted<const D: usize>(
+    positions: &mut [usize],
+    node: &Node<D>,
+    window: &Window<D>,
+) -> usize
+    requires { length node.now.cells ≤ length positions.old }
+    ensures some { result ≤ length positions.new }
+    ensures within { All (λ at. at < length node.now.cells) (take result positions.new) }
+    ensures rows { TakesRows window.now node.now.cells [] (rows_at node.now.cells (take result positions.new)) }
+{
+    // A copy, which nothing that is written can change, stays in registers.
+    let (boxes, window) = (node.boxes(), *window);
+    let mut count = 0;
+    for at in 0..boxes.len() {
+        positions[count] = at;
+        count += usize::from(window.admits(&boxes[at]));
+    }
+    count
+}
+
+/// Takes the rows of a leaf's cells at these positions.
+fn push_rows<const D: usize>(
+    rows: &mut Vec<Row<D>>,
+    node: &Node<D>,
+    positions: &[usize],
+) -> Result<(), AllocError>
+    requires { All (λ at. at < length node.now.cells) positions.now }
+    ensures { OnOk result (rows.new.items ≡ rows.old.items ++ rows_at node.now.cells positions.now) }
+{
+    rows.reserve(positions.len())?;
+    for at in positions {
+        rows.push_reserved(row_of(&node.cell(*at)));
+    }
+    Ok(())
+}
 
 /// Takes the rows of a leaf that the window admits.
 fn take_rows<const D: usize>(
@@ -59,14 +99,10 @@ fn take_rows<const D: usize>(
 ) -> Result<(), AllocError>
     ensures { OnOk result (TakesRows window.now node.now.cells rows.old.items rows.new.items) }
 {
-    let boxes = node.boxes();
-    rows.reserve(boxes.len())?;
-    for at in 0..boxes.len() {
-        let kept = rows.len() + usize::from(window.admits(&boxes[at]));
-        rows.push_reserved(row_of(&node.cell(at)));
-        rows.truncate(kept);
-    }
-    Ok(())
+    let _ = node.len();
+    let mut positions = [0; MOST_CELLS];
+    let count = put_admitted(&mut positions, node, window);
+    push_rows(rows, node, &positions[..count])
 }
 
 /// Takes the children in which a box may lie that the window admits.
@@ -77,7 +113,7 @@ fn take_children<const D: usize>(
 ) -> Result<(), AllocError>
     ensures { OnOk result (TakesChildren window.now node.now.cells keys.old.items keys.new.items) }
 {
-    let boxes = node.boxes();
+    let (boxes, window) = (node.boxes(), *window);
     keys.reserve(boxes.len())?;
     for at in 0..boxes.len() {
         let kept = keys.len() + usize::from(window.may_hold(&boxes[at]));
@@ -125,10 +161,8 @@ pub fn search<const D: usize>(
     requires few { D ≤ 3 }
     ensures { IfOk result (λ found. Finds tree.now window.now found.rows.items found.visited) }
 {
-    let mut found = Found {
-        rows: Vec::new(alloc),
-        visited: 0,
-    };
+    let rows = Vec::with_capacity(alloc, FIRST_ROOM)?;
+    let mut found = Found { rows, visited: 0 };
     let mut keys = Vec::with_capacity(alloc, 2 * MOST_CELLS)?;
     keys.push(tree.root)?;
     let _ = tree.nodes.capacity();

@@ -22,7 +22,7 @@ use rt_report::run_check;
 use rt_shell::run;
 use std::alloc::{AllocError, Global};
 use std::env;
-use std::fs::File;
+use std::fs::{self, File};
 use std::hash::RandomState;
 use std::io::{self, BufWriter, IsTerminal, Read, Write};
 use std::process::ExitCode;
@@ -87,10 +87,12 @@ fn refused<'a>(
     }
 }
 
-/// A word in the place of a command may be a script's path.
+/// A word in the place of a command may be the path of a script.
 fn hint_at_run(rt: &HostRuntime, words: &[String], kind: ErrorKind) {
     if kind == ErrorKind::InvalidSubcommand
         && let Some(word) = words.get(1)
+        && let Ok(found) = fs::metadata(rt, word.as_str())
+        && found.is_file()
     {
         let _ = eprintln!(rt; "\nTo run the script {word}: rtsh run {word}");
     }

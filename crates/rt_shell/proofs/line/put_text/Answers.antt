@@ -9,6 +9,6 @@ returns c =
     let text = c.args.text.now in
     let old = c.args.line.now.items in
     let none : position is_quote text ≡ None = search rules in
-    c.in_ok-put-3.ensures ∙ ap (λ l. l ++ 39 ∷ []) (c.in_ok-put-2.ensures ∙ ap (λ l. l ++ text) c.in_ok-put.ensures)
+    c.in_ok-put_byte-2.ensures ∙ ap (λ l. l ++ 39 ∷ []) (c.in_ok-put.ensures ∙ ap (λ l. l ++ text) c.in_ok-put_byte.ensures)
     ∙ append_assoc (old ++ 39 ∷ []) text (39 ∷ []) ∙ append_assoc old (39 ∷ []) (text ++ 39 ∷ [])
     ∙ ap (λ l. old ++ 39 ∷ (l ++ 39 ∷ [])) (sym (doubled-no_quote text none))

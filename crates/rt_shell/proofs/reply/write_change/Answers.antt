@@ -14,4 +14,4 @@ returns g c =
     let row = row_line c.args.change.now.row in
     let name : view ≡ c.args.change.now.view = c.as_bytes.ensures.value ∙ c.as_str.ensures in
     Writes-both _ _ _ _ _ _ _ (came ++ (view ++ codes " ")) row _ (line came view row _ _ c.sign.ensures name)
-    c.in_ok-write_parts.ensures c.write_row.ensures
+    c.in_ok-write_parts.ensures (rw c.as_slice.ensures at c.write_row.ensures)

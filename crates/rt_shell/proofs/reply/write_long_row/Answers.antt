@@ -6,5 +6,4 @@ use Rattle.rt_shell.proofs.reply.write_long_row.Goals as goal
 
 pub returns : goal.returns
 returns g c =
-    rw (← c.as_slice.ensures)
-    (Writes-after _ _ _ _ _ _ _ (join_by value_text (codes "|") c.as_slice.result.now) (codes "\n") c.in_ok-write_values.ensures c.write_whole.ensures)
+    Writes-after _ _ _ _ _ _ _ (join_by value_text (codes "|") c.args.row.now) (codes "\n") c.in_ok-write_values.ensures c.write_whole.ensures

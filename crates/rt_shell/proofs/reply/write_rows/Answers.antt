@@ -7,10 +7,10 @@ use Rattle.rt_shell.proofs.reply.write_rows.Goals as goal
 pub returns-in_err-write_row : goal.returns-in_err-write_row
 returns-in_err-write_row g c =
     Writes-failed _ _ _ _ _ _ c.from_residual.ensures.0
-    (WritesFront-item row_line _ _ _ _ _ _ c.args.rows.now c.loop-row.row-index c.row-item.result (omega arith) c.row-item.is
-    c.loop-row.invariant c.in_err-write_row.ensures)
+    (WritesFront-item row_line _ _ _ _ _ _ c.args.rows.now c.loop-at.at c.row.result.now (omega (arith, c.loop-at-test.true, c.len-at-end.ensures)) c.row.ensures
+    c.loop-at.invariant c.in_err-write_row.ensures)
 
-pub loop-row-preserved : goal.loop-row-preserved
-loop-row-preserved g c =
-    WritesAll-item row_line _ _ _ _ _ _ c.args.rows.now c.loop-row.row-index c.row-item.result (omega arith) c.row-item.is
-    c.loop-row.invariant c.in_ok-write_row.ensures
+pub loop-at-preserved : goal.loop-at-preserved
+loop-at-preserved g c =
+    WritesAll-item row_line _ _ _ _ _ _ c.args.rows.now c.loop-at.at c.row.result.now (omega (arith, c.loop-at-test.true, c.len-at-end.ensures)) c.row.ensures
+    c.loop-at.invariant c.in_ok-write_row.ensures

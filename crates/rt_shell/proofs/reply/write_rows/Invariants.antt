@@ -5,7 +5,7 @@ use Rattle.rt_shell.specs.Lines.{row_line}
 use Rattle.rt_shell.proofs.reply.write_rows.Given as goal
 
 -- the lines of the rows before this one are written
-abbrev pub invariant-loop-row : goal.invariant-loop-row
-invariant-loop-row g l = WritesAll (g.W.ByteWriter.written l.initial.writer) (g.W.ByteWriter.written l.writer)
+abbrev pub invariant-loop-at : goal.invariant-loop-at
+invariant-loop-at g l = WritesAll (g.W.ByteWriter.written l.initial.writer) (g.W.ByteWriter.written l.writer)
     (g.W.ByteWriter.faults l.initial.writer) (g.W.ByteWriter.faults l.writer)
-    (flat_map row_line (take l.row-index l.rows))
+    (flat_map row_line (take l.at l.rows))

@@ -1,4 +1,4 @@
-use Rattle.std.proofs.Common.{arith, ◌∙◌}
+use Rattle.std.proofs.Common.{arith, refl, ◌∙◌}
 use Rattle.rt_table.proofs.Picking.{none_looked, some_looked}
 use Rattle.rt_table.proofs.watched.rows_at.Goals as goal
 
@@ -7,5 +7,5 @@ loop-id-preserved-in_default g c = none_looked c.args.store.now.rows c.args.ids.
 
 pub loop-id-preserved : goal.loop-id-preserved
 loop-id-preserved g c =
-    c.in_ok-push.ensures.items
-    ∙ some_looked c.args.store.now.rows c.args.ids.now c.loop-id.id-index _ _ _ (omega arith) c.in-Some.ensures c.in_ok-values.ensures c.loop-id.invariant
+    c.in_ok-push.ensures
+    ∙ some_looked c.args.store.now.rows c.args.ids.now c.loop-id.id-index _ _ _ (omega arith) c.in-Some.ensures refl c.loop-id.invariant

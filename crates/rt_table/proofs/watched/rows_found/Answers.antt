@@ -1,4 +1,4 @@
-use Rattle.std.proofs.Common.{arith, lit<, ◌∙◌, ◌≡◌, Some}
+use Rattle.std.proofs.Common.{arith, refl, lit<, ◌∙◌, ◌≡◌, Some}
 use Rattle.std.specs.Option.{option_map}
 use Rattle.rt_walk.specs.declared.searching.Row.{Row}
 use Rattle.rt_store.specs.Trees.{leaf_row}
@@ -15,6 +15,6 @@ view-requires g c =
 
 pub loop-row-preserved : goal.loop-row-preserved
 loop-row-preserved g c =
-    c.in_ok-push.ensures.items
+    c.in_ok-push.ensures
     ∙ found_more (λ (row : Row g.row.D). row_at c.args.store.now.rows row.id) c.args.found.now c.loop-row.row-index _ c.row-item.result (view_row c.view.result) _ (omega arith) c.row-item.is c.view.ensures
-    c.in_ok-values.ensures c.loop-row.invariant
+    refl c.loop-row.invariant

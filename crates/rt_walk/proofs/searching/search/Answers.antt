@@ -8,7 +8,7 @@ pub loop-key-init : goal.loop-key-init
 loop-key-init g c =
     let s : IsSettled c.args.tree.now = record { whole = c.requires.whole; none = c.requires.settled } in
     let e = c.in_ok-push.ensures.items ∙ ap (λ (xs : List ℕ). xs ++ c.args.tree.now.root ∷ []) c.in_ok-keys.ensures.items in
-    subst (λ (rs : List (Row g.row.D)). Progress c.args.tree.now c.args.window.now c.push.new.self.items rs 0) (sym c.new.ensures.items)
+    subst (λ (rs : List (Row g.row.D)). Progress c.args.tree.now c.args.window.now c.push.new.self.items rs 0) (sym c.in_ok-rows.ensures.items)
     (Progress-start c.args.tree.now c.args.window.now c.push.new.self.items s e)
 
 pub visit-requires : goal.visit-requires

@@ -1,4 +1,4 @@
-use Rattle.std.proofs.Common.{◌≤◌, length, map, lit<, sym, subst}
+use Rattle.std.proofs.Common.{◌≢◌, [], ◌≤◌, length, map, lit<, sym, subst}
 use Rattle.std.specs.List.{All}
 use Rattle.indexmap.specs.IndexSet.{spare}
 use Rattle.rt_row.specs.Edits.{outcome}
@@ -8,7 +8,8 @@ use Rattle.rt_store.specs.Moves.{FollowsSteps}
 use Rattle.rt_table.specs.declared.watched.Watched.{Watched}
 use Rattle.rt_table.specs.Held.{Held}
 use Rattle.rt_table.specs.Preparing.{DifferAt}
-use Rattle.rt_table.proofs.Refreshing.{All-unmapped}
+use Rattle.rt_table.specs.Watching.{view_of}
+use Rattle.rt_table.proofs.Refreshing.{All-unmapped, kept_where_any}
 use Rattle.rt_table.proofs.table.Table.commit.Goals as goal
 
 pub refresh_all-requires : goal.refresh_all-requires
@@ -19,14 +20,15 @@ refresh_all-requires g c =
 
 pub invariant_of-self : goal.invariant_of-self
 invariant_of-self g c =
-    let differ : DifferAt c.self.inside.touched.items c.self.inside.store.rows (outcome c.self.inside.store.rows (map step_of c.args.plan.items)) =
-    subst (λ (h : Held g.row.D). DifferAt h.touched h.lists.rows (outcome h.lists.rows (map step_of c.args.plan.items))) (sym c.self.view_is) c.requires.touched in
+    let differ : map view_of c.self.inside.views.items ≢ [] → DifferAt c.self.inside.touched.items c.self.inside.store.rows (outcome c.self.inside.store.rows (map step_of c.args.plan.items)) =
+    subst (λ (h : Held g.row.D). h.lists.views ≢ [] → DifferAt h.touched h.lists.rows (outcome h.lists.rows (map step_of c.args.plan.items))) (sym c.self.view_is) c.requires.touched in
     record {
       some = c.self.invariant.some;
       few = c.self.invariant.few;
       axes_are = c.self.invariant.axes_are;
       rising = c.len.ensures.rising;
-      kept = c.refresh_all.ensures.kept c.self.inside.columns c.self.inside.store.rows (rw (c.as_slice.ensures.value, c.apply.ensures.rows) differ) c.self.invariant.kept;
+      kept = kept_where_any c.self.inside.columns c.self.inside.store.rows _ _ c.self.inside.views.items _ c.refresh_all.ensures.views
+          (λ some. rw (c.as_slice.ensures.value, c.apply.ensures.rows) (differ some)) (c.refresh_all.ensures.kept c.self.inside.columns c.self.inside.store.rows) c.self.invariant.kept;
     }
 
 pub returns-clause-tree : goal.returns-clause-tree

@@ -35,4 +35,4 @@ returns-clause-ok g c =
     ready c.self.inside.columns c.self.inside.store.rows c.reserve.new.self.rows c.reserve.new.self.tree c.self.inside.views.items c.reserve_ids.new.views.items c.reserve.new.self.room c.reserve.new.self.note_room
     c.in_ok-touched.touched.ids.items c.in_ok-touched.touched.changes.items (map step_of c.args.plan.now) c.in_ok-reserve.ensures.rows c.in_ok-reserve_ids.ensures.views apply
     (omega (arith, c.in_ok-reserve.ensures.ok, c.places_all.ensures)) (omega (arith, c.in_ok-reserve.ensures.notes, c.notes_all.ensures))
-    c.in_ok-touched.ensures.ids roomy (rw c.as_slice.ensures.value at (c.in_ok-touched.ensures.changes c.self.inside.columns (rw c.as_slice.ensures.value c.self.invariant.kept)))
+    (rw c.as_slice.ensures.value at c.in_ok-touched.ensures.ids) roomy (rw c.as_slice.ensures.value at (c.in_ok-touched.ensures.changes c.self.inside.columns (rw c.as_slice.ensures.value c.self.invariant.kept)))
