@@ -1,6 +1,6 @@
 //! A row as a table keeps it.
 
-ghost use Rattle.std.specs.Prelude.{◌≡◌, ◌*◌, ◌<◌, ◌≤◌, ◌∷◌, ◌++◌, length, map, slice_index_or, IfOk, OnOk};
+ghost use Rattle.std.specs.Prelude.{◌≡◌, ◌+◌, ◌*◌, ◌<◌, ◌≤◌, ◌∷◌, ◌++◌, length, map, slice_index_or, IfOk, OnOk, vec_len, vec_capacity};
 ghost use Rattle.rt_sql.specs.declared.value.Value.TheVariants.{Null, Int};
 ghost use Rattle.rt_row.specs.Entries.{field_value};
 ghost use Rattle.rt_box.specs.Rect.{coordinates};
@@ -47,18 +47,14 @@ fn kept(more: &[Value], place: usize) -> Field<'_>
     Field::Kept(&more[place])
 }
 
-/// Appends the coordinates.
-fn push_coordinates<const D: usize>(
-    values: &mut Vec<Value>,
-    rect: &Rect<D>,
-) -> Result<(), AllocError>
-    ensures ok { OnOk result (values.new.items ≡ values.old.items ++ map Int (coordinates rect.now)) }
-    ensures longer { length values.old.items ≤ length values.new.items }
+/// Appends the coordinates, for which there is room.
+fn push_coordinates<const D: usize>(values: &mut Vec<Value>, rect: &Rect<D>)
+    requires { vec_len values.old + 2 * D ≤ vec_capacity values.old }
+    ensures { values.new.items ≡ values.old.items ++ map Int (coordinates rect.now) }
 {
     for place in 0..2 * rect.axes() {
-        values.push(Value::Int(i64::from(coordinate(rect, place))))?;
+        values.push_reserved(Value::Int(i64::from(coordinate(rect, place))));
     }
-    Ok(())
 }
 
 /// Appends the id and the coordinates.
@@ -70,10 +66,13 @@ pub(crate) fn push_numbers<const D: usize>(
     ensures ok { OnOk result (values.new.items ≡ values.old.items ++ Int id ∷ map Int (coordinates rect.now)) }
     ensures longer { length values.old.items ≤ length values.new.items }
 {
-    values.push(Value::Int(id))?;
-    push_coordinates(values, rect)
+    values.reserve(1 + 2 * rect.axes())?;
+    values.push_reserved(Value::Int(id));
+    push_coordinates(values, rect);
+    Ok(())
 }
 
+#[inline]
 pub(crate) fn push_copies(
     alloc: Global,
     values: &mut Vec<Value>,

@@ -1,79 +1,140 @@
 //! The line of a row put together, so that it is written at once.
 
-ghost use Rattle.std.specs.Prelude.{◌≡◌, ◌++◌, ◌∷◌, [], IfSome, codes};
+ghost use Rattle.std.specs.Prelude.{◌≡◌, ◌≤◌, ◌++◌, ◌∷◌, ℕ, List, [], IfSome, codes, drop, length};
+ghost use Rattle.std.specs.Fmt.{signed_decimal};
 ghost use Rattle.std.specs.List.{flat_map};
 ghost use Rattle.rt_sql.specs.Token.{doubled};
 ghost use Rattle.rt_shell.specs.Lines.{value_text, row_line};
 
 use crate::value::first_quote;
-use arrayvec::ArrayVec;
-use itoa::Buffer;
+use itoa::write_digits;
 use rt_sql::Value;
+use std::marker::Model;
 
 /// The most bytes of a line that is put together; a longer one is written value by value.
 const MOST_BYTES: usize = 128;
 
-/// A line, or a front of one.
-pub(crate) type Line = ArrayVec<u8, MOST_BYTES>;
+/// The most digits of an integer of 64 bits.
+const MOST_DIGITS: usize = 20;
 
-/// Puts the bytes at the line's end, where there is room for them.
-fn put(line: &mut Line, bytes: &[u8]) -> Option<()>
-    ensures { IfSome result (λ _. line.new.items ≡ line.old.items ++ bytes.now) }
-{
-    line.try_extend_from_slice(bytes).ok()
+/// The last part of a line. A line is put together from its end to its beginning: of a number's digits the last is
+/// found first, so that each is put where it stays.
+#[derive(Drop)]
+pub(crate) struct Line {
+    bytes: [u8; MOST_BYTES],
+    start: usize,
 }
 
-/// Puts a byte at the line's end, where there is room for it.
-fn put_byte(line: &mut Line, byte: u8) -> Option<()>
-    ensures { IfSome result (λ _. line.new.items ≡ line.old.items ++ byte ∷ []) }
-{
-    line.try_push(byte).ok()
+// Clauses see the bytes from the start on.
+impl Model for Line {
+    ghost Value = { List ℕ };
+
+    ghost view = { λ line. drop line.start line.bytes };
+
+    ghost invariant = { λ line. (line.start ≤ 128) × (length line.bytes ≡ 128) };
 }
 
-/// Puts a text in quotes, where it is short and has none inside.
-fn put_text(line: &mut Line, text: &[u8]) -> Option<()>
-    ensures { IfSome result (λ _. line.new.items ≡ line.old.items ++ (codes "'" ++ doubled 39 text.now ++ codes "'")) }
-{
-    if text.len() > MOST_BYTES || first_quote(text).is_some() {
-        return None;
+impl Line {
+    /// Nothing yet.
+    pub(crate) fn new() -> Line
+        ensures { result ≡ [] }
+    {
+        Line {
+            bytes: [0; MOST_BYTES],
+            start: MOST_BYTES,
+        }
     }
-    put_byte(line, b'\'')?;
-    put(line, text)?;
-    put_byte(line, b'\'')?;
-    Some(())
-}
 
-/// Puts a value, where there is room for it and it takes no more than a copy.
-fn put_value(line: &mut Line, value: &Value) -> Option<()>
-    ensures { IfSome result (λ _. line.new.items ≡ line.old.items ++ value_text value.now) }
-{
-    match value {
-        Value::Null => put(line, b"NULL"),
-        Value::Int(number) => put(line, Buffer::new().format(*number).as_bytes()),
-        Value::Text(text) => put_text(line, text.as_str().as_bytes()),
-        Value::Blob(_) => None,
+    pub(crate) fn as_slice(&self) -> &[u8]
+        ensures { result.now ≡ self.now }
+    {
+        &self.bytes[self.start..]
     }
-}
 
-/// Puts the values that follow a first one.
-fn put_more(line: &mut Line, values: &[Value]) -> Option<()>
-    ensures { IfSome result (λ _. line.new.items ≡ line.old.items ++ flat_map (λ value. codes "|" ++ value_text value) values.now) }
-{
-    for value in values {
-        put_byte(line, b'|')?;
-        put_value(line, value)?;
+    /// Puts the bytes before the rest, where there is room for them.
+    fn put(&mut self, bytes: &[u8]) -> Option<()>
+        ensures { IfSome result (λ _. self.new ≡ bytes.now ++ self.old) }
+    {
+        let start = self.start.checked_sub(bytes.len())?;
+        self.bytes[start..self.start].copy_from_slice(bytes);
+        self.start = start;
+        Some(())
     }
-    Some(())
-}
 
-/// Puts the line of a row, where there is room for it and no value takes more than a copy.
-pub(crate) fn put_row(line: &mut Line, row: &[Value]) -> Option<()>
-    ensures { IfSome result (λ _. line.new.items ≡ line.old.items ++ row_line row.now) }
-{
-    if let Some((first, rest)) = row.split_first() {
-        put_value(line, first)?;
-        put_more(line, rest)?;
+    /// Puts a byte before the rest, where there is room for it.
+    #[inline]
+    fn put_byte(&mut self, byte: u8) -> Option<()>
+        ensures { IfSome result (λ _. self.new ≡ byte ∷ self.old) }
+    {
+        let start = self.start.checked_sub(1)?;
+        self.bytes[start] = byte;
+        self.start = start;
+        Some(())
     }
-    put_byte(line, b'\n')?;
-    Some(())
+
+    /// Puts a number, where there is room for any.
+    #[inline]
+    fn put_integer(&mut self, number: i64) -> Option<()>
+        ensures { IfSome result (λ _. self.new ≡ signed_decimal number ++ self.old) }
+    {
+        if self.start < MOST_DIGITS {
+            return None;
+        }
+        self.start = write_digits(number.unsigned_abs(), &mut self.bytes, self.start);
+        if number < 0 {
+            self.put_byte(b'-')?;
+        }
+        Some(())
+    }
+
+    /// Puts a text in quotes, where it is short and has none inside.
+    fn put_text(&mut self, text: &[u8]) -> Option<()>
+        ensures { IfSome result (λ _. self.new ≡ (codes "'" ++ doubled 39 text.now ++ codes "'") ++ self.old) }
+    {
+        if text.len() > MOST_BYTES || first_quote(text).is_some() {
+            return None;
+        }
+        self.put_byte(b'\'')?;
+        self.put(text)?;
+        self.put_byte(b'\'')?;
+        Some(())
+    }
+
+    /// Puts a value, where there is room for it and it takes no more than a copy.
+    #[inline]
+    fn put_value(&mut self, value: &Value) -> Option<()>
+        ensures { IfSome result (λ _. self.new ≡ value_text value.now ++ self.old) }
+    {
+        match value {
+            Value::Null => self.put(b"NULL"),
+            Value::Int(number) => self.put_integer(*number),
+            Value::Text(text) => self.put_text(text.as_str().as_bytes()),
+            Value::Blob(_) => None,
+        }
+    }
+
+    /// Puts values that follow a first one, each behind a bar.
+    fn put_more(&mut self, values: &[Value]) -> Option<()>
+        ensures { IfSome result (λ _. self.new ≡ flat_map (λ value. codes "|" ++ value_text value) values.now ++ self.old) }
+    {
+        let mut rest = values;
+        while let Some((last, before)) = rest.split_last() {
+            self.put_value(last)?;
+            self.put_byte(b'|')?;
+            rest = before;
+        }
+        Some(())
+    }
+
+    /// Puts the line of a row, where there is room for it and no value takes more than a copy.
+    pub(crate) fn put_row(&mut self, row: &[Value]) -> Option<()>
+        ensures { IfSome result (λ _. self.new ≡ row_line row.now ++ self.old) }
+    {
+        self.put_byte(b'\n')?;
+        if let Some((first, rest)) = row.split_first() {
+            self.put_more(rest)?;
+            self.put_value(first)?;
+        }
+        Some(())
+    }
 }

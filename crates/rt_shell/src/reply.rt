@@ -5,7 +5,7 @@ ghost use Rattle.std.specs.List.{flat_map, join_by};
 ghost use Rattle.rt_bytes.specs.Devices.{WritesTo};
 ghost use Rattle.rt_shell.specs.Lines.{value_text, row_line, change_line, reply_lines, refusal_line};
 
-use crate::line::{Line, put_row};
+use crate::line::Line;
 use crate::value::write_value;
 use itoa::Buffer;
 use rt_bytes::{ByteWriter, WriteFault, write_parts, write_whole};
@@ -69,7 +69,7 @@ fn write_row<W: ByteWriter>(row: &[Value], writer: &mut W) -> Result<(), WriteFa
     ensures { WritesTo W.ByteWriter writer.old writer.new result (row_line row.now) }
 {
     let mut line = Line::new();
-    match put_row(&mut line, row) {
+    match line.put_row(row) {
         Some(()) => write_whole(writer, line.as_slice()),
         None => write_long_row(row, writer),
     }

@@ -11,13 +11,15 @@ loop-place-preserved g c =
     let numbers = coordinates c.args.rect.now in
     let fits : FitsSigned w64 c.from.result = search rules in
     let narrow : FitsSigned w32 c.coordinate.result = search rules in
-    let long : c.loop-place.place < length numbers = omega (arith, length-coordinates c.args.rect.now, c.axes-place-end.ensures.is_box.axes_are) in
-    c.in_ok-push.ensures.items
-    ∙ rw (to_z-of_z fits, c.from.ensures, to_z-of_z narrow, map_more Int numbers c.loop-place.place c.coordinate.result long, ← c.coordinate.ensures, c.loop-place.invariant)
-    (append_assoc c.args.values.now.items (map Int (take c.loop-place.place numbers)) (Int c.coordinate.result ∷ []))
+    let long : c.loop-place.place < length numbers = omega (arith, length-coordinates c.args.rect.now, c.axes-place-end.ensures.is_box.axes_are) in (
+      c.push_reserved.ensures.items
+          ∙ rw (to_z-of_z fits, c.from.ensures, to_z-of_z narrow, map_more Int numbers c.loop-place.place c.coordinate.result long, ← c.coordinate.ensures, c.loop-place.invariant.0)
+          (append_assoc c.args.values.now.items (map Int (take c.loop-place.place numbers)) (Int c.coordinate.result ∷ [])),
+      omega (arith, c.push_reserved.ensures.len, c.push_reserved.ensures.capacity, c.loop-place.invariant.1),
+    )
 
-pub returns-clause-ok : goal.returns-clause-ok
-returns-clause-ok g c =
+pub returns : goal.returns
+returns g c =
     let numbers = coordinates c.args.rect.now in
     let all : c.loop-place.place ≡ length numbers = omega (arith, length-coordinates c.args.rect.now, c.axes-place-end.ensures.is_box.axes_are) in
-    c.loop-place.invariant ∙ ap (λ zs. c.args.values.now.items ++ map Int zs) (ap (λ n. take n numbers) all ∙ take-length numbers)
+    c.loop-place.invariant.0 ∙ ap (λ zs. c.args.values.now.items ++ map Int zs) (ap (λ n. take n numbers) all ∙ take-length numbers)
