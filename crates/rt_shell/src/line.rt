@@ -45,6 +45,7 @@ impl Line {
         }
     }
 
+    /// The bytes put so far.
     pub(crate) fn as_slice(&self) -> &[u8]
         ensures { result.now ≡ self.now }
     {

@@ -99,6 +99,7 @@ fn take_rows<const D: usize>(
 ) -> Result<(), AllocError>
     ensures { OnOk result (TakesRows window.now node.now.cells rows.old.items rows.new.items) }
 {
+    // The contract of `len` says that a node has no more cells than there is room for here.
     let _ = node.len();
     let mut positions = [0; MOST_CELLS];
     let count = put_admitted(&mut positions, node, window);
