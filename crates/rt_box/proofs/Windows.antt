@@ -3,7 +3,7 @@ use Rattle.std.proofs.Common.{◌≡◌, ℕ, zero, suc, ◌+◌, ◌*◌, ◌<�
 use Rattle.std.specs.Int.{int_min, int_max}
 use Rattle.std.proofs.lemmas.Int.{ints, clamps}
 use Rattle.std.proofs.lemmas.List.{length-set, get_or_default, get_or-set_same, get_or-set_other, length-replicate}
-use Rattle.std.proofs.lemmas.List.Elements.{All-head, All-tail, All-nil, All-cons}
+use Rattle.std.proofs.lemmas.List.Elements.{All-head, All-tail, All-nil, All-cons, All-get_or}
 use lib.Pointwise.{pointwise}
 use Rattle.rt_box.specs.declared.interval.Interval.{Interval}
 use Rattle.rt_box.specs.declared.op6.Op6.{Op6}
@@ -11,9 +11,9 @@ use Rattle.rt_box.specs.declared.window.Ends.{Ends}
 use Rattle.rt_box.specs.Interval.{interval, Includes, Covers, FitsEnds}
 use Rattle.rt_box.specs.Op6.{Keeps}
 use Rattle.rt_box.specs.Rect.{IsBox, Holds}
-use Rattle.rt_box.specs.Ends.{in_order, paired_up, paired_up-in_order, AdmitsSide, MayHoldSide}
+use Rattle.rt_box.specs.Ends.{in_order, paired_up, paired_up-in_order, AdmitsSide, MayHoldSide, Reaches}
 use Rattle.rt_box.proofs.Made.{IsOrdered}
-use Rattle.rt_box.specs.Window.{Allows, IsUnlimited, Narrows, Admits, MayHold}
+use Rattle.rt_box.specs.Window.{Allows, IsUnlimited, Narrows, Admits, MayHold, IsReach}
 
 -- two windows are equal exactly where their pairs are
 pub pointwise-paired_up : (same : Ends → Ends → Bool) (xs ys : List Ends) (v w : List Interval) (r : Bool) →
@@ -128,26 +128,21 @@ IsUnlimited-replicate axes e lo hi = record {
   every = every-replicate axes e lo hi;
 }
 
--- ---- on one axis the interval to try goes from x to y
+-- ---- on one axis
 
-pub MayHoldSide-from : (e : Ends) (side : Interval) (x y : ℤ) → x ≡ int_max e.lo.lo side.lo → y ≡ int_min e.hi.hi side.hi →
-    x ≤ℤ e.lo.hi → e.hi.lo ≤ℤ y → x ≤ℤ y → MayHoldSide e side
-MayHoldSide-from e side x y x_is y_is low high order = (
-  interval x y,
-  order,
+-- ends that admit some interval
+pub MayHoldSide-some : (e : Ends) (side : Interval) → MayHoldSide e side → (e.lo.lo ≤ℤ e.lo.hi) × (e.hi.lo ≤ℤ e.hi.hi) × (e.lo.lo ≤ℤ e.hi.hi)
+MayHoldSide-some e side m = (omega (arith, ints, m.3.0), omega (arith, ints, m.3.1), omega (arith, ints, m.1, m.3.0, m.3.1))
+
+-- the interval to try goes from the least number that both allow to the greatest
+pub MayHoldSide-from : (e : Ends) (side : Interval) → side.lo ≤ℤ side.hi → e.lo.lo ≤ℤ e.lo.hi → e.hi.lo ≤ℤ e.hi.hi → e.lo.lo ≤ℤ e.hi.hi →
+    side.lo ≤ℤ e.lo.hi → side.lo ≤ℤ e.hi.hi → e.lo.lo ≤ℤ side.hi → e.hi.lo ≤ℤ side.hi → MayHoldSide e side
+MayHoldSide-from e side ordered lo hi both low_lo low_hi high_lo high_hi = (
+  interval (int_max e.lo.lo side.lo) (int_min e.hi.hi side.hi),
+  omega (arith, ints, clamps),
   (omega (arith, ints, clamps), omega (arith, ints, clamps)),
-  ((omega (arith, ints, clamps), low), (high, omega (arith, ints, clamps))),
+  ((omega (arith, ints, clamps), omega (arith, ints, clamps)), (omega (arith, ints, clamps), omega (arith, ints, clamps))),
 )
-
-pub MayHoldSide-low : (e : Ends) (side : Interval) (x : ℤ) → x ≡ int_max e.lo.lo side.lo → MayHoldSide e side → x ≤ℤ e.lo.hi
-MayHoldSide-low e side x x_is m = omega (arith, ints, clamps, m.2, m.3.0)
-
-pub MayHoldSide-high : (e : Ends) (side : Interval) (y : ℤ) → y ≡ int_min e.hi.hi side.hi → MayHoldSide e side → e.hi.lo ≤ℤ y
-MayHoldSide-high e side y y_is m = omega (arith, ints, clamps, m.2, m.3.1)
-
-pub MayHoldSide-order : (e : Ends) (side : Interval) (x y : ℤ) → x ≡ int_max e.lo.lo side.lo → y ≡ int_min e.hi.hi side.hi →
-    MayHoldSide e side → x ≤ℤ y
-MayHoldSide-order e side x y x_is y_is m = omega (arith, ints, clamps, m.1, m.2, m.3.0, m.3.1)
 
 -- ---- the box to try is made axis by axis
 
@@ -243,3 +238,16 @@ MayHold-sides axes es window b i e d window_is h held = MayHold-side axes es b i
 pub MayHold-all : (axes : ℕ) (es : List Ends) (window b : List Interval) → in_order es ≡ window → length es ≡ axes → IsBox axes b →
     ((i : ℕ) (e : Ends) (d : Interval) → i < length es → MayHoldSide (get_or es i e) (get_or b i d)) → MayHold axes window b
 MayHold-all axes es window b window_is long is h = rw (← window_is) (MayHold-from_sides axes es b is long h)
+
+-- ---- a window whose ends reach so on each axis is a reach
+
+pub IsReach-all : (axes : ℕ) (es rs : List Ends) (window : List Interval) → in_order es ≡ window → length es ≡ axes → length rs ≡ axes →
+    ((i : ℕ) (e r : Ends) → i < axes → Reaches (get_or es i e) (get_or rs i r)) → IsReach axes window (in_order rs)
+IsReach-all axes es rs window window_is es_long rs_long reaches b is =
+    let side : (i : ℕ) (e r : Ends) (d : Interval) → i < axes → (AdmitsSide (get_or rs i r) (get_or b i d) ↔ MayHoldSide (get_or es i e) (get_or b i d)) =
+    λ i e r d l. reaches i e r l (get_or b i d) (All-get_or FitsEnds b i d (omega (arith, is.axes_are)) is.fits) (All-get_or IsOrdered b i d (omega (arith, is.axes_are)) is.ordered) in (
+      (λ a. MayHold-all axes es window b window_is es_long is
+          (λ i e d l. (side i e e d (omega (arith, es_long))).0 (Admits-sides rs (in_order rs) b i e d refl (omega (arith, es_long, rs_long)) a))),
+      (λ m. Admits-all rs (in_order rs) b refl (omega (arith, rs_long, is.axes_are))
+          (λ i r d l. (side i r r d (omega (arith, rs_long))).1 (MayHold-sides axes es window b i r d window_is (omega (arith, es_long, rs_long)) m))),
+    )

@@ -1,9 +1,9 @@
 -- The pairs in which a window keeps its intervals, one pair for each axis.
-use Rattle.std.specs.Prelude.{◌≡◌, List, [], ◌∷◌, ◌≤ℤ◌}
+use Rattle.std.specs.Prelude.{◌≡◌, ◌↔◌, List, [], ◌∷◌, ◌≤ℤ◌}
 use Rattle.std.proofs.Common.{refl, ap}
 use Rattle.rt_box.specs.declared.interval.Interval.{Interval}
 use Rattle.rt_box.specs.declared.window.Ends.{Ends}
-use Rattle.rt_box.specs.Interval.{Includes, Covers}
+use Rattle.rt_box.specs.Interval.{Includes, Covers, FitsEnds}
 
 -- one interval for each coordinate
 abbrev pub in_order : List Ends → List Interval
@@ -26,3 +26,7 @@ AdmitsSide e side = Includes e.lo side.lo × Includes e.hi side.hi
 -- some interval within the side is admitted
 abbrev pub MayHoldSide : Ends → Interval → Type 0
 MayHoldSide e side = (inner : Interval) × (inner.lo ≤ℤ inner.hi) × Covers side inner × AdmitsSide e inner
+
+-- exactly the sides are admitted within which the ends admit some interval
+abbrev pub Reaches : Ends → Ends → Type 0
+Reaches e reach = (side : Interval) → FitsEnds side → side.lo ≤ℤ side.hi → (AdmitsSide reach side ↔ MayHoldSide e side)

@@ -33,6 +33,10 @@ Admits window b = AllZip Includes window (coordinates b)
 abbrev pub MayHold : ℕ → List Interval → List Interval → Type 0
 MayHold axes window b = (inner : List Interval) × IsBox axes inner × Holds b inner × Admits window inner
 
+-- one window admits exactly the boxes within which the other may hold one
+abbrev pub IsReach : ℕ → List Interval → List Interval → Type 0
+IsReach axes window reach = (b : List Interval) → IsBox axes b → (Admits reach b ↔ MayHold axes window b)
+
 -- a comparison of a coordinate with a number
 pub record Comparison : Type 0 where
   pub coordinate : ℕ

@@ -19,7 +19,13 @@ impl Interval {
     };
 
     // Any `lo` above its `hi` would do.
-    const EMPTY: Interval = Interval { lo: 1, hi: 0 };
+    pub(crate) const EMPTY: Interval = Interval { lo: 1, hi: 0 };
+
+    pub(crate) fn has_numbers(self) -> bool
+        ensures { IsTrue result ↔ (self.lo ≤ℤ self.hi) }
+    {
+        self.lo <= self.hi
+    }
 
     /// `hi` less `lo`, or 0 where `lo` is above `hi`.
     pub(crate) fn length(self) -> u32

@@ -4,7 +4,7 @@
 //!   distance of centres) are those of the R*-tree, exact over whole numbers: nothing wraps, and each
 //!   states the bound that sums of it need.
 //! - `Window` holds what a search asks of each coordinate. It admits a box exactly where all of its
-//!   comparisons but `<>` hold, and `may_hold` says exactly whether an admitted box fits into a given one.
+//!   comparisons but `<>` hold, and its `reach` exactly the boxes into which an admitted box fits.
 //! - `Capacity` is the greatest number of cells in a node, with the two numbers that follow from it.
 //! - `laws` states what searching and splitting rest on, over the definitions that the contracts cite.
 //!

@@ -1,6 +1,6 @@
 ghost use Rattle.std.specs.Prelude.{◌*◌, ◌<◌, ◌↔◌, IsTrue};
-ghost use Rattle.rt_box.specs.Ends.{AdmitsSide, MayHoldSide};
-ghost use Rattle.rt_box.specs.Window.{IsUnlimited, Narrows, Admits, MayHold};
+ghost use Rattle.rt_box.specs.Ends.{AdmitsSide, Reaches};
+ghost use Rattle.rt_box.specs.Window.{IsUnlimited, Narrows, Admits, IsReach};
 
 use crate::interval::Interval;
 use crate::op6::Op6;
@@ -24,14 +24,27 @@ impl Ends {
         self.lo.includes(side.lo) & self.hi.includes(side.hi)
     }
 
-    /// Whether an interval that is admitted fits into `side`. It is enough to try the longest: from the
-    /// least number that its `lo` may be to the greatest that its `hi` may be.
-    fn may_hold(self, side: Interval) -> bool
-        ensures { IsTrue result ↔ MayHoldSide self side }
+    /// What the ends of a side are where an interval that is admitted fits into it: the side begins no later than such
+    /// an interval may, and ends no sooner.
+    fn reach(self) -> Ends
+        ensures { Reaches self result }
     {
-        let least = self.lo.lo.max(side.lo);
-        let greatest = self.hi.hi.min(side.hi);
-        (least <= self.lo.hi) & (self.hi.lo <= greatest) & (least <= greatest)
+        if self.lo.has_numbers() && self.hi.has_numbers() && self.lo.lo <= self.hi.hi {
+            return Ends {
+                lo: Interval {
+                    lo: i32::MIN,
+                    hi: self.lo.hi.min(self.hi.hi),
+                },
+                hi: Interval {
+                    lo: self.lo.lo.max(self.hi.lo),
+                    hi: i32::MAX,
+                },
+            };
+        }
+        Ends {
+            lo: Interval::EMPTY,
+            hi: Interval::EMPTY,
+        }
     }
 }
 
@@ -108,16 +121,16 @@ impl<const D: usize> Window<D> {
         admitted
     }
 
-    /// Whether some box that lies in the given one is admitted.
-    #[inline]
-    pub fn may_hold(&self, rect: &Rect<D>) -> bool
-        ensures { IsTrue result ↔ MayHold D self.now rect.now }
+    /// The window that admits the boxes in which one may lie that this window admits. A search that goes down a tree
+    /// makes it once.
+    pub fn reach(&self) -> Window<D>
+        ensures { IsReach D self.now result }
     {
-        let mut held = true;
-        for axis in 0..rect.axes() {
-            held &= self.axes[axis].may_hold(rect.range(axis));
+        let mut axes = self.axes;
+        for axis in 0..D {
+            axes[axis] = axes[axis].reach();
         }
-        held
+        Window { axes }
     }
 }
 
@@ -126,14 +139,14 @@ mod tests {
     use super::*;
     use std::test::Fail;
 
-    /// Whether the window of one comparison admits the box from 0 to 5, and may hold within it.
+    /// Whether the window of one comparison admits the box from 0 to 5, and its reach does.
     fn answers(coordinate: usize, op: Op6, value: i64) -> Option<(bool, bool)>
         requires { coordinate < 2 }
     {
         let rect = Rect::new([0], [5])?;
         let mut window = Window::<1>::all();
         window.narrow(coordinate, op, value);
-        Some((window.admits(&rect), window.may_hold(&rect)))
+        Some((window.admits(&rect), window.reach().admits(&rect)))
     }
 
     #[test]
@@ -169,9 +182,9 @@ mod tests {
         window.narrow(5, Op6::Ge, i64::from(i32::MAX));
         assert!(rt; window.admits(&rect));
         window.narrow(2, Op6::Gt, 10);
-        assert!(rt; !window.admits(&rect) && window.may_hold(&rect));
+        assert!(rt; !window.admits(&rect) && window.reach().admits(&rect));
         window.narrow(3, Op6::Lt, 11);
-        assert!(rt; !window.may_hold(&rect));
+        assert!(rt; !window.reach().admits(&rect));
         Ok(())
     }
 }

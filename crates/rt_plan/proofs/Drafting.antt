@@ -4,10 +4,10 @@ use Rattle.std.specs.List.{list_all, filter_map, AllByRecursion}
 use Rattle.std.specs.Option.{is_some, option_map_or}
 use Rattle.std.specs.Ordering.{int_eq}
 use Rattle.std.proofs.lemmas.List.{at_drop_more}
-use Rattle.rt_sql.specs.declared.refusal.Refusal.{Refusal}
-use Rattle.rt_sql.specs.declared.refusal.Refusal.TheVariants.{WrongType, IntegerOutOfRange, OutOfMemory}
-use Rattle.rt_sql.specs.declared.value.Value.{Value}
-use Rattle.rt_sql.specs.declared.statement.Test.{Test}
+use Rattle.rt_statement.specs.declared.refusal.Refusal.{Refusal}
+use Rattle.rt_statement.specs.declared.refusal.Refusal.TheVariants.{WrongType, IntegerOutOfRange, OutOfMemory}
+use Rattle.rt_statement.specs.declared.value.Value.{Value}
+use Rattle.rt_statement.specs.declared.statement.Test.{Test}
 use Rattle.rt_row.specs.Columns.{Columns}
 use Rattle.rt_row.specs.Conditions.{holds}
 use Rattle.rt_row.specs.Filters.{Placed, admits, IsFilterOf}

@@ -2,7 +2,7 @@
 use Rattle.std.proofs.Common.{◌≡◌, ℤ, Bool, true, false, cond, ◌||◌, List, [], ◌∷◌, map, filter, Option, Some, None, Ok, refl}
 use Rattle.std.specs.Option.{is_some, option_map}
 use Rattle.std.specs.Ordering.{int_eq}
-use Rattle.rt_sql.specs.declared.statement.Test.{Test}
+use Rattle.rt_statement.specs.declared.statement.Test.{Test}
 use Rattle.rt_row.specs.Columns.{Columns}
 use Rattle.rt_row.specs.Conditions.{holds}
 use Rattle.rt_row.specs.Filters.{Placed, admits, IsFilterOf}

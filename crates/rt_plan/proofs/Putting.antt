@@ -3,11 +3,11 @@ use Rattle.std.proofs.Common.{◌≡◌, ◌==◌, ◌<◌, ◌+◌, get_or, dro
 use Rattle.std.specs.Prelude.{nat_le}
 use Rattle.std.specs.List.{list_all}
 use Rattle.std.proofs.lemmas.List.{at_drop_more}
-use Rattle.rt_sql.specs.declared.value.Value.{Value}
-use Rattle.rt_sql.specs.declared.statement.Rule.{Rule}
-use Rattle.rt_sql.specs.declared.statement.Rule.TheVariants.{Abort, Replace, Ignore}
-use Rattle.rt_sql.specs.declared.refusal.Refusal.{Refusal}
-use Rattle.rt_sql.specs.declared.refusal.Refusal.TheVariants.{WrongNumberOfValues, IdAlreadyTaken, MinimumAboveMaximum, TableFull, OutOfMemory}
+use Rattle.rt_statement.specs.declared.value.Value.{Value}
+use Rattle.rt_statement.specs.declared.statement.Rule.{Rule}
+use Rattle.rt_statement.specs.declared.statement.Rule.TheVariants.{Abort, Replace, Ignore}
+use Rattle.rt_statement.specs.declared.refusal.Refusal.{Refusal}
+use Rattle.rt_statement.specs.declared.refusal.Refusal.TheVariants.{WrongNumberOfValues, IdAlreadyTaken, MinimumAboveMaximum, TableFull, OutOfMemory}
 use Rattle.rt_row.specs.Columns.{Columns}
 use Rattle.rt_row.specs.Arrangements.{Arranged, rearranged, IsArrangementOf}
 use Rattle.rt_row.specs.Rows.{TableRow, has_id}

@@ -2,10 +2,10 @@
 use Rattle.std.specs.Prelude.{◌≡◌, ℕ, ◌-◌, ℤ, pos, ◌+ℤ◌, Bool, true, false, int_lt, if◌then◌else◌, List, length, Option, Some, None}
 use Rattle.std.specs.Option.{option_map_or}
 use Rattle.std.specs.Ordering.{int_eq}
-use Rattle.rt_sql.specs.declared.refusal.Refusal.{Refusal}
-use Rattle.rt_sql.specs.declared.refusal.Refusal.TheVariants.{IdAlreadyTaken, MinimumAboveMaximum}
-use Rattle.rt_sql.specs.declared.statement.Rule.{Rule}
-use Rattle.rt_sql.specs.declared.statement.Rule.TheVariants.{Ignore}
+use Rattle.rt_statement.specs.declared.refusal.Refusal.{Refusal}
+use Rattle.rt_statement.specs.declared.refusal.Refusal.TheVariants.{IdAlreadyTaken, MinimumAboveMaximum}
+use Rattle.rt_statement.specs.declared.statement.Rule.{Rule}
+use Rattle.rt_statement.specs.declared.statement.Rule.TheVariants.{Ignore}
 use Rattle.rt_row.specs.Rows.{TableRow, AreRising, has_id, largest_id}
 use Rattle.rt_row.specs.Edits.{Step, Leaves, Comes, Becomes, largest_integer, most_rows}
 

@@ -7,7 +7,7 @@ ghost use Rattle.rt_plan.specs.Plans.{Plans};
 
 use crate::plan::Plan;
 use rt_row::{Filter, Schema, Step};
-use rt_sql::{Cond, Refusal};
+use rt_statement::{Cond, Refusal};
 use rt_store::Store;
 use std::alloc::{AllocError, Global};
 

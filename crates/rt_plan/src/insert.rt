@@ -16,7 +16,7 @@ use crate::count::Count;
 use crate::draft::{Draft, entry_of};
 use crate::plan::Plan;
 use rt_row::{Arrangement, Candidate, Schema, Step};
-use rt_sql::{Items, Name, Refusal, Rule, Value};
+use rt_statement::{Items, Name, Refusal, Rule, Value};
 use rt_store::Store;
 use std::alloc::Global;
 use std::hash::RandomState;

@@ -12,7 +12,7 @@ ghost use Rattle.rt_plan.specs.Plans.{Plans};
 use crate::draft::{Draft, entry_of};
 use crate::plan::Plan;
 use rt_row::{Candidate, Filter, RowView, Schema, Settings, Step};
-use rt_sql::{Cond, Name, Refusal, Source};
+use rt_statement::{Cond, Name, Refusal, Source};
 use rt_store::Store;
 use std::alloc::Global;
 use std::hash::RandomState;

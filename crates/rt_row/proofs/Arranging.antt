@@ -1,6 +1,6 @@
 -- Values that are arranged by looked-up places are arranged by names.
 use Rattle.std.proofs.Common.{◌≡◌, ℕ, List, [], ◌∷◌, map, refl}
-use Rattle.rt_sql.specs.declared.value.Value.{Value}
+use Rattle.rt_statement.specs.declared.value.Value.{Value}
 use Rattle.rt_row.specs.Columns.{place_of}
 use Rattle.rt_row.specs.Edits.{arranged}
 use Rattle.rt_row.specs.Arrangements.{value_at}

@@ -7,9 +7,9 @@ use Rattle.std.proofs.lemmas.List.{take_more, take_more_set, take_all, length-ma
 use Rattle.std.specs.Prelude.{int_le}
 use Rattle.rt_box.specs.declared.interval.Interval.{Interval}
 use Rattle.rt_box.specs.Rect.{los, his}
-use Rattle.rt_sql.specs.declared.value.Value.{Value}
-use Rattle.rt_sql.specs.declared.refusal.Refusal.{Refusal}
-use Rattle.rt_sql.specs.declared.refusal.Refusal.TheVariants.{IntegerOutOfRange, MinimumAboveMaximum}
+use Rattle.rt_statement.specs.declared.value.Value.{Value}
+use Rattle.rt_statement.specs.declared.refusal.Refusal.{Refusal}
+use Rattle.rt_statement.specs.declared.refusal.Refusal.TheVariants.{IntegerOutOfRange, MinimumAboveMaximum}
 use Rattle.rt_row.specs.Candidates.{Candidate, is_id, is_integer, id_in, number_in, fits_bits, id_value, coordinate_values, box_of, is_ordered, candidate_of}
 
 pub fits_short : (z : ℤ) → fits_bits 31 z ≡ true → FitsSigned w32 z

@@ -6,7 +6,7 @@ use Rattle.std.specs.List.{list_all, position_or_len}
 use Rattle.std.specs.Cmp.{IsEquivalence}
 use Rattle.std.specs.Cmp.Lexicographic.{on_texts_equal}
 use Rattle.std.specs.Str.{str_to_ascii_lowercase}
-use Rattle.rt_sql.specs.Name.{same_name}
+use Rattle.rt_statement.specs.Name.{same_name}
 use Rattle.rt_row.specs.Columns.{place_of, has_name, are_distinct}
 use Rattle.rt_row.proofs.Boxes.{head, tail}
 

@@ -1,11 +1,11 @@
 -- Where the values of a row stand.
-use Rattle.std.proofs.Common.{◌≡◌, ℕ, zero, suc, ◌+◌, ◌-◌, ◌*◌, ◌/◌, ◌%◌, ◌<◌, ℤ, List, [], ◌∷◌, ◌++◌, map, length, get_or, sym, ap, arith, ◌∙◌}
+use Rattle.std.proofs.Common.{◌≡◌, ℕ, zero, suc, ◌+◌, ◌-◌, ◌*◌, ◌/◌, ◌%◌, ◌<◌, ℤ, List, [], ◌∷◌, ◌++◌, map, length, take, get_or, sym, ap, arith, ◌∙◌}
 use Rattle.std.proofs.lemmas.List.{get_or-map, get_or_append_left, get_or-append_right, length-map}
 use Rattle.rt_box.specs.declared.interval.Interval.{Interval}
 use Rattle.rt_box.specs.Rect.{coordinates}
 use Rattle.rt_box.proofs.Narrowing.{length-coordinates}
-use Rattle.rt_sql.specs.declared.value.Value.{Value}
-use Rattle.rt_sql.specs.declared.value.Value.TheVariants.{Int}
+use Rattle.rt_statement.specs.declared.value.Value.{Value}
+use Rattle.rt_statement.specs.declared.value.Value.TheVariants.{Int}
 
 pub high_at : (b : List Interval) (k : ℕ) (i : Interval) (d : ℤ) → k < 2 * length b → k % 2 ≡ 1 → i ≡ get_or b (k / 2) i →
     i.hi ≡ get_or (coordinates b) k d
@@ -24,6 +24,13 @@ low_at (x ∷ b) (suc zero) i d h even e = absurd (omega arith)
 low_at (x ∷ b) (suc (suc k)) i d h even e =
     let half : suc (suc k) / 2 ≡ suc (k / 2) = omega arith in
     low_at b k i d (omega arith) (omega arith) (rw half at e)
+
+-- the coordinates of one axis more
+pub coordinates_more : (b : List Interval) (k : ℕ) (i : Interval) → k < length b → i ≡ get_or b k i →
+    coordinates (take (suc k) b) ≡ coordinates (take k b) ++ i.lo ∷ i.hi ∷ []
+coordinates_more [] k i h e = absurd (omega arith)
+coordinates_more (x ∷ b) zero i h e = ap (λ (v : Interval). v.lo ∷ v.hi ∷ []) (sym e)
+coordinates_more (x ∷ b) (suc k) i h e = ap (λ (zs : List ℤ). x.lo ∷ x.hi ∷ zs) (coordinates_more b k i (omega arith) e)
 
 -- a coordinate stands behind the id
 pub coordinate_at : (id : ℤ) (b : List Interval) (more : List Value) (place k : ℕ) (z : ℤ) (d : Value) → place ≡ suc k → k < 2 * length b →

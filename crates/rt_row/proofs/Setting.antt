@@ -6,12 +6,12 @@ use Rattle.std.proofs.lemmas.List.{take-map}
 use Rattle.std.proofs.lemmas.List.Folds.{list_all-map}
 use Rattle.std.specs.Str.{str_to_ascii_lowercase}
 use Rattle.std.proofs.lemmas.Slice.Eq.{bytes_eq-Decides}
-use Rattle.rt_sql.specs.declared.value.Value.{Value}
-use Rattle.rt_sql.specs.declared.value.Value.TheVariants.{Null, Int}
-use Rattle.rt_sql.specs.declared.refusal.Refusal.TheVariants.{WrongType, IntegerOutOfRange}
-use Rattle.rt_sql.specs.Name.{same_name}
-use Rattle.rt_sql.specs.declared.statement.Source.{Source}
-use Rattle.rt_sql.specs.declared.statement.Source.TheVariants as source
+use Rattle.rt_statement.specs.declared.value.Value.{Value}
+use Rattle.rt_statement.specs.declared.value.Value.TheVariants.{Null, Int}
+use Rattle.rt_statement.specs.declared.refusal.Refusal.TheVariants.{WrongType, IntegerOutOfRange}
+use Rattle.rt_statement.specs.Name.{same_name}
+use Rattle.rt_statement.specs.declared.statement.Source.{Source}
+use Rattle.rt_statement.specs.declared.statement.Source.TheVariants as source
 use Rattle.rt_row.specs.declared.settings.Reading.{Reading}
 use Rattle.rt_row.specs.declared.settings.Reading.TheVariants.{Literal, Column, Plus, Minus}
 use Rattle.rt_row.specs.declared.settings.Fill.{Fill}

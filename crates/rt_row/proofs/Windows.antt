@@ -10,10 +10,10 @@ use Rattle.rt_box.specs.Interval.{FitsEnds, Includes}
 use Rattle.rt_box.specs.Rect.{IsBox, coordinates}
 use Rattle.rt_box.specs.Window.{Allows, Admits, IsUnlimited}
 use Rattle.rt_box.proofs.Narrowing.{length-coordinates, allowed_at, admits_from}
-use Rattle.rt_sql.specs.declared.value.Value.{Value}
-use Rattle.rt_sql.specs.declared.value.Value.TheVariants.{Null, Int}
-use Rattle.rt_sql.specs.declared.statement.Test.{Test}
-use Rattle.rt_sql.specs.declared.statement.Test.TheVariants.{Compare, IsNull, IsNotNull}
+use Rattle.rt_statement.specs.declared.value.Value.{Value}
+use Rattle.rt_statement.specs.declared.value.Value.TheVariants.{Null, Int}
+use Rattle.rt_statement.specs.declared.statement.Test.{Test}
+use Rattle.rt_statement.specs.declared.statement.Test.TheVariants.{Compare, IsNull, IsNotNull}
 use Rattle.rt_row.specs.Values.{compares}
 use Rattle.rt_row.specs.Columns.{Columns, place_of}
 use Rattle.rt_row.specs.Conditions.{column_of}

@@ -4,10 +4,10 @@ use Rattle.std.specs.Prelude.{ℕ, ◌+◌, ◌*◌, ◌-◌, ◌^◌, ℤ, pos,
 use Rattle.std.specs.List.{list_all}
 use Rattle.rt_box.specs.declared.interval.Interval.{Interval}
 use Rattle.rt_box.specs.Interval.{interval}
-use Rattle.rt_sql.specs.declared.value.Value.{Value}
-use Rattle.rt_sql.specs.declared.value.Value.TheVariants.{Null, Int, Text, Blob}
-use Rattle.rt_sql.specs.declared.refusal.Refusal.{Refusal}
-use Rattle.rt_sql.specs.declared.refusal.Refusal.TheVariants.{WrongType, IntegerOutOfRange, MinimumAboveMaximum}
+use Rattle.rt_statement.specs.declared.value.Value.{Value}
+use Rattle.rt_statement.specs.declared.value.Value.TheVariants.{Null, Int, Text, Blob}
+use Rattle.rt_statement.specs.declared.refusal.Refusal.{Refusal}
+use Rattle.rt_statement.specs.declared.refusal.Refusal.TheVariants.{WrongType, IntegerOutOfRange, MinimumAboveMaximum}
 
 -- what a new row will be: its id, or none where a new one is asked for, its box, and its further values
 pub record Candidate : Type 0 where

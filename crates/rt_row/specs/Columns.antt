@@ -2,10 +2,10 @@
 -- three axes, and 100 columns with the auxiliary ones, are own.
 use Rattle.std.specs.Prelude.{ℕ, ◌/◌, Bool, true, not, ◌&&◌, ◌||◌, ◌==◌, nat_le, if◌then◌else◌, List, [], ◌∷◌, length, map, filter, drop, position, Option, Result, Ok, Err}
 use Rattle.std.specs.List.{list_any, list_all}
-use Rattle.rt_sql.specs.Name.{same_name}
-use Rattle.rt_sql.specs.declared.statement.ColumnDef.{ColumnDef}
-use Rattle.rt_sql.specs.declared.refusal.Refusal.{Refusal}
-use Rattle.rt_sql.specs.declared.refusal.Refusal.TheVariants.{BadColumnList}
+use Rattle.rt_statement.specs.Name.{same_name}
+use Rattle.rt_statement.specs.declared.statement.ColumnDef.{ColumnDef}
+use Rattle.rt_statement.specs.declared.refusal.Refusal.{Refusal}
+use Rattle.rt_statement.specs.declared.refusal.Refusal.TheVariants.{BadColumnList}
 
 -- how many axes the rows' boxes have, and the names of the columns: the id's, a minimum's and a maximum's for each
 -- axis, and those of the auxiliary columns

@@ -2,10 +2,10 @@
 use Rattle.std.specs.Prelude.{ℕ, Bool, not, List, filter, slice_index_or}
 use Rattle.std.specs.List.{list_all}
 use Rattle.std.specs.Option.{option_map_or}
-use Rattle.rt_sql.specs.declared.value.Value.{Value}
-use Rattle.rt_sql.specs.declared.value.Value.TheVariants.{Null}
-use Rattle.rt_sql.specs.declared.statement.Test.{Test}
-use Rattle.rt_sql.specs.declared.statement.Test.TheVariants.{Compare, IsNull, IsNotNull}
+use Rattle.rt_statement.specs.declared.value.Value.{Value}
+use Rattle.rt_statement.specs.declared.value.Value.TheVariants.{Null}
+use Rattle.rt_statement.specs.declared.statement.Test.{Test}
+use Rattle.rt_statement.specs.declared.statement.Test.TheVariants.{Compare, IsNull, IsNotNull}
 use Rattle.rt_row.specs.Values.{is_null, compares}
 use Rattle.rt_row.specs.Columns.{Columns, place_of, has_name}
 use Rattle.rt_row.specs.Rows.{TableRow, values_of}

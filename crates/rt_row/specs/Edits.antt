@@ -5,16 +5,16 @@ use Rattle.std.specs.Prelude.{ℕ, ◌-◌, ◌^◌, ℤ, pos, ◌+ℤ◌, ◌-�
 use Rattle.std.specs.List.{list_all}
 use Rattle.std.specs.Ordering.{int_eq}
 use Rattle.std.specs.Option.{option_map_or}
-use Rattle.rt_sql.specs.Name.{same_name}
-use Rattle.rt_sql.specs.declared.value.Value.{Value}
-use Rattle.rt_sql.specs.declared.value.Value.TheVariants.{Int}
-use Rattle.rt_sql.specs.declared.statement.Rule.{Rule}
-use Rattle.rt_sql.specs.declared.statement.Rule.TheVariants.{Abort, Replace, Ignore}
-use Rattle.rt_sql.specs.declared.statement.Source.{Source}
-use Rattle.rt_sql.specs.declared.statement.Source.TheVariants.{Literal, Column, Plus, Minus}
-use Rattle.rt_sql.specs.declared.statement.Test.{Test}
-use Rattle.rt_sql.specs.declared.refusal.Refusal.{Refusal}
-use Rattle.rt_sql.specs.declared.refusal.Refusal.TheVariants.{BadColumnList, NoSuchColumn, WrongNumberOfValues, WrongType, IntegerOutOfRange, IdAlreadyTaken, MinimumAboveMaximum, TableFull, NoIdLeft}
+use Rattle.rt_statement.specs.Name.{same_name}
+use Rattle.rt_statement.specs.declared.value.Value.{Value}
+use Rattle.rt_statement.specs.declared.value.Value.TheVariants.{Int}
+use Rattle.rt_statement.specs.declared.statement.Rule.{Rule}
+use Rattle.rt_statement.specs.declared.statement.Rule.TheVariants.{Abort, Replace, Ignore}
+use Rattle.rt_statement.specs.declared.statement.Source.{Source}
+use Rattle.rt_statement.specs.declared.statement.Source.TheVariants.{Literal, Column, Plus, Minus}
+use Rattle.rt_statement.specs.declared.statement.Test.{Test}
+use Rattle.rt_statement.specs.declared.refusal.Refusal.{Refusal}
+use Rattle.rt_statement.specs.declared.refusal.Refusal.TheVariants.{BadColumnList, NoSuchColumn, WrongNumberOfValues, WrongType, IntegerOutOfRange, IdAlreadyTaken, MinimumAboveMaximum, TableFull, NoIdLeft}
 use Rattle.rt_row.specs.Columns.{Columns, has_name, are_distinct}
 use Rattle.rt_row.specs.Rows.{TableRow, values_of, has_id, with_row, without_id, largest_id}
 use Rattle.rt_row.specs.Conditions.{value_in, has_columns, picked}

@@ -1,8 +1,10 @@
 -- A row as a table keeps it, and a value of it that is looked at where it stands. Source: own.
-use Rattle.rt_sql.specs.declared.value.Value.{Value}
-use Rattle.rt_sql.specs.declared.value.Value.TheVariants.{Null, Int}
+use Rattle.std.specs.Prelude.{List, map, ◌++◌}
+use Rattle.rt_statement.specs.declared.value.Value.{Value}
+use Rattle.rt_statement.specs.declared.value.Value.TheVariants.{Null, Int}
 use Rattle.rt_row.specs.declared.entry.Entry.{Entry}
 use Rattle.rt_row.specs.declared.entry.RowView.{RowView}
+use Rattle.rt_row.specs.declared.entry.ListedRow.{ListedRow}
 use Rattle.rt_row.specs.declared.entry.Step as declared
 use Rattle.rt_row.specs.declared.entry.Step.TheVariants as step
 use Rattle.rt_row.specs.declared.candidate.Candidate as made
@@ -19,6 +21,10 @@ row_of entry = record { id = entry.id; box = entry.rect; more = entry.more }
 -- the row that is looked at
 abbrev pub view_row : {D : _} → RowView D → TableRow
 view_row view = record { id = view.id; box = view.rect; more = view.more.now }
+
+-- the values of a row in a list, column by column
+abbrev pub listed_values : ListedRow → List Value
+listed_values row = map Int row.numbers.now ++ row.more.now
 
 -- the candidate that a candidate with a box of axes is
 abbrev pub candidate_as : {D : _} → made.Candidate D → Candidate

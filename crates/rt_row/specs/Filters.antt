@@ -1,14 +1,14 @@
 -- A condition whose columns were looked up: each test has the place of the column that it looks at. Source: own.
 use Rattle.std.specs.Prelude.{◌≡◌, ◌⊎◌, ℕ, ◌==◌, Bool, true, false, not, ◌&&◌, List, map, zip, Some, slice_index_or}
 use Rattle.std.specs.List.{list_all}
-use Rattle.rt_sql.specs.declared.value.Value.{Value}
-use Rattle.rt_sql.specs.declared.value.Value.TheVariants.{Null}
-use Rattle.rt_sql.specs.declared.statement.Op6.{Op6}
-use Rattle.rt_sql.specs.declared.statement.Op6.TheVariants.{Eq}
-use Rattle.rt_sql.specs.declared.statement.Test.{Test}
-use Rattle.rt_sql.specs.declared.statement.Test.TheVariants.{Compare, IsNull, IsNotNull}
-use Rattle.rt_sql.specs.declared.refusal.Refusal.{Refusal}
-use Rattle.rt_sql.specs.declared.refusal.Refusal.TheVariants.{NoSuchColumn, OutOfMemory}
+use Rattle.rt_statement.specs.declared.value.Value.{Value}
+use Rattle.rt_statement.specs.declared.value.Value.TheVariants.{Null}
+use Rattle.rt_statement.specs.declared.statement.Op6.{Op6}
+use Rattle.rt_statement.specs.declared.statement.Op6.TheVariants.{Eq}
+use Rattle.rt_statement.specs.declared.statement.Test.{Test}
+use Rattle.rt_statement.specs.declared.statement.Test.TheVariants.{Compare, IsNull, IsNotNull}
+use Rattle.rt_statement.specs.declared.refusal.Refusal.{Refusal}
+use Rattle.rt_statement.specs.declared.refusal.Refusal.TheVariants.{NoSuchColumn, OutOfMemory}
 use Rattle.rt_row.specs.Values.{is_null, compares}
 use Rattle.rt_row.specs.Columns.{Columns, place_of}
 use Rattle.rt_row.specs.Conditions.{column_of, has_columns, holds}

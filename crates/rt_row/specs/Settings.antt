@@ -3,13 +3,13 @@
 use Rattle.std.specs.Prelude.{◌≡◌, ◌⊎◌, ℕ, ◌+ℤ◌, ◌-ℤ◌, Bool, true, false, not, ◌&&◌, if◌then◌else◌, List, map, length, position, Option, Some, Result, Err, slice_index_or}
 use Rattle.std.specs.Option.{option_map, option_map_or}
 use Rattle.std.specs.List.{list_all}
-use Rattle.rt_sql.specs.declared.value.Value.{Value}
-use Rattle.rt_sql.specs.declared.value.Value.TheVariants.{Null, Int}
-use Rattle.rt_sql.specs.declared.refusal.Refusal.{Refusal}
-use Rattle.rt_sql.specs.declared.refusal.Refusal.TheVariants.{BadColumnList, NoSuchColumn, WrongType, IntegerOutOfRange, OutOfMemory}
-use Rattle.rt_sql.specs.Name.{same_name}
-use Rattle.rt_sql.specs.declared.statement.Source.{Source}
-use Rattle.rt_sql.specs.declared.statement.Source.TheVariants as source
+use Rattle.rt_statement.specs.declared.value.Value.{Value}
+use Rattle.rt_statement.specs.declared.value.Value.TheVariants.{Null, Int}
+use Rattle.rt_statement.specs.declared.refusal.Refusal.{Refusal}
+use Rattle.rt_statement.specs.declared.refusal.Refusal.TheVariants.{BadColumnList, NoSuchColumn, WrongType, IntegerOutOfRange, OutOfMemory}
+use Rattle.rt_statement.specs.Name.{same_name}
+use Rattle.rt_statement.specs.declared.statement.Source.{Source}
+use Rattle.rt_statement.specs.declared.statement.Source.TheVariants as source
 use Rattle.rt_row.specs.declared.settings.Reading.{Reading}
 use Rattle.rt_row.specs.declared.settings.Reading.TheVariants.{Literal, Column, Plus, Minus}
 use Rattle.rt_row.specs.declared.settings.Fill.{Fill}

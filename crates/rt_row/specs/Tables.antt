@@ -1,10 +1,10 @@
 -- A table: its columns, its rows and its views (SQLite's documentation: The SQLite R*Tree Module; views own).
 use Rattle.std.specs.Prelude.{ℕ, Bool, not, if◌then◌else◌, List, [], ◌∷◌, ◌++◌, filter, find, Option, Some, None, Result, Ok, Err}
 use Rattle.std.specs.List.{list_any}
-use Rattle.rt_sql.specs.Name.{same_name}
-use Rattle.rt_sql.specs.declared.statement.Test.{Test}
-use Rattle.rt_sql.specs.declared.refusal.Refusal.{Refusal}
-use Rattle.rt_sql.specs.declared.refusal.Refusal.TheVariants.{NoSuchColumn, NoSuchView, ViewAlreadyExists}
+use Rattle.rt_statement.specs.Name.{same_name}
+use Rattle.rt_statement.specs.declared.statement.Test.{Test}
+use Rattle.rt_statement.specs.declared.refusal.Refusal.{Refusal}
+use Rattle.rt_statement.specs.declared.refusal.Refusal.TheVariants.{NoSuchColumn, NoSuchView, ViewAlreadyExists}
 use Rattle.rt_row.specs.Columns.{Columns}
 use Rattle.rt_row.specs.Rows.{TableRow}
 use Rattle.rt_row.specs.Conditions.{has_columns, picked}

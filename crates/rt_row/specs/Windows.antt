@@ -6,11 +6,11 @@ use Rattle.rt_box.specs.declared.interval.Interval.{Interval}
 use Rattle.rt_box.specs.Window.{Allows, Admits}
 use Rattle.rt_box.specs.Op6.{Keeps}
 use Rattle.rt_box.specs.declared.op6.Op6.{Op6 as WindowOp6}
-use Rattle.rt_sql.specs.declared.statement.Op6.{Op6}
-use Rattle.rt_sql.specs.declared.statement.Op6.TheVariants.{Ne}
-use Rattle.rt_sql.specs.declared.statement.Test.{Test}
-use Rattle.rt_sql.specs.declared.statement.Test.TheVariants.{Compare, IsNull, IsNotNull}
-use Rattle.rt_sql.specs.declared.value.Value.TheVariants.{Int}
+use Rattle.rt_statement.specs.declared.statement.Op6.{Op6}
+use Rattle.rt_statement.specs.declared.statement.Op6.TheVariants.{Ne}
+use Rattle.rt_statement.specs.declared.statement.Test.{Test}
+use Rattle.rt_statement.specs.declared.statement.Test.TheVariants.{Compare, IsNull, IsNotNull}
+use Rattle.rt_statement.specs.declared.value.Value.TheVariants.{Int}
 use Rattle.rt_row.specs.Values.{compares}
 use Rattle.rt_row.specs.Columns.{Columns, place_of}
 use Rattle.rt_row.specs.Conditions.{column_of}

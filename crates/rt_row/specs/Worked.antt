@@ -2,18 +2,18 @@
 -- is proved by running the definitions.
 use Rattle.std.specs.Prelude.{◌≡◌, ℕ, ◌-◌, ◌^◌, ℤ, pos, negsuc, true, false, List, [], ◌∷◌, map, codes, Some, None, Result, Ok, Err, refl}
 use Rattle.rt_box.specs.Interval.{interval}
-use Rattle.rt_sql.specs.declared.value.Value.{Value}
-use Rattle.rt_sql.specs.declared.value.Value.TheVariants.{Null, Int, Text, Blob}
-use Rattle.rt_sql.specs.declared.statement.Rule.TheVariants.{Abort, Replace, Ignore}
-use Rattle.rt_sql.specs.declared.statement.Source.{Source}
-use Rattle.rt_sql.specs.declared.statement.Source.TheVariants.{Literal, Plus, Minus}
-use Rattle.rt_sql.specs.declared.statement.Op6.{Op6}
-use Rattle.rt_sql.specs.declared.statement.Op6.TheVariants.{Eq, Ne, Lt, Le, Gt, Ge}
-use Rattle.rt_sql.specs.declared.statement.Test.{Test}
-use Rattle.rt_sql.specs.declared.statement.Test.TheVariants.{Compare, IsNull, IsNotNull}
-use Rattle.rt_sql.specs.declared.statement.ColumnDef.{ColumnDef}
-use Rattle.rt_sql.specs.declared.refusal.Refusal.{Refusal}
-use Rattle.rt_sql.specs.declared.refusal.Refusal.TheVariants.{BadColumnList, NoSuchColumn, WrongNumberOfValues, WrongType, IntegerOutOfRange, IdAlreadyTaken, MinimumAboveMaximum, NoIdLeft, NoSuchView, ViewAlreadyExists}
+use Rattle.rt_statement.specs.declared.value.Value.{Value}
+use Rattle.rt_statement.specs.declared.value.Value.TheVariants.{Null, Int, Text, Blob}
+use Rattle.rt_statement.specs.declared.statement.Rule.TheVariants.{Abort, Replace, Ignore}
+use Rattle.rt_statement.specs.declared.statement.Source.{Source}
+use Rattle.rt_statement.specs.declared.statement.Source.TheVariants.{Literal, Plus, Minus}
+use Rattle.rt_statement.specs.declared.statement.Op6.{Op6}
+use Rattle.rt_statement.specs.declared.statement.Op6.TheVariants.{Eq, Ne, Lt, Le, Gt, Ge}
+use Rattle.rt_statement.specs.declared.statement.Test.{Test}
+use Rattle.rt_statement.specs.declared.statement.Test.TheVariants.{Compare, IsNull, IsNotNull}
+use Rattle.rt_statement.specs.declared.statement.ColumnDef.{ColumnDef}
+use Rattle.rt_statement.specs.declared.refusal.Refusal.{Refusal}
+use Rattle.rt_statement.specs.declared.refusal.Refusal.TheVariants.{BadColumnList, NoSuchColumn, WrongNumberOfValues, WrongType, IntegerOutOfRange, IdAlreadyTaken, MinimumAboveMaximum, NoIdLeft, NoSuchView, ViewAlreadyExists}
 use Rattle.rt_row.specs.Columns.{Columns, columns_of}
 use Rattle.rt_row.specs.Rows.{TableRow}
 use Rattle.rt_row.specs.Edits.{Setting, Steps, and_then, outcome, insert, update, delete}

@@ -7,7 +7,7 @@ ghost use Rattle.rt_row.specs.Columns.{place_of, has_name, are_distinct};
 ghost use Rattle.rt_row.specs.Arrangements.{value_at};
 
 use crate::schema::{Schema, are_listed_once, has_name, place_of};
-use rt_sql::{Items, Name, Refusal, Value};
+use rt_statement::{Items, Name, Refusal, Value};
 use std::alloc::{AllocError, Global};
 use std::marker::Model;
 

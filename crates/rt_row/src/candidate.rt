@@ -7,7 +7,7 @@ ghost use Rattle.rt_row.specs.Answers.{GivesAs};
 ghost use Rattle.rt_row.specs.Entries.{candidate_as};
 
 use rt_box::Rect;
-use rt_sql::{Items, Refusal, Value};
+use rt_statement::{Items, Refusal, Value};
 
 fn is_id(value: &Value) -> bool
     ensures { result ≡ is_id value.now }

@@ -1,12 +1,12 @@
 //! A row as a table keeps it.
 
 ghost use Rattle.std.specs.Prelude.{◌≡◌, ◌+◌, ◌*◌, ◌<◌, ◌≤◌, ◌∷◌, ◌++◌, length, map, slice_index_or, IfOk, OnOk, vec_len, vec_capacity};
-ghost use Rattle.rt_sql.specs.declared.value.Value.TheVariants.{Null, Int};
+ghost use Rattle.rt_statement.specs.declared.value.Value.TheVariants.{Null, Int};
 ghost use Rattle.rt_row.specs.Entries.{field_value};
 ghost use Rattle.rt_box.specs.Rect.{coordinates};
 
 use rt_box::Rect;
-use rt_sql::{Items, Value};
+use rt_statement::{Items, Value};
 use std::alloc::{AllocError, Global};
 
 /// A row of a table with `D` axes, from one to three: its id, its box, and the values of its
@@ -26,6 +26,19 @@ pub enum Field<'a> {
     Kept(&'a Value),
     /// The row has no such column.
     Missing,
+}
+
+impl Field<'_> {
+    /// A copy of the value; NULL where there is no column.
+    pub fn try_clone(self, alloc: Global) -> Result<Value, AllocError>
+        ensures { IfOk result (λ value. value ≡ field_value self.entry) }
+    {
+        Ok(match self {
+            Field::Number(number) => Value::Int(number),
+            Field::Kept(value) => value.try_clone(alloc)?,
+            Field::Missing => Value::Null,
+        })
+    }
 }
 
 /// A coordinate, in the order of the columns: `lo` and `hi` of the first axis, then of the next.
@@ -48,27 +61,29 @@ fn kept(more: &[Value], place: usize) -> Field<'_>
 }
 
 /// Appends the coordinates, for which there is room.
-fn push_coordinates<const D: usize>(values: &mut Vec<Value>, rect: &Rect<D>)
-    requires { vec_len values.old + 2 * D ≤ vec_capacity values.old }
-    ensures { values.new.items ≡ values.old.items ++ map Int (coordinates rect.now) }
+fn push_coordinates<const D: usize>(numbers: &mut Vec<i64>, rect: &Rect<D>)
+    requires { vec_len numbers.old + 2 * D ≤ vec_capacity numbers.old }
+    ensures { numbers.new.items ≡ numbers.old.items ++ coordinates rect.now }
 {
-    for place in 0..2 * rect.axes() {
-        values.push_reserved(Value::Int(i64::from(coordinate(rect, place))));
+    for axis in 0..rect.axes() {
+        let range = rect.range(axis);
+        numbers.push_reserved(i64::from(range.lo));
+        numbers.push_reserved(i64::from(range.hi));
     }
 }
 
 /// Appends the id and the coordinates.
 pub(crate) fn push_numbers<const D: usize>(
-    values: &mut Vec<Value>,
+    numbers: &mut Vec<i64>,
     id: i64,
     rect: &Rect<D>,
 ) -> Result<(), AllocError>
-    ensures ok { OnOk result (values.new.items ≡ values.old.items ++ Int id ∷ map Int (coordinates rect.now)) }
-    ensures longer { length values.old.items ≤ length values.new.items }
+    ensures ok { OnOk result (numbers.new.items ≡ numbers.old.items ++ id ∷ coordinates rect.now) }
+    ensures longer { length numbers.old.items ≤ length numbers.new.items }
 {
-    values.reserve(1 + 2 * rect.axes())?;
-    values.push_reserved(Value::Int(id));
-    push_coordinates(values, rect);
+    numbers.reserve(1 + 2 * rect.axes())?;
+    numbers.push_reserved(id);
+    push_coordinates(numbers, rect);
     Ok(())
 }
 
@@ -133,8 +148,44 @@ impl<'a, const D: usize> RowView<'a, D> {
     pub fn values(&self, alloc: Global) -> Result<Items<Value>, AllocError>
         ensures { IfOk result (λ row. row ≡ values_of (view_row self.now)) }
     {
-        let mut values = Vec::with_capacity(alloc, 1 + 2 * self.rect.axes())?;
-        push_numbers(&mut values, self.id, &self.rect)?;
+        let mut numbers = Vec::new(alloc);
+        push_numbers(&mut numbers, self.id, &self.rect)?;
+        let row = ListedRow {
+            numbers: &numbers,
+            more: self.more,
+        };
+        row.values(alloc)
+    }
+}
+
+/// A row looked at where it stands in a list: numbers first, and then further values.
+#[derive(Clone, Copy)]
+pub struct ListedRow<'a> {
+    pub numbers: &'a [i64],
+    pub more: &'a [Value],
+}
+
+impl<'a> ListedRow<'a> {
+    ghost use Rattle.rt_row.specs.Entries.{listed_values};
+
+    /// The value of the column at that place.
+    pub fn value_at(&self, place: usize) -> Field<'a>
+        ensures { field_value result ≡ slice_index_or (listed_values self.now) place Null }
+    {
+        if place < self.numbers.len() {
+            return Field::Number(self.numbers[place]);
+        }
+        kept(self.more, place - self.numbers.len())
+    }
+
+    /// A copy of the row's values, column by column.
+    pub fn values(&self, alloc: Global) -> Result<Items<Value>, AllocError>
+        ensures { IfOk result (λ row. row ≡ listed_values self.now) }
+    {
+        let mut values = Vec::with_capacity(alloc, self.numbers.len())?;
+        for number in self.numbers {
+            values.push(Value::Int(*number))?;
+        }
         push_copies(alloc, &mut values, self.more)?;
         Ok(Items::from_vec(values))
     }

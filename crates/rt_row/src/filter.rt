@@ -7,14 +7,14 @@ ghost use Rattle.rt_row.specs.Filters.{value_passes, passes_at, fixes_id, ArePla
 ghost use Rattle.rt_row.specs.Windows.{is_said};
 ghost use Rattle.rt_row.specs.Entries.{view_row, field_value};
 ghost use Rattle.rt_row.specs.Rows.{TableRow};
-ghost use Rattle.rt_sql.specs.declared.value.Value.TheVariants.{Int};
+ghost use Rattle.rt_statement.specs.declared.value.Value.TheVariants.{Int};
 
 use crate::entry::{Field, RowView};
 use crate::schema::Schema;
 use crate::values::{compares, is_null, keeps};
 use crate::window::{is_said, window_of};
 use rt_box::Window;
-use rt_sql::{Compare, Cond, Name, Op6, Refusal, Test, Value};
+use rt_statement::{Compare, Cond, Name, Op6, Refusal, Test, Value};
 use std::alloc::Global;
 use std::marker::Model;
 

@@ -1,26 +1,34 @@
 //! Rows one behind the other.
 
 ghost use Rattle.rt_row.specs.Rows.{values_of};
-ghost use Rattle.rt_row.specs.Entries.{view_row};
+ghost use Rattle.rt_row.specs.Entries.{view_row, listed_values};
 
-use crate::entry::{RowView, push_copies, push_numbers};
-use rt_sql::Value;
+use crate::entry::{ListedRow, RowView, push_copies, push_numbers};
+use rt_statement::Value;
 use std::alloc::{AllocError, Global};
 use std::marker::Model;
 
-/// Where the values of a row stand among those of all rows.
+/// Where a part of a list stands.
 #[derive(Clone, Copy, Debug)]
 struct Span {
     start: usize,
     end: usize,
 }
 
-/// Rows: of each its values, column by column. The values of all rows stand in one list, so that no row takes memory by
-/// itself.
+/// Where the numbers of a row stand among those of all rows, and where its further values do.
+#[derive(Clone, Copy, Debug)]
+struct Place {
+    numbers: Span,
+    more: Span,
+}
+
+/// Rows: of each its values, column by column, numbers first. The numbers of all rows stand in one list, and the further
+/// values in another, so that no row takes memory by itself.
 #[derive(Debug, Drop)]
 pub struct RowList {
+    numbers: Vec<i64>,
     values: Vec<Value>,
-    spans: Vec<Span>,
+    places: Vec<Place>,
 }
 
 // Clauses see the list of the rows.
@@ -37,17 +45,23 @@ impl Model for RowList {
 impl RowList {
     ghost use Rattle.std.specs.Prelude.{◌≡◌, ◌<◌, ◌++◌, ◌∷◌, [], length, slice_index_or, IfOk, OnOk};
 
-    /// No rows, with room for so many rows and values.
+    /// No rows, with room for so many rows, numbers and further values.
     ///
     /// # Errors
     ///
     /// `AllocError` where no memory is left.
-    pub fn with_capacity(alloc: Global, rows: usize, values: usize) -> Result<RowList, AllocError>
+    pub fn with_capacity(
+        alloc: Global,
+        rows: usize,
+        numbers: usize,
+        values: usize,
+    ) -> Result<RowList, AllocError>
         ensures { IfOk result (λ list. list ≡ []) }
     {
         Ok(RowList {
+            numbers: Vec::with_capacity(alloc, numbers)?,
             values: Vec::with_capacity(alloc, values)?,
-            spans: Vec::with_capacity(alloc, rows)?,
+            places: Vec::with_capacity(alloc, rows)?,
         })
     }
 
@@ -55,16 +69,19 @@ impl RowList {
     pub fn len(&self) -> usize
         ensures { result ≡ length self.now }
     {
-        self.spans.len()
+        self.places.len()
     }
 
-    /// The values of the row at that place.
-    pub fn row(&self, at: usize) -> &[Value]
+    /// The row at that place.
+    pub fn row(&self, at: usize) -> ListedRow<'_>
         requires { at < length self.now }
-        ensures { result.now ≡ slice_index_or self.now at result.now }
+        ensures { listed_values result ≡ slice_index_or self.now at (listed_values result) }
     {
-        let span = self.spans[at];
-        &self.values[span.start..span.end]
+        let place = self.places[at];
+        ListedRow {
+            numbers: &self.numbers[place.numbers.start..place.numbers.end],
+            more: &self.values[place.more.start..place.more.end],
+        }
     }
 
     /// Appends the values of a row.
@@ -79,11 +96,18 @@ impl RowList {
     ) -> Result<(), AllocError>
         ensures { OnOk result (self.new ≡ self.old ++ values_of (view_row row.now) ∷ []) }
     {
-        let start = self.values.len();
-        push_numbers(&mut self.values, row.id, &row.rect)?;
+        let (first, start) = (self.numbers.len(), self.values.len());
+        push_numbers(&mut self.numbers, row.id, &row.rect)?;
         push_copies(alloc, &mut self.values, row.more)?;
-        let end = self.values.len();
-        self.spans.push(Span { start, end })?;
+        let numbers = Span {
+            start: first,
+            end: self.numbers.len(),
+        };
+        let more = Span {
+            start,
+            end: self.values.len(),
+        };
+        self.places.push(Place { numbers, more })?;
         Ok(())
     }
 
@@ -95,11 +119,18 @@ impl RowList {
     pub fn push_values(&mut self, row: Vec<Value>) -> Result<(), AllocError>
         ensures { OnOk result (self.new ≡ self.old ++ row.items ∷ []) }
     {
-        let start = self.values.len();
+        let (first, start) = (self.numbers.len(), self.values.len());
         let mut row = row;
         self.values.append(&mut row)?;
-        let end = self.values.len();
-        self.spans.push(Span { start, end })?;
+        let numbers = Span {
+            start: first,
+            end: first,
+        };
+        let more = Span {
+            start,
+            end: self.values.len(),
+        };
+        self.places.push(Place { numbers, more })?;
         Ok(())
     }
 }

@@ -4,11 +4,11 @@ ghost use Rattle.std.specs.Prelude.{◌≡◌, ◌≤◌, ◌+◌, ◌*◌, ◌|
 ghost use Rattle.std.specs.List.{list_all};
 ghost use Rattle.std.specs.BTreeSet.{contains_text};
 ghost use Rattle.std.specs.Str.{str_to_ascii_lowercase};
-ghost use Rattle.rt_sql.specs.Name.{same_name};
+ghost use Rattle.rt_statement.specs.Name.{same_name};
 ghost use Rattle.rt_row.specs.Columns.{has_name, place_of, are_distinct, plain_columns, is_column_list, columns_of};
 ghost use Rattle.rt_row.specs.Answers.{Gives};
 
-use rt_sql::{ColumnDef, Name, Refusal};
+use rt_statement::{ColumnDef, Name, Refusal};
 use std::alloc::{AllocError, Global};
 use std::collections::BTreeSet;
 use std::marker::Model;

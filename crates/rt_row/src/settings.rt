@@ -2,19 +2,19 @@
 
 ghost use Rattle.std.specs.Prelude.{◌≡◌, ◌⊎◌, ◌≤◌, ◌+◌, ◌*◌, true, false, length, map, position, IfOk, MatchResult};
 ghost use Rattle.std.specs.List.{list_all};
-ghost use Rattle.rt_sql.specs.declared.value.Value.TheVariants.{Null};
+ghost use Rattle.rt_statement.specs.declared.value.Value.TheVariants.{Null};
 ghost use Rattle.rt_row.specs.Rows.{values_of};
 ghost use Rattle.rt_row.specs.Entries.{view_row, field_value, candidate_as};
 ghost use Rattle.rt_row.specs.Candidates.{is_integer, number_in, id_value, coordinate_values};
 ghost use Rattle.rt_row.specs.Settings.{read, reads_integer, reading_fits, filled, candidate_set, set_names, reading_of, AreReadings, fill_of, reads_columns};
-ghost use Rattle.rt_sql.specs.Name.{same_name};
+ghost use Rattle.rt_statement.specs.Name.{same_name};
 ghost use Rattle.rt_row.specs.Columns.{has_name, are_distinct};
 ghost use Rattle.rt_row.specs.Answers.{GivesAs};
 
 use crate::candidate::{Candidate, is_integer, number_in};
 use crate::entry::{Field, RowView};
 use crate::schema::{FEW_NAMES, Schema, add_name, has_name, place_of};
-use rt_sql::{Name, Refusal, Source, Value};
+use rt_statement::{Name, Refusal, Source, Value};
 use std::alloc::{AllocError, Global};
 use std::collections::BTreeSet;
 use std::marker::Model;
@@ -178,16 +178,6 @@ fn field_number(field: Field<'_>) -> i64
     }
 }
 
-fn field_copy(alloc: Global, field: Field<'_>) -> Result<Value, AllocError>
-    ensures { IfOk result (λ value. value ≡ field_value field.entry) }
-{
-    Ok(match field {
-        Field::Number(number) => Value::Int(number),
-        Field::Kept(value) => value.try_clone(alloc)?,
-        Field::Missing => Value::Null,
-    })
-}
-
 fn reads_integer<const D: usize>(row: &RowView<'_, D>, reading: &Reading) -> bool
     ensures { result ≡ reads_integer (values_of (view_row row.now)) reading.now }
 {
@@ -227,7 +217,7 @@ fn read<const D: usize>(
 {
     match reading {
         Reading::Literal(value) => value.try_clone(alloc),
-        Reading::Column(place) => field_copy(alloc, row.value_at(*place)),
+        Reading::Column(place) => row.value_at(*place).try_clone(alloc),
         Reading::Plus(place, number) => {
             let sum = field_number(row.value_at(*place)) + *number;
             Ok(Value::Int(sum))
@@ -250,7 +240,7 @@ fn filled<const D: usize>(
     ensures { IfOk result (λ value. value ≡ filled readings.now (values_of (view_row row.now)) fill) }
 {
     match fill {
-        Fill::Kept(place) => field_copy(alloc, row.value_at(place)),
+        Fill::Kept(place) => row.value_at(place).try_clone(alloc),
         Fill::Set(at) if at < readings.len() => read(alloc, row, &readings[at]),
         Fill::Set(_) => Ok(Value::Null),
     }

@@ -3,7 +3,7 @@
 ghost use Rattle.std.specs.Prelude.{◌≡◌};
 ghost use Rattle.rt_row.specs.Values.{is_null, rank, value_cmp, keeps, compares};
 
-use rt_sql::{Op6, Value};
+use rt_statement::{Op6, Value};
 use std::cmp::Ordering;
 
 pub(crate) fn is_null(value: &Value) -> bool

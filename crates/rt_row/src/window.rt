@@ -1,13 +1,13 @@
 //! What a condition asks of the coordinates of a row's box.
 
 ghost use Rattle.std.specs.Prelude.{◌≡◌, ◌*◌, ◌<◌, ◌≤◌, ◌||◌, false};
-ghost use Rattle.rt_sql.specs.declared.value.Value.TheVariants.{Int};
+ghost use Rattle.rt_statement.specs.declared.value.Value.TheVariants.{Int};
 ghost use Rattle.rt_row.specs.Values.{compares};
 ghost use Rattle.rt_row.specs.Windows.{is_unequal, is_gap, is_said, allows, IsWindowAt, IsSameComparison, NarrowsTo, NarrowsAt};
 
 use crate::values::compares;
 use rt_box::{Op6 as WindowOp6, Window};
-use rt_sql::{Op6, Test, Value};
+use rt_statement::{Op6, Test, Value};
 
 fn is_unequal(op: Op6) -> bool
     ensures { result ≡ is_unequal op }

@@ -1,7 +1,7 @@
 -- An answer to a statement, whatever tree is chosen or with one that may be.
 use Rattle.std.proofs.Common.{◌≡◌, ◌∙◌, Result, Ok, Err}
-use Rattle.rt_sql.specs.declared.refusal.Refusal.{Refusal}
-use Rattle.rt_sql.specs.declared.statement.Stmt.{Stmt}
+use Rattle.rt_statement.specs.declared.refusal.Refusal.{Refusal}
+use Rattle.rt_statement.specs.declared.statement.Stmt.{Stmt}
 use Rattle.rt_dump.specs.declared.dump.AnyShadow.{AnyShadow}
 use Rattle.rt_dump.specs.declared.dump.AnyShadow.TheVariants.{One}
 use Rattle.rt_tree.specs.Lists.{empty_lists}

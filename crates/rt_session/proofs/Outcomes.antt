@@ -7,13 +7,13 @@ use Rattle.rt_row.proofs.Filters.{any_position}
 use Rattle.std.specs.Option.{option_map}
 use Rattle.std.proofs.lemmas.List.{map-set, map-append, take-map, drop-map, length-map, get_or-map}
 use Rattle.std.proofs.Math.Seq.{map-set_same}
-use Rattle.rt_sql.specs.Name.{same_name}
+use Rattle.rt_statement.specs.Name.{same_name}
 use Rattle.std.proofs.lemmas.List.Sums.{sum_by-cons}
-use Rattle.rt_sql.specs.declared.value.Value.{Value}
-use Rattle.rt_sql.specs.declared.statement.Test.{Test}
-use Rattle.rt_sql.specs.declared.statement.ColumnDef.{ColumnDef}
-use Rattle.rt_sql.specs.declared.refusal.Refusal.{Refusal}
-use Rattle.rt_sql.specs.declared.refusal.Refusal.TheVariants.{OutOfMemory, TableIsWatched, ViewAlreadyExists, TooManyTablesOrViews}
+use Rattle.rt_statement.specs.declared.value.Value.{Value}
+use Rattle.rt_statement.specs.declared.statement.Test.{Test}
+use Rattle.rt_statement.specs.declared.statement.ColumnDef.{ColumnDef}
+use Rattle.rt_statement.specs.declared.refusal.Refusal.{Refusal}
+use Rattle.rt_statement.specs.declared.refusal.Refusal.TheVariants.{OutOfMemory, TableIsWatched, ViewAlreadyExists, TooManyTablesOrViews}
 use Rattle.rt_row.specs.Columns.{Columns, are_distinct, columns_of}
 use Rattle.rt_row.specs.Edits.{and_then}
 use Rattle.rt_row.specs.Tables.{TableLists, edited, new_table, watch, view}

@@ -4,8 +4,8 @@ use Rattle.std.specs.Prelude.{◌==◌, ◌&&◌, if◌then◌else◌, not, nat_
 use Rattle.std.specs.List.{list_all}
 use Rattle.std.proofs.lemmas.Bool.{eqb-true}
 use Rattle.std.proofs.lemmas.Bool.Decides.{nat_tests}
-use Rattle.rt_sql.specs.declared.statement.ColumnDef.{ColumnDef}
-use Rattle.rt_sql.specs.declared.refusal.Refusal.TheVariants.{BadColumnList}
+use Rattle.rt_statement.specs.declared.statement.ColumnDef.{ColumnDef}
+use Rattle.rt_statement.specs.declared.refusal.Refusal.TheVariants.{BadColumnList}
 use Rattle.rt_row.specs.Columns.{Columns, columns_of, is_column_list, plain_columns, are_distinct}
 use Rattle.rt_row.specs.Rows.{TableRow}
 use Rattle.rt_row.specs.Edits.{Step, outcome}

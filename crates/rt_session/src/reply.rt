@@ -3,7 +3,7 @@
 use rt_check::Problem;
 use rt_dump::AnyShadow;
 use rt_row::RowList;
-use rt_sql::Items;
+use rt_statement::Items;
 use rt_table::Change;
 
 /// What a statement that was carried out shows.

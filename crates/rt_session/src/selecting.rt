@@ -1,13 +1,13 @@
 //! What a SELECT shows of a table.
 
-ghost use Rattle.std.specs.Prelude.{◌≡◌, map, slice_index_or, IfOk, IfErr};
-ghost use Rattle.rt_sql.specs.declared.value.Value.TheVariants.{Null};
+ghost use Rattle.std.specs.Prelude.{◌≡◌, map, IfOk, IfErr};
+ghost use Rattle.rt_row.specs.Entries.{listed_values};
 ghost use Rattle.rt_session.specs.Session.{is_by_id, selected};
 ghost use Rattle.rt_session.specs.Selecting.{ArePlaces, IsMissing, values_at};
 ghost use Rattle.rt_session.specs.Steps.{ShowsRows};
 
-use rt_row::{RowList, Schema};
-use rt_sql::{Cond, Items, Name, Refusal, Value};
+use rt_row::{ListedRow, RowList, Schema};
+use rt_statement::{Cond, Items, Name, Refusal, Value};
 use rt_table::AnyTable;
 use std::alloc::{AllocError, Global};
 
@@ -39,23 +39,13 @@ fn places_of(alloc: Global, schema: &Schema, names: &[Name]) -> Result<Vec<usize
     Ok(places)
 }
 
-/// A copy of the value at that place, NULL past the last one.
-fn value_at(alloc: Global, row: &[Value], place: usize) -> Result<Value, AllocError>
-    ensures { IfOk result (λ value. value ≡ slice_index_or row.now place Null) }
-{
-    match row.get(place) {
-        Some(value) => value.try_clone(alloc),
-        None => Ok(Value::Null),
-    }
-}
-
-/// Copies of the values at these places.
-fn values_at(alloc: Global, row: &[Value], places: &[usize]) -> Result<Vec<Value>, AllocError>
-    ensures { IfOk result (λ values. values.items ≡ values_at places.now row.now) }
+/// Copies of the values at these places, NULL past the last one.
+fn values_at(alloc: Global, row: &ListedRow<'_>, places: &[usize]) -> Result<Vec<Value>, AllocError>
+    ensures { IfOk result (λ values. values.items ≡ values_at places.now (listed_values row.now)) }
 {
     let mut values = Vec::with_capacity(alloc, places.len())?;
     for place in places {
-        values.push(value_at(alloc, row, *place)?)?;
+        values.push(row.value_at(*place).try_clone(alloc)?)?;
     }
     Ok(values)
 }
@@ -65,9 +55,9 @@ fn columns_of(alloc: Global, rows: &RowList, places: &[usize]) -> Result<RowList
     ensures { IfOk result (λ columns. columns ≡ map (values_at places.now) rows.now) }
 {
     let values = rows.len().saturating_mul(places.len());
-    let mut columns = RowList::with_capacity(alloc, rows.len(), values)?;
+    let mut columns = RowList::with_capacity(alloc, rows.len(), 0, values)?;
     for at in 0..rows.len() {
-        columns.push_values(values_at(alloc, rows.row(at), places)?)?;
+        columns.push_values(values_at(alloc, &rows.row(at), places)?)?;
     }
     Ok(columns)
 }

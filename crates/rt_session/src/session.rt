@@ -10,7 +10,7 @@ use crate::selecting::select;
 use crate::tables::{Named, have_views, place_of, place_of_view};
 use rt_box::Capacity;
 use rt_row::Schema;
-use rt_sql::{ColumnDef, Cond, Items, Name, Refusal, Stmt};
+use rt_statement::{ColumnDef, Cond, Items, Name, Refusal, Stmt};
 use rt_table::AnyTable;
 use std::alloc::Global;
 use std::hash::RandomState;

@@ -7,8 +7,8 @@ use Rattle.std.specs.Result.{is_err}
 use Rattle.rt_cut.specs.Piece.{PieceText}
 use Rattle.rt_cut.specs.Pieces.{IsGap, IsWholePiece, IsLastPiece, Pieces, EndedPieces}
 use Rattle.rt_cut.specs.Cutter.{Front, StandsAt, FinishedAt, ready_piece}
-use Rattle.rt_sql.specs.declared.refusal.Refusal.{Refusal}
-use Rattle.rt_sql.specs.declared.refusal.Refusal.TheVariants.{OutOfMemory}
+use Rattle.rt_statement.specs.declared.refusal.Refusal.{Refusal}
+use Rattle.rt_statement.specs.declared.refusal.Refusal.TheVariants.{OutOfMemory}
 use Rattle.rt_cut.proofs.CutterFront.{nothing_ready}
 use Rattle.rt_cut.proofs.CutterLaws.{cut_somehow}
 use Rattle.rt_bytes.specs.declared.device.WriteFault.{WriteFault}

@@ -1,5 +1,6 @@
 pub mod Alike
 pub mod EngineLemmas
+pub mod Listed
 pub mod Pumping
 pub mod Quotes
 pub mod Sequences

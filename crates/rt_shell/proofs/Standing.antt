@@ -11,13 +11,13 @@ use Rattle.rt_check.specs.declared.problem.Condition.TheVariants.{IsFilled}
 use Rattle.rt_check.specs.declared.node.NodeRow.{NodeRow}
 use Rattle.rt_dump.specs.declared.dump.AnyShadow.{AnyShadow}
 use Rattle.rt_dump.specs.declared.dump.AnyShadow.TheVariants.{One, Two, Three}
-use Rattle.rt_sql.specs.Name.{same_name}
-use Rattle.rt_sql.specs.declared.statement.ColumnDef.{ColumnDef}
-use Rattle.rt_sql.specs.declared.statement.Test.{Test}
-use Rattle.rt_sql.specs.declared.statement.Stmt.{Stmt}
-use Rattle.rt_sql.specs.declared.statement.Stmt.TheVariants.{Create, Drop, Insert, Update, Delete, Select, Check, Watch, Unwatch, View, Nodes}
-use Rattle.rt_sql.specs.declared.refusal.Refusal.{Refusal}
-use Rattle.rt_sql.specs.declared.refusal.Refusal.TheVariants.{NoSuchColumn, NoSuchView, TableAlreadyExists, ViewAlreadyExists, TableIsWatched, TooManyTablesOrViews, BadColumnList}
+use Rattle.rt_statement.specs.Name.{same_name}
+use Rattle.rt_statement.specs.declared.statement.ColumnDef.{ColumnDef}
+use Rattle.rt_statement.specs.declared.statement.Test.{Test}
+use Rattle.rt_statement.specs.declared.statement.Stmt.{Stmt}
+use Rattle.rt_statement.specs.declared.statement.Stmt.TheVariants.{Create, Drop, Insert, Update, Delete, Select, Check, Watch, Unwatch, View, Nodes}
+use Rattle.rt_statement.specs.declared.refusal.Refusal.{Refusal}
+use Rattle.rt_statement.specs.declared.refusal.Refusal.TheVariants.{NoSuchColumn, NoSuchView, TableAlreadyExists, ViewAlreadyExists, TableIsWatched, TooManyTablesOrViews, BadColumnList}
 use Rattle.rt_tree.specs.Lists.{empty_lists}
 use Rattle.rt_row.specs.Columns.{Columns, is_column_list, plain_columns}
 use Rattle.rt_row.specs.Rows.{TableRow}

@@ -10,9 +10,9 @@ use Rattle.rt_cut.proofs.CutterLaws.{cut_one_way, cut_somehow}
 use Rattle.rt_dump.specs.declared.dump.AnyShadow.{AnyShadow}
 use Rattle.rt_dump.specs.Dump.{any_text}
 use Rattle.rt_sql.proofs.Parses.{one_answer, some_answer}
-use Rattle.rt_sql.specs.declared.statement.Stmt.{Stmt}
-use Rattle.rt_sql.specs.declared.refusal.Refusal.{Refusal}
-use Rattle.rt_sql.specs.declared.refusal.Refusal.TheVariants.{OutOfMemory}
+use Rattle.rt_statement.specs.declared.statement.Stmt.{Stmt}
+use Rattle.rt_statement.specs.declared.refusal.Refusal.{Refusal}
+use Rattle.rt_statement.specs.declared.refusal.Refusal.TheVariants.{OutOfMemory}
 use Rattle.rt_row.specs.Tables.{TableLists}
 use Rattle.rt_table.specs.AnyTrees.{StandsFor}
 use Rattle.rt_session.specs.declared.reply.Reply.{Reply}

@@ -10,9 +10,9 @@ use Rattle.rt_dump.specs.declared.dump.AnyShadow.{AnyShadow}
 use Rattle.rt_dump.specs.declared.dump.AnyShadow.TheVariants.{One}
 use Rattle.rt_dump.specs.Dump.{any_text}
 use Rattle.rt_sql.specs.Parse.{Parses}
-use Rattle.rt_sql.specs.declared.statement.Stmt.{Stmt}
-use Rattle.rt_sql.specs.declared.refusal.Refusal.{Refusal}
-use Rattle.rt_sql.specs.declared.refusal.Refusal.TheVariants.{OutOfMemory}
+use Rattle.rt_statement.specs.declared.statement.Stmt.{Stmt}
+use Rattle.rt_statement.specs.declared.refusal.Refusal.{Refusal}
+use Rattle.rt_statement.specs.declared.refusal.Refusal.TheVariants.{OutOfMemory}
 use Rattle.rt_tree.specs.Lists.{empty_lists}
 use Rattle.rt_row.specs.Columns.{Columns}
 use Rattle.rt_row.specs.Rows.{TableRow}

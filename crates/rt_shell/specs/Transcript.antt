@@ -7,9 +7,9 @@ use Rattle.rt_bytes.specs.declared.outcome.Status.TheVariants.{Clean, Refused}
 use Rattle.rt_cut.specs.Piece.{PieceText}
 use Rattle.rt_cut.specs.Pieces.{Pieces, EndedPieces}
 use Rattle.rt_sql.specs.Parse.{Parses}
-use Rattle.rt_sql.specs.declared.statement.Stmt.{Stmt}
-use Rattle.rt_sql.specs.declared.refusal.Refusal.{Refusal}
-use Rattle.rt_sql.specs.declared.refusal.Refusal.TheVariants.{OutOfMemory}
+use Rattle.rt_statement.specs.declared.statement.Stmt.{Stmt}
+use Rattle.rt_statement.specs.declared.refusal.Refusal.{Refusal}
+use Rattle.rt_statement.specs.declared.refusal.Refusal.TheVariants.{OutOfMemory}
 use Rattle.rt_shell.specs.declared.runner.Options.{Options}
 use Rattle.rt_session.specs.Session.{State, empty, Outcome, state_after, Answers}
 use Rattle.rt_shell.specs.Lines.{reply_lines, refusal_line}

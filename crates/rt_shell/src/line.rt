@@ -2,13 +2,15 @@
 
 ghost use Rattle.std.specs.Prelude.{◌≡◌, ◌≤◌, ◌++◌, ◌∷◌, ℕ, List, [], IfSome, codes, drop, length};
 ghost use Rattle.std.specs.Fmt.{signed_decimal};
-ghost use Rattle.std.specs.List.{flat_map};
+ghost use Rattle.std.specs.List.{flat_map, join_by};
 ghost use Rattle.rt_sql.specs.Token.{doubled};
+ghost use Rattle.rt_row.specs.Entries.{listed_values};
 ghost use Rattle.rt_shell.specs.Lines.{value_text, row_line};
 
 use crate::value::first_quote;
 use itoa::write_digits;
-use rt_sql::Value;
+use rt_row::ListedRow;
+use rt_statement::Value;
 use std::marker::Model;
 
 /// The most bytes of a line that is put together; a longer one is written value by value.
@@ -127,15 +129,49 @@ impl Line {
         Some(())
     }
 
-    /// Puts the line of a row, where there is room for it and no value takes more than a copy.
-    pub(crate) fn put_row(&mut self, row: &[Value]) -> Option<()>
-        ensures { IfSome result (λ _. self.new ≡ row_line row.now ++ self.old) }
+    /// Puts numbers that follow a first one, each behind a bar.
+    fn put_more_numbers(&mut self, numbers: &[i64]) -> Option<()>
+        ensures { IfSome result (λ _. self.new ≡ flat_map (λ number. codes "|" ++ signed_decimal number) numbers.now ++ self.old) }
     {
-        self.put_byte(b'\n')?;
-        if let Some((first, rest)) = row.split_first() {
+        let mut rest = numbers;
+        while let Some((last, before)) = rest.split_last() {
+            self.put_integer(*last)?;
+            self.put_byte(b'|')?;
+            rest = before;
+        }
+        Some(())
+    }
+
+    /// Puts values with bars between them.
+    fn put_values(&mut self, values: &[Value]) -> Option<()>
+        ensures { IfSome result (λ _. self.new ≡ join_by value_text (codes "|") values.now ++ self.old) }
+    {
+        if let Some((first, rest)) = values.split_first() {
             self.put_more(rest)?;
             self.put_value(first)?;
         }
+        Some(())
+    }
+
+    /// Puts the values of a row with bars between them, numbers first.
+    fn put_listed(&mut self, row: &ListedRow<'_>) -> Option<()>
+        ensures { IfSome result (λ _. self.new ≡ join_by value_text (codes "|") (listed_values row.now) ++ self.old) }
+    {
+        let Some((first, rest)) = row.numbers.split_first() else {
+            return self.put_values(row.more);
+        };
+        self.put_more(row.more)?;
+        self.put_more_numbers(rest)?;
+        self.put_integer(*first)?;
+        Some(())
+    }
+
+    /// Puts the line of a row, where there is room for it and no value takes more than a copy.
+    pub(crate) fn put_row(&mut self, row: &ListedRow<'_>) -> Option<()>
+        ensures { IfSome result (λ _. self.new ≡ row_line (listed_values row.now) ++ self.old) }
+    {
+        self.put_byte(b'\n')?;
+        self.put_listed(row)?;
         Some(())
     }
 }

@@ -1,19 +1,22 @@
 //! What is printed of an answer. Printing takes no memory, so no line is ever cut off by a want of it.
 
-ghost use Rattle.std.specs.Prelude.{◌≡◌, ◌++◌, if◌then◌else◌, codes};
+ghost use Rattle.std.specs.Prelude.{◌≡◌, ◌++◌, if◌then◌else◌, codes, map};
+ghost use Rattle.std.specs.Fmt.{signed_decimal};
 ghost use Rattle.std.specs.List.{flat_map, join_by};
 ghost use Rattle.rt_bytes.specs.Devices.{WritesTo};
+ghost use Rattle.rt_statement.specs.declared.value.Value.TheVariants.{Int};
+ghost use Rattle.rt_row.specs.Entries.{listed_values};
 ghost use Rattle.rt_shell.specs.Lines.{value_text, row_line, change_line, reply_lines, refusal_line};
 
 use crate::line::Line;
-use crate::value::write_value;
+use crate::value::{write_integer, write_value};
 use itoa::Buffer;
 use rt_bytes::{ByteWriter, WriteFault, write_parts, write_whole};
 use rt_dump::write_dump;
 use rt_report::write_verdict;
-use rt_row::RowList;
+use rt_row::{ListedRow, RowList};
 use rt_session::{Change, Reply};
-use rt_sql::{Refusal, Value};
+use rt_statement::{Refusal, Value};
 
 /// Writes the lines of a reply: a line for each row that it shows, or for each change; the verdict on
 /// a tree, or its dump. After a fault a front of them is written.
@@ -37,7 +40,7 @@ fn write_rows<W: ByteWriter>(rows: &RowList, writer: &mut W) -> Result<(), Write
     ensures { WritesTo W.ByteWriter writer.old writer.new result (flat_map row_line rows.now) }
 {
     for at in 0..rows.len() {
-        write_row(rows.row(at), writer)?;
+        write_row(&rows.row(at), writer)?;
     }
     Ok(())
 }
@@ -62,11 +65,15 @@ fn write_change<W: ByteWriter>(change: &Change, writer: &mut W) -> Result<(), Wr
 {
     let parts: [&[u8]; 3] = [sign(change), change.view.as_str().as_bytes(), b" "];
     write_parts(writer, &parts)?;
-    write_row(change.row.as_slice(), writer)
+    let row = ListedRow {
+        numbers: &[],
+        more: change.row.as_slice(),
+    };
+    write_row(&row, writer)
 }
 
-fn write_row<W: ByteWriter>(row: &[Value], writer: &mut W) -> Result<(), WriteFault>
-    ensures { WritesTo W.ByteWriter writer.old writer.new result (row_line row.now) }
+fn write_row<W: ByteWriter>(row: &ListedRow<'_>, writer: &mut W) -> Result<(), WriteFault>
+    ensures { WritesTo W.ByteWriter writer.old writer.new result (row_line (listed_values row.now)) }
 {
     let mut line = Line::new();
     match line.put_row(row) {
@@ -76,11 +83,56 @@ fn write_row<W: ByteWriter>(row: &[Value], writer: &mut W) -> Result<(), WriteFa
 }
 
 /// Writes a row's line value by value.
-fn write_long_row<W: ByteWriter>(row: &[Value], writer: &mut W) -> Result<(), WriteFault>
-    ensures { WritesTo W.ByteWriter writer.old writer.new result (row_line row.now) }
+fn write_long_row<W: ByteWriter>(row: &ListedRow<'_>, writer: &mut W) -> Result<(), WriteFault>
+    ensures { WritesTo W.ByteWriter writer.old writer.new result (row_line (listed_values row.now)) }
 {
-    write_values(row, writer)?;
+    write_listed(row, writer)?;
     write_whole(writer, b"\n")
+}
+
+fn write_listed<W: ByteWriter>(row: &ListedRow<'_>, writer: &mut W) -> Result<(), WriteFault>
+    ensures { WritesTo W.ByteWriter writer.old writer.new result (join_by value_text (codes "|") (listed_values row.now)) }
+{
+    let Some((first, rest)) = row.numbers.split_first() else {
+        return write_values(row.more, writer);
+    };
+    write_integer(first, writer)?;
+    write_more_listed(rest, row.more, writer)
+}
+
+/// Writes the numbers that follow a first one, and the values behind them.
+fn write_more_listed<W: ByteWriter>(
+    numbers: &[i64],
+    values: &[Value],
+    writer: &mut W,
+) -> Result<(), WriteFault>
+    ensures { WritesTo W.ByteWriter writer.old writer.new result (flat_map (λ value. codes "|" ++ value_text value) (map Int numbers.now ++ values.now)) }
+{
+    write_more_numbers(numbers, writer)?;
+    write_more_values(values, writer)
+}
+
+/// Writes the numbers that follow a first one.
+fn write_more_numbers<W: ByteWriter>(numbers: &[i64], writer: &mut W) -> Result<(), WriteFault>
+    ensures { WritesTo W.ByteWriter writer.old writer.new result (flat_map (λ number. codes "|" ++ signed_decimal number) numbers.now) }
+{
+    for number in numbers {
+        write_number_after_bar(number, writer)?;
+    }
+    Ok(())
+}
+
+fn write_bar<W: ByteWriter>(writer: &mut W) -> Result<(), WriteFault>
+    ensures { WritesTo W.ByteWriter writer.old writer.new result (codes "|") }
+{
+    write_whole(writer, b"|")
+}
+
+fn write_number_after_bar<W: ByteWriter>(number: &i64, writer: &mut W) -> Result<(), WriteFault>
+    ensures { WritesTo W.ByteWriter writer.old writer.new result (codes "|" ++ signed_decimal number.now) }
+{
+    write_bar(writer)?;
+    write_integer(number, writer)
 }
 
 fn write_values<W: ByteWriter>(values: &[Value], writer: &mut W) -> Result<(), WriteFault>
@@ -106,7 +158,7 @@ fn write_more_values<W: ByteWriter>(values: &[Value], writer: &mut W) -> Result<
 fn write_after_bar<W: ByteWriter>(value: &Value, writer: &mut W) -> Result<(), WriteFault>
     ensures { WritesTo W.ByteWriter writer.old writer.new result (codes "|" ++ value_text value.now) }
 {
-    write_whole(writer, b"|")?;
+    write_bar(writer)?;
     write_value(value, writer)
 }
 

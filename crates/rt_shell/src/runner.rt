@@ -12,7 +12,8 @@ use rt_box::Capacity;
 use rt_bytes::{ByteReader, ByteWriter, MOST_READS, READ_SIZE, RunFault, Status, WriteFault};
 use rt_cut::{Cutter, Piece};
 use rt_session::{Reply, Session};
-use rt_sql::{Refusal, parse};
+use rt_sql::parse;
+use rt_statement::Refusal;
 use std::alloc::{AllocError, Global};
 use std::hash::RandomState;
 

@@ -9,7 +9,7 @@ ghost use Rattle.rt_shell.specs.Lines.{hex_pair, value_text};
 
 use itoa::Buffer;
 use rt_bytes::{ByteWriter, WriteFault, write_parts, write_whole};
-use rt_sql::Value;
+use rt_statement::Value;
 
 /// How many bytes of a blob are written at a time.
 const BYTES_AT_ONCE: usize = 32;
@@ -27,7 +27,7 @@ pub(crate) fn write_value<W: ByteWriter>(value: &Value, writer: &mut W) -> Resul
     }
 }
 
-fn write_integer<W: ByteWriter>(number: &i64, writer: &mut W) -> Result<(), WriteFault>
+pub(crate) fn write_integer<W: ByteWriter>(number: &i64, writer: &mut W) -> Result<(), WriteFault>
     ensures { WritesTo W.ByteWriter writer.old writer.new result (signed_decimal number.now) }
 {
     let mut buffer = Buffer::new();

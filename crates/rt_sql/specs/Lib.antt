@@ -2,13 +2,9 @@ pub mod Class
 pub mod Cursor
 pub mod Grammar
 pub mod Lex
-pub mod Name
 pub mod Number
 pub mod Parse
 pub mod Reading
-pub mod Refusal
 pub mod Token
 pub mod Tokens
-pub mod Value
-pub mod ValueLaws
 pub mod Word

@@ -3,9 +3,9 @@ use Rattle.std.specs.Prelude.{◌≡◌, ◌⊎◌, ℕ, Bool, false, not, ◌||
 use Rattle.std.specs.Str.{IsUtf8}
 use Rattle.rt_cut.specs.declared.piece.Ending.{Ending}
 use Rattle.rt_cut.specs.declared.piece.Ending.TheVariants.{Whole, Incomplete, TooLong}
-use Rattle.rt_sql.specs.declared.refusal.Refusal.{Refusal}
-use Rattle.rt_sql.specs.declared.refusal.Refusal.TheVariants.{SyntaxError, IncompleteInput, StatementTooLong, NotUtf8, IntegerOutOfRange, OutOfMemory, UnknownCommand}
-use Rattle.rt_sql.specs.declared.statement.Stmt.{Stmt}
+use Rattle.rt_statement.specs.declared.refusal.Refusal.{Refusal}
+use Rattle.rt_statement.specs.declared.refusal.Refusal.TheVariants.{SyntaxError, IncompleteInput, StatementTooLong, NotUtf8, IntegerOutOfRange, OutOfMemory, UnknownCommand}
+use Rattle.rt_statement.specs.declared.statement.Stmt.{Stmt}
 use Rattle.rt_sql.specs.declared.token.Token.{Token}
 use Rattle.rt_sql.specs.declared.token.Token.TheVariants as token
 use Rattle.rt_sql.specs.Grammar.{Spells}

@@ -5,15 +5,14 @@ ghost use Rattle.rt_sql.specs.Reading as reading;
 ghost use Rattle.rt_sql.specs.Reading.{Reads};
 
 use crate::literals::{hex_bytes, undoubled};
-use crate::name::Name;
 use crate::number::{Numbers, number};
-use crate::refusal::Refusal;
-use crate::statement::{ColumnDef, Compare, Cond, Op6, Rule, Source, Stmt, Test};
 use crate::token::{Sign, Token};
 use crate::tokens::Tokens;
-use crate::value::{Blob, Text, Value};
 use crate::word::is_reserved;
-use sqlite_items::Items;
+use rt_statement::{
+    Blob, ColumnDef, Compare, Cond, Items, Name, Op6, Refusal, Rule, Source, Stmt, Test, Text,
+    Value,
+};
 use std::alloc::Global;
 
 #[tactic(auto, unfolding(crate::specs::Reading::name, crate::specs::Reading::name_in))]

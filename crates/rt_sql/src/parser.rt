@@ -6,11 +6,10 @@ ghost use Rattle.rt_sql.specs.Reading as reading;
 
 use crate::grammar::{is_command, whole};
 use crate::number::Numbers;
-use crate::refusal::Refusal;
-use crate::statement::Stmt;
 use crate::token::Token;
 use crate::tokens::Tokens;
 use rt_cut::{Ending, Piece};
+use rt_statement::{Refusal, Stmt};
 use std::alloc::Global;
 
 /// The text, if it is UTF-8 with no zero byte.

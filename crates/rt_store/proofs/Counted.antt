@@ -10,7 +10,7 @@ use Rattle.rt_check.specs.declared.node.RowEntry.{RowEntry}
 use Rattle.rt_check.specs.Shadow.{ShadowLists}
 use Rattle.rt_check.specs.Conditions.{entry_of}
 use Rattle.rt_node.proofs.Counts.{count-cons}
-use Rattle.rt_sql.specs.declared.value.Value.{Value}
+use Rattle.rt_statement.specs.declared.value.Value.{Value}
 use Rattle.rt_row.specs.Rows.{TableRow, row_at, without_id}
 use Rattle.rt_walk.specs.declared.searching.Row.{Row}
 use Rattle.rt_tree.specs.Lists.{IsInShape}

@@ -15,7 +15,7 @@ use Rattle.rt_check.specs.declared.problem.Condition.TheVariants.{HasPlace, Name
 use Rattle.rt_check.specs.Shadow.{ShadowLists}
 use Rattle.rt_check.specs.Conditions.{is_leaf, names_child, is_ordered, holds_child, fits_child, is_filled, has_place, has_entry, has_cell, entry_of, leaf_cells, times_named, failing, root_problems, node_problems, cell_problems, cell_problems_of, row_problems}
 use Rattle.rt_node.proofs.Counts.{count-cons}
-use Rattle.rt_sql.specs.declared.value.Value.{Value}
+use Rattle.rt_statement.specs.declared.value.Value.{Value}
 use Rattle.rt_row.specs.Rows.{TableRow, AreRising, row_at}
 use Rattle.rt_walk.specs.declared.searching.Row.{Row}
 use Rattle.rt_walk.proofs.Reaching.{counted-contained}

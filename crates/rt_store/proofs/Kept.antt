@@ -5,7 +5,7 @@ use Rattle.std.specs.Ordering.{int_eq}
 use Rattle.indexmap.specs.IndexMap.{IndexMap, get}
 use Rattle.rt_box.specs.declared.interval.Interval.{Interval}
 use Rattle.rt_check.specs.Shadow.{ShadowLists}
-use Rattle.rt_sql.specs.declared.value.Value.{Value}
+use Rattle.rt_statement.specs.declared.value.Value.{Value}
 use Rattle.rt_tree.specs.Lists.{IsInShape}
 use Rattle.rt_tree.specs.Rows.{box_of, GainsRow, LosesRow}
 use Rattle.rt_store.specs.Ranked.{IsTop}

@@ -18,7 +18,7 @@ use indexmap::IndexMap;
 use rt_box::Capacity;
 use rt_check::Shadow;
 use rt_row::{Entry, RowView};
-use rt_sql::{Items, Value};
+use rt_statement::{Items, Value};
 use rt_tree::{Row, Tree};
 use std::alloc::{AllocError, Global};
 use std::hash::RandomState;

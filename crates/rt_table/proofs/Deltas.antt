@@ -5,7 +5,7 @@ use Rattle.std.specs.List.{list_any, flat_map, All, AllByRecursion}
 use Rattle.std.proofs.lemmas.List.Elements.{filter_agree, recursion_from_All}
 use Rattle.std.specs.Ordering.{int_eq}
 use Rattle.std.proofs.lemmas.Cmp.{lists_equiv}
-use Rattle.rt_sql.specs.ValueLaws.{same_value-equiv}
+use Rattle.rt_statement.specs.ValueLaws.{same_value-equiv}
 use Rattle.rt_row.specs.Columns.{Columns}
 use Rattle.rt_row.specs.Rows.{TableRow, AreRising, row_at, values_of}
 use Rattle.rt_row.specs.Conditions.{holds, picked}

@@ -6,8 +6,8 @@ use Rattle.std.specs.Ordering.{int_eq}
 use Rattle.std.specs.Option.{option_map}
 use Rattle.std.proofs.lemmas.Cmp.{int_eq_equiv}
 use Rattle.std.proofs.lemmas.Slice.Eq.{slice_eq-Decides}
-use Rattle.rt_sql.specs.declared.value.Value.{Value}
-use Rattle.rt_sql.specs.ValueLaws.{same_value-Decides}
+use Rattle.rt_statement.specs.declared.value.Value.{Value}
+use Rattle.rt_statement.specs.ValueLaws.{same_value-Decides}
 use Rattle.rt_row.specs.Rows.{TableRow, row_at, values_of}
 use Rattle.rt_row.specs.Views.{ViewChange, same_row, left, came, change_at, ids_of_both, delta}
 use Rattle.rt_store.proofs.Order.{eq_same, eq_from, eq_above}

@@ -6,8 +6,8 @@ use Rattle.std.specs.Option.{option_map}
 use Rattle.std.proofs.lemmas.Option.{slice_get_read}
 use Rattle.std.proofs.lemmas.List.Folds.{find_at}
 use Rattle.std.proofs.lemmas.List.Quantifiers.{position-Some}
-use Rattle.rt_sql.specs.declared.value.Value.{Value}
-use Rattle.rt_sql.specs.declared.refusal.Refusal.TheVariants.{NoSuchView}
+use Rattle.rt_statement.specs.declared.value.Value.{Value}
+use Rattle.rt_statement.specs.declared.refusal.Refusal.TheVariants.{NoSuchView}
 use Rattle.rt_row.specs.Rows.{TableRow, AreRising, row_at, values_of}
 use Rattle.rt_row.specs.Conditions.{holds, picked}
 use Rattle.rt_row.specs.Filters.{admits}

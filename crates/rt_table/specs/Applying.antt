@@ -1,8 +1,8 @@
 -- Why a table is ready for the steps of each statement. Source: own.
 use Rattle.std.specs.Prelude.{ℕ, List, Option, IfOk}
-use Rattle.rt_sql.specs.declared.value.Value.{Value}
-use Rattle.rt_sql.specs.declared.statement.Rule.{Rule}
-use Rattle.rt_sql.specs.declared.statement.Test.{Test}
+use Rattle.rt_statement.specs.declared.value.Value.{Value}
+use Rattle.rt_statement.specs.declared.statement.Rule.{Rule}
+use Rattle.rt_statement.specs.declared.statement.Test.{Test}
 use Rattle.rt_row.specs.Columns.{Columns}
 use Rattle.rt_row.specs.Rows.{TableRow, AreRising}
 use Rattle.rt_row.specs.Edits.{Setting, insert, update, delete}

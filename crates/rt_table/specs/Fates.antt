@@ -3,7 +3,7 @@ use Rattle.std.specs.Prelude.{ℕ, ℤ, true, false, List, ◌++◌, Option, Som
 use Rattle.std.specs.Borrow.{Bor}
 use Rattle.std.specs.Option.{option_map, option_to_list, unwrap_or}
 use Rattle.std.specs.BTreeMap.{BTreeMap, get}
-use Rattle.rt_sql.specs.declared.value.Value.{Value}
+use Rattle.rt_statement.specs.declared.value.Value.{Value}
 use Rattle.std.specs.Ordering.{int_eq, int_cmp}
 use Rattle.rt_row.specs.declared.entry.Entry.{Entry}
 use Rattle.rt_row.specs.Rows.{TableRow, row_at}

@@ -1,7 +1,7 @@
 -- What holds of the changes of every view. Source: own.
 use Rattle.std.specs.Prelude.{◌≡◌, ℤ, not, List, [], ◌∷◌, ◌++◌, map, filter, int_lt, if◌then◌else◌}
 use Rattle.std.specs.Ordering.{int_eq}
-use Rattle.rt_sql.specs.declared.value.Value.{Value}
+use Rattle.rt_statement.specs.declared.value.Value.{Value}
 use Rattle.rt_row.specs.Columns.{Columns}
 use Rattle.rt_row.specs.Rows.{TableRow, AreRising, values_of}
 use Rattle.rt_row.specs.Conditions.{picked}

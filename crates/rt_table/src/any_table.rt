@@ -9,7 +9,7 @@ use rt_box::Capacity;
 use rt_check::Problem;
 use rt_dump::AnyShadow;
 use rt_row::Schema;
-use rt_sql::{Cond, Items, Name, Refusal, Rule, Source, Value};
+use rt_statement::{Cond, Items, Name, Refusal, Rule, Source, Value};
 use std::alloc::{AllocError, Global};
 use std::hash::RandomState;
 use std::marker::Model;

@@ -6,7 +6,7 @@ ghost use Rattle.std.specs.Option.{option_map, unwrap_or};
 ghost use Rattle.std.specs.List.{list_any, flat_map};
 ghost use Rattle.std.specs.Cmp.Lexicographic.{pointwise};
 ghost use Rattle.std.specs.BTreeMap.{get, keys};
-ghost use Rattle.rt_sql.specs.Value.{same_value};
+ghost use Rattle.rt_statement.specs.Value.{same_value};
 ghost use Rattle.rt_row.specs.Rows.{TableRow, row_at, values_of};
 ghost use Rattle.rt_row.specs.Edits.{outcome};
 ghost use Rattle.rt_row.specs.Entries.{step_of, view_row};
@@ -19,7 +19,7 @@ ghost use Rattle.rt_table.specs.Fates.{fate_of, noted, rows_after, changes_of, c
 
 use crate::watched::{Change, Watched};
 use rt_row::{Entry, Filter, RowView, Step};
-use rt_sql::{Items, Name, Value};
+use rt_statement::{Items, Name, Value};
 use rt_store::Store;
 use std::alloc::{AllocError, Global};
 use std::collections::BTreeMap;

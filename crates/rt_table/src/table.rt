@@ -3,7 +3,7 @@
 ghost use Rattle.std.specs.Prelude.{◌≡◌, ◌≤◌, ◌<◌, List, [], not, map, filter, length, position, nat_lt, Ok, IfOk, IfErr, OnOk, OnErr};
 ghost use Rattle.std.specs.List.{list_any};
 ghost use Rattle.rt_box.specs.declared.interval.Interval.{Interval};
-ghost use Rattle.rt_sql.specs.Name.{same_name};
+ghost use Rattle.rt_statement.specs.Name.{same_name};
 
 use crate::carrying::{apply, refresh_all};
 use crate::preparing::{Touched, touch_where_watched};
@@ -13,7 +13,7 @@ use rt_box::Capacity;
 use rt_check::{Problem, Shadow, check};
 use rt_plan::{Plan, plan_delete, plan_insert, plan_update};
 use rt_row::{Filter, Schema, Step};
-use rt_sql::{Cond, Items, Name, Refusal, Rule, Source, Value};
+use rt_statement::{Cond, Items, Name, Refusal, Rule, Source, Value};
 use rt_store::Store;
 use std::alloc::{AllocError, Global};
 use std::hash::RandomState;

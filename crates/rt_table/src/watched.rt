@@ -16,7 +16,7 @@ ghost use Rattle.rt_table.specs.declared.watched.Watched.{Watched};
 
 use indexmap::IndexSet;
 use rt_row::{Filter, RowList, Schema};
-use rt_sql::{Cond, Items, Name, Refusal, Value};
+use rt_statement::{Cond, Items, Name, Refusal, Value};
 use rt_store::Store;
 use rt_tree::Row;
 use std::alloc::{AllocError, Global};
@@ -66,7 +66,7 @@ fn id_set(
     Ok(set)
 }
 
-/// No rows, with room for so many of a table without auxiliary columns.
+/// No rows, with room for so many, but for their auxiliary values.
 fn no_rows<const D: usize>(
     alloc: Global,
     store: &Store<D>,
@@ -76,7 +76,7 @@ fn no_rows<const D: usize>(
 {
     // The contract of `len` says that there are three axes at most.
     let _ = store.len();
-    RowList::with_capacity(alloc, rows, rows.saturating_mul(1 + 2 * D))
+    RowList::with_capacity(alloc, rows, rows.saturating_mul(1 + 2 * D), 0)
 }
 
 /// The whole rows of these ids; an id that no row has is passed over.

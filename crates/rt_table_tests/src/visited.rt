@@ -3,7 +3,7 @@
 use rt_box::Capacity;
 use rt_cut::{Ending, Piece};
 use rt_row::Schema;
-use rt_sql::{Stmt, Value, parse};
+use rt_sql::{Stmt, parse};
 use rt_table::AnyTable;
 use std::alloc::Global;
 use std::hash::RandomState;
@@ -61,7 +61,7 @@ fn expect(
     assert_eq!(rt; picked.rows.len(), ids.len());
     for (at, id) in ids.iter().enumerate() {
         assert!(rt; at < picked.rows.len());
-        assert!(rt; picked.rows.row(at).first() == Some(&Value::Int(*id)));
+        assert!(rt; picked.rows.row(at).numbers.first() == Some(id));
     }
     assert_eq!(rt; picked.visited, visited);
     Ok(())

@@ -2,6 +2,7 @@
 
 ghost use Rattle.std.specs.Prelude.{◌≡◌, ◌≤◌, ◌<◌, ◌++◌, [], All, length, take, IfOk, OnOk};
 ghost use Rattle.slab.specs.Slab.{ContainsKey};
+ghost use Rattle.rt_box.specs.Window.{IsReach};
 ghost use Rattle.rt_node.specs.Whole.{IsWhole};
 ghost use Rattle.rt_node.specs.Places.{key_of};
 ghost use Rattle.rt_walk.specs.Search.{row_of, Finds};
@@ -30,6 +31,14 @@ pub struct Found<const D: usize> {
     pub rows: Vec<Row<D>>,
     /// The number of nodes that the search went into.
     pub visited: u64,
+}
+
+/// What a search asks of the boxes that it meets: of rows by its window, and of children by the window's reach, which
+/// is made once.
+#[derive(Drop)]
+struct Asked<const D: usize> {
+    window: Window<D>,
+    reach: Window<D>,
 }
 
 /// The row of a leaf's cell.
@@ -110,14 +119,18 @@ fn take_rows<const D: usize>(
 fn take_children<const D: usize>(
     keys: &mut Vec<usize>,
     node: &Node<D>,
-    window: &Window<D>,
+    asked: &Asked<D>,
 ) -> Result<(), AllocError>
-    ensures { OnOk result (TakesChildren window.now node.now.cells keys.old.items keys.new.items) }
+    requires { IsReach D asked.now.window asked.now.reach }
+    ensures { OnOk result (TakesChildren asked.now.window node.now.cells keys.old.items keys.new.items) }
 {
-    let (boxes, window) = (node.boxes(), *window);
+    let (boxes, reach) = (node.boxes(), asked.reach);
     keys.reserve(boxes.len())?;
     for at in 0..boxes.len() {
-        let kept = keys.len() + usize::from(window.may_hold(&boxes[at]));
+        let rect = &boxes[at];
+        let kept = keys.len() + usize::from(reach.admits(rect));
+        // The contract of `axes` says that it is a box.
+        let _ = rect.axes();
         keys.push_reserved(child_of(&node.cell(at)));
         keys.truncate(kept);
     }
@@ -130,17 +143,18 @@ fn visit<const D: usize>(
     keys: &mut Vec<usize>,
     tree: &Arena<D>,
     key: usize,
-    window: &Window<D>,
+    asked: &Asked<D>,
 ) -> Result<(), AllocError>
     requires present { ContainsKey tree.now.nodes key }
     requires few { D ≤ 3 }
-    ensures { OnOk result (Visits tree.now.nodes window.now key rows.old.items rows.new.items keys.old.items keys.new.items) }
+    requires reach { IsReach D asked.now.window asked.now.reach }
+    ensures { OnOk result (Visits tree.now.nodes asked.now.window key rows.old.items rows.new.items keys.old.items keys.new.items) }
 {
     let node = node_at(&tree.nodes, key);
     if node.level() == 0 {
-        take_rows(rows, node, window)
+        take_rows(rows, node, &asked.window)
     } else {
-        take_children(keys, node, window)
+        take_children(keys, node, asked)
     }
 }
 
@@ -166,9 +180,14 @@ pub fn search<const D: usize>(
     let mut found = Found { rows, visited: 0 };
     let mut keys = Vec::with_capacity(alloc, 2 * MOST_CELLS)?;
     keys.push(tree.root)?;
+    // The contract of `capacity` says that there are fewer nodes than can be counted.
     let _ = tree.nodes.capacity();
+    let asked = Asked {
+        window: *window,
+        reach: window.reach(),
+    };
     while let Some(key) = keys.pop() {
-        visit(&mut found.rows, &mut keys, tree, key, window)?;
+        visit(&mut found.rows, &mut keys, tree, key, &asked)?;
         found.visited += 1;
     }
     Ok(found)

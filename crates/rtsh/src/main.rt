@@ -28,6 +28,9 @@ use std::io::{self, BufWriter, IsTerminal, Read, Write};
 use std::process::ExitCode;
 use terminal::{Prompting, hint_at_dump, is_attended};
 
+/// How many bytes of the output are gathered before they are written, where nobody waits for them.
+const GATHERED: usize = 65_536;
+
 fn main(rt: HostRuntime) -> ExitCode {
     let Ok(words) = words(&rt) else {
         return failed(&rt, Fault::Run(RunFault::Memory));
@@ -145,7 +148,7 @@ fn read_from<'a, R: Read + Drop>(
     if rt.stdout().is_terminal() {
         return read_and_write(alloc, keys, reader, name, writer, asked);
     }
-    let Ok(buffer) = BufWriter::new(alloc, writer) else {
+    let Ok(buffer) = BufWriter::with_capacity(alloc, GATHERED, writer) else {
         return Err(Fault::Run(RunFault::Memory));
     };
     read_and_write(alloc, keys, reader, name, buffer, asked)

@@ -1,7 +1,7 @@
 use Rattle.std.proofs.Common.{◌≡◌, ◌==◌, rules, List, map, length, true, false, inl}
 use Rattle.std.specs.List.{list_all}
 use Rattle.std.proofs.lemmas.Result.{err_from_is_err_and}
-use Rattle.rt_sql.specs.declared.value.Value.{Value}
+use Rattle.rt_statement.specs.declared.value.Value.{Value}
 use Rattle.rt_row.specs.Arrangements.{Arranged, rearranged, IsArrangementOf}
 use Rattle.rt_row.specs.Edits.{listed_columns, put_all, insert}
 use Rattle.rt_row.specs.Entries.{step_of}

@@ -1,6 +1,6 @@
 use Rattle.std.proofs.Common.{rules, arith, ◌≡◌, inl, refl, false, None, get_or}
 use Rattle.std.proofs.lemmas.List.Folds.{list_all_at}
-use Rattle.rt_sql.specs.declared.statement.Test.{Test}
+use Rattle.rt_statement.specs.declared.statement.Test.{Test}
 use Rattle.rt_row.specs.Columns.{has_name, place_of}
 use Rattle.rt_row.specs.Conditions.{column_of}
 use Rattle.rt_row.proofs.Filters.{absent}

@@ -3,7 +3,7 @@ use Rattle.std.specs.BTreeSet.{contains_text}
 use Rattle.std.specs.Str.{bytes_eq, str_to_ascii_lowercase}
 use Rattle.std.specs.String.{string_bytes}
 use Rattle.std.proofs.lemmas.Map.Text.{btree_set_updates_text}
-use Rattle.rt_sql.specs.Name.{same_name}
+use Rattle.rt_statement.specs.Name.{same_name}
 use Rattle.rt_row.proofs.Names.{either}
 use Rattle.rt_row.proofs.schema.add_name.Goals as goal
 

@@ -1,6 +1,6 @@
 use Rattle.std.proofs.Common.{rules, ◌≡◌, ◌+◌, ◌*◌, true, false, List, take, inl, sym, ◌∙◌}
 use Rattle.std.specs.List.{list_all}
-use Rattle.rt_sql.specs.declared.value.Value.{Value}
+use Rattle.rt_statement.specs.declared.value.Value.{Value}
 use Rattle.rt_row.specs.Rows.{values_of}
 use Rattle.rt_row.specs.Entries.{view_row}
 use Rattle.rt_row.specs.Candidates.{is_integer}

@@ -1,5 +1,5 @@
 use Rattle.std.proofs.Common.{rules, ◌∙◌, ◌≡◌, is_some, position}
-use Rattle.rt_sql.specs.Name.{same_name}
+use Rattle.rt_statement.specs.Name.{same_name}
 use Rattle.rt_row.specs.Edits.{Setting}
 use Rattle.rt_row.proofs.Setting.{set_there}
 use Rattle.rt_row.proofs.settings.is_set.Goals as goal

@@ -1,5 +1,5 @@
 use Rattle.std.proofs.Common.{◌≡◌, Ok, List, map, subst}
-use Rattle.rt_sql.specs.declared.value.Value.{Value}
+use Rattle.rt_statement.specs.declared.value.Value.{Value}
 use Rattle.rt_row.specs.Edits.{Setting, insert, update}
 use Rattle.rt_row.specs.Tables.{edited}
 use Rattle.rt_table.specs.AnyTrees.{FollowsIfTaken}

@@ -1,6 +1,7 @@
 use Rattle.std.proofs.Common.{◌≡◌, take}
+use Rattle.rt_row.specs.Entries.{listed_values}
 use Rattle.rt_session.specs.Selecting.{values_at}
 use Rattle.rt_session.proofs.selecting.values_at.Given as goal
 
 abbrev pub invariant-loop-place : goal.invariant-loop-place
-invariant-loop-place l = l.values.items ≡ values_at (take l.place-index l.places) l.row
+invariant-loop-place l = l.values.items ≡ values_at (take l.place-index l.places) (listed_values l.row)

@@ -5,8 +5,8 @@ use Rattle.rt_shell.proofs.reply.write_after_bar.Goals as goal
 
 pub returns : goal.returns
 returns g c =
-    Writes-after _ _ _ _ _ _ _ (codes "|") (value_text c.args.value.now) c.in_ok-write_whole.ensures c.write_value.ensures
+    Writes-after _ _ _ _ _ _ _ (codes "|") (value_text c.args.value.now) c.in_ok-write_bar.ensures c.write_value.ensures
 
-pub returns-in_err-write_whole : goal.returns-in_err-write_whole
-returns-in_err-write_whole g c =
-    Writes-first _ _ _ _ _ (codes "|") (value_text c.args.value.now) _ refl c.from_residual.ensures.0 c.in_err-write_whole.ensures
+pub returns-in_err-write_bar : goal.returns-in_err-write_bar
+returns-in_err-write_bar g c =
+    Writes-first _ _ _ _ _ (codes "|") (value_text c.args.value.now) _ refl c.from_residual.ensures.0 c.in_err-write_bar.ensures

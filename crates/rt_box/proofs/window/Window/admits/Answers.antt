@@ -1,4 +1,4 @@
-use Rattle.std.proofs.Common.{◌<◌, length, arith, refl, below_more}
+use Rattle.std.proofs.Common.{arith, below_more}
 use Rattle.std.proofs.lemmas.Bool.{and_parts, and_from}
 use Rattle.rt_box.specs.Ends.{AdmitsSide}
 use Rattle.rt_box.proofs.Windows.{sides_here, side_here, Admits-sides, Admits-all}

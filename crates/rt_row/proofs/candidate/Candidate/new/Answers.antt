@@ -1,7 +1,7 @@
 use Rattle.std.proofs.Common.{rules, ◌≡◌, true, false, map, get_or, inl}
 use Rattle.std.specs.List.{list_all}
 use Rattle.std.proofs.lemmas.List.Folds.{list_all-map}
-use Rattle.rt_sql.specs.declared.value.Value.TheVariants.{Null}
+use Rattle.rt_statement.specs.declared.value.Value.TheVariants.{Null}
 use Rattle.rt_row.specs.Candidates.{is_integer, number_in, fits_bits, coordinate_values}
 use Rattle.rt_row.proofs.Boxes.{id_is, coordinates_are, candidate_from, candidate_long, candidate_reversed}
 use Rattle.rt_row.proofs.candidate.Candidate.new.Goals as goal

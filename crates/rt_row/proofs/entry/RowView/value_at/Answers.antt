@@ -1,5 +1,5 @@
 use Rattle.std.proofs.Common.{rules, arith, FitsSigned, w32, w64, to_z-of_z, ◌-◌, ◌*◌, ◌∙◌}
-use Rattle.rt_sql.specs.declared.value.Value.TheVariants.{Null}
+use Rattle.rt_statement.specs.declared.value.Value.TheVariants.{Null}
 use Rattle.rt_row.proofs.Places.{coordinate_at, kept_at}
 use Rattle.rt_row.proofs.entry.RowView.value_at.Goals as goal
 

@@ -1,4 +1,4 @@
-use Rattle.std.proofs.Common.{◌≡◌, None, List, ℕ, [], ◌∷◌, ◌++◌, ap, sym, ◌∙◌, append_assoc, rules}
+use Rattle.std.proofs.Common.{◌≡◌, None, [], ◌∷◌, ◌++◌, ap, sym, ◌∙◌, append_assoc, rules}
 use Rattle.std.specs.List.{position}
 use Rattle.rt_sql.specs.Token.{doubled}
 use Rattle.rt_shell.proofs.Quotes.{is_quote, doubled-no_quote}

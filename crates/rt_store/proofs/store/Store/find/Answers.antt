@@ -1,7 +1,7 @@
 use Rattle.std.proofs.Common.{◌≡◌, List, Some, None, rules, sym, ap, ◌∙◌, w64, FitsSigned}
 use Rattle.std.specs.Option.{option_map}
 use Rattle.std.proofs.lemmas.Int.{to_z-of_z}
-use Rattle.rt_sql.specs.declared.value.Value.{Value}
+use Rattle.rt_statement.specs.declared.value.Value.{Value}
 use Rattle.rt_tree.specs.Rows.{box_of}
 use Rattle.rt_row.specs.Rows.{TableRow, row_at}
 use Rattle.rt_row.specs.Entries.{view_row}

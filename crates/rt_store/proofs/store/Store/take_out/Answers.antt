@@ -3,7 +3,7 @@ use Rattle.std.specs.Option.{option_map}
 use Rattle.std.specs.Ordering.{int_eq}
 use Rattle.std.proofs.lemmas.Int.{to_z-of_z}
 use Rattle.indexmap.specs.IndexMap.{get}
-use Rattle.rt_sql.specs.declared.value.Value.{Value}
+use Rattle.rt_statement.specs.declared.value.Value.{Value}
 use Rattle.rt_tree.specs.Rows.{box_of}
 use Rattle.rt_row.specs.Rows.{TableRow, row_at, has_id, without_id}
 use Rattle.rt_store.specs.Stored.{Stored}

@@ -1,5 +1,5 @@
 ghost use Rattle.std.specs.Prelude.{◌≡◌};
-ghost use Rattle.rt_sql.specs.Refusal.{code_of, text_of};
+ghost use Rattle.rt_statement.specs.Refusal.{code_of, text_of};
 
 use std::alloc::{AllocError, AllocFailed};
 use std::error::Error;
@@ -104,7 +104,7 @@ impl fmt::Display for Refusal {
 impl Error for Refusal {}
 
 impl From<AllocError> for Refusal {
-    ghost use Rattle.rt_sql.specs.declared.refusal.Refusal.TheVariants.{OutOfMemory};
+    ghost use Rattle.rt_statement.specs.declared.refusal.Refusal.TheVariants.{OutOfMemory};
 
     ghost from_gives = { λ _ refusal. refusal ≡ OutOfMemory };
 
@@ -114,7 +114,7 @@ impl From<AllocError> for Refusal {
 }
 
 impl<T: Drop> From<AllocFailed<T>> for Refusal {
-    ghost use Rattle.rt_sql.specs.declared.refusal.Refusal.TheVariants.{OutOfMemory};
+    ghost use Rattle.rt_statement.specs.declared.refusal.Refusal.TheVariants.{OutOfMemory};
 
     ghost from_gives = { λ _ refusal. refusal ≡ OutOfMemory };
 

@@ -1,7 +1,7 @@
 -- The refusals, with the number and the words that each prints. Source: own.
 use Rattle.std.specs.Prelude.{ℕ, List, codes}
-use Rattle.rt_sql.specs.declared.refusal.Refusal.{Refusal}
-use Rattle.rt_sql.specs.declared.refusal.Refusal.TheVariants.{SyntaxError, IncompleteInput, StatementTooLong, NotUtf8, NoSuchTable, TableAlreadyExists, BadColumnList, NoSuchColumn, WrongNumberOfValues, WrongType, IntegerOutOfRange, IdAlreadyTaken, MinimumAboveMaximum, TableFull, NoIdLeft, NoSuchView, ViewAlreadyExists, TableIsWatched, TooManyTablesOrViews, OutOfMemory, UnknownCommand}
+use Rattle.rt_statement.specs.declared.refusal.Refusal.{Refusal}
+use Rattle.rt_statement.specs.declared.refusal.Refusal.TheVariants.{SyntaxError, IncompleteInput, StatementTooLong, NotUtf8, NoSuchTable, TableAlreadyExists, BadColumnList, NoSuchColumn, WrongNumberOfValues, WrongType, IntegerOutOfRange, IdAlreadyTaken, MinimumAboveMaximum, TableFull, NoIdLeft, NoSuchView, ViewAlreadyExists, TableIsWatched, TooManyTablesOrViews, OutOfMemory, UnknownCommand}
 
 abbrev pub code_of : Refusal → ℕ
 code_of SyntaxError = 1

@@ -4,9 +4,9 @@ use Rattle.std.proofs.Common.{sym, ap}
 use Rattle.std.proofs.lemmas.Slice.Eq.{bytes_eq-Decides}
 use Rattle.std.specs.Bool.{Decides}
 use Rattle.std.specs.Cmp.{IsEquivalence, both_ways, signed_Decides}
-use Rattle.rt_sql.specs.declared.value.Value.{Value}
-use Rattle.rt_sql.specs.declared.value.Value.TheVariants.{Null, Int, Text, Blob}
-use Rattle.rt_sql.specs.Value.{same_value}
+use Rattle.rt_statement.specs.declared.value.Value.{Value}
+use Rattle.rt_statement.specs.declared.value.Value.TheVariants.{Null, Int, Text, Blob}
+use Rattle.rt_statement.specs.Value.{same_value}
 
 pub same_value-Decides : (a b : Value) → Decides (same_value a b) (a ≡ b)
 same_value-Decides Null Null = (λ h. refl, λ h. refl)

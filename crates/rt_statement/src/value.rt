@@ -179,8 +179,8 @@ impl Value {
 impl PartialEq for Value {
     ghost use Rattle.std.specs.Prelude.{◌≡◌, ◌↔◌, IsTrue};
     ghost use Rattle.std.specs.Cmp.{partial_equiv_from_equiv};
-    ghost use Rattle.rt_sql.specs.Value.{same_value};
-    ghost use Rattle.rt_sql.specs.ValueLaws.{same_value-equiv};
+    ghost use Rattle.rt_statement.specs.Value.{same_value};
+    ghost use Rattle.rt_statement.specs.ValueLaws.{same_value-equiv};
 
     ghost eq = { same_value };
 
@@ -201,7 +201,7 @@ impl PartialEq for Value {
 }
 
 impl Eq for Value {
-    ghost use Rattle.rt_sql.specs.ValueLaws.{same_value-equiv};
+    ghost use Rattle.rt_statement.specs.ValueLaws.{same_value-equiv};
 
     ghost laws = { same_value-equiv };
 }

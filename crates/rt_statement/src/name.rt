@@ -20,7 +20,7 @@ impl Model for Name {
 impl Name {
     ghost use Rattle.std.specs.Prelude.{◌≡◌, IfOk};
     ghost use Rattle.std.specs.String.{string_bytes};
-    ghost use Rattle.rt_sql.specs.Name.{same_name};
+    ghost use Rattle.rt_statement.specs.Name.{same_name};
 
     /// A name with this text.
     pub fn new(alloc: Global, text: &str) -> Result<Name, AllocError>

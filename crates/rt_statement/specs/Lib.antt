@@ -1,0 +1,4 @@
+pub mod Name
+pub mod Refusal
+pub mod Value
+pub mod ValueLaws

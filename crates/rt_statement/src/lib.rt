@@ -1,0 +1,20 @@
+//! SQL statements as data: what a script asks for, whatever text spells it.
+//!
+//! - `Stmt` and what it is made of, in `statement`, `Name` and `Value` are plain data. Lists in them
+//!   are `Items`, which contracts see as lists.
+//! - `Refusal` has the number and the words that each refusal prints, those of tables and views too.
+//!
+//! Definitions: `specs/Name.antt` (when two names are one), `Value.antt` (when two values are the same),
+//! `Refusal.antt` (numbers and words).
+#![tactic(auto)]
+
+pub mod name;
+pub mod refusal;
+pub mod statement;
+pub mod value;
+
+pub use name::Name;
+pub use refusal::Refusal;
+pub use sqlite_items::Items;
+pub use statement::{ColumnDef, Compare, Cond, Op6, Rule, Source, Stmt, Test};
+pub use value::{Blob, Text, Value};
