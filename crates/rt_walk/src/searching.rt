@@ -137,7 +137,11 @@ fn take_children<const D: usize>(
     Ok(())
 }
 
+// By itself, so that the numbers of a window are read as vectors from where they stand: those of two windows don't fit
+// into the registers of the search's loop.
+
 /// Goes into the node at the key: takes a leaf's rows, or another node's children.
+#[inline(never)]
 fn visit<const D: usize>(
     rows: &mut Vec<Row<D>>,
     keys: &mut Vec<usize>,
