@@ -60,21 +60,3 @@ impl Capacity {
         self.greatest() * 3 / 10
     }
 }
-
-#[cfg(test)]
-mod tests {
-    use super::*;
-
-    fn numbers(greatest: u8) -> Option<(usize, usize, usize)> {
-        let capacity = Capacity::new(greatest)?;
-        Some((capacity.greatest(), capacity.least(), capacity.share()))
-    }
-
-    #[test]
-    fn takes_5_to_51(rt: HostRuntime) {
-        assert!(rt; numbers(4).is_none());
-        assert_eq!(rt; numbers(5), Some((5, 2, 1)));
-        assert_eq!(rt; numbers(51), Some((51, 20, 15)));
-        assert!(rt; numbers(52).is_none());
-    }
-}

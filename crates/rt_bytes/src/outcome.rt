@@ -65,20 +65,3 @@ impl From<AllocError> for RunFault {
         RunFault::Memory
     }
 }
-
-#[cfg(test)]
-mod tests {
-    use super::*;
-    use std::test::Fail;
-
-    #[test]
-    fn faults_become_those_of_a_run(rt: HostRuntime) -> Result<(), Fail> {
-        assert_eq!(rt; RunFault::from(ReadFault), RunFault::Read);
-        assert_eq!(rt; RunFault::from(WriteFault), RunFault::Write);
-        assert_eq!(rt; RunFault::from(AllocError), RunFault::Memory);
-        let (read, write, run) = (ReadFault, WriteFault, RunFault::Memory);
-        let words = format!(in rt.alloc(); "{read}, {write}, {run}")?;
-        assert_eq!(rt; words.as_str(), "read fault, write fault, out of memory");
-        Ok(())
-    }
-}

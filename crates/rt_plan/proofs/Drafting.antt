@@ -8,6 +8,7 @@ use Rattle.rt_statement.specs.declared.refusal.Refusal.{Refusal}
 use Rattle.rt_statement.specs.declared.refusal.Refusal.TheVariants.{WrongType, IntegerOutOfRange, OutOfMemory}
 use Rattle.rt_statement.specs.declared.value.Value.{Value}
 use Rattle.rt_statement.specs.declared.statement.Test.{Test}
+use Rattle.rt_walk.specs.declared.searching.Row.{Row}
 use Rattle.rt_row.specs.Columns.{Columns}
 use Rattle.rt_row.specs.Conditions.{holds}
 use Rattle.rt_row.specs.Filters.{Placed, admits, IsFilterOf}
@@ -16,8 +17,10 @@ use Rattle.rt_row.specs.Candidates.{Candidate, is_integer, id_value, coordinate_
 use Rattle.rt_row.specs.Edits.{Setting, Step, Steps, new_values, is_summable, sum_fits, become_candidate, update_row, update_all, update, Leaves, Comes, Becomes, after_step, outcome, and_then, steps_and}
 use Rattle.rt_row.specs.Settings.{LookedUp, reads_integer, reading_fits, IsSettingsOf}
 use Rattle.rt_store.proofs.Order.{eq_same, eq_above, eq_from}
+use Rattle.rt_store.specs.Trees.{leaf_row}
 use Rattle.rt_store.proofs.Sorted.{Rises, rises, at_key-taken, at_key-placed}
-use Rattle.rt_plan.specs.Drafts.{Knows, touched_by, row_set, all_set}
+use Rattle.rt_store.proofs.Standing.{found_up}
+use Rattle.rt_plan.specs.Drafts.{Knows, touched_by, row_of, row_set, all_set}
 use Rattle.rt_plan.specs.Plans.{Plans}
 use Rattle.rt_plan.proofs.Ids.{has_row, filter_same}
 
@@ -99,11 +102,11 @@ knows_more rows touched more done next step knows is each = λ id.
 
 -- ---- UPDATE
 
-pub left_some : {X : Type 0} (f : ℤ → Option X) (ids : List ℤ) (i : ℕ) (d : ℤ) (x : X) → i < length ids → f (get_or ids i d) ≡ Some x →
-    filter_map f (drop i ids) ≡ x ∷ filter_map f (drop (i + 1) ids)
-left_some f ids i d x h e =
-    let first : filter_map f (get_or ids i d ∷ drop (i + 1) ids) ≡ x ∷ filter_map f (drop (i + 1) ids) = rw e in
-    at_drop_more (filter_map f) ids i d h ∙ first
+pub left_some : {X Y : Type 0} (f : X → Option Y) (found : List X) (i : ℕ) (d : X) (y : Y) → i < length found → f (get_or found i d) ≡ Some y →
+    filter_map f (drop i found) ≡ y ∷ filter_map f (drop (i + 1) found)
+left_some f found i d y h e =
+    let first : filter_map f (get_or found i d ∷ drop (i + 1) found) ≡ y ∷ filter_map f (drop (i + 1) found) = rw e in
+    at_drop_more (filter_map f) found i d h ∙ first
 
 -- a step more
 pub set_more : (axes : ℕ) (sets : LookedUp) (rows : List TableRow) (whole : Steps) (done next : List Step) (step : Step) (row : TableRow) (left later : List TableRow) →
@@ -170,51 +173,22 @@ all_same columns sets found now (row ∷ rows) is =
     ∙ later_same (update_row columns now sets row) (λ steps. steps_and steps (all_set columns.axes found (outcome now steps) rows)) (λ steps. steps_and steps (update_all columns (outcome now steps) sets rows))
     (λ steps. ap (steps_and steps) (all_same columns sets found (outcome now steps) rows is))
 
--- ---- the rows that are picked are those that are found by their ids
-
-found_behind : (x : TableRow) (xs ys : List TableRow) → AllByRecursion (λ (r : TableRow). x.id <ℤ r.id) ys → AllByRecursion (λ (r : TableRow). row_at xs r.id ≡ Some r) ys →
-    AllByRecursion (λ (r : TableRow). row_at (x ∷ xs) r.id ≡ Some r) ys
-found_behind x xs [] above found = tt
-found_behind x xs (y ∷ ys) above found =
-    let other : int_eq y.id x.id ≡ false = eq_above y.id x.id above.0 in
-    (rw other found.0, found_behind x xs ys above.1 found.1)
-
-found_all : (rows : List TableRow) → Rises id_of rows → AllByRecursion (λ (r : TableRow). row_at rows r.id ≡ Some r) rows
-found_all [] rise = tt
-found_all (x ∷ xs) rise = (rw (eq_same x.id), found_behind x xs xs rise.0 (found_all xs rise.1))
-
-sifted_first : (P : TableRow → Type 0) (b : Bool) (r : TableRow) (rows : List TableRow) → P r → AllByRecursion P rows → AllByRecursion P (cond b (r ∷ rows) rows)
-sifted_first P true r rows one all = (one, all)
-sifted_first P false r rows one all = all
-
-sifted : (P : TableRow → Type 0) (p : TableRow → Bool) (rows : List TableRow) → AllByRecursion P rows → AllByRecursion P (filter p rows)
-sifted P p [] all = tt
-sifted P p (r ∷ rows) all = sifted_first P (p r) r (filter p rows) all.0 (sifted P p rows all.1)
-
-looked_up : (rows some : List TableRow) → AllByRecursion (λ (r : TableRow). row_at rows r.id ≡ Some r) some → filter_map (row_at rows) (map id_of some) ≡ some
-looked_up rows [] all = refl
-looked_up rows (r ∷ some) all =
-    let one : row_at rows r.id ≡ Some r = all.0 in
-    rw (one, looked_up rows some all.1)
-
-pub picked_found : (rows : List TableRow) (p : TableRow → Bool) → AreRising rows → filter_map (row_at rows) (map id_of (filter p rows)) ≡ filter p rows
-picked_found rows p rising = looked_up rows (filter p rows) (sifted (λ (r : TableRow). row_at rows r.id ≡ Some r) p rows (found_all rows (rises id_of rows rising)))
-
 -- what an UPDATE does, when its columns are known
-pub updates : (columns : Columns) (rows : List TableRow) (sets : List Setting) (found : LookedUp) (cond : List Test) (placed : Placed) (ids : List ℤ) → AreRising rows →
-    IsSettingsOf columns sets found → IsFilterOf columns cond placed → ids ≡ map id_of (filter (admits placed) rows) →
-    all_set columns.axes found rows (filter_map (row_at rows) ids) ≡ update columns rows sets cond
-updates columns rows sets found cond placed ids rising set picks ids_are =
-    ap (λ (l : List ℤ). all_set columns.axes found rows (filter_map (row_at rows) l)) ids_are
-    ∙ ap (λ (l : List TableRow). all_set columns.axes found rows l) (picked_found rows (admits placed) rising ∙ filter_same (admits placed) (holds columns cond) rows picks.same)
-    ∙ all_same columns sets found rows (filter (holds columns cond) rows) set
-    ∙ sym (rw (set.distinct, set.known, picks.known))
+module _ (D : ℕ) where
+  pub updates : (columns : Columns) (rows : List TableRow) (sets : List Setting) (found : LookedUp) (cond : List Test) (placed : Placed) (picked : List (Row D)) → AreRising rows →
+      IsSettingsOf columns sets found → IsFilterOf columns cond placed → picked ≡ map leaf_row (filter (admits placed) rows) →
+      all_set columns.axes found rows (filter_map (row_of rows) picked) ≡ update columns rows sets cond
+  updates columns rows sets found cond placed picked rising set picks picked_are =
+      ap (λ (l : List TableRow). all_set columns.axes found rows l)
+      (found_up D (admits placed) rows picked rising picked_are ∙ filter_same (admits placed) (holds columns cond) rows picks.same)
+      ∙ all_same columns sets found rows (filter (holds columns cond) rows) set
+      ∙ sym (rw (set.distinct, set.known, picks.known))
 
-pub updates_on : (axes : ℕ) (columns : Columns) (rows : List TableRow) (sets : List Setting) (found : LookedUp) (cond : List Test) (placed : Placed) (ids : List ℤ) →
-    columns.axes ≡ axes → AreRising rows → IsSettingsOf columns sets found → IsFilterOf columns cond placed → ids ≡ map id_of (filter (admits placed) rows) →
-    all_set axes found rows (filter_map (row_at rows) ids) ≡ update columns rows sets cond
-updates_on axes columns rows sets found cond placed ids same rising set picks ids_are =
-    ap (λ (n : ℕ). all_set n found rows (filter_map (row_at rows) ids)) (sym same) ∙ updates columns rows sets found cond placed ids rising set picks ids_are
+  pub updates_on : (columns : Columns) (rows : List TableRow) (sets : List Setting) (found : LookedUp) (cond : List Test) (placed : Placed) (picked : List (Row D)) →
+      columns.axes ≡ D → AreRising rows → IsSettingsOf columns sets found → IsFilterOf columns cond placed → picked ≡ map leaf_row (filter (admits placed) rows) →
+      all_set D found rows (filter_map (row_of rows) picked) ≡ update columns rows sets cond
+  updates_on columns rows sets found cond placed picked same rising set picks picked_are =
+      ap (λ (n : ℕ). all_set n found rows (filter_map (row_of rows) picked)) (sym same) ∙ updates columns rows sets found cond placed picked rising set picks picked_are
 
 -- ---- what a plan answers, where the same steps were planned by looked-up columns
 

@@ -3,9 +3,10 @@ use Rattle.std.specs.Prelude.{◌≡◌, ℕ, ℤ, Bool, true, false, if◌then�
 use Rattle.std.specs.Option.{option_map_or}
 use Rattle.std.specs.Ordering.{int_eq}
 use Rattle.indexmap.specs.IndexMap.{get}
+use Rattle.rt_walk.specs.declared.searching.Row.{Row}
 use Rattle.rt_plan.specs.declared.draft.Latest.{Latest}
 use Rattle.rt_plan.specs.declared.draft.Draft.{Draft}
-use Rattle.rt_row.specs.Rows.{TableRow, values_of, has_id}
+use Rattle.rt_row.specs.Rows.{TableRow, values_of, row_at, has_id}
 use Rattle.rt_row.specs.declared.entry.Step as declared
 use Rattle.rt_row.specs.Entries.{step_of}
 use Rattle.rt_row.specs.Edits.{Step, Steps, Leaves, Comes, Becomes, outcome, and_then, steps_and, become_candidate}
@@ -46,6 +47,10 @@ step_given None = []
 step_given (Some step) = step_of step ∷ []
 
 -- ---- UPDATE, its columns looked up
+
+-- the table's row of what was found
+abbrev pub row_of : {D : ℕ} → List TableRow → Row D → Option TableRow
+row_of rows found = row_at rows found.id
 
 abbrev pub row_set : ℕ → LookedUp → List TableRow → TableRow → Steps
 row_set axes sets now row = and_then (candidate_set axes sets (values_of row)) (λ c. become_candidate now row.id c c.id)

@@ -1,12 +1,13 @@
 //! What an UPDATE does.
 
-ghost use Rattle.std.specs.Prelude.{◌≡◌, ◌≤◌, ◌+◌, ◌*◌, length, map, List};
+ghost use Rattle.std.specs.Prelude.{◌≡◌, ◌≤◌, ◌+◌, ◌*◌, All, length, map, List};
 ghost use Rattle.std.specs.List.{filter_map};
 ghost use Rattle.rt_row.specs.Answers.{GivesAs};
-ghost use Rattle.rt_row.specs.Rows.{TableRow, row_at};
+ghost use Rattle.rt_row.specs.Rows.{TableRow};
 ghost use Rattle.rt_row.specs.Edits.{become_candidate, update};
 ghost use Rattle.rt_row.specs.Entries.{view_row, step_of, candidate_as};
-ghost use Rattle.rt_plan.specs.Drafts.{Knows, known_of, one_step, row_set, all_set};
+ghost use Rattle.rt_store.specs.Picking.{Stands};
+ghost use Rattle.rt_plan.specs.Drafts.{Knows, known_of, one_step, row_of, row_set, all_set};
 ghost use Rattle.rt_plan.specs.Plans.{Plans};
 
 use crate::draft::{Draft, entry_of};
@@ -14,6 +15,7 @@ use crate::plan::Plan;
 use rt_row::{Candidate, Filter, RowView, Schema, Settings, Step};
 use rt_statement::{Cond, Name, Refusal, Source};
 use rt_store::Store;
+use rt_tree::Row;
 use std::alloc::Global;
 use std::hash::RandomState;
 
@@ -56,25 +58,23 @@ fn row_step<const D: usize>(
     becoming(store, draft, &row.id, candidate)
 }
 
-/// The steps of the rows of these ids, each planned among the rows as they are after those before it.
+/// The steps of rows that stand in the table, each planned among the rows as they are after those before it.
 fn all_steps<const D: usize>(
     alloc: Global,
     keys: RandomState,
     store: &Store<D>,
     settings: &Settings,
-    ids: &[i64],
+    rows: &[Row<D>],
 ) -> Result<Vec<Step<D>>, Refusal>
     requires some { 1 ≤ D }
     requires few { D ≤ 3 }
     requires long { 1 + 2 * D ≤ length settings.now.fills }
-    ensures { GivesAs (λ steps. map step_of steps.items) (all_set D settings.now store.now.rows (filter_map (row_at store.now.rows) ids.now)) result }
+    requires stand { All (Stands store.now.rows) rows.now }
+    ensures { GivesAs (λ steps. map step_of steps.items) (all_set D settings.now store.now.rows (filter_map (row_of store.now.rows) rows.now)) result }
 {
     let mut draft = Draft::new(alloc, keys);
-    for id in ids {
-        let Some(row) = store.find(id) else {
-            continue;
-        };
-        let step = row_step(alloc, store, &draft, settings, &row)?;
+    for row in rows {
+        let step = row_step(alloc, store, &draft, settings, &store.view(row))?;
         draft.add(step)?;
     }
     Ok(draft.steps)
@@ -104,6 +104,6 @@ pub fn plan_update<const D: usize>(
     let _ = (store.len(), schema.axes(), schema.len());
     let settings = Settings::new(alloc, schema, sets)?;
     let filter = Filter::new(alloc, schema, cond)?;
-    let ids = store.picked(alloc, &filter)?;
-    Ok(Plan::new(all_steps(alloc, keys, store, &settings, ids.as_slice())?))
+    let rows = store.picked_rows(alloc, &filter)?;
+    Ok(Plan::new(all_steps(alloc, keys, store, &settings, rows.as_slice())?))
 }

@@ -1,6 +1,8 @@
-//! Tests of statements, over the public calls of `rt_sql`.
+//! Tests of pieces and of statements, over the public calls of `rt_cut` and `rt_sql`.
 #![tactic(auto)]
 
+#[cfg(test)]
+mod cutting;
 #[cfg(test)]
 mod parsing;
 #[cfg(test)]

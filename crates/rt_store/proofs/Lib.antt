@@ -1,5 +1,6 @@
 pub mod Order
 pub mod Sorted
+pub mod Standing
 pub mod Picked
 pub mod Heaps
 pub mod Joined

@@ -125,7 +125,24 @@ impl<const D: usize> Store<D> {
         })
     }
 
-    /// The ids of the rows of which the condition holds, rising. An id that the condition fixes is looked up.
+    /// The rows of which the condition holds, by rising id. An id that the condition fixes is looked up.
+    ///
+    /// # Errors
+    ///
+    /// `AllocError` where no memory is left.
+    pub fn picked_rows(&self, alloc: Global, condition: &Filter) -> Result<Vec<Row<D>>, AllocError>
+        ensures { IfOk result (λ rows. rows.items ≡ map leaf_row (filter (admits condition.now) self.now.rows)) }
+    {
+        // The table has three axes at most.
+        let _ = self.len();
+        if let Some(id) = condition.id() {
+            return Ok(self.select_by_id(alloc, condition, &id)?.rows);
+        }
+        let window = condition.window();
+        Ok(self.select_by_window(alloc, condition, &window)?.rows)
+    }
+
+    /// The ids of those rows.
     ///
     /// # Errors
     ///
@@ -135,13 +152,8 @@ impl<const D: usize> Store<D> {
     {
         // The table has three axes at most.
         let _ = self.len();
-        if let Some(id) = condition.id() {
-            let selected = self.select_by_id(alloc, condition, &id)?;
-            return ids_of(alloc, &selected.rows);
-        }
-        let window = condition.window();
-        let selected = self.select_by_window(alloc, condition, &window)?;
-        ids_of(alloc, &selected.rows)
+        let rows = self.picked_rows(alloc, condition)?;
+        ids_of(alloc, &rows)
     }
 
     /// The row of an id that the condition fixes is looked up, and each node counted: a window without limits reaches

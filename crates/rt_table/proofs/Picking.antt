@@ -16,15 +16,6 @@ use Rattle.rt_store.specs.Trees.{leaf_row}
 use Rattle.rt_table.specs.Watching.{is_picked}
 
 module _ {X : Type 0} (key : X → ℤ) where
-  still_own : (x : X) (xs ys : List X) → AllByRecursion (λ y. key x <ℤ key y) ys → AllByRecursion (λ y. at_key key xs (key y) ≡ Some y) ys → AllByRecursion (λ y. at_key key (x ∷ xs) (key y) ≡ Some y) ys
-  still_own x xs [] above own = tt
-  still_own x xs (y ∷ ys) above own = (rw (eq_above (key y) (key x) above.0) own.0, still_own x xs ys above.1 own.1)
-
-  -- at its key stands each itself
-  own : (xs : List X) → Rises key xs → AllByRecursion (λ y. at_key key xs (key y) ≡ Some y) xs
-  own [] rise = tt
-  own (x ∷ xs) rise = (rw (eq_same (key x)), still_own x xs xs rise.0 (own xs rise.1))
-
   any_here : (b : Bool) (x : X) (later : Bool) (o : Option X) → later ≡ is_some o → (b || later) ≡ is_some (cond b (Some x) o)
   any_here true x later o same = refl
   any_here false x later o same = same
@@ -40,16 +31,6 @@ either_bool false r = refl
 some_kept : (p : TableRow → Bool) (o : Option TableRow) → is_some (kept p o) ≡ is_picked p o
 some_kept p None = refl
 some_kept p (Some r) = either_bool (p r) r
-
-found_rows : (rows found : List TableRow) → AllByRecursion (λ r. row_at rows r.id ≡ Some r) found → filter_map (row_at rows) (map (λ (r : TableRow). r.id) found) ≡ found
-found_rows rows [] own = refl
-found_rows rows (r ∷ found) own = rw own.0 (ap (λ (rs : List TableRow). r ∷ rs) (found_rows rows found own.1))
-
--- the rows that are looked up by the ids of those that are picked
-pub looked_up : (p : TableRow → Bool) (rows : List TableRow) → AreRising rows → filter_map (row_at rows) (map (λ (r : TableRow). r.id) (filter p rows)) ≡ filter p rows
-looked_up p rows rise =
-    found_rows rows (filter p rows) (recursion_from_All (λ r. row_at rows r.id ≡ Some r) (filter p rows)
-    (All-filter p (λ r. row_at rows r.id ≡ Some r) rows (All-from_recursion (λ r. row_at rows r.id ≡ Some r) rows (own (λ r. r.id) rows (rises (λ r. r.id) rows rise)))))
 
 pub kept_ids : (p : TableRow → Bool) (rows : List TableRow) → AreRising rows → (q : ℤ) → list_any (int_eq q) (map (λ (r : TableRow). r.id) (filter p rows)) ≡ is_picked p (row_at rows q)
 kept_ids p rows rise q =
@@ -93,33 +74,6 @@ any_more ids i q b within same =
     ∙ one_more (int_eq q (get_or ids i (pos 0))) b
     ∙ ap (λ (a : Bool). a || (int_eq q (get_or ids i (pos 0)) || false)) same
     ∙ sym (ap (list_any (int_eq q)) (take_more ids i (pos 0) within) ∙ any_append (int_eq q) (take i ids) (get_or ids i (pos 0) ∷ []))
-
--- ---- rows that were found with their boxes
-
-module _ (D : ℕ) where
-  same_found : (rows : List TableRow) (xs : List TableRow) → filter_map (λ (row : Row D). row_at rows row.id) (map leaf_row xs) ≡ filter_map (row_at rows) (map (λ (r : TableRow). r.id) xs)
-  same_found rows [] = refl
-  same_found rows (x ∷ xs) = ap (cons_option (row_at rows x.id)) (same_found rows xs)
-
-  -- the rows that are looked up by what was found of those that are picked
-  pub found_up : (p : TableRow → Bool) (rows : List TableRow) (found : List (Row D)) → AreRising rows → found ≡ map leaf_row (filter p rows) →
-      filter_map (λ (row : Row D). row_at rows row.id) found ≡ filter p rows
-  found_up p rows found rise same =
-      ap (filter_map (λ (row : Row D). row_at rows row.id)) same ∙ same_found rows (filter p rows) ∙ looked_up p rows rise
-
-  each_found : (rows : List TableRow) (xs : List TableRow) → AllByRecursion (λ r. row_at rows r.id ≡ Some r) xs →
-      AllByRecursion (λ (row : Row D). option_map leaf_row (row_at rows row.id) ≡ Some row) (map leaf_row xs)
-  each_found rows [] each = tt
-  each_found rows (x ∷ xs) each = (ap (option_map leaf_row) each.0, each_found rows xs each.1)
-
-  -- each that was found is its row's
-  pub all_found : (p : TableRow → Bool) (rows : List TableRow) (found : List (Row D)) → AreRising rows → found ≡ map leaf_row (filter p rows) →
-      All (λ (row : Row D). option_map leaf_row (row_at rows row.id) ≡ Some row) found
-  all_found p rows found rise same =
-      let each : AllByRecursion (λ (r : TableRow). row_at rows r.id ≡ Some r) (filter p rows) =
-      recursion_from_All (λ r. row_at rows r.id ≡ Some r) (filter p rows)
-      (All-filter p (λ r. row_at rows r.id ≡ Some r) rows (All-from_recursion (λ r. row_at rows r.id ≡ Some r) rows (own (λ r. r.id) rows (rises (λ r. r.id) rows rise)))) in
-      rw same (All-from_recursion (λ (row : Row D). option_map leaf_row (row_at rows row.id) ≡ Some row) (map leaf_row (filter p rows)) (each_found rows (filter p rows) each))
 
 -- one more of what was found
 pub found_more : {X : Type 0} (f : X → Option TableRow) (found : List X) (i : ℕ) (lists : List (List Value)) (x : X) (r : TableRow) (values : List Value) → i < length found → x ≡ get_or found i x

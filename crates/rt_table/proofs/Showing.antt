@@ -17,7 +17,8 @@ use Rattle.rt_store.proofs.Sorted.{rises, rises-filter, same_lists}
 use Rattle.rt_table.specs.declared.watched.Watched.{Watched}
 use Rattle.rt_table.specs.Watching.{view_of, KeepsIds, IsKept}
 use Rattle.rt_table.specs.Replies.{Shows}
-use Rattle.rt_table.proofs.Picking.{kept_ids, looked_up}
+use Rattle.rt_store.proofs.Standing.{looked_up}
+use Rattle.rt_table.proofs.Picking.{kept_ids}
 use Rattle.rt_table.proofs.Deltas.{own, at_itself, rises-ids}
 use Rattle.rt_table.proofs.Viewing.{any_mapped, not_placed}
 

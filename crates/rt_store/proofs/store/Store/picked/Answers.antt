@@ -7,18 +7,10 @@ use Rattle.rt_row.specs.Filters.{admits}
 use Rattle.rt_store.proofs.Found.{leaf_ids}
 use Rattle.rt_store.proofs.store.Store.picked.Goals as goal
 
-pub returns-in-Some : goal.returns-in-Some
-returns-in-Some g c =
+pub returns : goal.returns
+returns g c =
     IfOk-weaker c.ids_of.result (λ ids. ids.items ≡ map (λ (r : Row g.row.D). r.id) c.deref.result.now)
     (λ ids. ids.items ≡ map (λ (r : TableRow). r.id) (filter (admits c.args.condition.now) c.args.self.now.rows))
     (λ (ids : Vec ℤ Global) h.
-    h ∙ ap (map (λ (r : Row g.row.D). r.id)) (c.deref.ensures.value ∙ c.in_ok-selected.ensures.rows) ∙ leaf_ids g.row.D (filter (admits c.args.condition.now) c.args.self.now.rows))
+    h ∙ ap (map (λ (r : Row g.row.D). r.id)) (c.deref.ensures.value ∙ c.in_ok-rows.ensures) ∙ leaf_ids g.row.D (filter (admits c.args.condition.now) c.args.self.now.rows))
     c.ids_of.ensures
-
-pub returns : goal.returns
-returns g c =
-    IfOk-weaker c.ids_of-2.result (λ ids. ids.items ≡ map (λ (r : Row g.row.D). r.id) c.deref-2.result.now)
-    (λ ids. ids.items ≡ map (λ (r : TableRow). r.id) (filter (admits c.args.condition.now) c.args.self.now.rows))
-    (λ (ids : Vec ℤ Global) h.
-    h ∙ ap (map (λ (r : Row g.row.D). r.id)) (c.deref-2.ensures.value ∙ c.in_ok-selected-2.ensures.rows) ∙ leaf_ids g.row.D (filter (admits c.args.condition.now) c.args.self.now.rows))
-    c.ids_of-2.ensures
