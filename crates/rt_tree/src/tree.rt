@@ -30,6 +30,9 @@ const MOST_NODES: usize = 1 << 62;
 /// The most rows that room is asked for. No machine holds more.
 const MOST_ROWS: usize = 1 << 42;
 
+/// The most rows that a tree may have.
+const FULL: usize = 1 << 20;
+
 /// The cells that may wait at once.
 const WAITING_ROOM: usize = 1024;
 
@@ -100,6 +103,20 @@ fn make_room<const D: usize>(nodes: &mut Slab<Node<D>>, room: usize) -> Result<(
     }
     *nodes = with_room(nodes, room)?;
     Ok(())
+}
+
+/// The further rows that a tree of so many makes room for where it is asked for `more`: as many as it has, so that many
+/// reservations of one row each copy a node a few times only, but no more than it may still get. A full tree is asked
+/// for more where rows are replaced; twice of that keeps copies few there.
+fn room_ahead(rows: usize, more: usize) -> usize
+    requires { more ≤ 2 ^ 42 }
+    ensures room { more ≤ result }
+    ensures most { result ≤ max more rows }
+{
+    let free = FULL.saturating_sub(rows);
+    let wanted = if free < 2 * more { 2 * more } else { free };
+    let ahead = if rows < wanted { rows } else { wanted };
+    if more < ahead { ahead } else { more }
 }
 
 impl<const D: usize> Tree<D> {
@@ -224,8 +241,8 @@ impl<const D: usize> Tree<D> {
         search(alloc, &self.arena, window)
     }
 
-    /// Makes room for so many further rows. The room grows by as many rows as there are, so that many reservations of
-    /// one row each copy a node a few times only.
+    /// Makes room for so many further rows. The room grows by as many rows as there are, but for those that a tree may not
+    /// get any more, so that many reservations of one row each copy a node a few times only.
     ///
     /// # Errors
     ///
@@ -244,7 +261,7 @@ impl<const D: usize> Tree<D> {
             return Err(AllocError);
         }
         let rows = self.arena.leaves.len();
-        let spare = if more < rows { rows } else { more };
+        let spare = room_ahead(rows, more);
         let room = nodes_for(self.arena.capacity, rows + spare);
         make_room(&mut self.arena.nodes, room)?;
         self.arena.leaves.reserve(spare)?;

@@ -8,7 +8,6 @@ use Rattle.rt_tree.specs.Lists.{TreeLists}
 use Rattle.rt_tree.proofs.Roomier.{outside-same, roomier-kept, grown-room}
 use Rattle.rt_tree.proofs.Changed.{rows-are}
 use Rattle.rt_tree.proofs.tree.Tree.reserve.Goals as goal
-use Rattle.rt_tree.proofs.tree.Tree.reserve.Goals.{then-more-rows, else-more-rows}
 
 pub invariant_of-self : goal.invariant_of-self
 invariant_of-self g c =
@@ -36,7 +35,7 @@ invariant_of-self-2 g c =
     let i = c.self.inside in
     let t = c.self.inside.arena in
     let k = c.self.invariant in
-    let n = c.if-more-rows.spare in
+    let n = c.room_ahead-spare.result in
     let u : Arena g.row.D =
     record { nodes = c.make_room.new.nodes; leaves = c.reserve.new.self; waiting = t.waiting; root = t.root; level = t.level; capacity = t.capacity } in
     let room : HasRoom u (row_count t + n) = record {
@@ -58,7 +57,4 @@ pub returns-clause-most : goal.returns-clause-most
 returns-clause-most g c =
     let k = c.self.invariant in
     let long = ap (λ (v : TreeLists g.row.D). length v.lists.rows) c.self.view_is in
-    elim c.if-more-rows.branch [
-      | then-more-rows w ↦ omega (arith, w.spare-is, rows-are c.self.inside k, long, c.len-rows.ensures.len, k.ids)
-      | else-more-rows w ↦ omega (arith, w.spare-is)
-    ]
+    omega (arith, c.room_ahead-spare.ensures.most, rows-are c.self.inside k, long, c.len-rows.ensures.len, k.ids)
