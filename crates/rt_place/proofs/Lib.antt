@@ -15,6 +15,7 @@ pub mod Relieved
 pub mod Lifted
 pub mod Shapes
 pub mod Risen
+pub mod Rested
 pub mod Closed
 pub mod Raised
 pub mod Grown

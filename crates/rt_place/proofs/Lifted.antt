@@ -60,6 +60,11 @@ module _ {D : ℕ} (t : Arena D) (key parent : ℕ) (rising : IsRising t key) (u
   pub parent-named : 0 < times_named key (cells_at t.nodes parent)
   parent-named = let same = ap (times_named key) (inner-at_inner t.nodes parent rising.level parent-level) in let some = found.2 in omega arith
 
+  pub rising-named_at : (at : ℕ) × IsNamedAt (cells_at t.nodes parent) at key
+  rising-named_at = named-at key (cells_at t.nodes parent)
+      (All-weaker (NamesChild t.nodes rising.level parent) (λ c. c.number ≡ pos (key_of c)) (λ c is. is.names.number_is) (cells_at t.nodes parent)
+      (rising.sound.linked.children parent rising.level parent-level)) parent-named
+
   pub apart : key ≢ parent
   apart e = let same = same_Some rising.level (suc rising.level) (sym rising.here ∙ ap (level_at t.nodes) e ∙ parent-level) in omega arith
 

@@ -64,6 +64,13 @@ module _ {D : ℕ} where
   abbrev pub IsNamedAt : List (Cell D) → ℕ → ℕ → Type 0
   IsNamedAt cells at key = (at < length cells) × ((slice_index_or cells at no_cell).number ≡ pos key)
 
+  -- the parent's cell that names the node has the least box around the node's cells already
+  pub record HasLeastBox (a : Slab (NodeCells D)) (key parent : ℕ) : Type 0 where
+    pub at : ℕ
+    pub within : at < length (cells_at a parent)
+    pub names : (d : Cell D) → key_of (slice_index_or (cells_at a parent) at d) ≡ key
+    pub rect : (d : Cell D) → (slice_index_or (cells_at a parent) at d).rect ≡ hull_at a key
+
   -- the parent's cell that names the node has the least box around the node's cells
   pub record Refits (old new : Slab (NodeCells D)) (parent key : ℕ) (n : NodeCells D) : Type 0 where
     pub at : ℕ
@@ -235,6 +242,11 @@ module _ {D : ℕ} where
     pub some : 1 ≤ length (cells_at t.nodes key)
     pub filled : key ≢ t.root → least_fill t.capacity ≤ length (cells_at t.nodes key)
     pub most : length (cells_at t.nodes key) ≤ t.capacity + 1
+
+  -- nothing is left to be done on the way up: the node isn't overfull, and the cell above it has the least box
+  pub record Rests (t : Arena D) (key parent : ℕ) : Type 0 where
+    pub fits : length (cells_at t.nodes key) ≤ t.capacity
+    pub box : HasLeastBox t.nodes key parent
 
   -- the rows stay, in the tree or among what waits, and the root, which has no fewer cells than before
   pub record KeepsRows (old new : Arena D) : Type 0 where

@@ -6,6 +6,7 @@
 //! - `place_last`: of the cells that wait the last is placed, and the tree is whole again; which cells wait then is
 //!   said.
 //! - `choose_node`: the way down, by best children.
+//! - `has_least_box`: whether a node's box is its parent's already.
 //!
 //! Stands on `rt_node` and `rt_choice`. Definitions: `specs/Placing.antt` (what it comes to), `Rise.antt`,
 //! `Steps.antt` and `Way.antt` (its parts, and the way up).
@@ -23,3 +24,4 @@ mod split;
 
 pub use descent::choose_node;
 pub use placing::place_last;
+pub use refit::has_least_box;

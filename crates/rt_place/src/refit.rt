@@ -1,8 +1,8 @@
-ghost use Rattle.std.specs.Prelude.{◌≡◌, ℕ, ◌^◌, ◌<◌, ◌≤◌, Some, pos, length};
+ghost use Rattle.std.specs.Prelude.{◌≡◌, ℕ, ◌^◌, ◌<◌, ◌≤◌, Some, pos, length, true};
 ghost use Rattle.slab.specs.Slab.{get, ContainsKey};
 ghost use Rattle.rt_node.specs.Node.{NodeCells};
 ghost use Rattle.rt_node.specs.Places.{cells_at};
-ghost use Rattle.rt_place.specs.Steps.{IsNamedAt, Refits};
+ghost use Rattle.rt_place.specs.Steps.{IsNamedAt, HasLeastBox, Refits};
 
 use rt_box::Rect;
 use rt_node::{Cell, Node, hull_at, node_at, number_of, set_cell};
@@ -18,6 +18,25 @@ pub(crate) fn cell_for<const D: usize>(key: usize, rect: &Rect<D>) -> Cell<D>
         number: number_of(key),
         rect: *rect,
     }
+}
+
+/// Whether the parent's cell that names the node has the least box around the node's cells.
+pub fn has_least_box<const D: usize>(nodes: &Slab<Node<D>>, parent: usize, key: usize) -> bool
+    requires few { D ≤ 3 }
+    requires keys { nodes.now.capacity ≤ 2 ^ 62 }
+    requires present { ContainsKey nodes.now key }
+    requires some { 1 ≤ length (cells_at nodes.now key) }
+    requires above { ContainsKey nodes.now parent }
+    requires named { (at : ℕ) × IsNamedAt (cells_at nodes.now parent) at key }
+    ensures { result ≡ true → HasLeastBox nodes.now key parent }
+{
+    // Says that keys are below the capacity, and so fit into a cell.
+    let _ = nodes.capacity();
+    let hull = hull_at(nodes, key);
+    let cell = cell_for(key, &hull);
+    let node = node_at(nodes, parent);
+    let at = node.position(&cell.number);
+    node.cell(at).rect == cell.rect
 }
 
 /// Gives the parent's cell that names the node the least box around the node's cells.

@@ -1,13 +1,13 @@
 //! The way up from a node that a cell was placed in.
 
-ghost use Rattle.std.specs.Prelude.{◌≡◌, ◌+◌, ◌^◌, ◌<◌, ◌≤◌, Some, length, vec_len, vec_capacity};
+ghost use Rattle.std.specs.Prelude.{◌≡◌, ◌+◌, ◌^◌, ◌<◌, ◌≤◌, Some, true, length, vec_len, vec_capacity};
 ghost use Rattle.slab.specs.Slab.{HasRoomFor};
 ghost use Rattle.rt_node.specs.Places.{cells_at, parent_at};
-ghost use Rattle.rt_place.specs.Steps.{IsRising, Lifts};
+ghost use Rattle.rt_place.specs.Steps.{IsRising, Rests, Lifts};
 ghost use Rattle.rt_place.specs.Rise.{HasRisen};
 
 use crate::overflow::relieve;
-use crate::refit::refit;
+use crate::refit::{has_least_box, refit};
 use rt_node::{Arena, Work, node_at};
 
 /// One step up: the node is relieved of the cells that it has too many, and the parent's cell gets the least box around
@@ -34,6 +34,20 @@ fn lift<const D: usize>(
     refit(&mut tree.nodes, parent, key);
 }
 
+/// Whether nothing is left to be done on the way up: the node isn't overfull, and the cell above it has the least box.
+fn is_at_rest<const D: usize>(tree: &Arena<D>, key: usize, parent: usize) -> bool
+    requires few { D ≤ 3 }
+    requires rising { IsRising tree.now key }
+    requires up { parent_at tree.now.nodes key ≡ Some parent }
+    requires keys { tree.now.nodes.capacity ≤ 2 ^ 62 }
+    ensures { result ≡ true → Rests tree.now key parent }
+{
+    if node_at(&tree.nodes, key).len() > tree.capacity.greatest() {
+        return false;
+    }
+    has_least_box(&tree.nodes, parent, key)
+}
+
 /// The steps up from a node that a cell was placed in, to the root, which may have one cell too many then.
 pub(crate) fn rise<const D: usize>(
     tree: &mut Arena<D>,
@@ -53,6 +67,10 @@ pub(crate) fn rise<const D: usize>(
 {
     let mut key = from;
     while let Some(parent) = node_at(&tree.nodes, key).parent() {
+        // Most rows come into a leaf whose box holds them already.
+        if is_at_rest(tree, key, parent) {
+            return;
+        }
         lift(tree, key, parent, marks, work);
         key = parent;
     }

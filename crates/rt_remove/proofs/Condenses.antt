@@ -4,6 +4,7 @@ use Rattle.std.proofs.Common.{◌≡◌, ◌≢◌, ℕ, zero, suc, ◌-◌, ◌
 use Rattle.std.specs.List.{All, Contains}
 use Rattle.std.specs.Option.{option_map_or}
 use Rattle.std.proofs.lemmas.Option.{same_Some, none-some}
+use Rattle.std.proofs.Math.Nat.{mul-le-mul_left}
 use Rattle.std.proofs.lemmas.Bool.{cases_eq}
 use Rattle.slab.specs.Slab.{Slab}
 use Rattle.rt_box.specs.Capacity.{least_fill}
@@ -13,8 +14,10 @@ use Rattle.rt_node.specs.Node.{NodeCells}
 use Rattle.rt_node.specs.Places.{key_of, numbers, cells_at, level_at, parent_at}
 use Rattle.rt_node.specs.Path.{KeepsShape}
 use Rattle.rt_node.specs.Whole.{IsWhole}
+use Rattle.rt_place.proofs.Rested.{rested-whole}
 use Rattle.rt_remove.specs.Above.{way_up}
-use Rattle.rt_remove.specs.Steps.{IsSoundBut, KeepsRows, Climbs, Spares, IsClimbing, Condenses}
+use Rattle.rt_remove.specs.Steps.{IsSoundBut, KeepsRows, Climbs, Rests, Spares, IsClimbing, Condenses}
+use Rattle.rt_remove.proofs.Climbs.{parent-level}
 use Rattle.rt_remove.proofs.Dissolved.{unnamed-below, parent-named}
 
 module _ {D : ℕ} where
@@ -156,6 +159,22 @@ module _ {D : ℕ} where
         whole = whole-at_root t key but at_root;
         keeps = so_far.keeps;
         few = subst (λ l. length t.waiting.items ≤ (least_fill t.capacity - 1) * l) level_is but.few;
+        waiting = λ roomy. (so_far.exact roomy).waiting;
+        shape = λ roomy. (so_far.exact roomy).shape;
+      }
+
+  -- the steps may end below the root
+  pub climbing-rests : (s t : Arena D) (leaf key parent : ℕ) → IsClimbing s t leaf key → parent_at t.nodes key ≡ Some parent → Rests t key parent → Condenses s t leaf
+  climbing-rests s t leaf key parent so_far up rests =
+      let but = so_far.but in
+      let above = parent-level t key parent but up in
+      let high : but.level ≤ t.level = but.sound.linked.levels key but.level but.here in
+      let product : (least_fill t.capacity - 1) * but.level ≤ (least_fill t.capacity - 1) * t.level = mul-le-mul_left (least_fill t.capacity - 1) high in
+      let few = but.few in
+      record {
+        whole = rested-whole t key parent but.level but.sound but.here up above rests.filled but.most rests.box;
+        keeps = so_far.keeps;
+        few = omega arith;
         waiting = λ roomy. (so_far.exact roomy).waiting;
         shape = λ roomy. (so_far.exact roomy).shape;
       }

@@ -17,6 +17,7 @@ use Rattle.rt_node.specs.Whole.{IsSound, IsWhole, IsBranched}
 use Rattle.rt_node.specs.Changes.{Changes}
 use Rattle.rt_node.specs.Homes.{KeepsIds}
 use Rattle.rt_node.specs.Path.{KeepsShape}
+use Rattle.rt_place.specs.Steps.{HasLeastBox}
 use Rattle.rt_remove.specs.Above.{way_up}
 
 module _ {S : Type 0} where
@@ -92,6 +93,11 @@ module _ {D : ℕ} where
     pub up : (l : ℕ) → level_at old.nodes key ≡ Some l → level_at new.nodes parent ≡ Some (suc l)
     pub keeps : KeepsRows old new
     pub exact : least_fill old.capacity ≤ length (cells_at old.nodes key) → KeepsShapes old new key parent
+
+  -- nothing is left to be done on the way up: the node has enough cells, and the cell above it has the least box
+  pub record Rests (t : Arena D) (key parent : ℕ) : Type 0 where
+    pub filled : least_fill t.capacity ≤ length (cells_at t.nodes key)
+    pub box : HasLeastBox t.nodes key parent
 
   -- steps up from the leaf have come to the node at the key and taken nothing out: of all cells only the boxes of
   -- those that name nodes of the way up changed

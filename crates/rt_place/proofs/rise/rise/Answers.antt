@@ -4,6 +4,7 @@ use Rattle.rt_node.specs.Places.{cells_at, parent_at, parent_of}
 use Rattle.rt_place.specs.Rise.{HasRisen}
 use Rattle.rt_place.specs.Steps.{IsRising}
 use Rattle.rt_place.proofs.Risen.{risen-more, ends-at_root, room-left, waiting-room_left, reinsertions-few}
+use Rattle.rt_place.proofs.Rested.{risen-rests}
 use Rattle.rt_place.proofs.rise.rise.Goals as goal
 
 pub lift-requires : goal.lift-requires
@@ -34,6 +35,11 @@ pub loop-parent-preserved : goal.loop-parent-preserved
 loop-parent-preserved g c =
     risen-more c.args.tree.now c.loop-parent.tree c.lift.new.tree c.args.from c.loop-parent.key c.in-Some.parent c.args.marks.now c.loop-parent.marks c.lift.new.marks
     c.args.work.now c.loop-parent.work c.lift.new.work c.loop-parent.invariant (ap parent_of c.node_at.ensures ∙ sym c.parent.ensures ∙ c.in-Some.is) c.lift.ensures
+
+pub returns-then-is_at_rest : goal.returns-then-is_at_rest
+returns-then-is_at_rest g c =
+    risen-rests c.args.tree.now c.loop-parent.tree c.args.from c.loop-parent.key c.in-Some.parent c.args.marks.now c.loop-parent.marks c.args.work.now c.loop-parent.work
+    c.loop-parent.invariant (ap parent_of c.node_at.ensures ∙ sym c.parent.ensures ∙ c.in-Some.is) (c.is_at_rest.ensures c.if-is_at_rest.true)
 
 pub returns : goal.returns
 returns g c =

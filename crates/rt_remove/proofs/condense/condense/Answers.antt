@@ -1,10 +1,10 @@
-use Rattle.std.proofs.Common.{◌≡◌, ◌-◌, ◌*◌, ◌≤◌, Some, vec_capacity, unwrap_or, ap, sym, ◌∙◌, arith, rules}
+use Rattle.std.proofs.Common.{◌≡◌, ◌-◌, ◌*◌, ◌^◌, ◌≤◌, Some, vec_capacity, unwrap_or, ap, sym, ◌∙◌, arith, rules}
 use Rattle.slab.specs.Slab.{ContainsKey}
 use Rattle.rt_box.specs.Capacity.{least_fill}
 use Rattle.rt_node.specs.Places.{parent_at, parent_of}
 use Rattle.rt_remove.specs.Steps.{IsSoundBut}
 use Rattle.rt_remove.proofs.Climbs.{key-there}
-use Rattle.rt_remove.proofs.Condenses.{climbing-start, climbing-more, climbing-end}
+use Rattle.rt_remove.proofs.Condenses.{climbing-start, climbing-more, climbing-end, climbing-rests}
 use Rattle.rt_remove.proofs.condense.condense.Goals as goal
 
 pub loop-parent-init : goal.loop-parent-init
@@ -19,6 +19,20 @@ node_at-requires g c =
 
 pub parent-requires : goal.parent-requires
 parent-requires g c = let few : g.row.D ≤ 3 = c.loop-parent.invariant.but.axes in search rules
+
+pub is_at_rest-requires : goal.is_at_rest-requires
+is_at_rest-requires g c =
+    let t = c.loop-parent.tree in
+    let keeps = c.loop-parent.invariant.keeps in
+    let but : IsSoundBut t c.loop-parent.key = c.loop-parent.invariant.but in
+    let up : parent_at t.nodes c.loop-parent.key ≡ Some c.in-Some.parent = ap parent_of c.node_at.ensures ∙ sym c.parent.ensures ∙ c.in-Some.is in
+    let keys : t.nodes.capacity ≤ 2 ^ 62 = omega (arith, keeps.room, c.requires.keys) in
+    search rules
+
+pub returns-then-is_at_rest : goal.returns-then-is_at_rest
+returns-then-is_at_rest g c =
+    climbing-rests c.args.tree.now c.loop-parent.tree c.args.leaf c.loop-parent.key c.in-Some.parent c.loop-parent.invariant
+    (ap parent_of c.node_at.ensures ∙ sym c.parent.ensures ∙ c.in-Some.is) (c.is_at_rest.ensures c.if-is_at_rest.true)
 
 pub climb-requires : goal.climb-requires
 climb-requires g c =

@@ -1,12 +1,33 @@
-use Rattle.std.proofs.Common.{◌+◌, ◌^◌, ◌≤◌, vec_len, vec_capacity, arith, rules}
+use Rattle.std.proofs.Common.{◌≡◌, ◌+◌, ◌-◌, ◌*◌, ◌^◌, ◌≤◌, Some, vec_len, vec_capacity, arith, rules, ap, ◌∙◌}
+use Rattle.rt_box.specs.Capacity.{least_fill}
 use Rattle.rt_node.specs.declared.arena.Arena.{Arena}
+use Rattle.rt_node.specs.Places.{level_at}
 use Rattle.rt_node.specs.Whole.{IsWhole, HasRoom, row_count}
+use Rattle.rt_remove.specs.Steps.{IsSoundBut}
+use Rattle.rt_remove.proofs.Climbs.{node-there}
 use Rattle.rt_remove.proofs.Removed.{removes, axes-known, whole-reversed, fewer-rows, ready-room, ready-waiting}
+use Rattle.rt_remove.proofs.Taken.{leaf-level}
 use Rattle.rt_remove.proofs.remove.remove_row.Goals as goal
 
 pub take_row-leaf-requires : goal.take_row-leaf-requires
 take_row-leaf-requires g c =
     let few : g.row.D ≤ 3 = axes-known c.args.tree.now c.args.id.now c.requires.whole c.requires.idle c.requires.known in
+    search rules
+
+pub condense-requires : goal.condense-requires
+condense-requires g c =
+    let s0 = c.args.tree.now in
+    let s1 = c.take_row-leaf.new.tree in
+    let leaf = c.take_row-leaf.result.leaf in
+    let takes = c.take_row-leaf.ensures.1 in
+    let few : g.row.D ≤ 3 = axes-known s0 c.args.id.now c.requires.whole c.requires.idle c.requires.known in
+    let there = node-there s0.nodes leaf 0 (leaf-level s0 c.args.id.now leaf c.requires.whole c.requires.idle takes.home) in
+    let but : IsSoundBut s1 leaf = takes.but in
+    let keys : s1.nodes.capacity ≤ 2 ^ 62 = omega (arith, (takes.change there.0 there.1).room, c.requires.room.keys) in
+    let bottom : level_at s1.nodes leaf ≡ Some 0 = takes.bottom in
+    let product : (least_fill s1.capacity - 1) * s1.level ≡ (least_fill s0.capacity - 1) * s0.level =
+    ap (λ m. (least_fill m - 1) * s1.level) takes.capacity ∙ ap (λ l. (least_fill s0.capacity - 1) * l) takes.level in
+    let room : (least_fill s1.capacity - 1) * s1.level ≤ vec_capacity s1.waiting = omega (arith, product, ap vec_capacity takes.waiting, c.requires.waiting_room) in
     search rules
 
 pub place_waiting-requires : goal.place_waiting-requires
