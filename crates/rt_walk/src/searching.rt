@@ -137,19 +137,6 @@ fn take_children<const D: usize>(
     Ok(())
 }
 
-/// How many cells the nodes at these keys have.
-fn cells_in<const D: usize>(tree: &Arena<D>, keys: &[usize]) -> usize
-    requires { D ≤ 3 }
-{
-    let mut cells = 0_usize;
-    for key in keys {
-        if let Some(node) = tree.nodes.get(*key) {
-            cells = cells.saturating_add(node.len());
-        }
-    }
-    cells
-}
-
 // By itself, so that the numbers of a window are read as vectors from where they stand: those of two windows don't fit
 // into the registers of the search's loop.
 
@@ -169,15 +156,10 @@ fn visit<const D: usize>(
 {
     let node = node_at(&tree.nodes, key);
     if node.level() == 0 {
-        return take_rows(rows, node, &asked.window);
+        take_rows(rows, node, &asked.window)
+    } else {
+        take_children(keys, node, asked)
     }
-    let before = keys.len();
-    take_children(keys, node, asked)?;
-    if node.level() == 1 {
-        // All these leaves are looked at before the first one is gone into, so that the waits for their memory overlap.
-        rows.reserve(cells_in(tree, &keys[before..]))?;
-    }
-    Ok(())
 }
 
 /// Finds the rows whose boxes the window admits.
