@@ -60,6 +60,13 @@ module _ {D : ℕ} (t : Arena D) (key parent : ℕ) (rising : IsRising t key) (u
   pub parent-named : 0 < times_named key (cells_at t.nodes parent)
   parent-named = let same = ap (times_named key) (inner-at_inner t.nodes parent rising.level parent-level) in let some = found.2 in omega arith
 
+  -- the parent names the node once
+  pub rising-once : times_named key (cells_at t.nodes parent) ≤ 1
+  rising-once =
+      let one = rising.sound.linked.named key rising.level rising.here key-not_root in
+      let same = ap (times_named key) (above-some t.nodes key parent up ∙ inner-at_inner t.nodes parent rising.level parent-level) in
+      omega arith
+
   pub rising-named_at : (at : ℕ) × IsNamedAt (cells_at t.nodes parent) at key
   rising-named_at = named-at key (cells_at t.nodes parent)
       (All-weaker (NamesChild t.nodes rising.level parent) (λ c. c.number ≡ pos (key_of c)) (λ c is. is.names.number_is) (cells_at t.nodes parent)

@@ -1,7 +1,7 @@
-ghost use Rattle.std.specs.Prelude.{◌≡◌, ℕ, ◌^◌, ◌<◌, ◌≤◌, Some, pos, length, true};
+ghost use Rattle.std.specs.Prelude.{◌≡◌, ℕ, ◌^◌, ◌<◌, ◌≤◌, ◌↔◌, Some, IsTrue, pos, length};
 ghost use Rattle.slab.specs.Slab.{get, ContainsKey};
 ghost use Rattle.rt_node.specs.Node.{NodeCells};
-ghost use Rattle.rt_node.specs.Places.{cells_at};
+ghost use Rattle.rt_node.specs.Places.{times_named, cells_at};
 ghost use Rattle.rt_place.specs.Steps.{IsNamedAt, HasLeastBox, Refits};
 
 use rt_box::Rect;
@@ -28,7 +28,8 @@ pub fn has_least_box<const D: usize>(nodes: &Slab<Node<D>>, parent: usize, key: 
     requires some { 1 ≤ length (cells_at nodes.now key) }
     requires above { ContainsKey nodes.now parent }
     requires named { (at : ℕ) × IsNamedAt (cells_at nodes.now parent) at key }
-    ensures { result ≡ true → HasLeastBox nodes.now key parent }
+    requires once { times_named key (cells_at nodes.now parent) ≤ 1 }
+    ensures { IsTrue result ↔ HasLeastBox nodes.now key parent }
 {
     // Says that keys are below the capacity, and so fit into a cell.
     let _ = nodes.capacity();

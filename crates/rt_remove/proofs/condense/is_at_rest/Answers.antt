@@ -35,4 +35,5 @@ has_least_box-requires g c =
     let named : (at : ℕ) × IsNamedAt (cells_at t.nodes c.args.parent) at c.args.key = named-at c.args.key (cells_at t.nodes c.args.parent)
     (All-weaker (NamesChild t.nodes but.level c.args.parent) (λ c. c.number ≡ pos (key_of c)) (λ c is. is.names.number_is) (cells_at t.nodes c.args.parent)
     (but.sound.linked.children c.args.parent but.level level)) counted in
+    let single : times_named c.args.key (cells_at t.nodes c.args.parent) ≤ 1 = omega arith in
     search rules
