@@ -10,6 +10,7 @@ ghost use Rattle.rt_row.specs.Windows.{IsWindowAt};
 ghost use Rattle.rt_store.specs.Trees.{leaf_row, Visits};
 ghost use Rattle.rt_store.specs.Picking.{Stands, passes};
 
+use crate::sorting::sort_by_id;
 use crate::store::Store;
 use rt_box::Window;
 use rt_row::Filter;
@@ -98,11 +99,7 @@ impl<const D: usize> Store<D> {
             visited,
         } = self.tree.search(alloc, window)?;
         let mut rows = self.tested_rows(alloc, condition, window, found)?;
-        rows.sort_unstable_by_key(
-            |row: &Row<D>| -> i64
-                ensures { result ≡ row.entry.now.id }
-            { row.id },
-        );
+        sort_by_id(&mut rows);
         Ok(Selected { rows, visited })
     }
 

@@ -13,6 +13,7 @@
 
 mod finding;
 mod largest;
+mod sorting;
 mod store;
 
 pub use finding::Selected;

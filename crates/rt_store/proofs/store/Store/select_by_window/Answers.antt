@@ -1,5 +1,7 @@
 use Rattle.std.proofs.Common.{◌≡◌, List, filter, All, rules, sym, ap, ◌∙◌, subst}
-use Rattle.std.proofs.lemmas.List.Sorted.{answers_always}
+use Rattle.std.specs.Prelude.{IsPermutation}
+use Rattle.std.proofs.lemmas.List.{with_items_is}
+use Rattle.std.proofs.lemmas.List.Sorted.{length_permutation}
 use Rattle.rt_check.specs.Shadow.{ShadowLists}
 use Rattle.rt_walk.specs.declared.searching.Row.{Row}
 use Rattle.rt_tree.specs.Boxes.{HasBoxes}
@@ -40,13 +42,15 @@ returns-clause-rows g c =
     let boxes : HasBoxes c.args.self.now.tree = subst (λ (t : ShadowLists g.row.D). HasBoxes t) tree c.has_boxes.ensures in
     let finds : FindsIn c.args.self.now.tree c.args.window.now c.in_ok-found.field-0.rows.items c.in_ok-found.field-0.visited =
     subst (λ (t : ShadowLists g.row.D). FindsIn t c.args.window.now c.in_ok-found.field-0.rows.items c.in_ok-found.field-0.visited) tree c.in_ok-found.ensures in
-    sorted_are c.args.self.now.rows c.args.self.now.tree c.len.ensures.rising c.len.ensures.stands c.args.window.now c.in_ok-found.field-0.rows.items c.in_ok-found.field-0.visited finds
+    let moved : IsPermutation c.in_ok-rows.rows.items c.sort_by_id.new.rows = subst (λ (rows : List (Row g.row.D)). IsPermutation rows c.sort_by_id.new.rows) c.deref_mut.ensures.value c.sort_by_id.ensures.permutation in
+    let kept = with_items_is c.in_ok-rows.rows c.sort_by_id.new.rows (length_permutation c.deref_mut.result.now c.sort_by_id.new.rows c.sort_by_id.ensures.permutation ∙ c.deref_mut.ensures.len) in
+    kept ∙ sorted_are c.args.self.now.rows c.args.self.now.tree c.len.ensures.rising c.len.ensures.stands c.args.window.now c.in_ok-found.field-0.rows.items c.in_ok-found.field-0.visited finds
     (admits c.args.condition.now)
     (window_loses_none c.args.self.now.rows c.args.self.now.tree c.len.ensures.rising c.len.ensures.stands boxes c.args.condition.now c.args.window.now c.requires)
-    c.in_ok-rows.rows.items c.sort_unstable_by_key.new.self.items
+    c.in_ok-rows.rows.items c.sort_by_id.new.rows
     c.in_ok-rows.ensures
-    c.sort_unstable_by_key.ensures.permutation
-    (c.sort_unstable_by_key.ensures.sorted (λ (r : Row g.row.D). r.id) (answers_always _ _ _ (λ f a r q h. search rules)))
+    moved
+    c.sort_by_id.ensures.sorted
 
 pub returns-clause-visited : goal.returns-clause-visited
 returns-clause-visited g c =
