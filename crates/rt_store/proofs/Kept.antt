@@ -36,6 +36,14 @@ module _ {D : ℕ} (s t : ShadowLists D) (id : ℤ) (boxes : (other : ℤ) → o
           let ne = differs other id is in
           subst IsSome (sym (boxes other ne)) (old other (subst IsSome (values other ne) some))
 
+  -- where the row of that id is there, no other one left
+  pub still-there : IsSome (box_of t id) → (other : ℤ) → IsSome (box_of s other) → IsSome (box_of t other)
+  still-there here other some = by (int_eq other id) refl
+    where
+      by : (b : Bool) → int_eq other id ≡ b → IsSome (box_of t other)
+      by true is = subst (λ (z : ℤ). IsSome (box_of t z)) (sym (eq_from other id is)) here
+      by false is = subst IsSome (sym (boxes other (differs other id is))) some
+
   module _ (ids new_ids : List ℤ) where
     module _ (came : (other : ℤ) → list_any (int_eq other) new_ids ≡ (int_eq other id || list_any (int_eq other) ids)) where
       -- a row came: each row's id was noted

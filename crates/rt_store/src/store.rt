@@ -15,7 +15,7 @@ ghost use Rattle.rt_store.specs.Moves.{stays};
 
 use crate::largest::Largest;
 use indexmap::IndexMap;
-use rt_box::Capacity;
+use rt_box::{Capacity, Rect};
 use rt_check::Shadow;
 use rt_row::{Entry, RowView};
 use rt_statement::{Items, Value};
@@ -302,7 +302,29 @@ impl<const D: usize> Store<D> {
         keep(&mut self.notes, id, more);
     }
 
-    /// Puts a row in the place of the one of that id. Where id and box stay, the tree is left alone. It takes no memory.
+    /// The row of that id has this box and these auxiliary values from now on: its box is removed, and the new one inserted.
+    /// The ids stay, and the largest of them. It takes no memory.
+    fn move_row(&mut self, id: &i64, rect: &Rect<D>, more: Items<Value>)
+        requires there { has_id self.old.rows id.now ≡ true }
+        requires room { 1 ≤ self.old.room }
+        requires note_room { (more ≡ []) ⊎ (1 ≤ self.old.note_room) }
+        ensures rows { (row : TableRow) → row.id ≡ id.now → row.box ≡ rect.now → row.more ≡ more → self.new.rows ≡ with_row (without_id self.old.rows id.now) row }
+        ensures capacity { self.new.tree.capacity ≡ self.old.tree.capacity }
+        ensures room { self.old.room ≤ self.new.room + 1 }
+        ensures note_room { self.old.note_room ≤ self.new.note_room + 1 }
+        ensures no_note { more ≡ [] → self.old.note_room ≤ self.new.note_room }
+    {
+        // The law says before, between and after which ids the tree has.
+        self.tree.is_in_shape();
+        let _ = self.tree.remove(id);
+        self.tree.is_in_shape();
+        let _ = self.tree.insert(id, rect);
+        self.tree.is_in_shape();
+        keep(&mut self.notes, id, more);
+    }
+
+    /// Puts a row in the place of the one of that id. Where id and box stay, the tree is left alone, and where the id stays,
+    /// so does what is known of the largest. It takes no memory.
     pub fn exchange(&mut self, id: &i64, row: Entry<D>)
         requires there { has_id self.old.rows id.now ≡ true }
         requires absent { has_id (without_id self.old.rows id.now) row.id ≡ false }
@@ -319,6 +341,11 @@ impl<const D: usize> Store<D> {
         let _ = self.len();
         if self.stays(id, &row) {
             self.exchange_notes(id, row.more);
+            return;
+        }
+        if *id == row.id {
+            let rect = row.rect;
+            self.move_row(id, &rect, row.more);
             return;
         }
         let _ = self.take_out(id);

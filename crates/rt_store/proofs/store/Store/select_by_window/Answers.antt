@@ -1,4 +1,4 @@
-use Rattle.std.proofs.Common.{◌≡◌, List, filter, All, rules, sym, ap, ◌∙◌, subst}
+use Rattle.std.proofs.Common.{◌≡◌, List, rules, ap, ◌∙◌, subst}
 use Rattle.std.specs.Prelude.{IsPermutation}
 use Rattle.std.proofs.lemmas.List.{with_items_is}
 use Rattle.std.proofs.lemmas.List.Sorted.{length_permutation}
@@ -8,7 +8,6 @@ use Rattle.rt_tree.specs.Boxes.{HasBoxes}
 use Rattle.rt_tree.specs.Finding.{FindsIn}
 use Rattle.rt_row.specs.Filters.{admits}
 use Rattle.rt_store.specs.Stored.{Stored}
-use Rattle.rt_store.specs.Picking.{Stands, passes}
 use Rattle.rt_store.proofs.Found.{all_stand, sorted_are, window_loses_none}
 use Rattle.rt_store.proofs.store.Store.select_by_window.Goals as goal
 
