@@ -15,6 +15,9 @@ returns-then-stays-clause-rows g c =
     let same : stays rows c.args.id.now row ≡ true = sym c.stays.ensures ∙ c.if-stays.true in
     c.exchange_notes.ensures.rows row (stays-box rows c.args.id.now row same) (stays-id rows c.args.id.now row same) refl
 
+pub returns-then-id-row-clause-rows : goal.returns-then-id-row-clause-rows
+returns-then-id-row-clause-rows g c = c.move_row.ensures.rows (row_of c.args.row) (search rules) refl refl
+
 pub place-requires : goal.place-requires
 place-requires g c =
     let rows = c.args.self.now.rows in
