@@ -47,6 +47,13 @@ impl Line {
         }
     }
 
+    /// Drops the bytes put so far.
+    pub(crate) fn clear(&mut self)
+        ensures { self.new ≡ [] }
+    {
+        self.start = MOST_BYTES;
+    }
+
     /// The bytes put so far.
     pub(crate) fn as_slice(&self) -> &[u8]
         ensures { result.now ≡ self.now }

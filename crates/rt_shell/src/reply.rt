@@ -39,8 +39,10 @@ pub fn write_reply<W: ByteWriter>(reply: &Reply, writer: &mut W) -> Result<(), W
 fn write_rows<W: ByteWriter>(rows: &RowList, writer: &mut W) -> Result<(), WriteFault>
     ensures { WritesTo W.ByteWriter writer.old writer.new result (flat_map row_line rows.now) }
 {
+    // One place for all lines, since making it costs as much as filling it.
+    let mut line = Line::new();
     for at in 0..rows.len() {
-        write_row(&rows.row(at), writer)?;
+        write_row(&mut line, &rows.row(at), writer)?;
     }
     Ok(())
 }
@@ -69,13 +71,18 @@ fn write_change<W: ByteWriter>(change: &Change, writer: &mut W) -> Result<(), Wr
         numbers: &[],
         more: change.row.as_slice(),
     };
-    write_row(&row, writer)
+    write_row(&mut Line::new(), &row, writer)
 }
 
-fn write_row<W: ByteWriter>(row: &ListedRow<'_>, writer: &mut W) -> Result<(), WriteFault>
+/// Writes a row's line, which is put together in `line` where it is short.
+fn write_row<W: ByteWriter>(
+    line: &mut Line,
+    row: &ListedRow<'_>,
+    writer: &mut W,
+) -> Result<(), WriteFault>
     ensures { WritesTo W.ByteWriter writer.old writer.new result (row_line (listed_values row.now)) }
 {
-    let mut line = Line::new();
+    line.clear();
     match line.put_row(row) {
         Some(()) => write_whole(writer, line.as_slice()),
         None => write_long_row(row, writer),
