@@ -84,35 +84,40 @@ fn put_admitted<const D: usize>(
     count
 }
 
-/// Takes the rows of a leaf's cells at these positions.
+/// Takes the rows of a leaf's cells at these positions, and makes room for so many more.
 fn push_rows<const D: usize>(
     rows: &mut Vec<Row<D>>,
     node: &Node<D>,
     positions: &[usize],
+    more: usize,
 ) -> Result<(), AllocError>
-    requires { All (λ at. at < length node.now.cells) positions.now }
+    requires within { All (λ at. at < length node.now.cells) positions.now }
+    requires few { length positions.now ≤ 52 }
+    requires few_more { more ≤ 52 }
     ensures { OnOk result (rows.new.items ≡ rows.old.items ++ rows_at node.now.cells positions.now) }
 {
-    rows.reserve(positions.len())?;
+    rows.reserve(positions.len() + more)?;
     for at in positions {
         rows.push_reserved(row_of(&node.cell(*at)));
     }
     Ok(())
 }
 
-/// Takes the rows of a leaf that the window admits.
+/// Takes the rows of a leaf that the window admits, and makes room for so many more.
 fn take_rows<const D: usize>(
     rows: &mut Vec<Row<D>>,
     node: &Node<D>,
     window: &Window<D>,
+    more: usize,
 ) -> Result<(), AllocError>
+    requires { more ≤ 52 }
     ensures { OnOk result (TakesRows window.now node.now.cells rows.old.items rows.new.items) }
 {
     // The contract of `len` says that a node has no more cells than there is room for here.
     let _ = node.len();
     let mut positions = [0; MOST_CELLS];
     let count = put_admitted(&mut positions, node, window);
-    push_rows(rows, node, &positions[..count])
+    push_rows(rows, node, &positions[..count], more)
 }
 
 /// Takes the children in which a box may lie that the window admits.
@@ -137,6 +142,21 @@ fn take_children<const D: usize>(
     Ok(())
 }
 
+/// How many cells the node has that is gone into next. It is looked at while another node is searched, so that it is on
+/// its way from memory by then.
+fn cells_ahead<const D: usize>(tree: &Arena<D>, keys: &[usize]) -> usize
+    requires { D ≤ 3 }
+    ensures { result ≤ 52 }
+{
+    let Some(key) = keys.last() else {
+        return 0;
+    };
+    match tree.nodes.get(*key) {
+        Some(node) => node.len(),
+        None => 0,
+    }
+}
+
 // By itself, so that the numbers of a window are read as vectors from where they stand: those of two windows don't fit
 // into the registers of the search's loop.
 
@@ -156,7 +176,8 @@ fn visit<const D: usize>(
 {
     let node = node_at(&tree.nodes, key);
     if node.level() == 0 {
-        take_rows(rows, node, &asked.window)
+        let more = cells_ahead(tree, keys.as_slice());
+        take_rows(rows, node, &asked.window, more)
     } else {
         take_children(keys, node, asked)
     }
