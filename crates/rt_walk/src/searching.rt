@@ -15,6 +15,9 @@ use std::alloc::{AllocError, Global};
 /// How many rows a search has room for before it finds the first one.
 const FIRST_ROOM: usize = 32;
 
+/// Of how many boxes of a leaf one is looked at ahead: as many as lie on one line of the processor's cache.
+const BOXES_OF_A_LINE: usize = 4;
+
 /// A row that a search found.
 #[derive(Clone, Copy, Debug)]
 pub struct Row<const D: usize> {
@@ -84,40 +87,35 @@ fn put_admitted<const D: usize>(
     count
 }
 
-/// Takes the rows of a leaf's cells at these positions, and makes room for so many more.
+/// Takes the rows of a leaf's cells at these positions.
 fn push_rows<const D: usize>(
     rows: &mut Vec<Row<D>>,
     node: &Node<D>,
     positions: &[usize],
-    more: usize,
 ) -> Result<(), AllocError>
-    requires within { All (λ at. at < length node.now.cells) positions.now }
-    requires few { length positions.now ≤ 52 }
-    requires few_more { more ≤ 52 }
+    requires { All (λ at. at < length node.now.cells) positions.now }
     ensures { OnOk result (rows.new.items ≡ rows.old.items ++ rows_at node.now.cells positions.now) }
 {
-    rows.reserve(positions.len() + more)?;
+    rows.reserve(positions.len())?;
     for at in positions {
         rows.push_reserved(row_of(&node.cell(*at)));
     }
     Ok(())
 }
 
-/// Takes the rows of a leaf that the window admits, and makes room for so many more.
+/// Takes the rows of a leaf that the window admits.
 fn take_rows<const D: usize>(
     rows: &mut Vec<Row<D>>,
     node: &Node<D>,
     window: &Window<D>,
-    more: usize,
 ) -> Result<(), AllocError>
-    requires { more ≤ 52 }
     ensures { OnOk result (TakesRows window.now node.now.cells rows.old.items rows.new.items) }
 {
     // The contract of `len` says that a node has no more cells than there is room for here.
     let _ = node.len();
     let mut positions = [0; MOST_CELLS];
     let count = put_admitted(&mut positions, node, window);
-    push_rows(rows, node, &positions[..count], more)
+    push_rows(rows, node, &positions[..count])
 }
 
 /// Takes the children in which a box may lie that the window admits.
@@ -142,19 +140,35 @@ fn take_children<const D: usize>(
     Ok(())
 }
 
-/// How many cells the node has that is gone into next. It is looked at while another node is searched, so that it is on
-/// its way from memory by then.
-fn cells_ahead<const D: usize>(tree: &Arena<D>, keys: &[usize]) -> usize
-    requires { D ≤ 3 }
-    ensures { result ≤ 52 }
-{
-    let Some(key) = keys.last() else {
-        return 0;
-    };
-    match tree.nodes.get(*key) {
-        Some(node) => node.len(),
-        None => 0,
+/// About how many of the node's boxes the window admits, by one of each line that they lie on.
+fn likely_rows<const D: usize>(node: &Node<D>, window: &Window<D>) -> usize {
+    let mut admitted: usize = 0;
+    for boxes in node.boxes().chunks(BOXES_OF_A_LINE) {
+        if let Some(rect) = boxes.first() {
+            admitted = admitted.wrapping_add(usize::from(window.admits(rect)));
+        }
     }
+    admitted.saturating_mul(BOXES_OF_A_LINE)
+}
+
+/// Makes room for about as many rows as the window takes from the leaves at these keys. So all these leaves are looked at
+/// before the search goes into the first one, and the waits for their memory overlap.
+fn look_ahead<const D: usize>(
+    rows: &mut Vec<Row<D>>,
+    tree: &Arena<D>,
+    keys: &[usize],
+    window: &Window<D>,
+) -> Result<(), AllocError>
+    requires { D ≤ 3 }
+    ensures { rows.new.items ≡ rows.old.items }
+{
+    let mut room: usize = 0;
+    for key in keys {
+        if let Some(leaf) = tree.nodes.get(*key) {
+            room = room.saturating_add(likely_rows(leaf, window));
+        }
+    }
+    rows.reserve(room)
 }
 
 // By itself, so that the numbers of a window are read as vectors from where they stand: those of two windows don't fit
@@ -176,11 +190,14 @@ fn visit<const D: usize>(
 {
     let node = node_at(&tree.nodes, key);
     if node.level() == 0 {
-        let more = cells_ahead(tree, keys.as_slice());
-        take_rows(rows, node, &asked.window, more)
-    } else {
-        take_children(keys, node, asked)
+        return take_rows(rows, node, &asked.window);
     }
+    let before = keys.len();
+    take_children(keys, node, asked)?;
+    if node.level() == 1 {
+        look_ahead(rows, tree, &keys[before..], &asked.window)?;
+    }
+    Ok(())
 }
 
 /// Finds the rows whose boxes the window admits.

@@ -16,7 +16,7 @@ loop-at-preserved g c =
     let at : ℕ = slice_index_or positions i 0 in
     let old = c.args.rows.now.items in
     let within : i < length positions = omega (arith, c.loop-at-test.true) in
-    let here : slice_get cells at ≡ Some c.cell.result = slice_get-get_or cells at c.cell.result (c.requires.within i 0 within) ∙ ap Some (sym c.cell.ensures) in
+    let here : slice_get cells at ≡ Some c.cell.result = slice_get-get_or cells at c.cell.result (c.requires i 0 within) ∙ ap Some (sym c.cell.ensures) in
     let more : rows_at cells (take (i + 1) positions) ≡ rows_at cells (take i positions) ++ row_of c.cell.result ∷ [] =
     ap (rows_at cells) (take_more positions i 0 within) ∙ rows_at-push cells (take i positions) at c.cell.result here in (
       c.push_reserved.ensures.items ∙ ap (λ (r : Row g.row.D). c.loop-at.rows.items ++ r ∷ []) c.row_of.ensures
