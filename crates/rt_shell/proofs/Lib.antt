@@ -1,5 +1,6 @@
 pub mod Alike
 pub mod EngineLemmas
+pub mod Groups
 pub mod Listed
 pub mod Pumping
 pub mod Quotes

@@ -25,7 +25,7 @@
 #![tactic(auto)]
 
 pub mod laws;
-mod line;
+mod lines;
 mod reply;
 mod runner;
 mod value;

@@ -1,6 +1,7 @@
 //! What is printed of an answer. Printing takes no memory, so no line is ever cut off by a want of it.
 
-ghost use Rattle.std.specs.Prelude.{◌≡◌, ◌++◌, if◌then◌else◌, codes, map};
+ghost use Rattle.std.specs.Prelude.{◌≡◌, ◌<◌, ◌≤◌, ◌++◌, if◌then◌else◌, codes, map, length, take, drop, IfOk, OnErr};
+ghost use Rattle.rt_bytes.specs.Bytes.{WritesAll, WritesFront};
 ghost use Rattle.std.specs.Fmt.{signed_decimal};
 ghost use Rattle.std.specs.List.{flat_map, join_by};
 ghost use Rattle.rt_bytes.specs.Devices.{WritesTo};
@@ -8,7 +9,7 @@ ghost use Rattle.rt_statement.specs.declared.value.Value.TheVariants.{Int};
 ghost use Rattle.rt_row.specs.Entries.{listed_values};
 ghost use Rattle.rt_shell.specs.Lines.{value_text, row_line, change_line, reply_lines, refusal_line};
 
-use crate::line::Line;
+use crate::lines::Lines;
 use crate::value::{write_integer, write_value};
 use itoa::Buffer;
 use rt_bytes::{ByteWriter, WriteFault, write_parts, write_whole};
@@ -17,6 +18,9 @@ use rt_report::write_verdict;
 use rt_row::{ListedRow, RowList};
 use rt_session::{Change, Reply};
 use rt_statement::{Refusal, Value};
+
+/// The most rows whose lines are written at once.
+const ROWS_AT_ONCE: usize = 8;
 
 /// Writes the lines of a reply: a line for each row that it shows, or for each change; the verdict on
 /// a tree, or its dump. After a fault a front of them is written.
@@ -40,18 +44,52 @@ fn write_rows<W: ByteWriter>(rows: &RowList, writer: &mut W) -> Result<(), Write
     ensures { WritesTo W.ByteWriter writer.old writer.new result (flat_map row_line rows.now) }
 {
     // One place for all lines, since making it costs as much as filling it.
-    let mut line = Line::new();
-    for at in 0..rows.len() {
-        write_row(&mut line, &rows.row(at), writer)?;
+    let mut lines = Lines::new();
+    let (mut from, mut at_once) = (0, ROWS_AT_ONCE);
+    while from < rows.len() {
+        let to = from + at_once.min(rows.len() - from);
+        let next = write_next(&mut lines, rows, from, to, writer)?;
+        // Twice as many as were short enough last time.
+        at_once = ROWS_AT_ONCE.min(2 * (next - from));
+        from = next;
     }
     Ok(())
+}
+
+/// Writes the lines of the rows from one place to another at once where they are short, else that of the first; answers
+/// where the rows behind them begin.
+fn write_next<W: ByteWriter>(
+    lines: &mut Lines,
+    rows: &RowList,
+    from: usize,
+    to: usize,
+    writer: &mut W,
+) -> Result<usize, WriteFault>
+    requires some { from < to }
+    requires within { to ≤ length rows.now }
+    ensures next { IfOk result (λ next. (from < next) × (next ≤ to)) }
+    ensures written { IfOk result (λ next. WritesAll (W.ByteWriter.written writer.old) (W.ByteWriter.written writer.new) (W.ByteWriter.faults writer.old) (W.ByteWriter.faults writer.new) (flat_map row_line (drop from (take next rows.now)))) }
+    ensures failed { OnErr result (WritesFront (W.ByteWriter.written writer.old) (W.ByteWriter.written writer.new) (W.ByteWriter.faults writer.old) (W.ByteWriter.faults writer.new) (flat_map row_line (drop from rows.now))) }
+{
+    lines.clear();
+    match lines.put_rows(rows, from, to) {
+        Some(()) => {
+            write_whole(writer, lines.as_slice())?;
+            Ok(to)
+        }
+        None => {
+            write_row(lines, &rows.row(from), writer)?;
+            Ok(from + 1)
+        }
+    }
 }
 
 fn write_changes<W: ByteWriter>(changes: &[Change], writer: &mut W) -> Result<(), WriteFault>
     ensures { WritesTo W.ByteWriter writer.old writer.new result (flat_map change_line changes.now) }
 {
+    let mut lines = Lines::new();
     for change in changes {
-        write_change(change, writer)?;
+        write_change(&mut lines, change, writer)?;
     }
     Ok(())
 }
@@ -62,7 +100,11 @@ fn sign(change: &Change) -> &[u8]
     if change.came { b"+" } else { b"-" }
 }
 
-fn write_change<W: ByteWriter>(change: &Change, writer: &mut W) -> Result<(), WriteFault>
+fn write_change<W: ByteWriter>(
+    lines: &mut Lines,
+    change: &Change,
+    writer: &mut W,
+) -> Result<(), WriteFault>
     ensures { WritesTo W.ByteWriter writer.old writer.new result (change_line change.now) }
 {
     let parts: [&[u8]; 3] = [sign(change), change.view.as_str().as_bytes(), b" "];
@@ -71,20 +113,20 @@ fn write_change<W: ByteWriter>(change: &Change, writer: &mut W) -> Result<(), Wr
         numbers: &[],
         more: change.row.as_slice(),
     };
-    write_row(&mut Line::new(), &row, writer)
+    write_row(lines, &row, writer)
 }
 
-/// Writes a row's line, which is put together in `line` where it is short.
+/// Writes a row's line, which is put together in `lines` where it is short.
 fn write_row<W: ByteWriter>(
-    line: &mut Line,
+    lines: &mut Lines,
     row: &ListedRow<'_>,
     writer: &mut W,
 ) -> Result<(), WriteFault>
     ensures { WritesTo W.ByteWriter writer.old writer.new result (row_line (listed_values row.now)) }
 {
-    line.clear();
-    match line.put_row(row) {
-        Some(()) => write_whole(writer, line.as_slice()),
+    lines.clear();
+    match lines.put_row(row) {
+        Some(()) => write_whole(writer, lines.as_slice()),
         None => write_long_row(row, writer),
     }
 }

@@ -1,17 +1,29 @@
-use Rattle.std.proofs.Common.{arith}
-use Rattle.rt_bytes.proofs.Writing.{Writes-failed}
-use Rattle.rt_shell.proofs.Sequences.{WritesAll-item, WritesFront-item}
-use Rattle.rt_row.specs.Entries.{listed_values}
+use Rattle.std.proofs.Common.{◌≤◌, ◌<◌, take, drop, length, arith}
+use Rattle.std.specs.List.{flat_map}
+use Rattle.rt_bytes.proofs.Writing.{WritesAll-trans, WritesFront-after, Writes-failed}
 use Rattle.rt_shell.specs.Lines.{row_line}
+use Rattle.rt_shell.proofs.Groups.{before_and_between, before_and_after}
 use Rattle.rt_shell.proofs.reply.write_rows.Goals as goal
 
-pub returns-in_err-write_row : goal.returns-in_err-write_row
-returns-in_err-write_row g c =
+pub returns-in_err-next : goal.returns-in_err-next
+returns-in_err-next g c =
+    let rows = c.args.rows.now in
+    let from = c.loop-from.from in
     Writes-failed _ _ _ _ _ _ c.from_residual.ensures.0
-    (WritesFront-item row_line _ _ _ _ _ _ c.args.rows.now c.loop-at.at (listed_values c.row.result) (omega (arith, c.loop-at-test.true, c.len-at-end.ensures)) c.row.ensures
-    c.loop-at.invariant c.in_err-write_row.ensures)
+    (rw (← before_and_after row_line from rows)
+    (WritesFront-after _ _ _ _ _ _ (flat_map row_line (take from rows)) (flat_map row_line (drop from rows)) c.loop-from.invariant.3 c.in_err-next.ensures.failed))
 
-pub loop-at-preserved : goal.loop-at-preserved
-loop-at-preserved g c =
-    WritesAll-item row_line _ _ _ _ _ _ c.args.rows.now c.loop-at.at (listed_values c.row.result) (omega (arith, c.loop-at-test.true, c.len-at-end.ensures)) c.row.ensures
-    c.loop-at.invariant c.in_ok-write_row.ensures
+pub loop-from-preserved : goal.loop-from-preserved
+loop-from-preserved g c =
+    let rows = c.args.rows.now in
+    let from = c.loop-from.from in
+    let next = c.in_ok-next.next in
+    let on : from < next = c.in_ok-next.ensures.next.0 in
+    let within : next ≤ length rows = omega (arith, c.in_ok-next.ensures.next.1, c.min.ensures, c.len-in-loop-from.ensures, c.loop-from.invariant.0) in
+    let le : from ≤ next = omega (arith, on) in (
+      within,
+      omega (arith, on, c.min-at_once.ensures),
+      omega (arith, c.min-at_once.ensures),
+      rw (← before_and_between row_line from next rows le)
+          (WritesAll-trans _ _ _ _ _ _ (flat_map row_line (take from rows)) (flat_map row_line (drop from (take next rows))) c.loop-from.invariant.3 c.in_ok-next.ensures.written),
+    )

@@ -1,7 +1,7 @@
 use Rattle.std.proofs.Common.{◌≡◌, ◌++◌, codes, length}
 use Rattle.std.specs.List.{flat_map}
 use Rattle.std.specs.Fmt.{signed_decimal}
-use Rattle.rt_shell.proofs.line.Line.put_more_numbers.Given as goal
+use Rattle.rt_shell.proofs.lines.Lines.put_more_numbers.Given as goal
 
 -- the numbers behind these were put, each behind a bar
 abbrev pub invariant-loop-last : goal.invariant-loop-last

@@ -2,7 +2,7 @@ use Rattle.std.proofs.Common.{◌≡◌, None, [], ◌∷◌, ◌++◌, ap, sym,
 use Rattle.std.specs.List.{position}
 use Rattle.rt_sql.specs.Token.{doubled}
 use Rattle.rt_shell.proofs.Quotes.{is_quote, doubled-no_quote}
-use Rattle.rt_shell.proofs.line.Line.put_text.Goals as goal
+use Rattle.rt_shell.proofs.lines.Lines.put_text.Goals as goal
 
 pub returns : goal.returns
 returns c =

@@ -1,7 +1,7 @@
 use Rattle.std.proofs.Common.{◌≡◌, ◌++◌, codes, length}
 use Rattle.std.specs.List.{flat_map}
 use Rattle.rt_shell.specs.Lines.{value_text}
-use Rattle.rt_shell.proofs.line.Line.put_more.Given as goal
+use Rattle.rt_shell.proofs.lines.Lines.put_more.Given as goal
 
 -- the values behind these were put, each behind a bar
 abbrev pub invariant-loop-last : goal.invariant-loop-last

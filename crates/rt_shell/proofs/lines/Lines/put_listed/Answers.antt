@@ -4,7 +4,7 @@ use Rattle.std.specs.List.{flat_map, join_by}
 use Rattle.rt_statement.specs.declared.value.Value.TheVariants.{Int}
 use Rattle.rt_shell.specs.Lines.{value_text}
 use Rattle.rt_shell.proofs.Listed.{listed-put}
-use Rattle.rt_shell.proofs.line.Line.put_listed.Goals as goal
+use Rattle.rt_shell.proofs.lines.Lines.put_listed.Goals as goal
 
 pub returns : goal.returns
 returns c =

@@ -1,6 +1,6 @@
-//! The line of a row put together, so that it is written at once.
+//! The lines of rows put together, so that they are written at once.
 
-ghost use Rattle.std.specs.Prelude.{◌≡◌, ◌≤◌, ◌++◌, ◌∷◌, ℕ, List, [], IfSome, codes, drop, length};
+ghost use Rattle.std.specs.Prelude.{◌≡◌, ◌≤◌, ◌++◌, ◌∷◌, ℕ, List, [], IfSome, codes, drop, length, take};
 ghost use Rattle.std.specs.Fmt.{signed_decimal};
 ghost use Rattle.std.specs.List.{flat_map, join_by};
 ghost use Rattle.rt_sql.specs.Token.{doubled};
@@ -9,39 +9,42 @@ ghost use Rattle.rt_shell.specs.Lines.{value_text, row_line};
 
 use crate::value::first_quote;
 use itoa::write_digits;
-use rt_row::ListedRow;
+use rt_row::{ListedRow, RowList};
 use rt_statement::Value;
 use std::marker::Model;
 
-/// The most bytes of a line that is put together; a longer one is written value by value.
-const MOST_BYTES: usize = 128;
+/// The most bytes of lines that are put together; a longer line is written value by value.
+const MOST_BYTES: usize = 1024;
+
+/// The most bytes of a text in a line that is put together.
+const MOST_TEXT: usize = 128;
 
 /// The most digits of an integer of 64 bits.
 const MOST_DIGITS: usize = 20;
 
-/// The last part of a line. A line is put together from its end to its beginning: of a number's digits the last is
+/// The last part of some lines. They are put together from their end to their beginning: of a number's digits the last is
 /// found first, so that each is put where it stays.
 #[derive(Drop)]
-pub(crate) struct Line {
+pub(crate) struct Lines {
     bytes: [u8; MOST_BYTES],
     start: usize,
 }
 
 // Clauses see the bytes from the start on.
-impl Model for Line {
+impl Model for Lines {
     ghost Value = { List ℕ };
 
-    ghost view = { λ line. drop line.start line.bytes };
+    ghost view = { λ lines. drop lines.start lines.bytes };
 
-    ghost invariant = { λ line. (line.start ≤ 128) × (length line.bytes ≡ 128) };
+    ghost invariant = { λ lines. (lines.start ≤ 1024) × (length lines.bytes ≡ 1024) };
 }
 
-impl Line {
+impl Lines {
     /// Nothing yet.
-    pub(crate) fn new() -> Line
+    pub(crate) fn new() -> Lines
         ensures { result ≡ [] }
     {
-        Line {
+        Lines {
             bytes: [0; MOST_BYTES],
             start: MOST_BYTES,
         }
@@ -101,7 +104,7 @@ impl Line {
     fn put_text(&mut self, text: &[u8]) -> Option<()>
         ensures { IfSome result (λ _. self.new ≡ (codes "'" ++ doubled 39 text.now ++ codes "'") ++ self.old) }
     {
-        if text.len() > MOST_BYTES || first_quote(text).is_some() {
+        if text.len() > MOST_TEXT || first_quote(text).is_some() {
             return None;
         }
         self.put_byte(b'\'')?;
@@ -179,6 +182,20 @@ impl Line {
     {
         self.put_byte(b'\n')?;
         self.put_listed(row)?;
+        Some(())
+    }
+
+    /// Puts the lines of the rows from one place to another, where there is room for them and no value takes more than a
+    /// copy.
+    pub(crate) fn put_rows(&mut self, rows: &RowList, from: usize, to: usize) -> Option<()>
+        requires { to ≤ length rows.now }
+        ensures { IfSome result (λ _. self.new ≡ flat_map row_line (drop from (take to rows.now)) ++ self.old) }
+    {
+        let mut at = to;
+        while at > from {
+            at -= 1;
+            self.put_row(&rows.row(at))?;
+        }
         Some(())
     }
 }
