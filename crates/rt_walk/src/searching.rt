@@ -15,8 +15,12 @@ use std::alloc::{AllocError, Global};
 /// How many rows a search has room for before it finds the first one.
 const FIRST_ROOM: usize = 32;
 
-/// Of how many boxes of a leaf one is looked at ahead: as many as lie on one line of the processor's cache.
+/// Of how many boxes of a leaf one is looked at ahead: as many as lie on one line of the processor's cache in two
+/// dimensions.
 const BOXES_OF_A_LINE: usize = 4;
+
+/// Of how many numbers of a leaf one is looked at ahead: as many as lie on one line of the processor's cache.
+const NUMBERS_OF_A_LINE: usize = 8;
 
 /// A row that a search found.
 #[derive(Clone, Copy, Debug)]
@@ -151,8 +155,20 @@ fn likely_rows<const D: usize>(node: &Node<D>, window: &Window<D>) -> usize {
     admitted.saturating_mul(BOXES_OF_A_LINE)
 }
 
+/// How often the least number that there is stands at the beginning of a line of the node's numbers.
+fn least_numbers<const D: usize>(node: &Node<D>) -> usize {
+    let mut least: usize = 0;
+    for numbers in node.numbers().chunks(NUMBERS_OF_A_LINE) {
+        if let Some(number) = numbers.first() {
+            least = least.wrapping_add(usize::from(*number == i64::MIN));
+        }
+    }
+    least
+}
+
 /// Makes room for about as many rows as the window takes from the leaves at these keys. So all these leaves are looked at
-/// before the search goes into the first one, and the waits for their memory overlap.
+/// before the search goes into the first one, and the waits for their memory overlap. Their numbers say nothing of the
+/// room: asking for one that few leaves have brings them, too.
 fn look_ahead<const D: usize>(
     rows: &mut Vec<Row<D>>,
     tree: &Arena<D>,
@@ -166,6 +182,7 @@ fn look_ahead<const D: usize>(
     for key in keys {
         if let Some(leaf) = tree.nodes.get(*key) {
             room = room.saturating_add(likely_rows(leaf, window));
+            room = room.saturating_add(least_numbers(leaf));
         }
     }
     rows.reserve(room)
