@@ -144,15 +144,31 @@ fn take_children<const D: usize>(
     Ok(())
 }
 
-/// About how many of the node's boxes the window admits, by one of each line that they lie on.
-fn likely_rows<const D: usize>(node: &Node<D>, window: &Window<D>) -> usize {
-    let mut admitted: usize = 0;
-    for boxes in node.boxes().chunks(BOXES_OF_A_LINE) {
-        if let Some(rect) = boxes.first() {
-            admitted = admitted.wrapping_add(usize::from(window.admits(rect)));
+/// How many cells the nodes at these keys have. What a node's loops end by lies on lines of its own, so it is read of all
+/// nodes before the first of those loops: else each would wait for its end before the next begins.
+fn count_cells<const D: usize>(tree: &Arena<D>, keys: &[usize]) -> usize
+    requires { D ≤ 3 }
+{
+    let mut cells: usize = 0;
+    for key in keys {
+        if let Some(node) = tree.nodes.get(*key) {
+            cells = cells.wrapping_add(node.numbers().len().min(node.boxes().len()));
         }
     }
-    admitted.saturating_mul(BOXES_OF_A_LINE)
+    cells
+}
+
+/// How often the least coordinate that there is stands at the beginning of a line of the node's boxes.
+fn least_boxes<const D: usize>(node: &Node<D>) -> usize {
+    let mut least: usize = 0;
+    for boxes in node.boxes().chunks(BOXES_OF_A_LINE) {
+        if let Some(rect) = boxes.first() {
+            // The contract of `axes` says that there is a first one.
+            let _ = rect.axes();
+            least = least.wrapping_add(usize::from(rect.range(0).lo == i32::MIN));
+        }
+    }
+    least
 }
 
 /// How often the least number that there is stands at the beginning of a line of the node's numbers.
@@ -166,26 +182,26 @@ fn least_numbers<const D: usize>(node: &Node<D>) -> usize {
     least
 }
 
-/// Makes room for about as many rows as the window takes from the leaves at these keys. So all these leaves are looked at
-/// before the search goes into the first one, and the waits for their memory overlap. Their numbers say nothing of the
-/// room: asking for one that few leaves have brings them, too.
+/// Looks at all leaves at these keys before the search goes into the first one, so that the waits for their memory
+/// overlap. What it asks says next to nothing of the rows to come, and makes room for hardly one: it takes one step for
+/// each line that it brings, since the fewer steps lie between two lines, the more of them are waited for at once.
 fn look_ahead<const D: usize>(
     rows: &mut Vec<Row<D>>,
     tree: &Arena<D>,
     keys: &[usize],
-    window: &Window<D>,
 ) -> Result<(), AllocError>
     requires { D ≤ 3 }
     ensures { rows.new.items ≡ rows.old.items }
 {
-    let mut room: usize = 0;
+    let cells = count_cells(tree, keys);
+    let mut least: usize = 0;
     for key in keys {
         if let Some(leaf) = tree.nodes.get(*key) {
-            room = room.saturating_add(likely_rows(leaf, window));
-            room = room.saturating_add(least_numbers(leaf));
+            least = least.wrapping_add(least_boxes(leaf));
+            least = least.wrapping_add(least_numbers(leaf));
         }
     }
-    rows.reserve(room)
+    rows.reserve(least.min(cells))
 }
 
 // By itself, so that the numbers of a window are read as vectors from where they stand: those of two windows don't fit
@@ -212,7 +228,7 @@ fn visit<const D: usize>(
     let before = keys.len();
     take_children(keys, node, asked)?;
     if node.level() == 1 {
-        look_ahead(rows, tree, &keys[before..], &asked.window)?;
+        look_ahead(rows, tree, &keys[before..])?;
     }
     Ok(())
 }
