@@ -1,32 +1,33 @@
-# make        proves all crates side by side, and builds bin/rtsh
 # make demo   compiles rtsh without proving it, runs the scripts of examples/ and checks its dumps with it
-# make check  proves what changed
-# make cases  runs the worked scripts and dumps of crates/rt_cases
-# make test   holds the documents against the cases, proves everything from nothing, tries the edits that must fail, runs all
-#             tests, and then has allocations, reads and writes of the programs that it built fail, and gives them hard devices
+# make try    compiles rtsh without proving it, and runs a script of yours: make try SCRIPT=file.sql
+# make test   runs all tests and worked cases without proving anything, and holds the documents against the cases
+# make        proves rtsh and the crates that it stands on, and builds bin/rtsh
+# make check  proves what changed in all crates
+# make gate   proves everything from nothing, tries the edits that must fail, runs the tests and programs that were proved, and
+#             then has allocations, reads and writes of the built program fail, and gives it hard devices
 # make bench  prints how long the choices of the R*-tree take, and the calls of whole trees, beside Boost's where that is installed,
 #             and whole scripts through bin/rtsh, beside sqlite3's shell where that is installed
 
 SHELL := /bin/bash
 
-.PHONY: build demo check cases test bench tools
+.PHONY: build demo try test check gate bench tools
 
-build: check
-	@cd crates/rtsh && rt run -- run < /dev/null > ../../bin/build.log 2>&1 || { cat ../../bin/build.log; exit 1; }
-	@cp crates/rtsh/out/rtsh bin/rtsh
-	@echo "built bin/rtsh"
+build: tools
+	@scripts/build
 
 demo: tools
 	@scripts/demo
 
+try: tools
+	@scripts/try "$(SCRIPT)"
+
+test: tools
+	@scripts/test
+
 check: tools
 	@scripts/prove
 
-cases: tools
-	@cd crates/rt_cases && rt run -- data 2> /dev/null
-
-test: tools
-	@scripts/check_documents
+gate: tools
 	rt ci
 	@scripts/faults
 

@@ -140,7 +140,7 @@ impl Session {
         if self.tables[at].table.watched() {
             return Err(Refusal::TableIsWatched);
         }
-        let _ = self.tables.remove(at);
+        drop(self.tables.remove(at));
         Ok(Reply::Nothing)
     }
 
