@@ -24,10 +24,10 @@ CALLS = {
 
 # Tests, their crates, and how they are tried.
 TESTS = [
-    ("rt_tree_tests", "growth::refused_growth_changes_nothing", tests.growths_refused),
-    ("rt_rows", "growth::a_shadow_stays_as_it_was", tests.growths_refused),
-    ("rt_rows", "growth::a_dump_is_read_or_memory_is_wanting", tests.growths_refused),
-    ("rt_table_tests", "committing::plans_are_carried_out", tests.none_between),
+    ("test_tree", "growth::refused_growth_changes_nothing", tests.growths_refused),
+    ("test_faults", "growth::a_shadow_stays_as_it_was", tests.growths_refused),
+    ("test_faults", "growth::a_dump_is_read_or_memory_is_wanting", tests.growths_refused),
+    ("test_table", "committing::plans_are_carried_out", tests.none_between),
 ]
 
 
@@ -79,7 +79,7 @@ def all_statements(root, program):
 def main(root, library, *paths):
     """Checks each program of these paths."""
     report, root = Report(), Path(root)
-    worked = cases.cases(root / "crates" / "rt_cases" / "data")
+    worked = cases.cases(root / "crates" / "test_cases" / "data")
     for path in paths:
         began = time.monotonic()
         program = Program(path, library)

@@ -3,8 +3,8 @@
 ghost use Rattle.std.specs.Prelude.{◌≤◌};
 
 use rt_box::{Capacity, Op6, Rect, Window};
-use rt_node::Node;
 use rt_tree::Tree;
+use rt_tree_node::Node;
 use std::alloc::Global;
 use std::hash::RandomState;
 use std::io;

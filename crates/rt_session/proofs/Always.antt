@@ -6,20 +6,20 @@ use Rattle.std.proofs.lemmas.List.{map-append}
 use Rattle.std.proofs.lemmas.List.Elements.{All-nil, All-cons, All-head, All-tail, All-append, All-set}
 use Rattle.std.proofs.lemmas.Option.{same_Some}
 use Rattle.std.proofs.Math.Seq.{map-set_same}
-use Rattle.rt_statement.specs.Name.{same_name}
-use Rattle.rt_statement.specs.declared.statement.Stmt.{Stmt}
-use Rattle.rt_statement.specs.declared.statement.Stmt.TheVariants.{Create, Drop, Insert, Update, Delete, Select, Check, Watch, Unwatch, View, Nodes}
-use Rattle.rt_statement.specs.declared.statement.Test.{Test}
-use Rattle.rt_statement.specs.declared.statement.ColumnDef.{ColumnDef}
-use Rattle.rt_statement.specs.declared.refusal.Refusal.{Refusal}
-use Rattle.rt_statement.specs.declared.refusal.Refusal.TheVariants.{TableAlreadyExists, NoSuchColumn, NoSuchView, ViewAlreadyExists, TableIsWatched, TooManyTablesOrViews}
-use Rattle.rt_row.specs.Columns.{Columns, columns_of, are_distinct}
-use Rattle.rt_row.specs.Rows.{TableRow, values_of}
-use Rattle.rt_row.specs.Conditions.{has_columns}
-use Rattle.rt_row.specs.Edits.{Step, Steps, outcome, and_then}
-use Rattle.rt_row.specs.Views.{View as Watched}
-use Rattle.rt_row.specs.Tables.{TableLists, new_table, has_view, is_view, select, unwatch, view}
-use Rattle.rt_dump.specs.declared.dump.AnyShadow.{AnyShadow}
+use Rattle.rt_sql_statement.specs.Name.{same_name}
+use Rattle.rt_sql_statement.specs.declared.statement.Stmt.{Stmt}
+use Rattle.rt_sql_statement.specs.declared.statement.Stmt.TheVariants.{Create, Drop, Insert, Update, Delete, Select, Check, Watch, Unwatch, View, Nodes}
+use Rattle.rt_sql_statement.specs.declared.statement.Test.{Test}
+use Rattle.rt_sql_statement.specs.declared.statement.ColumnDef.{ColumnDef}
+use Rattle.rt_sql_statement.specs.declared.refusal.Refusal.{Refusal}
+use Rattle.rt_sql_statement.specs.declared.refusal.Refusal.TheVariants.{TableAlreadyExists, NoSuchColumn, NoSuchView, ViewAlreadyExists, TableIsWatched, TooManyTablesOrViews}
+use Rattle.rt_table_row.specs.Columns.{Columns, columns_of, are_distinct}
+use Rattle.rt_table_row.specs.Rows.{TableRow, values_of}
+use Rattle.rt_table_row.specs.Conditions.{has_columns}
+use Rattle.rt_table_row.specs.Edits.{Step, Steps, outcome, and_then}
+use Rattle.rt_table_row.specs.Views.{View as Watched}
+use Rattle.rt_table_row.specs.Tables.{TableLists, new_table, has_view, is_view, select, unwatch, view}
+use Rattle.rt_check_dump.specs.declared.dump.AnyShadow.{AnyShadow}
 use Rattle.rt_table.specs.AnyTrees.{new_tree, Follows, FollowsIfTaken}
 use Rattle.rt_session.specs.declared.reply.Reply.{Reply}
 use Rattle.rt_session.specs.declared.reply.Reply.TheVariants.{Nothing, Rows}

@@ -1,9 +1,9 @@
 -- An answer to a statement, whatever tree is chosen or with one that may be.
 use Rattle.std.proofs.Common.{◌≡◌, ◌∙◌, Result, Ok, Err}
-use Rattle.rt_statement.specs.declared.refusal.Refusal.{Refusal}
-use Rattle.rt_statement.specs.declared.statement.Stmt.{Stmt}
-use Rattle.rt_dump.specs.declared.dump.AnyShadow.{AnyShadow}
-use Rattle.rt_dump.specs.declared.dump.AnyShadow.TheVariants.{One}
+use Rattle.rt_sql_statement.specs.declared.refusal.Refusal.{Refusal}
+use Rattle.rt_sql_statement.specs.declared.statement.Stmt.{Stmt}
+use Rattle.rt_check_dump.specs.declared.dump.AnyShadow.{AnyShadow}
+use Rattle.rt_check_dump.specs.declared.dump.AnyShadow.TheVariants.{One}
 use Rattle.rt_tree.specs.Lists.{empty_lists}
 use Rattle.rt_session.specs.declared.reply.Reply.{Reply}
 use Rattle.rt_session.specs.Session.{State, Outcome, answer, MayChoose, CarriesOut}

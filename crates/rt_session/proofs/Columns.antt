@@ -2,14 +2,14 @@
 use Rattle.std.proofs.Common.{◌≡◌, ◌∙◌, ℕ, zero, suc, ◌<◌, Bool, true, false, ◌&&◌, List, [], ◌∷◌, map, length, get_or, Option, Some, Ok, refl, sym, ap, arith}
 use Rattle.std.specs.Prelude.{slice_index_or}
 use Rattle.std.specs.List.{list_all}
-use Rattle.rt_statement.specs.declared.value.Value.{Value}
-use Rattle.rt_statement.specs.declared.value.Value.TheVariants.{Null}
-use Rattle.rt_statement.specs.declared.statement.Test.{Test}
-use Rattle.rt_row.specs.Columns.{Columns, has_name, place_of}
-use Rattle.rt_row.specs.Conditions.{value_in}
-use Rattle.rt_row.specs.Rows.{TableRow, values_of}
-use Rattle.rt_row.specs.Tables.{TableLists, select}
-use Rattle.rt_row.proofs.Filters.{present}
+use Rattle.rt_sql_statement.specs.declared.value.Value.{Value}
+use Rattle.rt_sql_statement.specs.declared.value.Value.TheVariants.{Null}
+use Rattle.rt_sql_statement.specs.declared.statement.Test.{Test}
+use Rattle.rt_table_row.specs.Columns.{Columns, has_name, place_of}
+use Rattle.rt_table_row.specs.Conditions.{value_in}
+use Rattle.rt_table_row.specs.Rows.{TableRow, values_of}
+use Rattle.rt_table_row.specs.Tables.{TableLists, select}
+use Rattle.rt_table_row.proofs.Filters.{present}
 use Rattle.rt_table.specs.Replies.{Shows}
 use Rattle.rt_session.specs.declared.reply.Reply.TheVariants.{Rows}
 use Rattle.rt_session.specs.Session.{State, selected, shown, is_by_id}

@@ -3,21 +3,21 @@ use Rattle.std.proofs.Common.{◌≡◌, ◌≢◌, ◌∙◌, ℕ, ◌+◌, sum
 use Rattle.std.specs.Prelude.{position, find, is_some, nat_lt, nat_le, if◌then◌else◌}
 use Rattle.std.specs.List.{list_any, remove, position_or_len}
 use Rattle.std.proofs.lemmas.Bool.Decides.{nat_tests}
-use Rattle.rt_row.proofs.Filters.{any_position}
+use Rattle.rt_table_row.proofs.Filters.{any_position}
 use Rattle.std.specs.Option.{option_map}
 use Rattle.std.proofs.lemmas.List.{map-set, map-append, take-map, drop-map, length-map, get_or-map}
 use Rattle.std.proofs.Math.Seq.{map-set_same}
-use Rattle.rt_statement.specs.Name.{same_name}
+use Rattle.rt_sql_statement.specs.Name.{same_name}
 use Rattle.std.proofs.lemmas.List.Sums.{sum_by-cons}
-use Rattle.rt_statement.specs.declared.value.Value.{Value}
-use Rattle.rt_statement.specs.declared.statement.Test.{Test}
-use Rattle.rt_statement.specs.declared.statement.ColumnDef.{ColumnDef}
-use Rattle.rt_statement.specs.declared.refusal.Refusal.{Refusal}
-use Rattle.rt_statement.specs.declared.refusal.Refusal.TheVariants.{OutOfMemory, TableIsWatched, ViewAlreadyExists, TooManyTablesOrViews}
-use Rattle.rt_row.specs.Columns.{Columns, are_distinct, columns_of}
-use Rattle.rt_row.specs.Edits.{and_then}
-use Rattle.rt_row.specs.Tables.{TableLists, edited, new_table, watch, view}
-use Rattle.rt_dump.specs.declared.dump.AnyShadow.{AnyShadow}
+use Rattle.rt_sql_statement.specs.declared.value.Value.{Value}
+use Rattle.rt_sql_statement.specs.declared.statement.Test.{Test}
+use Rattle.rt_sql_statement.specs.declared.statement.ColumnDef.{ColumnDef}
+use Rattle.rt_sql_statement.specs.declared.refusal.Refusal.{Refusal}
+use Rattle.rt_sql_statement.specs.declared.refusal.Refusal.TheVariants.{OutOfMemory, TableIsWatched, ViewAlreadyExists, TooManyTablesOrViews}
+use Rattle.rt_table_row.specs.Columns.{Columns, are_distinct, columns_of}
+use Rattle.rt_table_row.specs.Edits.{and_then}
+use Rattle.rt_table_row.specs.Tables.{TableLists, edited, new_table, watch, view}
+use Rattle.rt_check_dump.specs.declared.dump.AnyShadow.{AnyShadow}
 use Rattle.rt_table.specs.Held.{TableAndTree}
 use Rattle.rt_table.specs.AnyTrees.{new_tree}
 use Rattle.rt_table.specs.Watching.{change_of as view_change}

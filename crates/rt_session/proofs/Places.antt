@@ -9,8 +9,8 @@ use Rattle.std.proofs.lemmas.Slice.Eq.{bytes_eq-Decides}
 use Rattle.std.proofs.lemmas.List.Folds.{find_at, list_any-append}
 use Rattle.std.proofs.lemmas.List.Quantifiers.{position-Some}
 use Rattle.std.proofs.lemmas.Option.{slice_get_read}
-use Rattle.rt_statement.specs.Name.{same_name}
-use Rattle.rt_row.specs.Columns.{are_distinct, has_name}
+use Rattle.rt_sql_statement.specs.Name.{same_name}
+use Rattle.rt_table_row.specs.Columns.{are_distinct, has_name}
 use Rattle.rt_session.specs.Session.{NamedTable, is_named}
 
 -- ---- names

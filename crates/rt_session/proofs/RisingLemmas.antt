@@ -5,8 +5,8 @@ use Rattle.std.specs.Ordering.{int_eq}
 use Rattle.std.proofs.lemmas.Int.{ints}
 use Rattle.std.proofs.lemmas.List.Kept.{AllPairs-cons, AllPairs-filter}
 use Rattle.std.proofs.lemmas.List.Elements.{All-cons, All-head, All-tail, All-append, All-weaker, filter_passes}
-use Rattle.rt_row.specs.Rows.{TableRow, AreRising, with_row, without_id}
-use Rattle.rt_row.specs.Edits.{Step, Leaves, Comes, Becomes, after_step, outcome}
+use Rattle.rt_table_row.specs.Rows.{TableRow, AreRising, with_row, without_id}
+use Rattle.rt_table_row.specs.Edits.{Step, Leaves, Comes, Becomes, after_step, outcome}
 use Rattle.rt_session.specs.Session.{NamedTable}
 use Rattle.rt_session.specs.Laws.{RowsAlwaysRise}
 use Rattle.rt_session.proofs.Always.{always}

@@ -4,20 +4,20 @@ use Rattle.std.specs.Prelude.{◌==◌, ◌&&◌, if◌then◌else◌, not, nat_
 use Rattle.std.specs.List.{list_all}
 use Rattle.std.proofs.lemmas.Bool.{eqb-true}
 use Rattle.std.proofs.lemmas.Bool.Decides.{nat_tests}
-use Rattle.rt_statement.specs.declared.statement.ColumnDef.{ColumnDef}
-use Rattle.rt_statement.specs.declared.refusal.Refusal.TheVariants.{BadColumnList}
-use Rattle.rt_row.specs.Columns.{Columns, columns_of, is_column_list, plain_columns, are_distinct}
-use Rattle.rt_row.specs.Rows.{TableRow}
-use Rattle.rt_row.specs.Edits.{Step, outcome}
+use Rattle.rt_sql_statement.specs.declared.statement.ColumnDef.{ColumnDef}
+use Rattle.rt_sql_statement.specs.declared.refusal.Refusal.TheVariants.{BadColumnList}
+use Rattle.rt_table_row.specs.Columns.{Columns, columns_of, is_column_list, plain_columns, are_distinct}
+use Rattle.rt_table_row.specs.Rows.{TableRow}
+use Rattle.rt_table_row.specs.Edits.{Step, outcome}
 use Rattle.rt_check.specs.Shadow.{ShadowLists}
-use Rattle.rt_dump.specs.declared.dump.AnyShadow.{AnyShadow}
-use Rattle.rt_dump.specs.declared.dump.AnyShadow.TheVariants.{One, Two, Three}
+use Rattle.rt_check_dump.specs.declared.dump.AnyShadow.{AnyShadow}
+use Rattle.rt_check_dump.specs.declared.dump.AnyShadow.TheVariants.{One, Two, Three}
 use Rattle.rt_check.specs.declared.node.NodeRow.{NodeRow}
 use Rattle.rt_check.specs.declared.problem.Problem.{Problem}
 use Rattle.rt_check.specs.declared.problem.Condition.TheVariants.{IsFilled}
 use Rattle.rt_check.specs.Conditions.{IsSound, is_filled}
 use Rattle.rt_tree.specs.Lists.{empty_lists}
-use Rattle.rt_store.specs.Trees.{IsTreeOf}
+use Rattle.rt_table_store.specs.Trees.{IsTreeOf}
 use Rattle.rt_table.specs.AnyTrees.{new_tree, StandsFor, Follows}
 use Rattle.rt_session.specs.Session.{NamedTable}
 use Rattle.rt_session.specs.Laws.{TreesAlwaysStand}

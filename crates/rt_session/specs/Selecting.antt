@@ -1,11 +1,11 @@
 -- Columns that a SELECT shows, looked up once (own).
 use Rattle.std.specs.Prelude.{◌≡◌, ◌≢◌, ℕ, false, List, map, Some, slice_index_or}
 use Rattle.std.specs.List.{list_all}
-use Rattle.rt_statement.specs.declared.value.Value.{Value}
-use Rattle.rt_statement.specs.declared.value.Value.TheVariants.{Null}
-use Rattle.rt_statement.specs.declared.refusal.Refusal.{Refusal}
-use Rattle.rt_statement.specs.declared.refusal.Refusal.TheVariants.{OutOfMemory, NoSuchColumn}
-use Rattle.rt_row.specs.Columns.{place_of, has_name}
+use Rattle.rt_sql_statement.specs.declared.value.Value.{Value}
+use Rattle.rt_sql_statement.specs.declared.value.Value.TheVariants.{Null}
+use Rattle.rt_sql_statement.specs.declared.refusal.Refusal.{Refusal}
+use Rattle.rt_sql_statement.specs.declared.refusal.Refusal.TheVariants.{OutOfMemory, NoSuchColumn}
+use Rattle.rt_table_row.specs.Columns.{place_of, has_name}
 
 -- where the columns of these names stand
 abbrev pub ArePlaces : List (List ℕ) → List (List ℕ) → List ℕ → Type 0

@@ -4,22 +4,22 @@
 use Rattle.std.specs.Prelude.{◌≡◌, ◌≢◌, ℕ, Bool, true, false, not, ◌&&◌, if◌then◌else◌, nat_le, List, [], ◌∷◌, ◌++◌, length, map, filter, find, is_some, sum_by, slice_get, Option, Some, None, Result, Ok, Err}
 use Rattle.std.specs.List.{list_all}
 use Rattle.std.specs.Option.{option_map_or}
-use Rattle.rt_statement.specs.Name.{same_name}
-use Rattle.rt_statement.specs.declared.value.Value.{Value}
-use Rattle.rt_statement.specs.declared.statement.ColumnDef.{ColumnDef}
-use Rattle.rt_statement.specs.declared.statement.Test.{Test}
-use Rattle.rt_statement.specs.declared.statement.Stmt.{Stmt}
-use Rattle.rt_statement.specs.declared.statement.Stmt.TheVariants.{Create, Drop, Insert, Update, Delete, Select, Check, Watch, Unwatch, View, Nodes}
-use Rattle.rt_statement.specs.declared.refusal.Refusal.{Refusal}
-use Rattle.rt_statement.specs.declared.refusal.Refusal.TheVariants.{OutOfMemory, NoSuchTable, TableAlreadyExists, NoSuchColumn, NoSuchView, ViewAlreadyExists, TableIsWatched, TooManyTablesOrViews}
-use Rattle.rt_row.specs.Columns.{Columns, columns_of, has_name}
-use Rattle.rt_row.specs.Rows.{TableRow, values_of}
-use Rattle.rt_row.specs.Conditions.{value_in}
-use Rattle.rt_row.specs.Edits.{Steps, Setting, and_then, insert, update, delete}
-use Rattle.rt_row.specs.Views.{ViewChange}
-use Rattle.rt_row.specs.Tables.{TableLists, new_table, edited, select, watch, unwatch, view, has_view}
-use Rattle.rt_dump.specs.declared.dump.AnyShadow.{AnyShadow}
-use Rattle.rt_statement.specs.declared.statement.Rule.{Rule}
+use Rattle.rt_sql_statement.specs.Name.{same_name}
+use Rattle.rt_sql_statement.specs.declared.value.Value.{Value}
+use Rattle.rt_sql_statement.specs.declared.statement.ColumnDef.{ColumnDef}
+use Rattle.rt_sql_statement.specs.declared.statement.Test.{Test}
+use Rattle.rt_sql_statement.specs.declared.statement.Stmt.{Stmt}
+use Rattle.rt_sql_statement.specs.declared.statement.Stmt.TheVariants.{Create, Drop, Insert, Update, Delete, Select, Check, Watch, Unwatch, View, Nodes}
+use Rattle.rt_sql_statement.specs.declared.refusal.Refusal.{Refusal}
+use Rattle.rt_sql_statement.specs.declared.refusal.Refusal.TheVariants.{OutOfMemory, NoSuchTable, TableAlreadyExists, NoSuchColumn, NoSuchView, ViewAlreadyExists, TableIsWatched, TooManyTablesOrViews}
+use Rattle.rt_table_row.specs.Columns.{Columns, columns_of, has_name}
+use Rattle.rt_table_row.specs.Rows.{TableRow, values_of}
+use Rattle.rt_table_row.specs.Conditions.{value_in}
+use Rattle.rt_table_row.specs.Edits.{Steps, Setting, and_then, insert, update, delete}
+use Rattle.rt_table_row.specs.Views.{ViewChange}
+use Rattle.rt_table_row.specs.Tables.{TableLists, new_table, edited, select, watch, unwatch, view, has_view}
+use Rattle.rt_check_dump.specs.declared.dump.AnyShadow.{AnyShadow}
+use Rattle.rt_sql_statement.specs.declared.statement.Rule.{Rule}
 use Rattle.rt_table.specs.declared.watched.Change.{Change}
 use Rattle.rt_table.specs.AnyTrees.{new_tree, FollowsIfTaken}
 use Rattle.rt_session.specs.declared.reply.Reply.{Reply}

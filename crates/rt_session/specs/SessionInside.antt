@@ -1,6 +1,6 @@
 -- The list that a session keeps its tables in (own).
 use Rattle.std.specs.Prelude.{◌≡◌, true, List, map}
-use Rattle.rt_row.specs.Columns.{are_distinct}
+use Rattle.rt_table_row.specs.Columns.{are_distinct}
 use Rattle.rt_session.specs.declared.tables.Named.{Named}
 use Rattle.rt_session.specs.declared.session.Session.TheInside.{Inside}
 use Rattle.rt_session.specs.Session.{State, NamedTable}

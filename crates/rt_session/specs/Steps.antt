@@ -1,13 +1,13 @@
 -- What a call that may run out of memory does (own).
 use Rattle.std.specs.Prelude.{◌≡◌, ◌≢◌, List, map, Result, Ok, Err, MatchResult}
-use Rattle.rt_statement.specs.declared.refusal.Refusal.{Refusal}
-use Rattle.rt_statement.specs.declared.refusal.Refusal.TheVariants.{OutOfMemory}
-use Rattle.rt_statement.specs.declared.value.Value.{Value}
-use Rattle.rt_row.specs.Edits.{Steps, and_then, insert, update, delete}
-use Rattle.rt_row.specs.Tables.{TableLists, edited}
+use Rattle.rt_sql_statement.specs.declared.refusal.Refusal.{Refusal}
+use Rattle.rt_sql_statement.specs.declared.refusal.Refusal.TheVariants.{OutOfMemory}
+use Rattle.rt_sql_statement.specs.declared.value.Value.{Value}
+use Rattle.rt_table_row.specs.Edits.{Steps, and_then, insert, update, delete}
+use Rattle.rt_table_row.specs.Tables.{TableLists, edited}
 use Rattle.rt_session.specs.declared.edits.Edit.{Edit}
 use Rattle.rt_session.specs.declared.edits.Edit.TheVariants.{Insert, Update, Delete}
-use Rattle.rt_dump.specs.declared.dump.AnyShadow.{AnyShadow}
+use Rattle.rt_check_dump.specs.declared.dump.AnyShadow.{AnyShadow}
 use Rattle.rt_table.specs.declared.watched.Change.{Change}
 use Rattle.rt_session.specs.declared.reply.Reply.{Reply}
 use Rattle.rt_session.specs.declared.reply.Reply.TheVariants.{Rows}

@@ -1,11 +1,11 @@
 //! What INSERT, UPDATE and DELETE do to a table.
 
 ghost use Rattle.std.specs.Prelude.{◌≡◌, ◌≢◌, Ok, Err, IfOk, IfErr, OnOk, OnErr};
-ghost use Rattle.rt_statement.specs.declared.refusal.Refusal.TheVariants.{OutOfMemory};
+ghost use Rattle.rt_sql_statement.specs.declared.refusal.Refusal.TheVariants.{OutOfMemory};
 ghost use Rattle.rt_table.specs.AnyTrees.{FollowsIfTaken};
 ghost use Rattle.rt_session.specs.Steps.{edited_by, steps_of};
 
-use rt_statement::{Cond, Items, Name, Refusal, Rule, Source, Value};
+use rt_sql_statement::{Cond, Items, Name, Refusal, Rule, Source, Value};
 use rt_table::{AnyTable, Change};
 use std::alloc::Global;
 

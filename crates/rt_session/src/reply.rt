@@ -1,10 +1,10 @@
 //! What statements answer.
 
 use rt_check::Problem;
-use rt_dump::AnyShadow;
-use rt_row::RowList;
-use rt_statement::Items;
+use rt_check_dump::AnyShadow;
+use rt_sql_statement::Items;
 use rt_table::Change;
+use rt_table_row::RowList;
 
 /// What a statement that was carried out shows.
 #[derive(Drop)]

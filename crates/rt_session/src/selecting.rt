@@ -1,14 +1,14 @@
 //! What a SELECT shows of a table.
 
 ghost use Rattle.std.specs.Prelude.{◌≡◌, map, IfOk, IfErr};
-ghost use Rattle.rt_row.specs.Entries.{listed_values};
+ghost use Rattle.rt_table_row.specs.Entries.{listed_values};
 ghost use Rattle.rt_session.specs.Session.{is_by_id, selected};
 ghost use Rattle.rt_session.specs.Selecting.{ArePlaces, IsMissing, values_at};
 ghost use Rattle.rt_session.specs.Steps.{ShowsRows};
 
-use rt_row::{ListedRow, RowList, Schema};
-use rt_statement::{Cond, Items, Name, Refusal, Value};
+use rt_sql_statement::{Cond, Items, Name, Refusal, Value};
 use rt_table::AnyTable;
+use rt_table_row::{ListedRow, RowList, Schema};
 use std::alloc::{AllocError, Global};
 
 /// Whether rows by rising id are in the order that is asked for.

@@ -1,10 +1,10 @@
 //! Tables under their names, and where one of a name stands.
 
 ghost use Rattle.std.specs.Prelude.{◌≡◌, position, nat_le, sum_by, length};
-ghost use Rattle.rt_statement.specs.Name.{same_name};
-ghost use Rattle.rt_row.specs.Tables.{has_view};
+ghost use Rattle.rt_sql_statement.specs.Name.{same_name};
+ghost use Rattle.rt_table_row.specs.Tables.{has_view};
 
-use rt_statement::Name;
+use rt_sql_statement::Name;
 use rt_table::AnyTable;
 
 /// A table under its name.

@@ -3,17 +3,17 @@
 use Rattle.std.proofs.Common.{◌≡◌, ◌∙◌, ◌⊎◌, inl, inr, ℕ, suc, ◌+◌, Bool, true, false, cond, not, ◌&&◌, List, [], ◌∷◌, ◌++◌, map, filter, length, sum_by, Option, Some, None, Result, Ok, Err, refl, sym, ap, subst}
 use Rattle.std.specs.Prelude.{find, is_some, nat_le, if◌then◌else◌}
 use Rattle.std.proofs.lemmas.List.Sums.{sum_by-cons}
-use Rattle.rt_dump.specs.declared.dump.AnyShadow.{AnyShadow}
-use Rattle.rt_statement.specs.Name.{same_name}
-use Rattle.rt_statement.specs.declared.statement.ColumnDef.{ColumnDef}
-use Rattle.rt_statement.specs.declared.statement.Test.{Test}
-use Rattle.rt_statement.specs.declared.statement.Stmt.{Stmt}
-use Rattle.rt_statement.specs.declared.statement.Stmt.TheVariants.{Create, Drop, Insert, Update, Delete, Select, Check, Watch, Unwatch, View, Nodes}
-use Rattle.rt_statement.specs.declared.refusal.Refusal.{Refusal}
-use Rattle.rt_row.specs.Columns.{Columns, columns_of}
-use Rattle.rt_row.specs.Rows.{values_of}
-use Rattle.rt_row.specs.Edits.{Steps, and_then}
-use Rattle.rt_row.specs.Tables.{TableLists, new_table, edited, select, watch, unwatch, view, has_view}
+use Rattle.rt_check_dump.specs.declared.dump.AnyShadow.{AnyShadow}
+use Rattle.rt_sql_statement.specs.Name.{same_name}
+use Rattle.rt_sql_statement.specs.declared.statement.ColumnDef.{ColumnDef}
+use Rattle.rt_sql_statement.specs.declared.statement.Test.{Test}
+use Rattle.rt_sql_statement.specs.declared.statement.Stmt.{Stmt}
+use Rattle.rt_sql_statement.specs.declared.statement.Stmt.TheVariants.{Create, Drop, Insert, Update, Delete, Select, Check, Watch, Unwatch, View, Nodes}
+use Rattle.rt_sql_statement.specs.declared.refusal.Refusal.{Refusal}
+use Rattle.rt_table_row.specs.Columns.{Columns, columns_of}
+use Rattle.rt_table_row.specs.Rows.{values_of}
+use Rattle.rt_table_row.specs.Edits.{Steps, and_then}
+use Rattle.rt_table_row.specs.Tables.{TableLists, new_table, edited, select, watch, unwatch, view, has_view}
 use Rattle.rt_table.specs.AnyTrees.{new_tree}
 use Rattle.rt_session.specs.declared.reply.Reply.{Reply}
 use Rattle.rt_session.specs.declared.reply.Reply.TheVariants.{Nothing, Rows, Verdict, Dump}

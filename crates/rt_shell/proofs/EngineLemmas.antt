@@ -4,13 +4,13 @@ use Rattle.std.specs.Prelude.{◌<◌, ◌||◌, ◌&&◌, ◌⊎◌, if◌then�
 use Rattle.std.specs.Bool.{MatchBool}
 use Rattle.std.proofs.lemmas.Bool.Decides.{nat_tests}
 use Rattle.std.specs.Result.{is_err}
-use Rattle.rt_cut.specs.Piece.{PieceText}
-use Rattle.rt_cut.specs.Pieces.{IsGap, IsWholePiece, IsLastPiece, Pieces, EndedPieces}
-use Rattle.rt_cut.specs.Cutter.{Front, StandsAt, FinishedAt, ready_piece}
-use Rattle.rt_statement.specs.declared.refusal.Refusal.{Refusal}
-use Rattle.rt_statement.specs.declared.refusal.Refusal.TheVariants.{OutOfMemory}
-use Rattle.rt_cut.proofs.CutterFront.{nothing_ready}
-use Rattle.rt_cut.proofs.CutterLaws.{cut_somehow}
+use Rattle.rt_sql_cut.specs.Piece.{PieceText}
+use Rattle.rt_sql_cut.specs.Pieces.{IsGap, IsWholePiece, IsLastPiece, Pieces, EndedPieces}
+use Rattle.rt_sql_cut.specs.Cutter.{Front, StandsAt, FinishedAt, ready_piece}
+use Rattle.rt_sql_statement.specs.declared.refusal.Refusal.{Refusal}
+use Rattle.rt_sql_statement.specs.declared.refusal.Refusal.TheVariants.{OutOfMemory}
+use Rattle.rt_sql_cut.proofs.CutterFront.{nothing_ready}
+use Rattle.rt_sql_cut.proofs.CutterLaws.{cut_somehow}
 use Rattle.rt_bytes.specs.declared.device.WriteFault.{WriteFault}
 use Rattle.rt_session.specs.declared.reply.Reply.{Reply}
 use Rattle.rt_shell.specs.declared.runner.Engine.{Engine}

@@ -2,8 +2,8 @@
 use Rattle.std.proofs.Common.{◌≡◌, ℕ, ℤ, List, [], ◌∷◌, ◌++◌, map, codes, refl, ap, sym, append_assoc, ◌∙◌}
 use Rattle.std.specs.Fmt.{signed_decimal}
 use Rattle.std.specs.List.{flat_map, join_by}
-use Rattle.rt_statement.specs.declared.value.Value.{Value}
-use Rattle.rt_statement.specs.declared.value.Value.TheVariants.{Int}
+use Rattle.rt_sql_statement.specs.declared.value.Value.{Value}
+use Rattle.rt_sql_statement.specs.declared.value.Value.TheVariants.{Int}
 use Rattle.rt_shell.specs.Lines.{value_text}
 
 -- numbers behind bars and then values behind bars

@@ -4,8 +4,8 @@ use Rattle.std.specs.Io.KnownBytes.{Consumes, Keeps, IsAtEnd}
 use Rattle.rt_bytes.specs.Bytes.{one_more, WritesAll}
 use Rattle.rt_bytes.specs.declared.device.WriteFault.{WriteFault}
 use Rattle.rt_bytes.proofs.Writing.{WritesAll-trans, WritesAll-nil, WritesFront-after, AppendsFront-more, AppendsFront-all}
-use Rattle.rt_cut.specs.Cutter.{StandsAt, ready_piece}
-use Rattle.rt_cut.proofs.CutterFront.{whole_at, nothing_ready}
+use Rattle.rt_sql_cut.specs.Cutter.{StandsAt, ready_piece}
+use Rattle.rt_sql_cut.proofs.CutterFront.{whole_at, nothing_ready}
 use Rattle.rt_shell.specs.declared.runner.Engine.{Engine}
 use Rattle.rt_bytes.specs.declared.outcome.Status.{Status}
 use Rattle.rt_bytes.specs.declared.outcome.Status.TheVariants.{Refused}

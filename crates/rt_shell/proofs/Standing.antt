@@ -9,23 +9,23 @@ use Rattle.rt_check.specs.Conditions.{node_problems}
 use Rattle.rt_check.specs.declared.problem.Problem.{Problem}
 use Rattle.rt_check.specs.declared.problem.Condition.TheVariants.{IsFilled}
 use Rattle.rt_check.specs.declared.node.NodeRow.{NodeRow}
-use Rattle.rt_dump.specs.declared.dump.AnyShadow.{AnyShadow}
-use Rattle.rt_dump.specs.declared.dump.AnyShadow.TheVariants.{One, Two, Three}
-use Rattle.rt_statement.specs.Name.{same_name}
-use Rattle.rt_statement.specs.declared.statement.ColumnDef.{ColumnDef}
-use Rattle.rt_statement.specs.declared.statement.Test.{Test}
-use Rattle.rt_statement.specs.declared.statement.Stmt.{Stmt}
-use Rattle.rt_statement.specs.declared.statement.Stmt.TheVariants.{Create, Drop, Insert, Update, Delete, Select, Check, Watch, Unwatch, View, Nodes}
-use Rattle.rt_statement.specs.declared.refusal.Refusal.{Refusal}
-use Rattle.rt_statement.specs.declared.refusal.Refusal.TheVariants.{NoSuchColumn, NoSuchView, TableAlreadyExists, ViewAlreadyExists, TableIsWatched, TooManyTablesOrViews, BadColumnList}
+use Rattle.rt_check_dump.specs.declared.dump.AnyShadow.{AnyShadow}
+use Rattle.rt_check_dump.specs.declared.dump.AnyShadow.TheVariants.{One, Two, Three}
+use Rattle.rt_sql_statement.specs.Name.{same_name}
+use Rattle.rt_sql_statement.specs.declared.statement.ColumnDef.{ColumnDef}
+use Rattle.rt_sql_statement.specs.declared.statement.Test.{Test}
+use Rattle.rt_sql_statement.specs.declared.statement.Stmt.{Stmt}
+use Rattle.rt_sql_statement.specs.declared.statement.Stmt.TheVariants.{Create, Drop, Insert, Update, Delete, Select, Check, Watch, Unwatch, View, Nodes}
+use Rattle.rt_sql_statement.specs.declared.refusal.Refusal.{Refusal}
+use Rattle.rt_sql_statement.specs.declared.refusal.Refusal.TheVariants.{NoSuchColumn, NoSuchView, TableAlreadyExists, ViewAlreadyExists, TableIsWatched, TooManyTablesOrViews, BadColumnList}
 use Rattle.rt_tree.specs.Lists.{empty_lists}
-use Rattle.rt_row.specs.Columns.{Columns, is_column_list, plain_columns}
-use Rattle.rt_row.specs.Rows.{TableRow}
-use Rattle.rt_row.specs.Conditions.{has_columns}
-use Rattle.rt_row.specs.Edits.{Step, Steps, and_then, outcome}
-use Rattle.rt_row.specs.Tables.{TableLists, new_table, select, view, has_view, is_view}
-use Rattle.rt_row.specs.Views.{View as WatchedView}
-use Rattle.rt_store.specs.Trees.{IsTreeOf}
+use Rattle.rt_table_row.specs.Columns.{Columns, is_column_list, plain_columns}
+use Rattle.rt_table_row.specs.Rows.{TableRow}
+use Rattle.rt_table_row.specs.Conditions.{has_columns}
+use Rattle.rt_table_row.specs.Edits.{Step, Steps, and_then, outcome}
+use Rattle.rt_table_row.specs.Tables.{TableLists, new_table, select, view, has_view, is_view}
+use Rattle.rt_table_row.specs.Views.{View as WatchedView}
+use Rattle.rt_table_store.specs.Trees.{IsTreeOf}
 use Rattle.rt_table.specs.AnyTrees.{new_tree, StandsFor, Follows, FollowsIfTaken}
 use Rattle.rt_session.specs.declared.reply.Reply.TheVariants.{Nothing, Rows}
 use Rattle.rt_session.specs.Session.{State, NamedTable, Outcome, state_after, is_named, table_of, with_table, without_table, on_table, most_tables, created, is_watched, dropped, carried_out, is_by_id, are_columns, shown, selected, most_views, count_views, watched_by, now_watched, on_watched, now_unwatched, viewed, checked, dumped, inserting, updating, deleting, answer, MayChooseFor, MayChoose, Answers}

@@ -1,11 +1,11 @@
 -- What a piece gives, by what its parse and its statement give.
 use Rattle.std.proofs.Common.{◌≡◌, Result, Ok, Err, true, false, refl, sym, ap, inl, inr}
 use Rattle.std.specs.Prelude.{◌⊎◌, ◌≢◌}
-use Rattle.rt_cut.specs.Piece.{PieceText}
+use Rattle.rt_sql_cut.specs.Piece.{PieceText}
 use Rattle.rt_sql.specs.Parse.{ParsesUnlessMemory}
-use Rattle.rt_statement.specs.declared.statement.Stmt.{Stmt}
-use Rattle.rt_statement.specs.declared.refusal.Refusal.{Refusal}
-use Rattle.rt_statement.specs.declared.refusal.Refusal.TheVariants.{OutOfMemory}
+use Rattle.rt_sql_statement.specs.declared.statement.Stmt.{Stmt}
+use Rattle.rt_sql_statement.specs.declared.refusal.Refusal.{Refusal}
+use Rattle.rt_sql_statement.specs.declared.refusal.Refusal.TheVariants.{OutOfMemory}
 use Rattle.rt_session.specs.declared.reply.Reply.{Reply}
 use Rattle.rt_session.specs.Session.{State, CarriesOut}
 use Rattle.rt_shell.specs.Engine.{GivesAnswer}

@@ -5,15 +5,15 @@ use Rattle.std.specs.Bool.{MatchBool}
 use Rattle.std.specs.Result.{is_err}
 use Rattle.rt_bytes.specs.declared.outcome.Status.{Status}
 use Rattle.rt_bytes.specs.declared.outcome.Status.TheVariants.{Clean, Refused}
-use Rattle.rt_cut.specs.Piece.{PieceText}
-use Rattle.rt_cut.proofs.CutterLaws.{cut_one_way, cut_somehow}
-use Rattle.rt_dump.specs.declared.dump.AnyShadow.{AnyShadow}
-use Rattle.rt_dump.specs.Dump.{any_text}
+use Rattle.rt_sql_cut.specs.Piece.{PieceText}
+use Rattle.rt_sql_cut.proofs.CutterLaws.{cut_one_way, cut_somehow}
+use Rattle.rt_check_dump.specs.declared.dump.AnyShadow.{AnyShadow}
+use Rattle.rt_check_dump.specs.Dump.{any_text}
 use Rattle.rt_sql.proofs.Parses.{one_answer, some_answer}
-use Rattle.rt_statement.specs.declared.statement.Stmt.{Stmt}
-use Rattle.rt_statement.specs.declared.refusal.Refusal.{Refusal}
-use Rattle.rt_statement.specs.declared.refusal.Refusal.TheVariants.{OutOfMemory}
-use Rattle.rt_row.specs.Tables.{TableLists}
+use Rattle.rt_sql_statement.specs.declared.statement.Stmt.{Stmt}
+use Rattle.rt_sql_statement.specs.declared.refusal.Refusal.{Refusal}
+use Rattle.rt_sql_statement.specs.declared.refusal.Refusal.TheVariants.{OutOfMemory}
+use Rattle.rt_table_row.specs.Tables.{TableLists}
 use Rattle.rt_table.specs.AnyTrees.{StandsFor}
 use Rattle.rt_session.specs.declared.reply.Reply.{Reply}
 use Rattle.rt_session.specs.Session.{State, NamedTable, Outcome, table_of, is_named, state_after, answer, Answers}

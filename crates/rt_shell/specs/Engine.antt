@@ -3,10 +3,10 @@ use Rattle.std.specs.Prelude.{◌≡◌, ◌⊎◌, ℕ, ◌+◌, Bool, true, fa
 use Rattle.std.specs.Result.{is_err}
 use Rattle.rt_bytes.specs.Bytes.{Writes, WritesAll, WritesFront}
 use Rattle.rt_bytes.specs.declared.device.WriteFault.{WriteFault}
-use Rattle.rt_cut.specs.Piece.{PieceText}
-use Rattle.rt_cut.specs.Pieces.{IsGap, IsWholePiece, IsLastPiece, Pieces, EndedPieces}
-use Rattle.rt_cut.specs.Cutter.{StandsAt, FinishedAt, ready_piece}
-use Rattle.rt_statement.specs.declared.refusal.Refusal.{Refusal}
+use Rattle.rt_sql_cut.specs.Piece.{PieceText}
+use Rattle.rt_sql_cut.specs.Pieces.{IsGap, IsWholePiece, IsLastPiece, Pieces, EndedPieces}
+use Rattle.rt_sql_cut.specs.Cutter.{StandsAt, FinishedAt, ready_piece}
+use Rattle.rt_sql_statement.specs.declared.refusal.Refusal.{Refusal}
 use Rattle.rt_session.specs.declared.reply.Reply.{Reply}
 use Rattle.rt_shell.specs.declared.runner.Engine.{Engine}
 use Rattle.rt_shell.specs.declared.runner.Flow.{Flow}

@@ -4,12 +4,12 @@ use Rattle.std.specs.Prelude.{ℕ, ◌/◌, ◌%◌, true, if◌then◌else◌, 
 use Rattle.std.specs.Fmt.{digit_glyph, signed_decimal}
 use Rattle.std.specs.List.{flat_map, join_by}
 use Rattle.rt_sql.specs.Token.{doubled}
-use Rattle.rt_statement.specs.Refusal.{code_of, text_of}
-use Rattle.rt_statement.specs.declared.refusal.Refusal.{Refusal}
-use Rattle.rt_statement.specs.declared.value.Value.{Value}
-use Rattle.rt_statement.specs.declared.value.Value.TheVariants.{Null, Int, Text, Blob}
-use Rattle.rt_dump.specs.Dump.{any_text}
-use Rattle.rt_report.specs.Report.{verdict_lines}
+use Rattle.rt_sql_statement.specs.Refusal.{code_of, text_of}
+use Rattle.rt_sql_statement.specs.declared.refusal.Refusal.{Refusal}
+use Rattle.rt_sql_statement.specs.declared.value.Value.{Value}
+use Rattle.rt_sql_statement.specs.declared.value.Value.TheVariants.{Null, Int, Text, Blob}
+use Rattle.rt_check_dump.specs.Dump.{any_text}
+use Rattle.rt_check_report.specs.Report.{verdict_lines}
 use Rattle.rt_table.specs.declared.watched.Change.{Change}
 use Rattle.rt_session.specs.declared.reply.Reply.{Reply}
 use Rattle.rt_session.specs.declared.reply.Reply.TheVariants.{Nothing, Rows, Changes, Verdict, Dump}

@@ -10,7 +10,7 @@
 //!
 //! Any piece may be refused for want of memory, and that refusal too leaves the tables.
 //!
-//! Stands on `rt_session` (answers), `rt_cut` and `rt_sql` (pieces and their statements), `rt_report` and `rt_dump`
+//! Stands on `rt_session` (answers), `rt_sql_cut` and `rt_sql` (pieces and their statements), `rt_check_report` and `rt_check_dump`
 //! (verdicts and dumps) and `rt_bytes`. Definitions: `specs/Transcript.antt` (what a whole script prints),
 //! `Lines.antt` (what an answer prints), `Run.antt` (what a run does to its reader and writer), `Laws.antt`;
 //! `Engine.antt` says how steps of a run join.

@@ -4,13 +4,13 @@ ghost use Rattle.std.specs.Prelude.{◌≡◌, ◌≤◌, ◌++◌, ◌∷◌, �
 ghost use Rattle.std.specs.Fmt.{signed_decimal};
 ghost use Rattle.std.specs.List.{flat_map, join_by};
 ghost use Rattle.rt_sql.specs.Token.{doubled};
-ghost use Rattle.rt_row.specs.Entries.{listed_values};
+ghost use Rattle.rt_table_row.specs.Entries.{listed_values};
 ghost use Rattle.rt_shell.specs.Lines.{value_text, row_line};
 
 use crate::value::first_quote;
 use itoa::write_digits;
-use rt_row::{ListedRow, RowList};
-use rt_statement::Value;
+use rt_sql_statement::Value;
+use rt_table_row::{ListedRow, RowList};
 use std::marker::Model;
 
 /// The most bytes of lines that are put together; a longer line is written value by value.

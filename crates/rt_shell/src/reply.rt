@@ -5,19 +5,19 @@ ghost use Rattle.rt_bytes.specs.Bytes.{WritesAll, WritesFront};
 ghost use Rattle.std.specs.Fmt.{signed_decimal};
 ghost use Rattle.std.specs.List.{flat_map, join_by};
 ghost use Rattle.rt_bytes.specs.Devices.{WritesTo};
-ghost use Rattle.rt_statement.specs.declared.value.Value.TheVariants.{Int};
-ghost use Rattle.rt_row.specs.Entries.{listed_values};
+ghost use Rattle.rt_sql_statement.specs.declared.value.Value.TheVariants.{Int};
+ghost use Rattle.rt_table_row.specs.Entries.{listed_values};
 ghost use Rattle.rt_shell.specs.Lines.{value_text, row_line, change_line, reply_lines, refusal_line};
 
 use crate::lines::Lines;
 use crate::value::{write_integer, write_value};
 use itoa::Buffer;
 use rt_bytes::{ByteWriter, WriteFault, write_parts, write_whole};
-use rt_dump::write_dump;
-use rt_report::write_verdict;
-use rt_row::{ListedRow, RowList};
+use rt_check_dump::write_dump;
+use rt_check_report::write_verdict;
 use rt_session::{Change, Reply};
-use rt_statement::{Refusal, Value};
+use rt_sql_statement::{Refusal, Value};
+use rt_table_row::{ListedRow, RowList};
 
 /// The most rows whose lines are written at once.
 const ROWS_AT_ONCE: usize = 8;

@@ -3,17 +3,17 @@
 ghost use Rattle.std.specs.Prelude.{◌≡◌, ℕ, ◌+◌, ◌-◌, ◌<◌, ◌^◌, true, length, None, IfOk, OnOk, ◌≤◌};
 ghost use Rattle.rt_shell.specs.Engine.{IsFresh, GivesAnswer, AnswersNext, AnswersReady, TakesAll, Finishes, flow_of};
 ghost use Rattle.rt_shell.specs.Run.{Pumps, Runs};
-ghost use Rattle.rt_cut.specs.Cutter.{ready_piece};
+ghost use Rattle.rt_sql_cut.specs.Cutter.{ready_piece};
 ghost use Rattle.rt_bytes.specs.Devices.{WritesTo, devices_of};
 ghost use Rattle.rt_shell.specs.Lines.{answer_lines};
 
 use crate::reply::{write_refusal, write_reply};
 use rt_box::Capacity;
 use rt_bytes::{ByteReader, ByteWriter, MOST_READS, READ_SIZE, RunFault, Status, WriteFault};
-use rt_cut::{Cutter, Piece};
 use rt_session::{Reply, Session};
 use rt_sql::parse;
-use rt_statement::Refusal;
+use rt_sql_cut::{Cutter, Piece};
+use rt_sql_statement::Refusal;
 use std::alloc::{AllocError, Global};
 use std::hash::RandomState;
 

@@ -9,7 +9,7 @@ ghost use Rattle.rt_shell.specs.Lines.{hex_pair, value_text};
 
 use itoa::Buffer;
 use rt_bytes::{ByteWriter, WriteFault, write_parts, write_whole};
-use rt_statement::Value;
+use rt_sql_statement::Value;
 
 /// How many bytes of a blob are written at a time.
 const BYTES_AT_ONCE: usize = 32;

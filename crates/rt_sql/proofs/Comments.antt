@@ -3,7 +3,7 @@ use Rattle.std.proofs.Common.{◌≡◌, ◌≢◌, ℕ, Bool, true, false, not,
 use Rattle.std.proofs.lemmas.Bool.Decides.{nat_tests}
 use Rattle.std.proofs.lemmas.List.Sums.{AllPass-from_list_all, list_all-from_AllPass}
 use Rattle.std.specs.List.{list_all}
-use Rattle.rt_cut.specs.Text.{HasClose, IsLineText, EndsLine}
+use Rattle.rt_sql_cut.specs.Text.{HasClose, IsLineText, EndsLine}
 use Rattle.rt_sql.specs.Token.{Text, begins, is_in_line}
 use Rattle.rt_sql.proofs.Basics.{test}
 use Rattle.rt_sql.proofs.Quotes.{byte_is}

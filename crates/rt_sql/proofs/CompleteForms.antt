@@ -2,26 +2,26 @@
 use Rattle.std.proofs.Common.{◌≡◌, ◌⊎◌, inl, inr, Bool, true, false, ◌&&◌, List, [], ◌∷◌, Option, Some, None, codes, if◌then◌else◌, refl, ap, ◌∙◌}
 use denote.Enum.Bare.{sameb}
 use Rattle.rt_sql.specs.contracts.token.Sign.{the_type}
-use Rattle.rt_statement.specs.declared.statement.ColumnDef.{ColumnDef}
-use Rattle.rt_statement.specs.declared.statement.Rule.{Rule}
-use Rattle.rt_statement.specs.declared.statement.Rule.TheVariants.{Abort, Replace, Ignore}
-use Rattle.rt_statement.specs.declared.statement.Source.{Source}
-use Rattle.rt_statement.specs.declared.statement.Stmt.{Stmt}
-use Rattle.rt_statement.specs.declared.statement.Stmt.TheVariants as stmt
-use Rattle.rt_statement.specs.declared.statement.Test.{Test}
+use Rattle.rt_sql_statement.specs.declared.statement.ColumnDef.{ColumnDef}
+use Rattle.rt_sql_statement.specs.declared.statement.Rule.{Rule}
+use Rattle.rt_sql_statement.specs.declared.statement.Rule.TheVariants.{Abort, Replace, Ignore}
+use Rattle.rt_sql_statement.specs.declared.statement.Source.{Source}
+use Rattle.rt_sql_statement.specs.declared.statement.Stmt.{Stmt}
+use Rattle.rt_sql_statement.specs.declared.statement.Stmt.TheVariants as stmt
+use Rattle.rt_sql_statement.specs.declared.statement.Test.{Test}
 use Rattle.rt_sql.specs.declared.token.Sign.{Sign}
 use Rattle.rt_sql.specs.declared.token.Sign.TheVariants.{LeftParenthesis, RightParenthesis, Comma, Semicolon, Plus, Minus, Star, Equal}
 use Rattle.rt_sql.specs.declared.token.Token.{Token}
 use Rattle.rt_sql.specs.declared.token.Token.TheVariants as token
-use Rattle.rt_statement.specs.declared.value.Value.{Value}
+use Rattle.rt_sql_statement.specs.declared.value.Value.{Value}
 use Rattle.rt_sql.specs.Token.{Text}
 use Rattle.rt_sql.specs.Number.{Writes}
 use Rattle.rt_sql.specs.Word.{same_word}
 use Rattle.rt_sql.specs.Grammar as G
 use Rattle.rt_sql.specs.Reading.{Parser, Read}
 use Rattle.rt_sql.specs.Reading as R
-use Rattle.rt_statement.specs.declared.statement.Test.TheVariants as tests
-use Rattle.rt_statement.specs.declared.statement.Source.TheVariants as sources
+use Rattle.rt_sql_statement.specs.declared.statement.Test.TheVariants as tests
+use Rattle.rt_sql_statement.specs.declared.statement.Source.TheVariants as sources
 use Rattle.rt_sql.proofs.Shorter.{sign_shorter, name_takes, list_takes, column_takes, test_takes, set_takes}
 use Rattle.rt_sql.proofs.Sound.{TakesEach}
 use Rattle.rt_sql.proofs.Complete.{Complete, Separates, Anything, and_separates, complete_separated, complete_commas, complete_list, EndsColumn, complete_column, comma_ends_column, parenthesis_ends_column, sees_own_sign, other_sign, no_sign_at_word, no_word_at_sign, sees_own_word, past_sign, past_word, other_word, other_dot, past_name, no_sign_at_name, no_value_at_name, value_begins, complete_sign, complete_keyword, complete_name, complete_text, complete_number, complete_operator, complete_value, no_word_at_operator}

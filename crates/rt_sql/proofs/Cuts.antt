@@ -9,7 +9,7 @@ use Rattle.std.specs.Char.{is_ascii_digit}
 use Rattle.std.specs.List.{prefix_len}
 use Rattle.std.specs.Str.{IsCharBoundary, IsUtf8}
 use Rattle.rt_sql.specs.Lex.{is_gap}
-use Rattle.rt_cut.specs.Text.{is_white}
+use Rattle.rt_sql_cut.specs.Text.{is_white}
 use Rattle.rt_sql.specs.Token.{Text, begins_word, is_in_word, is_in_line}
 
 pub ascii_from_white : (b : ℕ) → is_white b ≡ true → b < 128

@@ -8,20 +8,20 @@ use Rattle.std.specs.Prelude.{unwrap_or}
 use Rattle.std.specs.Str.{is_utf8}
 use lib.IntN.{pos}
 use Rattle.rt_sql.specs.declared.number.Numbers.TheVariants.{Within64Bits, AnySize}
-use Rattle.rt_cut.specs.declared.piece.Ending.{Ending}
-use Rattle.rt_cut.specs.declared.piece.Ending.TheVariants.{Whole, Incomplete, TooLong}
-use Rattle.rt_statement.specs.declared.refusal.Refusal.{Refusal}
-use Rattle.rt_statement.specs.declared.refusal.Refusal.TheVariants as r
-use Rattle.rt_statement.specs.declared.statement.Stmt.{Stmt}
+use Rattle.rt_sql_cut.specs.declared.piece.Ending.{Ending}
+use Rattle.rt_sql_cut.specs.declared.piece.Ending.TheVariants.{Whole, Incomplete, TooLong}
+use Rattle.rt_sql_statement.specs.declared.refusal.Refusal.{Refusal}
+use Rattle.rt_sql_statement.specs.declared.refusal.Refusal.TheVariants as r
+use Rattle.rt_sql_statement.specs.declared.statement.Stmt.{Stmt}
 use Rattle.rt_sql.specs.declared.token.Token.{Token}
 use Rattle.rt_sql.specs.Grammar.{Spells}
 use Rattle.rt_sql.specs.Lex.{piece_tokens}
 use Rattle.rt_sql.specs.Number.{Writes, WritesAnySize, WritesWithin64Bits, with_sign, decimal, fits, within, number_by}
 use Rattle.rt_sql.specs.Parse.{IsText, ParsesText, ParsesAs, Parses, is_unknown}
 use Rattle.rt_sql.specs.Word.{same_word}
-use Rattle.rt_statement.specs.declared.statement.Stmt.TheVariants as stmt
+use Rattle.rt_sql_statement.specs.declared.statement.Stmt.TheVariants as stmt
 use Rattle.rt_sql.specs.declared.token.Token.TheVariants as token
-use Rattle.rt_cut.specs.Piece.{PieceText}
+use Rattle.rt_sql_cut.specs.Piece.{PieceText}
 use Rattle.rt_sql.specs.Reading as R
 use Rattle.rt_sql.specs.Reading.{Outcome, Read}
 use Rattle.rt_sql.specs.Token.{Text}

@@ -2,8 +2,8 @@
 use Rattle.std.proofs.Common.{◌≡◌, ◌≢◌, ℕ, false, ◌==◌, List, [], ◌∷◌, ◌++◌, IsTrue, ap, ◌∙◌, append_assoc, append-nil, arith}
 use Rattle.std.proofs.lemmas.Bool.Decides.{nat_tests}
 use Rattle.std.proofs.lemmas.List.Elements.{All-nil, All-push}
-use Rattle.rt_cut.specs.Pieces.{Atom, Quoted, spelled_all, AreAtoms}
-use Rattle.rt_cut.specs.Text.{is_quote, Lacks}
+use Rattle.rt_sql_cut.specs.Pieces.{Atom, Quoted, spelled_all, AreAtoms}
+use Rattle.rt_sql_cut.specs.Text.{is_quote, Lacks}
 use Rattle.rt_sql.specs.Parse.{QuotesAreAtoms}
 use Rattle.rt_sql.specs.Token.{Text, doubled}
 use Rattle.rt_sql.proofs.Basics.{test}

@@ -1,19 +1,19 @@
 -- Each item of a list takes a token.
 use Rattle.std.proofs.Common.{◌≡◌, ◌<◌, ◌≤◌, ◌⊎◌, inl, inr, Bool, true, false, List, [], ◌∷◌, map, length, Some, codes, ap, length-append, arith}
 use lib.IntN.{ℤ}
-use Rattle.rt_statement.specs.declared.statement.ColumnDef.{ColumnDef}
-use Rattle.rt_statement.specs.declared.statement.Op6.{Op6}
-use Rattle.rt_statement.specs.declared.statement.Op6.TheVariants.{Eq, Ne, Lt, Le, Gt, Ge}
-use Rattle.rt_statement.specs.declared.statement.Source.{Source}
-use Rattle.rt_statement.specs.declared.statement.Source.TheVariants as sources
-use Rattle.rt_statement.specs.declared.statement.Test.{Test}
-use Rattle.rt_statement.specs.declared.statement.Test.TheVariants as tests
+use Rattle.rt_sql_statement.specs.declared.statement.ColumnDef.{ColumnDef}
+use Rattle.rt_sql_statement.specs.declared.statement.Op6.{Op6}
+use Rattle.rt_sql_statement.specs.declared.statement.Op6.TheVariants.{Eq, Ne, Lt, Le, Gt, Ge}
+use Rattle.rt_sql_statement.specs.declared.statement.Source.{Source}
+use Rattle.rt_sql_statement.specs.declared.statement.Source.TheVariants as sources
+use Rattle.rt_sql_statement.specs.declared.statement.Test.{Test}
+use Rattle.rt_sql_statement.specs.declared.statement.Test.TheVariants as tests
 use Rattle.rt_sql.specs.declared.token.Sign.{Sign}
 use Rattle.rt_sql.specs.declared.token.Sign.TheVariants.{LeftParenthesis, RightParenthesis, Comma, Plus, Minus, Equal, DoubleEqual, LessGreater, BangEqual, Less, LessOrEqual, Greater, GreaterOrEqual}
 use Rattle.rt_sql.specs.declared.token.Token.{Token}
 use Rattle.rt_sql.specs.declared.token.Token.TheVariants as token
-use Rattle.rt_statement.specs.declared.value.Value.{Value}
-use Rattle.rt_statement.specs.declared.value.Value.TheVariants as values
+use Rattle.rt_sql_statement.specs.declared.value.Value.{Value}
+use Rattle.rt_sql_statement.specs.declared.value.Value.TheVariants as values
 use Rattle.rt_sql.specs.Token.{Text}
 use Rattle.rt_sql.specs.Number.{Writes}
 use Rattle.rt_sql.specs.Grammar as G

@@ -1,11 +1,11 @@
 -- What is read as a statement is spelled.
 use Rattle.std.proofs.Common.{◌≡◌, ◌⊎◌, inl, inr, Bool, true, false, ◌&&◌, List, [], ◌∷◌, Some, codes, if◌then◌else◌, refl, ap, ◌∙◌, sym}
 use Rattle.std.specs.Option.{is_some}
-use Rattle.rt_statement.specs.declared.statement.Rule.{Rule}
-use Rattle.rt_statement.specs.declared.statement.Rule.TheVariants.{Replace}
-use Rattle.rt_statement.specs.declared.statement.Stmt.{Stmt}
-use Rattle.rt_statement.specs.declared.statement.Stmt.TheVariants as stmt
-use Rattle.rt_statement.specs.declared.statement.Test.{Test}
+use Rattle.rt_sql_statement.specs.declared.statement.Rule.{Rule}
+use Rattle.rt_sql_statement.specs.declared.statement.Rule.TheVariants.{Replace}
+use Rattle.rt_sql_statement.specs.declared.statement.Stmt.{Stmt}
+use Rattle.rt_sql_statement.specs.declared.statement.Stmt.TheVariants as stmt
+use Rattle.rt_sql_statement.specs.declared.statement.Test.{Test}
 use Rattle.rt_sql.specs.declared.token.Sign.TheVariants.{LeftParenthesis, RightParenthesis, Semicolon, Plus, Minus, Star, Equal}
 use Rattle.rt_sql.specs.declared.token.Token.{Token}
 use Rattle.rt_sql.specs.declared.token.Token.TheVariants as token

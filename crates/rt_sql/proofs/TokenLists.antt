@@ -10,7 +10,7 @@ use Rattle.rt_sql.specs.declared.token.Sign.{Sign}
 use Rattle.rt_sql.specs.declared.token.Sign.TheVariants.{LeftParenthesis, RightParenthesis, Comma, Semicolon, Plus, Minus, Star, Equal, DoubleEqual, LessGreater, BangEqual, Less, LessOrEqual, Greater, GreaterOrEqual}
 use Rattle.rt_sql.specs.declared.token.Token.{Token}
 use Rattle.rt_sql.specs.declared.token.Token.TheVariants as token
-use Rattle.rt_cut.specs.Text.{is_white}
+use Rattle.rt_sql_cut.specs.Text.{is_white}
 use Rattle.rt_sql.specs.Token.{Text, begins_word, is_in_word, is_in_line, begins, doubled}
 use Rattle.rt_sql.specs.Tokens.{spelling, is_byte, IsToken, IsLongest, TokenAt, GapAt, GapsAt, Gap, IsTokens}
 use Rattle.rt_sql.specs.Lex.{Lexeme, bad, lexeme, spelled, gap, is_gap, word, digits, text, quoted, blob, closing, closed_text, closed_name, line_len, block_len, long_sign, short_sign, sign, signed, put, tokens_of}

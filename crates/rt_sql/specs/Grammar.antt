@@ -2,23 +2,23 @@
 -- A part of a statement is a relation between the tokens from its start on and those after it.
 use Rattle.std.specs.Prelude.{◌≡◌, ◌⊎◌, Bool, true, false, List, [], ◌∷◌, ◌++◌, map, Option, Some, None, IsTrue, codes}
 use lib.IntN.{ℤ}
-use Rattle.rt_statement.specs.declared.statement.ColumnDef.{ColumnDef}
-use Rattle.rt_statement.specs.declared.statement.Op6.{Op6}
-use Rattle.rt_statement.specs.declared.statement.Op6.TheVariants.{Eq, Ne, Lt, Le, Gt, Ge}
-use Rattle.rt_statement.specs.declared.statement.Rule.{Rule}
-use Rattle.rt_statement.specs.declared.statement.Rule.TheVariants.{Abort, Replace, Ignore}
-use Rattle.rt_statement.specs.declared.statement.Source.{Source}
-use Rattle.rt_statement.specs.declared.statement.Source.TheVariants as sources
-use Rattle.rt_statement.specs.declared.statement.Stmt.{Stmt}
-use Rattle.rt_statement.specs.declared.statement.Stmt.TheVariants.{Create, Drop, Insert, Update, Delete, Select, Check, Watch, Unwatch, View, Nodes}
-use Rattle.rt_statement.specs.declared.statement.Test.{Test}
-use Rattle.rt_statement.specs.declared.statement.Test.TheVariants as tests
+use Rattle.rt_sql_statement.specs.declared.statement.ColumnDef.{ColumnDef}
+use Rattle.rt_sql_statement.specs.declared.statement.Op6.{Op6}
+use Rattle.rt_sql_statement.specs.declared.statement.Op6.TheVariants.{Eq, Ne, Lt, Le, Gt, Ge}
+use Rattle.rt_sql_statement.specs.declared.statement.Rule.{Rule}
+use Rattle.rt_sql_statement.specs.declared.statement.Rule.TheVariants.{Abort, Replace, Ignore}
+use Rattle.rt_sql_statement.specs.declared.statement.Source.{Source}
+use Rattle.rt_sql_statement.specs.declared.statement.Source.TheVariants as sources
+use Rattle.rt_sql_statement.specs.declared.statement.Stmt.{Stmt}
+use Rattle.rt_sql_statement.specs.declared.statement.Stmt.TheVariants.{Create, Drop, Insert, Update, Delete, Select, Check, Watch, Unwatch, View, Nodes}
+use Rattle.rt_sql_statement.specs.declared.statement.Test.{Test}
+use Rattle.rt_sql_statement.specs.declared.statement.Test.TheVariants as tests
 use Rattle.rt_sql.specs.declared.token.Sign.{Sign}
 use Rattle.rt_sql.specs.declared.token.Sign.TheVariants.{LeftParenthesis, RightParenthesis, Comma, Semicolon, Plus, Minus, Star, Equal, DoubleEqual, LessGreater, BangEqual, Less, LessOrEqual, Greater, GreaterOrEqual}
 use Rattle.rt_sql.specs.declared.token.Token.{Token}
 use Rattle.rt_sql.specs.declared.token.Token.TheVariants as token
-use Rattle.rt_statement.specs.declared.value.Value.{Value}
-use Rattle.rt_statement.specs.declared.value.Value.TheVariants as values
+use Rattle.rt_sql_statement.specs.declared.value.Value.{Value}
+use Rattle.rt_sql_statement.specs.declared.value.Value.TheVariants as values
 use Rattle.rt_sql.specs.Number.{Writes}
 use Rattle.rt_sql.specs.Token.{Text, undoubled, hex_bytes}
 use Rattle.rt_sql.specs.Word.{same_word, is_reserved}

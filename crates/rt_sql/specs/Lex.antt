@@ -6,7 +6,7 @@ use Rattle.rt_sql.specs.declared.token.Sign.{Sign}
 use Rattle.rt_sql.specs.declared.token.Sign.TheVariants.{LeftParenthesis, RightParenthesis, Comma, Semicolon, Plus, Minus, Star, Equal, DoubleEqual, LessGreater, BangEqual, Less, LessOrEqual, Greater, GreaterOrEqual}
 use Rattle.rt_sql.specs.declared.token.Token.{Token}
 use Rattle.rt_sql.specs.declared.token.Token.TheVariants as token
-use Rattle.rt_cut.specs.Text.{is_white}
+use Rattle.rt_sql_cut.specs.Text.{is_white}
 use Rattle.rt_sql.specs.Token.{Text, begins_word, is_in_word, is_in_line}
 
 -- a token, or none for white space and a comment, and its length in bytes

@@ -1,18 +1,18 @@
 -- What a piece of a script asks for, or why it is refused. Source: own.
 use Rattle.std.specs.Prelude.{◌≡◌, ◌⊎◌, ℕ, Bool, false, not, ◌||◌, List, [], ◌∷◌, ◌++◌, Result, Ok, Err, Contains, IsTrue, codes}
 use Rattle.std.specs.Str.{IsUtf8}
-use Rattle.rt_cut.specs.declared.piece.Ending.{Ending}
-use Rattle.rt_cut.specs.declared.piece.Ending.TheVariants.{Whole, Incomplete, TooLong}
-use Rattle.rt_statement.specs.declared.refusal.Refusal.{Refusal}
-use Rattle.rt_statement.specs.declared.refusal.Refusal.TheVariants.{SyntaxError, IncompleteInput, StatementTooLong, NotUtf8, IntegerOutOfRange, OutOfMemory, UnknownCommand}
-use Rattle.rt_statement.specs.declared.statement.Stmt.{Stmt}
+use Rattle.rt_sql_cut.specs.declared.piece.Ending.{Ending}
+use Rattle.rt_sql_cut.specs.declared.piece.Ending.TheVariants.{Whole, Incomplete, TooLong}
+use Rattle.rt_sql_statement.specs.declared.refusal.Refusal.{Refusal}
+use Rattle.rt_sql_statement.specs.declared.refusal.Refusal.TheVariants.{SyntaxError, IncompleteInput, StatementTooLong, NotUtf8, IntegerOutOfRange, OutOfMemory, UnknownCommand}
+use Rattle.rt_sql_statement.specs.declared.statement.Stmt.{Stmt}
 use Rattle.rt_sql.specs.declared.token.Token.{Token}
 use Rattle.rt_sql.specs.declared.token.Token.TheVariants as token
 use Rattle.rt_sql.specs.Grammar.{Spells}
 use Rattle.rt_sql.specs.Number.{WritesAnySize, WritesWithin64Bits}
-use Rattle.rt_cut.specs.Piece.{PieceText}
-use Rattle.rt_cut.specs.Pieces.{Atom, spelled_all, AreAtoms}
-use Rattle.rt_cut.specs.Text.{is_quote}
+use Rattle.rt_sql_cut.specs.Piece.{PieceText}
+use Rattle.rt_sql_cut.specs.Pieces.{Atom, spelled_all, AreAtoms}
+use Rattle.rt_sql_cut.specs.Text.{is_quote}
 use Rattle.rt_sql.specs.Token.{Text, doubled}
 use Rattle.rt_sql.specs.Word.{same_word}
 use Rattle.rt_sql.specs.Tokens.{PieceTokens}

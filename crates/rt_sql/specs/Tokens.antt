@@ -6,7 +6,7 @@ use Rattle.rt_sql.specs.declared.token.Sign.{Sign}
 use Rattle.rt_sql.specs.declared.token.Sign.TheVariants.{LeftParenthesis, RightParenthesis, Comma, Semicolon, Plus, Minus, Star, Equal, DoubleEqual, LessGreater, BangEqual, Less, LessOrEqual, Greater, GreaterOrEqual}
 use Rattle.rt_sql.specs.declared.token.Token.{Token}
 use Rattle.rt_sql.specs.declared.token.Token.TheVariants as token
-use Rattle.rt_cut.specs.Text.{is_white, IsLineText, EndsLine, IsBlockText, IsOpenBlockText}
+use Rattle.rt_sql_cut.specs.Text.{is_white, IsLineText, EndsLine, IsBlockText, IsOpenBlockText}
 use Rattle.rt_sql.specs.Token.{Text, begins_word, is_in_word, begins, doubled}
 
 abbrev pub spelling : Sign → Text

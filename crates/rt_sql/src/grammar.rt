@@ -9,7 +9,7 @@ use crate::number::{Numbers, number};
 use crate::token::{Sign, Token};
 use crate::tokens::Tokens;
 use crate::word::is_reserved;
-use rt_statement::{
+use rt_sql_statement::{
     Blob, ColumnDef, Compare, Cond, Items, Name, Op6, Refusal, Rule, Source, Stmt, Test, Text,
     Value,
 };

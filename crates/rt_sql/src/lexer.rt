@@ -7,7 +7,7 @@ ghost use Rattle.rt_sql.specs.Class.{is_in};
 ghost use Rattle.rt_sql.specs.Lex as lexing;
 
 use crate::token::{Sign, Spelling, Token};
-use rt_cut::text::is_white;
+use rt_sql_cut::text::is_white;
 
 /// Kinds of characters, by their bytes.
 #[derive(Clone, Copy, Debug)]

@@ -2,13 +2,13 @@
 //!
 //! - `parse` makes of a piece the statement that its tokens spell, or says by a `Refusal` why there
 //!   is none.
-//! - `Stmt`, what it is made of, and `Refusal` are those of `rt_statement`, passed on.
+//! - `Stmt`, what it is made of, and `Refusal` are those of `rt_sql_statement`, passed on.
 //! - `laws`: tokens spell at most one statement, and each piece has one answer.
 //!
 //! A piece is a statement exactly where its tokens spell it; else it is refused by the first reason that applies,
 //! or for want of memory.
 //!
-//! Stands on `rt_cut` (pieces) and `rt_statement`. Definitions: `specs/Grammar.antt` (which tokens spell which
+//! Stands on `rt_sql_cut` (pieces) and `rt_sql_statement`. Definitions: `specs/Grammar.antt` (which tokens spell which
 //! statement), `Tokens.antt` (the tokens of a text), `Parse.antt` (what a piece asks for); `Reading.antt` is how the
 //! parser goes about it.
 #![tactic(auto)]
@@ -24,7 +24,7 @@ mod tokens;
 mod word;
 
 pub use parser::parse;
-pub use rt_statement::{
+pub use rt_sql_statement::{
     Blob, ColumnDef, Compare, Cond, Items, Name, Op6, Refusal, Rule, Source, Stmt, Test, Text,
     Value,
 };

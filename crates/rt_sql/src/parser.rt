@@ -8,8 +8,8 @@ use crate::grammar::{is_command, whole};
 use crate::number::Numbers;
 use crate::token::Token;
 use crate::tokens::Tokens;
-use rt_cut::{Ending, Piece};
-use rt_statement::{Refusal, Stmt};
+use rt_sql_cut::{Ending, Piece};
+use rt_sql_statement::{Refusal, Stmt};
 use std::alloc::Global;
 
 /// The text, if it is UTF-8 with no zero byte.

@@ -1,6 +1,6 @@
 use crate::lexer::{dot_len, lex};
 use crate::token::{Sign, Spelling, Token};
-use rt_statement::Refusal;
+use rt_sql_statement::Refusal;
 use std::marker::Model;
 use std::mem;
 

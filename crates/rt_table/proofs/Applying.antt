@@ -4,20 +4,20 @@ use Rattle.std.specs.Prelude.{◌<ℤ◌, find, filter, is_some, nat_le, ◌==�
 use Rattle.std.specs.List.{AllByRecursion, list_any, list_all}
 use Rattle.std.specs.Ordering.{int_eq}
 use Rattle.std.proofs.lemmas.Bool.{leb-false}
-use Rattle.rt_statement.specs.declared.value.Value.{Value}
-use Rattle.rt_statement.specs.declared.statement.Rule.{Rule}
-use Rattle.rt_statement.specs.declared.statement.Rule.TheVariants.{Abort, Replace, Ignore}
-use Rattle.rt_statement.specs.declared.statement.Test.{Test}
-use Rattle.rt_statement.specs.declared.refusal.Refusal.{Refusal}
-use Rattle.rt_statement.specs.declared.refusal.Refusal.TheVariants.{BadColumnList, NoSuchColumn, WrongNumberOfValues, WrongType, IntegerOutOfRange, IdAlreadyTaken, MinimumAboveMaximum, TableFull}
-use Rattle.rt_row.specs.Columns.{Columns, has_name, are_distinct}
-use Rattle.rt_row.specs.Conditions.{has_columns, holds, picked}
-use Rattle.rt_row.specs.Candidates.{Candidate, candidate_of, is_integer, id_value, coordinate_values}
-use Rattle.rt_row.specs.Rows.{TableRow, values_of, AreRising, has_id, with_row, without_id}
-use Rattle.rt_row.specs.Edits.{Step, Leaves, Comes, Becomes, Steps, after_step, outcome, and_then, Setting, row_of, put_taken, put_at, id_or_new, unless_ignored, put, put_all, steps_and, arranged, listed_columns, insert, delete, update, update_all, update_row, becomes, become_candidate, new_values, is_summable, sum_fits, columns_read}
-use Rattle.rt_store.proofs.Order.{eq_same, eq_below}
-use Rattle.rt_store.proofs.Sorted.{at_key-taken, at_key-placed, Rises, rises}
-use Rattle.rt_plan.specs.Plans.{Plans}
+use Rattle.rt_sql_statement.specs.declared.value.Value.{Value}
+use Rattle.rt_sql_statement.specs.declared.statement.Rule.{Rule}
+use Rattle.rt_sql_statement.specs.declared.statement.Rule.TheVariants.{Abort, Replace, Ignore}
+use Rattle.rt_sql_statement.specs.declared.statement.Test.{Test}
+use Rattle.rt_sql_statement.specs.declared.refusal.Refusal.{Refusal}
+use Rattle.rt_sql_statement.specs.declared.refusal.Refusal.TheVariants.{BadColumnList, NoSuchColumn, WrongNumberOfValues, WrongType, IntegerOutOfRange, IdAlreadyTaken, MinimumAboveMaximum, TableFull}
+use Rattle.rt_table_row.specs.Columns.{Columns, has_name, are_distinct}
+use Rattle.rt_table_row.specs.Conditions.{has_columns, holds, picked}
+use Rattle.rt_table_row.specs.Candidates.{Candidate, candidate_of, is_integer, id_value, coordinate_values}
+use Rattle.rt_table_row.specs.Rows.{TableRow, values_of, AreRising, has_id, with_row, without_id}
+use Rattle.rt_table_row.specs.Edits.{Step, Leaves, Comes, Becomes, Steps, after_step, outcome, and_then, Setting, row_of, put_taken, put_at, id_or_new, unless_ignored, put, put_all, steps_and, arranged, listed_columns, insert, delete, update, update_all, update_row, becomes, become_candidate, new_values, is_summable, sum_fits, columns_read}
+use Rattle.rt_table_store.proofs.Order.{eq_same, eq_below}
+use Rattle.rt_table_store.proofs.Sorted.{at_key-taken, at_key-placed, Rises, rises}
+use Rattle.rt_table_plan.specs.Plans.{Plans}
 use Rattle.rt_table.specs.Preparing.{ApplyInTurn}
 use Rattle.rt_table.specs.Applying.{StepsApply}
 

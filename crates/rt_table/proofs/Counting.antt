@@ -2,7 +2,7 @@
 use Rattle.std.proofs.Common.{◌≡◌, ℕ, ◌+◌, ◌<◌, ◌≤◌, Bool, true, false, List, [], ◌∷◌, ◌++◌, map, take, length, get_or, sym, ap, ◌∙◌, arith}
 use Rattle.std.specs.Prelude.{if◌then◌else◌, ◌==◌}
 use Rattle.std.proofs.lemmas.List.{take_more, map-append}
-use Rattle.rt_row.specs.Edits.{Step, Leaves, Comes, Becomes}
+use Rattle.rt_table_row.specs.Edits.{Step, Leaves, Comes, Becomes}
 use Rattle.rt_table.specs.Preparing.{places, places_all, notes_of, notes_all}
 
 pub places_few : (step : Step) → places step ≤ 1

@@ -5,14 +5,14 @@ use Rattle.std.specs.List.{list_any, flat_map, All, AllByRecursion}
 use Rattle.std.proofs.lemmas.List.Elements.{filter_agree, recursion_from_All}
 use Rattle.std.specs.Ordering.{int_eq}
 use Rattle.std.proofs.lemmas.Cmp.{lists_equiv}
-use Rattle.rt_statement.specs.ValueLaws.{same_value-equiv}
-use Rattle.rt_row.specs.Columns.{Columns}
-use Rattle.rt_row.specs.Rows.{TableRow, AreRising, row_at, values_of}
-use Rattle.rt_row.specs.Conditions.{holds, picked}
-use Rattle.rt_row.specs.Filters.{admits}
-use Rattle.rt_row.specs.Views.{ViewChange, same_row, change_at, ids_of_both, delta, deltas}
-use Rattle.rt_store.proofs.Order.{eq_from}
-use Rattle.rt_store.proofs.Sorted.{kept, at_key, Rises, rises, at_key-filter, at_key-placed, rises-placed, rises-filter, same_lists}
+use Rattle.rt_sql_statement.specs.ValueLaws.{same_value-equiv}
+use Rattle.rt_table_row.specs.Columns.{Columns}
+use Rattle.rt_table_row.specs.Rows.{TableRow, AreRising, row_at, values_of}
+use Rattle.rt_table_row.specs.Conditions.{holds, picked}
+use Rattle.rt_table_row.specs.Filters.{admits}
+use Rattle.rt_table_row.specs.Views.{ViewChange, same_row, change_at, ids_of_both, delta, deltas}
+use Rattle.rt_table_store.proofs.Order.{eq_from}
+use Rattle.rt_table_store.proofs.Sorted.{kept, at_key, Rises, rises, at_key-filter, at_key-placed, rises-placed, rises-filter, same_lists}
 use Rattle.rt_table.specs.declared.watched.Watched.{Watched}
 use Rattle.rt_table.specs.Watching.{view_of, shown, IsKept}
 use Rattle.rt_table.specs.Preparing.{DifferAt}

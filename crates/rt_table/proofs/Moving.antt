@@ -2,9 +2,9 @@
 use Rattle.std.proofs.Common.{◌≡◌, ℕ, Bool, true, false, List, [], ◌∷◌, ◌++◌, append_assoc, refl, sym, ap, subst, ◌∙◌}
 use Rattle.std.specs.Prelude.{if◌then◌else◌}
 use Rattle.rt_check.specs.Shadow.{ShadowLists}
-use Rattle.rt_row.specs.Rows.{TableRow}
-use Rattle.rt_row.specs.Edits.{Step, after_step}
-use Rattle.rt_store.specs.Moves.{Move, Came, Left, Moved, moves, move_of, MayFollow}
+use Rattle.rt_table_row.specs.Rows.{TableRow}
+use Rattle.rt_table_row.specs.Edits.{Step, after_step}
+use Rattle.rt_table_store.specs.Moves.{Move, Came, Left, Moved, moves, move_of, MayFollow}
 
 module _ {D : ℕ} where
   same_end : (xs : List Move) (a b c : ShadowLists D) → c ≡ b → MayFollow xs a b → MayFollow xs a c

@@ -6,9 +6,9 @@ use Rattle.std.specs.Option.{unwrap_or}
 use Rattle.std.proofs.lemmas.Cmp.{int_eq_equiv}
 use Rattle.std.proofs.lemmas.List.{map_more}
 use Rattle.std.specs.List.{list_any}
-use Rattle.rt_row.specs.Rows.{TableRow, AreRising, row_at, with_row, without_id}
-use Rattle.rt_row.specs.Edits.{Step, Leaves, Comes, Becomes, after_step, outcome}
-use Rattle.rt_store.proofs.Sorted.{at_key-placed, at_key-taken, Rises, rises, rising, rises-placed, rises-taken}
+use Rattle.rt_table_row.specs.Rows.{TableRow, AreRising, row_at, with_row, without_id}
+use Rattle.rt_table_row.specs.Edits.{Step, Leaves, Comes, Becomes, after_step, outcome}
+use Rattle.rt_table_store.proofs.Sorted.{at_key-placed, at_key-taken, Rises, rises, rising, rises-placed, rises-taken}
 use Rattle.rt_table.specs.Fates.{Fate, noted}
 use Rattle.rt_table.specs.Preparing.{DifferAt}
 

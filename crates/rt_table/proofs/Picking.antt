@@ -7,12 +7,12 @@ use Rattle.std.specs.Ordering.{int_eq}
 use Rattle.std.proofs.lemmas.List.Elements.{All-filter, All-from_recursion, recursion_from_All, filter_map-append}
 use Rattle.std.proofs.lemmas.List.{take_more, map-append, append-nil}
 use Rattle.std.proofs.lemmas.Cmp.{int_eq_equiv}
-use Rattle.rt_statement.specs.declared.value.Value.{Value}
-use Rattle.rt_row.specs.Rows.{TableRow, AreRising, row_at, values_of}
-use Rattle.rt_store.proofs.Order.{eq_same, eq_above}
-use Rattle.rt_store.proofs.Sorted.{kept, at_key, Rises, rises, at_key-filter}
-use Rattle.rt_walk.specs.declared.searching.Row.{Row}
-use Rattle.rt_store.specs.Trees.{leaf_row}
+use Rattle.rt_sql_statement.specs.declared.value.Value.{Value}
+use Rattle.rt_table_row.specs.Rows.{TableRow, AreRising, row_at, values_of}
+use Rattle.rt_table_store.proofs.Order.{eq_same, eq_above}
+use Rattle.rt_table_store.proofs.Sorted.{kept, at_key, Rises, rises, at_key-filter}
+use Rattle.rt_tree_walk.specs.declared.searching.Row.{Row}
+use Rattle.rt_table_store.specs.Trees.{leaf_row}
 use Rattle.rt_table.specs.Watching.{is_picked}
 
 module _ {X : Type 0} (key : X → ℤ) where

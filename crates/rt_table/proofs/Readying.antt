@@ -11,11 +11,11 @@ use Rattle.std.proofs.lemmas.Cmp.{int_ranked}
 use Rattle.std.proofs.lemmas.List.Elements.{All-map}
 use Rattle.indexmap.specs.IndexSet.{spare}
 use Rattle.rt_check.specs.Shadow.{ShadowLists}
-use Rattle.rt_row.specs.Columns.{Columns}
-use Rattle.rt_row.specs.Rows.{TableRow}
-use Rattle.rt_row.specs.Edits.{Step, outcome}
-use Rattle.rt_row.specs.Views.{View, deltas}
-use Rattle.rt_store.proofs.Sorted.{Rises, rising}
+use Rattle.rt_table_row.specs.Columns.{Columns}
+use Rattle.rt_table_row.specs.Rows.{TableRow}
+use Rattle.rt_table_row.specs.Edits.{Step, outcome}
+use Rattle.rt_table_row.specs.Views.{View, deltas}
+use Rattle.rt_table_store.proofs.Sorted.{Rises, rising}
 use Rattle.rt_table.specs.declared.watched.Watched.{Watched}
 use Rattle.rt_table.specs.declared.watched.Change.{Change}
 use Rattle.rt_table.specs.Held.{Held}

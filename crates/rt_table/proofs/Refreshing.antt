@@ -4,10 +4,10 @@ use Rattle.std.specs.Prelude.{if◌then◌else◌}
 use Rattle.std.specs.List.{All, list_any, AllByRecursion}
 use Rattle.std.specs.Ordering.{int_eq}
 use Rattle.std.proofs.lemmas.List.Elements.{All-nil, All-from_recursion, recursion_from_All}
-use Rattle.rt_row.specs.Columns.{Columns}
-use Rattle.rt_row.specs.Rows.{TableRow, row_at}
-use Rattle.rt_row.specs.Filters.{Placed, IsFilterOf, admits}
-use Rattle.rt_row.specs.Views.{View}
+use Rattle.rt_table_row.specs.Columns.{Columns}
+use Rattle.rt_table_row.specs.Rows.{TableRow, row_at}
+use Rattle.rt_table_row.specs.Filters.{Placed, IsFilterOf, admits}
+use Rattle.rt_table_row.specs.Views.{View}
 use Rattle.rt_table.specs.declared.watched.Watched.{Watched}
 use Rattle.rt_table.specs.Watching.{view_of, is_picked, IsKept, IsRefreshed, IsRoomier}
 use Rattle.rt_table.specs.Preparing.{DifferAt}

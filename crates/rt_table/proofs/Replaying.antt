@@ -6,14 +6,14 @@ use Rattle.std.specs.Ordering.{int_eq}
 use Rattle.std.specs.Option.{option_map}
 use Rattle.std.proofs.lemmas.Cmp.{int_eq_equiv}
 use Rattle.std.proofs.lemmas.Slice.Eq.{slice_eq-Decides}
-use Rattle.rt_statement.specs.declared.value.Value.{Value}
-use Rattle.rt_statement.specs.ValueLaws.{same_value-Decides}
-use Rattle.rt_row.specs.Rows.{TableRow, row_at, values_of}
-use Rattle.rt_row.specs.Views.{ViewChange, same_row, left, came, change_at, ids_of_both, delta}
-use Rattle.rt_store.proofs.Order.{eq_same, eq_from, eq_above}
-use Rattle.rt_store.proofs.Sorted.{at_key, Rises, rises, rises-filter, at_key-placed, at_key-taken, rises-placed, rises-taken, same_lists}
-use Rattle.rt_row.specs.Conditions.{holds, picked}
-use Rattle.rt_row.specs.Edits.{outcome}
+use Rattle.rt_sql_statement.specs.declared.value.Value.{Value}
+use Rattle.rt_sql_statement.specs.ValueLaws.{same_value-Decides}
+use Rattle.rt_table_row.specs.Rows.{TableRow, row_at, values_of}
+use Rattle.rt_table_row.specs.Views.{ViewChange, same_row, left, came, change_at, ids_of_both, delta}
+use Rattle.rt_table_store.proofs.Order.{eq_same, eq_from, eq_above}
+use Rattle.rt_table_store.proofs.Sorted.{at_key, Rises, rises, rises-filter, at_key-placed, at_key-taken, rises-placed, rises-taken, same_lists}
+use Rattle.rt_table_row.specs.Conditions.{holds, picked}
+use Rattle.rt_table_row.specs.Edits.{outcome}
 use Rattle.rt_table.specs.Laws.{printed_id, after_change, replayed, ChangesReplay}
 use Rattle.rt_table.proofs.Noting.{rising_outcome}
 use Rattle.rt_table.proofs.Deltas.{own, any_own, in_both, rises-both}

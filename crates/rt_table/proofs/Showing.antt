@@ -6,18 +6,18 @@ use Rattle.std.specs.Option.{option_map}
 use Rattle.std.proofs.lemmas.Option.{slice_get_read}
 use Rattle.std.proofs.lemmas.List.Folds.{find_at}
 use Rattle.std.proofs.lemmas.List.Quantifiers.{position-Some}
-use Rattle.rt_statement.specs.declared.value.Value.{Value}
-use Rattle.rt_statement.specs.declared.refusal.Refusal.TheVariants.{NoSuchView}
-use Rattle.rt_row.specs.Rows.{TableRow, AreRising, row_at, values_of}
-use Rattle.rt_row.specs.Conditions.{holds, picked}
-use Rattle.rt_row.specs.Filters.{admits}
-use Rattle.rt_row.specs.Tables.{TableLists, view, viewed, is_view}
+use Rattle.rt_sql_statement.specs.declared.value.Value.{Value}
+use Rattle.rt_sql_statement.specs.declared.refusal.Refusal.TheVariants.{NoSuchView}
+use Rattle.rt_table_row.specs.Rows.{TableRow, AreRising, row_at, values_of}
+use Rattle.rt_table_row.specs.Conditions.{holds, picked}
+use Rattle.rt_table_row.specs.Filters.{admits}
+use Rattle.rt_table_row.specs.Tables.{TableLists, view, viewed, is_view}
 use Rattle.std.proofs.lemmas.List.Elements.{filter_agree}
-use Rattle.rt_store.proofs.Sorted.{rises, rises-filter, same_lists}
+use Rattle.rt_table_store.proofs.Sorted.{rises, rises-filter, same_lists}
 use Rattle.rt_table.specs.declared.watched.Watched.{Watched}
 use Rattle.rt_table.specs.Watching.{view_of, KeepsIds, IsKept}
 use Rattle.rt_table.specs.Replies.{Shows}
-use Rattle.rt_store.proofs.Standing.{looked_up}
+use Rattle.rt_table_store.proofs.Standing.{looked_up}
 use Rattle.rt_table.proofs.Picking.{kept_ids}
 use Rattle.rt_table.proofs.Deltas.{own, at_itself, rises-ids}
 use Rattle.rt_table.proofs.Viewing.{any_mapped, not_placed}

@@ -3,15 +3,15 @@ use Rattle.std.proofs.Common.{◌≡◌, ℕ, zero, suc, ◌<◌, Bool, true, fa
 use Rattle.std.specs.Prelude.{position}
 use Rattle.std.specs.List.{list_any, remove}
 use Rattle.std.proofs.lemmas.List.Elements.{filter_agree}
-use Rattle.rt_row.proofs.Filters.{any_position}
-use Rattle.rt_statement.specs.declared.value.Value.{Value}
-use Rattle.rt_statement.specs.declared.statement.Test.{Test}
-use Rattle.rt_row.specs.Rows.{values_of}
-use Rattle.rt_row.specs.Conditions.{holds, has_columns, picked}
-use Rattle.rt_row.specs.Filters.{Placed, admits, IsFilterOf}
-use Rattle.rt_row.specs.Tables.{TableLists, select, unwatch, has_view, is_view}
-use Rattle.rt_row.specs.Views.{View}
-use Rattle.rt_statement.specs.Name.{same_name}
+use Rattle.rt_table_row.proofs.Filters.{any_position}
+use Rattle.rt_sql_statement.specs.declared.value.Value.{Value}
+use Rattle.rt_sql_statement.specs.declared.statement.Test.{Test}
+use Rattle.rt_table_row.specs.Rows.{values_of}
+use Rattle.rt_table_row.specs.Conditions.{holds, has_columns, picked}
+use Rattle.rt_table_row.specs.Filters.{Placed, admits, IsFilterOf}
+use Rattle.rt_table_row.specs.Tables.{TableLists, select, unwatch, has_view, is_view}
+use Rattle.rt_table_row.specs.Views.{View}
+use Rattle.rt_sql_statement.specs.Name.{same_name}
 use Rattle.rt_table.specs.declared.watched.Watched.{Watched}
 use Rattle.rt_table.specs.Watching.{view_of}
 use Rattle.rt_table.specs.Replies.{Shows}

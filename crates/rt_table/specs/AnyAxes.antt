@@ -1,5 +1,5 @@
 -- A table of one, two or three axes. Source: own.
-use Rattle.rt_dump.specs.declared.dump.AnyShadow.TheVariants as shadow
+use Rattle.rt_check_dump.specs.declared.dump.AnyShadow.TheVariants as shadow
 use Rattle.rt_table.specs.declared.any_table.Axes.{Axes}
 use Rattle.rt_table.specs.declared.any_table.Axes.TheVariants.{One, Two, Three}
 use Rattle.rt_table.specs.Held.{TableAndTree}

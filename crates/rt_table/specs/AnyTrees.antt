@@ -1,14 +1,14 @@
 -- The trees of tables of one, two or three axes. Source: own.
 use Rattle.std.specs.Prelude.{◌≡◌, ℕ, ◌==◌, if◌then◌else◌, List, IfOk}
-use Rattle.rt_dump.specs.declared.dump.AnyShadow.{AnyShadow}
-use Rattle.rt_dump.specs.declared.dump.AnyShadow.TheVariants.{One, Two, Three}
+use Rattle.rt_check_dump.specs.declared.dump.AnyShadow.{AnyShadow}
+use Rattle.rt_check_dump.specs.declared.dump.AnyShadow.TheVariants.{One, Two, Three}
 use Rattle.rt_tree.specs.Lists.{empty_lists}
-use Rattle.rt_row.specs.Columns.{Columns}
-use Rattle.rt_row.specs.Rows.{TableRow}
-use Rattle.rt_row.specs.Edits.{Step, Steps}
+use Rattle.rt_table_row.specs.Columns.{Columns}
+use Rattle.rt_table_row.specs.Rows.{TableRow}
+use Rattle.rt_table_row.specs.Edits.{Step, Steps}
 use Rattle.rt_box.specs.declared.interval.Interval.{Interval}
-use Rattle.rt_store.specs.Trees.{IsTreeOf, Visits}
-use Rattle.rt_store.specs.Moves.{FollowsSteps}
+use Rattle.rt_table_store.specs.Trees.{IsTreeOf, Visits}
+use Rattle.rt_table_store.specs.Moves.{FollowsSteps}
 
 -- the tree of no rows
 abbrev pub new_tree : ℕ → Columns → AnyShadow

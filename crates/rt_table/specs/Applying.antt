@@ -1,11 +1,11 @@
 -- Why a table is ready for the steps of each statement. Source: own.
 use Rattle.std.specs.Prelude.{ℕ, List, Option, IfOk}
-use Rattle.rt_statement.specs.declared.value.Value.{Value}
-use Rattle.rt_statement.specs.declared.statement.Rule.{Rule}
-use Rattle.rt_statement.specs.declared.statement.Test.{Test}
-use Rattle.rt_row.specs.Columns.{Columns}
-use Rattle.rt_row.specs.Rows.{TableRow, AreRising}
-use Rattle.rt_row.specs.Edits.{Setting, insert, update, delete}
+use Rattle.rt_sql_statement.specs.declared.value.Value.{Value}
+use Rattle.rt_sql_statement.specs.declared.statement.Rule.{Rule}
+use Rattle.rt_sql_statement.specs.declared.statement.Test.{Test}
+use Rattle.rt_table_row.specs.Columns.{Columns}
+use Rattle.rt_table_row.specs.Rows.{TableRow, AreRising}
+use Rattle.rt_table_row.specs.Edits.{Setting, insert, update, delete}
 use Rattle.rt_table.specs.Preparing.{ApplyInTurn}
 
 -- The steps of an INSERT, of a DELETE and of an UPDATE apply to the rows, one after the other.

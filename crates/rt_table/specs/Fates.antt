@@ -3,16 +3,16 @@ use Rattle.std.specs.Prelude.{ℕ, ℤ, true, false, List, ◌++◌, Option, Som
 use Rattle.std.specs.Borrow.{Bor}
 use Rattle.std.specs.Option.{option_map, option_to_list, unwrap_or}
 use Rattle.std.specs.BTreeMap.{BTreeMap, get}
-use Rattle.rt_statement.specs.declared.value.Value.{Value}
+use Rattle.rt_sql_statement.specs.declared.value.Value.{Value}
 use Rattle.std.specs.Ordering.{int_eq, int_cmp}
-use Rattle.rt_row.specs.declared.entry.Entry.{Entry}
-use Rattle.rt_row.specs.Rows.{TableRow, row_at}
-use Rattle.rt_row.specs.Filters.{admits}
-use Rattle.rt_row.specs.Views.{ViewChange, change_at}
+use Rattle.rt_table_row.specs.declared.entry.Entry.{Entry}
+use Rattle.rt_table_row.specs.Rows.{TableRow, row_at}
+use Rattle.rt_table_row.specs.Filters.{admits}
+use Rattle.rt_table_row.specs.Views.{ViewChange, change_at}
 use Rattle.rt_table.specs.declared.watched.Watched.{Watched}
 use Rattle.rt_table.specs.Watching.{shown}
-use Rattle.rt_row.specs.Entries.{row_of}
-use Rattle.rt_row.specs.Edits.{Step, Leaves, Comes, Becomes}
+use Rattle.rt_table_row.specs.Entries.{row_of}
+use Rattle.rt_table_row.specs.Edits.{Step, Leaves, Comes, Becomes}
 
 -- the row that has a touched id afterwards, if one has
 abbrev pub Fate : Type 0

@@ -1,9 +1,9 @@
 -- What a table holds. Source: own.
 use Rattle.std.specs.Prelude.{ℕ, ℤ, List}
 use Rattle.rt_check.specs.Shadow.{ShadowLists}
-use Rattle.rt_dump.specs.declared.dump.AnyShadow.{AnyShadow}
-use Rattle.rt_row.specs.Tables.{TableLists}
-use Rattle.rt_row.specs.Views.{ViewChange}
+use Rattle.rt_check_dump.specs.declared.dump.AnyShadow.{AnyShadow}
+use Rattle.rt_table_row.specs.Tables.{TableLists}
+use Rattle.rt_table_row.specs.Views.{ViewChange}
 
 -- the table as statements see it, the tree of its rows, and what was made ready for the next plan: how many more rows
 -- there is room for, in all and of those with auxiliary values, how many more ids each view has room for, the ids that

@@ -1,13 +1,13 @@
 -- What holds of the changes of every view. Source: own.
 use Rattle.std.specs.Prelude.{◌≡◌, ℤ, not, List, [], ◌∷◌, ◌++◌, map, filter, int_lt, if◌then◌else◌}
 use Rattle.std.specs.Ordering.{int_eq}
-use Rattle.rt_statement.specs.declared.value.Value.{Value}
-use Rattle.rt_row.specs.Columns.{Columns}
-use Rattle.rt_row.specs.Rows.{TableRow, AreRising, values_of}
-use Rattle.rt_row.specs.Conditions.{picked}
-use Rattle.rt_row.specs.Candidates.{number_in, id_value}
-use Rattle.rt_row.specs.Edits.{Step, outcome}
-use Rattle.rt_row.specs.Views.{View, ViewChange, delta}
+use Rattle.rt_sql_statement.specs.declared.value.Value.{Value}
+use Rattle.rt_table_row.specs.Columns.{Columns}
+use Rattle.rt_table_row.specs.Rows.{TableRow, AreRising, values_of}
+use Rattle.rt_table_row.specs.Conditions.{picked}
+use Rattle.rt_table_row.specs.Candidates.{number_in, id_value}
+use Rattle.rt_table_row.specs.Edits.{Step, outcome}
+use Rattle.rt_table_row.specs.Views.{View, ViewChange, delta}
 
 -- the id of a row that is printed
 abbrev pub printed_id : List Value → ℤ

@@ -2,9 +2,9 @@
 use Rattle.std.specs.Prelude.{◌≡◌, ◌≢◌, ℕ, ◌+◌, ◌≤◌, ◌<◌, ◌==◌, if◌then◌else◌, ℤ, true, false, List, [], ◌∷◌, length}
 use Rattle.std.specs.Ordering.{int_eq}
 use Rattle.std.specs.List.{All, list_any}
-use Rattle.rt_row.specs.Rows.{TableRow, row_at, has_id, without_id}
-use Rattle.rt_row.specs.Edits.{Step, Leaves, Comes, Becomes, after_step, outcome, most_rows}
-use Rattle.rt_row.specs.Views.{deltas}
+use Rattle.rt_table_row.specs.Rows.{TableRow, row_at, has_id, without_id}
+use Rattle.rt_table_row.specs.Edits.{Step, Leaves, Comes, Becomes, after_step, outcome, most_rows}
+use Rattle.rt_table_row.specs.Views.{deltas}
 use Rattle.rt_table.specs.Held.{Held}
 
 -- the row that goes is there, the id of the one that comes is free, and the table isn't full

@@ -1,9 +1,9 @@
 -- What a call answers that may run out of memory, and rows as lists of values. Source: own.
 use Rattle.std.specs.Prelude.{◌≡◌, ◌⊎◌, List, map, Result, Ok, Err}
-use Rattle.rt_statement.specs.declared.value.Value.{Value}
-use Rattle.rt_statement.specs.declared.refusal.Refusal.{Refusal}
-use Rattle.rt_statement.specs.declared.refusal.Refusal.TheVariants.{OutOfMemory}
-use Rattle.rt_row.specs.Rows.{TableRow, values_of}
+use Rattle.rt_sql_statement.specs.declared.value.Value.{Value}
+use Rattle.rt_sql_statement.specs.declared.refusal.Refusal.{Refusal}
+use Rattle.rt_sql_statement.specs.declared.refusal.Refusal.TheVariants.{OutOfMemory}
+use Rattle.rt_table_row.specs.Rows.{TableRow, values_of}
 
 -- the refusal that is wanted, or want of memory
 abbrev pub Refuses : {A : Type 0} → Result A Refusal → Refusal → Type 0

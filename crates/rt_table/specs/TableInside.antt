@@ -2,7 +2,7 @@
 use Rattle.std.specs.Prelude.{◌≡◌, ◌≤◌, ℕ, map}
 use Rattle.std.specs.List.{All}
 use Rattle.indexmap.specs.IndexSet.{spare}
-use Rattle.rt_row.specs.Rows.{AreRising}
+use Rattle.rt_table_row.specs.Rows.{AreRising}
 use Rattle.rt_table.specs.declared.table.Table.TheInside.{Inside}
 use Rattle.rt_table.specs.Held.{Held}
 use Rattle.rt_table.specs.Watching.{view_of, change_of, IsKept}

@@ -3,10 +3,10 @@ use Rattle.std.specs.Prelude.{◌≡◌, ℤ, Bool, false, List, Option, Some, N
 use Rattle.std.specs.Ordering.{int_eq}
 use Rattle.std.specs.Option.{option_map_or}
 use Rattle.std.specs.List.{list_any}
-use Rattle.rt_row.specs.Columns.{Columns}
-use Rattle.rt_row.specs.Rows.{TableRow, row_at}
-use Rattle.rt_row.specs.Filters.{IsFilterOf, admits}
-use Rattle.rt_row.specs.Views.{View, ViewChange}
+use Rattle.rt_table_row.specs.Columns.{Columns}
+use Rattle.rt_table_row.specs.Rows.{TableRow, row_at}
+use Rattle.rt_table_row.specs.Filters.{IsFilterOf, admits}
+use Rattle.rt_table_row.specs.Views.{View, ViewChange}
 use Rattle.rt_table.specs.declared.watched.Watched.{Watched}
 use Rattle.rt_table.specs.declared.watched.Change.{Change}
 

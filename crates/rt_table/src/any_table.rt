@@ -7,9 +7,9 @@ use crate::table::Table;
 use crate::watched::{Change, Picked};
 use rt_box::Capacity;
 use rt_check::Problem;
-use rt_dump::AnyShadow;
-use rt_row::Schema;
-use rt_statement::{Cond, Items, Name, Refusal, Rule, Source, Value};
+use rt_check_dump::AnyShadow;
+use rt_sql_statement::{Cond, Items, Name, Refusal, Rule, Source, Value};
+use rt_table_row::Schema;
 use std::alloc::{AllocError, Global};
 use std::hash::RandomState;
 use std::marker::Model;
@@ -38,12 +38,12 @@ impl Model for AnyTable {
 }
 
 impl AnyTable {
-    ghost use Rattle.rt_row.specs.Tables.{new_table, has_view, select, watch, unwatch, view};
-    ghost use Rattle.rt_row.specs.Edits.{insert, update, delete};
-    ghost use Rattle.rt_row.specs.Tables.{edited};
+    ghost use Rattle.rt_table_row.specs.Tables.{new_table, has_view, select, watch, unwatch, view};
+    ghost use Rattle.rt_table_row.specs.Edits.{insert, update, delete};
+    ghost use Rattle.rt_table_row.specs.Tables.{edited};
     ghost use Rattle.rt_table.specs.Watching.{change_of};
     ghost use Rattle.rt_table.specs.Replies.{Refuses, Shows};
-    ghost use Rattle.rt_row.specs.Windows.{IsWindowOf};
+    ghost use Rattle.rt_table_row.specs.Windows.{IsWindowOf};
     ghost use Rattle.rt_table.specs.AnyTrees.{new_tree, FollowsIfTaken, VisitsAny};
 
     /// A table of these columns, without rows and views. The nodes of its tree have at most `capacity` cells. Look-ups

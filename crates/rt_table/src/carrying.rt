@@ -4,20 +4,20 @@ ghost use Rattle.std.specs.Prelude.{◌≡◌, ◌≤◌, ◌<◌, ◌+◌, ℕ,
 ghost use Rattle.std.specs.List.{list_any};
 ghost use Rattle.std.specs.Ordering.{int_eq};
 ghost use Rattle.indexmap.specs.IndexSet.{spare};
-ghost use Rattle.rt_row.specs.Columns.{Columns};
-ghost use Rattle.rt_row.specs.Rows.{TableRow, row_at};
-ghost use Rattle.rt_row.specs.Filters.{admits};
-ghost use Rattle.rt_row.specs.Edits.{after_step, outcome};
-ghost use Rattle.rt_row.specs.Entries.{step_of};
-ghost use Rattle.rt_store.specs.Moves.{move_of, moves, MayFollow};
+ghost use Rattle.rt_table_row.specs.Columns.{Columns};
+ghost use Rattle.rt_table_row.specs.Rows.{TableRow, row_at};
+ghost use Rattle.rt_table_row.specs.Filters.{admits};
+ghost use Rattle.rt_table_row.specs.Edits.{after_step, outcome};
+ghost use Rattle.rt_table_row.specs.Entries.{step_of};
+ghost use Rattle.rt_table_store.specs.Moves.{move_of, moves, MayFollow};
 ghost use Rattle.rt_table.specs.Preparing.{Applies, ApplyInTurn, places, places_all, notes_of, notes_all, DifferAt};
 ghost use Rattle.rt_table.specs.declared.watched.Watched.{Watched};
 ghost use Rattle.rt_table.specs.Watching.{view_of, is_picked, IsKept, IsRefreshed};
 
 use crate::watched::Watched;
 use indexmap::IndexSet;
-use rt_row::{Filter, Step};
-use rt_store::Store;
+use rt_table_row::{Filter, Step};
+use rt_table_store::Store;
 use std::hash::RandomState;
 
 fn apply_step<const D: usize>(store: &mut Store<D>, step: Step<D>)

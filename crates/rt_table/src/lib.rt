@@ -9,9 +9,9 @@
 //!
 //! A view keeps the ids of its rows; a plan looks again at the ids that it touches, and at no others.
 //!
-//! Stands on `rt_plan` and `rt_store`. Definitions: `specs/Held.antt` (what a table holds), `Preparing.antt`,
+//! Stands on `rt_table_plan` and `rt_table_store`. Definitions: `specs/Held.antt` (what a table holds), `Preparing.antt`,
 //! `AnyAxes.antt`, `AnyTrees.antt`, `Replies.antt`, `Laws.antt`; what a statement does to rows and views is in
-//! `rt_row`.
+//! `rt_table_row`.
 #![tactic(auto)]
 
 mod any_table;
@@ -23,6 +23,6 @@ mod table;
 mod watched;
 
 pub use any_table::AnyTable;
-pub use rt_plan::Plan;
+pub use rt_table_plan::Plan;
 pub use table::Table;
 pub use watched::{Change, Picked};

@@ -1,10 +1,10 @@
 //! The room that a plan takes.
 
 ghost use Rattle.std.specs.Prelude.{◌≡◌, map};
-ghost use Rattle.rt_row.specs.Entries.{row_of, step_of};
+ghost use Rattle.rt_table_row.specs.Entries.{row_of, step_of};
 ghost use Rattle.rt_table.specs.Preparing.{places, places_all, notes, notes_of, notes_all};
 
-use rt_row::{Entry, Step};
+use rt_table_row::{Entry, Step};
 
 /// How many rows a step places.
 fn places<const D: usize>(step: &Step<D>) -> usize

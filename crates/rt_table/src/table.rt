@@ -3,7 +3,7 @@
 ghost use Rattle.std.specs.Prelude.{◌≡◌, ◌≤◌, ◌<◌, List, [], not, map, filter, length, position, nat_lt, Ok, IfOk, IfErr, OnOk, OnErr};
 ghost use Rattle.std.specs.List.{list_any};
 ghost use Rattle.rt_box.specs.declared.interval.Interval.{Interval};
-ghost use Rattle.rt_statement.specs.Name.{same_name};
+ghost use Rattle.rt_sql_statement.specs.Name.{same_name};
 
 use crate::carrying::{apply, refresh_all};
 use crate::preparing::{Touched, touch_where_watched};
@@ -11,10 +11,10 @@ use crate::room::{notes_all, places_all};
 use crate::watched::{Change, Picked, Watched, pick, reserve_ids, rows_of, watch};
 use rt_box::Capacity;
 use rt_check::{Problem, Shadow, check};
-use rt_plan::{Plan, plan_delete, plan_insert, plan_update};
-use rt_row::{Filter, Schema, Step};
-use rt_statement::{Cond, Items, Name, Refusal, Rule, Source, Value};
-use rt_store::Store;
+use rt_sql_statement::{Cond, Items, Name, Refusal, Rule, Source, Value};
+use rt_table_plan::{Plan, plan_delete, plan_insert, plan_update};
+use rt_table_row::{Filter, Schema, Step};
+use rt_table_store::Store;
 use std::alloc::{AllocError, Global};
 use std::hash::RandomState;
 use std::marker::Model;
@@ -66,20 +66,20 @@ impl<const D: usize> Model for Table<D> {
 }
 
 impl<const D: usize> Table<D> {
-    ghost use Rattle.rt_row.specs.Tables.{new_table, has_view, select, watch, unwatch, view};
-    ghost use Rattle.rt_row.specs.Edits.{outcome};
-    ghost use Rattle.rt_row.specs.Entries.{step_of};
-    ghost use Rattle.rt_row.specs.Views.{deltas};
-    ghost use Rattle.rt_row.specs.Edits.{insert, update, delete};
-    ghost use Rattle.rt_row.specs.Tables.{edited};
-    ghost use Rattle.rt_plan.specs.Plans.{Plans};
+    ghost use Rattle.rt_table_row.specs.Tables.{new_table, has_view, select, watch, unwatch, view};
+    ghost use Rattle.rt_table_row.specs.Edits.{outcome};
+    ghost use Rattle.rt_table_row.specs.Entries.{step_of};
+    ghost use Rattle.rt_table_row.specs.Views.{deltas};
+    ghost use Rattle.rt_table_row.specs.Edits.{insert, update, delete};
+    ghost use Rattle.rt_table_row.specs.Tables.{edited};
+    ghost use Rattle.rt_table_plan.specs.Plans.{Plans};
     ghost use Rattle.rt_table.specs.Replies.{Refuses, Shows};
     ghost use Rattle.rt_table.specs.Preparing.{ApplyInTurn, IsReady};
     ghost use Rattle.rt_table.specs.Watching.{change_of};
-    ghost use Rattle.rt_row.specs.Windows.{IsWindowOf};
+    ghost use Rattle.rt_table_row.specs.Windows.{IsWindowOf};
     ghost use Rattle.rt_tree.specs.Lists.{empty_lists};
-    ghost use Rattle.rt_store.specs.Trees.{Visits};
-    ghost use Rattle.rt_store.specs.Moves.{moves, MayFollow, FollowsSteps};
+    ghost use Rattle.rt_table_store.specs.Trees.{Visits};
+    ghost use Rattle.rt_table_store.specs.Moves.{moves, MayFollow, FollowsSteps};
 
     /// A table of these columns, without rows and views. The nodes of its tree have at most `capacity` cells. Look-ups
     /// hash by `keys`, which are to be random where others choose the ids.

@@ -9,17 +9,17 @@ use Rattle.std.proofs.lemmas.Option.{same_Some}
 use Rattle.std.proofs.lemmas.List.Elements.{All-head, All-tail}
 use Rattle.rt_check.specs.declared.node.NodeRow.{NodeRow}
 use Rattle.rt_check.specs.declared.node.RawCell.{RawCell}
-use Rattle.rt_node.specs.declared.arena.Arena.{Arena}
-use Rattle.rt_node.specs.declared.cell.Cell.{Cell}
-use Rattle.rt_node.specs.Places.{key_of, numbers, cells_at, level_at, parent_at}
-use Rattle.rt_node.specs.Path.{KeepsShape}
-use Rattle.rt_node.proofs.Places.{leaf-at_leaf}
+use Rattle.rt_tree_node.specs.declared.arena.Arena.{Arena}
+use Rattle.rt_tree_node.specs.declared.cell.Cell.{Cell}
+use Rattle.rt_tree_node.specs.Places.{key_of, numbers, cells_at, level_at, parent_at}
+use Rattle.rt_tree_node.specs.Path.{KeepsShape}
+use Rattle.rt_tree_node.proofs.Places.{leaf-at_leaf}
 use Rattle.slab.specs.Slab.{get}
-use Rattle.rt_walk.specs.Preorder.{keys_in, tree_keys, number_in}
-use Rattle.rt_walk.specs.Outside.{cell_row, node_row, outside}
-use Rattle.rt_walk.proofs.Progress.{IsSettled}
-use Rattle.rt_walk.proofs.Listed.{HasNode, levels-below, listed-there}
-use Rattle.rt_walk.proofs.Flawless.{numbering}
+use Rattle.rt_tree_walk.specs.Preorder.{keys_in, tree_keys, number_in}
+use Rattle.rt_tree_walk.specs.Outside.{cell_row, node_row, outside}
+use Rattle.rt_tree_walk.proofs.Progress.{IsSettled}
+use Rattle.rt_tree_walk.proofs.Listed.{HasNode, levels-below, listed-there}
+use Rattle.rt_tree_walk.proofs.Flawless.{numbering}
 use Rattle.rt_tree.specs.Way.{KeepsCell, KeepsNode, ChangesLeaf, with_cells}
 use Rattle.rt_tree.proofs.Members.{contains-map}
 use Rattle.rt_tree.proofs.Reading.{number}

@@ -7,15 +7,15 @@ use Rattle.std.proofs.lemmas.Bool.{true≢false}
 use Rattle.indexmap.specs.IndexMap.{get as leaf_of}
 use Rattle.rt_box.specs.declared.interval.Interval.{Interval}
 use Rattle.rt_box.specs.Capacity.{least_fill}
-use Rattle.rt_node.specs.declared.arena.Arena.{Arena}
-use Rattle.rt_node.specs.declared.arena.Work.{Work}
-use Rattle.rt_node.specs.Whole.{HasRoom, row_count}
-use Rattle.rt_insert.specs.Insertion.{Inserts}
-use Rattle.rt_remove.specs.Removal.{Removes}
-use Rattle.rt_walk.specs.declared.searching.Row.{Row}
-use Rattle.rt_walk.specs.Search.{row_of}
-use Rattle.rt_walk.specs.Outside.{outside}
-use Rattle.rt_walk.proofs.Progress.{IsSettled}
+use Rattle.rt_tree_node.specs.declared.arena.Arena.{Arena}
+use Rattle.rt_tree_node.specs.declared.arena.Work.{Work}
+use Rattle.rt_tree_node.specs.Whole.{HasRoom, row_count}
+use Rattle.rt_tree_insert.specs.Insertion.{Inserts}
+use Rattle.rt_tree_remove.specs.Removal.{Removes}
+use Rattle.rt_tree_walk.specs.declared.searching.Row.{Row}
+use Rattle.rt_tree_walk.specs.Search.{row_of}
+use Rattle.rt_tree_walk.specs.Outside.{outside}
+use Rattle.rt_tree_walk.proofs.Progress.{IsSettled}
 use Rattle.rt_tree.specs.Rows.{box_of, GainsRow, LosesRow}
 use Rattle.rt_tree.specs.Changes.{IsInsertion, IsRemoval}
 use Rattle.rt_tree.specs.TreeInside.{IsKept}

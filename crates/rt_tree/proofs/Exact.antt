@@ -11,25 +11,25 @@ use Rattle.indexmap.specs.IndexMap.{get as leaf_of}
 use Rattle.rt_box.specs.declared.interval.Interval.{Interval}
 use Rattle.rt_check.specs.declared.node.RawCell.{RawCell}
 use Rattle.rt_check.specs.declared.node.RowEntry.{RowEntry}
-use Rattle.rt_choice.specs.Split.{IsBestCut, first_group, second_group}
-use Rattle.rt_node.specs.declared.arena.Arena.{Arena}
-use Rattle.rt_node.specs.declared.arena.Work.{Work}
-use Rattle.rt_node.specs.declared.cell.Cell.{Cell}
-use Rattle.rt_node.specs.Places.{key_of, rects, picked as picked_at, no_cell as no_cell_at, cells_at, level_at}
-use Rattle.rt_place.specs.Placing.{JoinsLeaf as JoinsAt, HalvesRoot as HalvesAt}
-use Rattle.rt_insert.specs.Insertion.{Inserts}
-use Rattle.rt_remove.specs.Removal.{Removes, LeavesLeaf as LeavesAt}
-use Rattle.rt_remove.specs.Above.{way_up as way_above}
-use Rattle.rt_walk.specs.Search.{times}
-use Rattle.rt_walk.specs.Preorder.{keys_in, tree_keys, number_in}
-use Rattle.rt_walk.specs.Outside.{outside}
-use Rattle.rt_walk.specs.InOrder.{cells_of_number}
-use Rattle.rt_walk.proofs.Totals.{times-cons, times-one}
-use Rattle.rt_walk.proofs.Numbering.{place-here, place-later}
-use Rattle.rt_walk.proofs.Progress.{IsSettled}
-use Rattle.rt_walk.proofs.Listed.{levels-below, listed-once}
-use Rattle.rt_walk.proofs.Judged.{row}
-use Rattle.rt_walk.proofs.Flawless.{numbering}
+use Rattle.rt_tree_choice.specs.Split.{IsBestCut, first_group, second_group}
+use Rattle.rt_tree_node.specs.declared.arena.Arena.{Arena}
+use Rattle.rt_tree_node.specs.declared.arena.Work.{Work}
+use Rattle.rt_tree_node.specs.declared.cell.Cell.{Cell}
+use Rattle.rt_tree_node.specs.Places.{key_of, rects, picked as picked_at, no_cell as no_cell_at, cells_at, level_at}
+use Rattle.rt_tree_place.specs.Placing.{JoinsLeaf as JoinsAt, HalvesRoot as HalvesAt}
+use Rattle.rt_tree_insert.specs.Insertion.{Inserts}
+use Rattle.rt_tree_remove.specs.Removal.{Removes, LeavesLeaf as LeavesAt}
+use Rattle.rt_tree_remove.specs.Above.{way_up as way_above}
+use Rattle.rt_tree_walk.specs.Search.{times}
+use Rattle.rt_tree_walk.specs.Preorder.{keys_in, tree_keys, number_in}
+use Rattle.rt_tree_walk.specs.Outside.{outside}
+use Rattle.rt_tree_walk.specs.InOrder.{cells_of_number}
+use Rattle.rt_tree_walk.proofs.Totals.{times-cons, times-one}
+use Rattle.rt_tree_walk.proofs.Numbering.{place-here, place-later}
+use Rattle.rt_tree_walk.proofs.Progress.{IsSettled}
+use Rattle.rt_tree_walk.proofs.Listed.{levels-below, listed-once}
+use Rattle.rt_tree_walk.proofs.Judged.{row}
+use Rattle.rt_tree_walk.proofs.Flawless.{numbering}
 use Rattle.rt_tree.specs.Lists.{root_level}
 use Rattle.rt_tree.specs.Way.{boxes_in, cell_with, LeadsTo, JoinsLeaf, LeavesLeaf, ChangesLeaf, way_up}
 use Rattle.rt_tree.specs.Changes.{picked, overfull, HalvesRoot, TakesRow, IsInsertion, IsRemoval}

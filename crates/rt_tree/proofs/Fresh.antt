@@ -10,14 +10,14 @@ use Rattle.std.proofs.lemmas.Option.{same_Some, none-some}
 use Rattle.slab.specs.Slab.{Slab, get, Updates}
 use Rattle.indexmap.specs.IndexMap.{get as leaf_of}
 use Rattle.rt_box.specs.Capacity.{IsCapacity, least_fill}
-use Rattle.rt_node.specs.declared.arena.Arena.{Arena}
-use Rattle.rt_node.specs.declared.cell.Cell.{Cell}
-use Rattle.rt_node.specs.declared.cell.Waiting.{Waiting}
-use Rattle.rt_node.specs.Node.{NodeCells}
-use Rattle.rt_node.specs.Places.{cells_of, leaf_cells_of, level_of, parent_of, cells_at, leaf_cells_at, level_at, times_listed, waiting_rows}
-use Rattle.rt_node.specs.Sound.{IsLinked, IsFitted, HasHomes}
-use Rattle.rt_node.specs.Whole.{row_count}
-use Rattle.rt_node.proofs.Sums.{sum_over-updated}
+use Rattle.rt_tree_node.specs.declared.arena.Arena.{Arena}
+use Rattle.rt_tree_node.specs.declared.cell.Cell.{Cell}
+use Rattle.rt_tree_node.specs.declared.cell.Waiting.{Waiting}
+use Rattle.rt_tree_node.specs.Node.{NodeCells}
+use Rattle.rt_tree_node.specs.Places.{cells_of, leaf_cells_of, level_of, parent_of, cells_at, leaf_cells_at, level_at, times_listed, waiting_rows}
+use Rattle.rt_tree_node.specs.Sound.{IsLinked, IsFitted, HasHomes}
+use Rattle.rt_tree_node.specs.Whole.{row_count}
+use Rattle.rt_tree_node.proofs.Sums.{sum_over-updated}
 use Rattle.rt_tree.specs.TreeInside.{IsKept}
 
 pub within-itself : (xs : List ℤ) → AllZip ◌≤ℤ◌ xs xs

@@ -4,17 +4,17 @@ use Rattle.std.specs.Option.{option_map, option_map_or}
 use Rattle.std.proofs.lemmas.Option.{same_Some, none-some, slice_get-map, get_or_from_slice_get}
 use Rattle.rt_box.specs.declared.interval.Interval.{Interval}
 use Rattle.rt_check.specs.declared.node.NodeRow.{NodeRow}
-use Rattle.rt_choice.specs.Subtree.{IsBestChild}
-use Rattle.rt_node.specs.declared.arena.Arena.{Arena}
-use Rattle.rt_node.specs.declared.cell.Cell.{Cell}
-use Rattle.rt_node.specs.Places.{key_of, rects, cells_at, level_at, parent_at}
-use Rattle.rt_node.specs.Path.{LeadsTo as LeadsDown}
-use Rattle.rt_remove.specs.Above.{way_up as way_above}
-use Rattle.rt_walk.specs.Outside.{cell_row, outside}
-use Rattle.rt_walk.specs.InOrder.{cells_of_number}
-use Rattle.rt_walk.proofs.Reaching.{named-by}
-use Rattle.rt_walk.proofs.Progress.{IsSettled, settled-linked}
-use Rattle.rt_walk.proofs.Listed.{levels-below}
+use Rattle.rt_tree_choice.specs.Subtree.{IsBestChild}
+use Rattle.rt_tree_node.specs.declared.arena.Arena.{Arena}
+use Rattle.rt_tree_node.specs.declared.cell.Cell.{Cell}
+use Rattle.rt_tree_node.specs.Places.{key_of, rects, cells_at, level_at, parent_at}
+use Rattle.rt_tree_node.specs.Path.{LeadsTo as LeadsDown}
+use Rattle.rt_tree_remove.specs.Above.{way_up as way_above}
+use Rattle.rt_tree_walk.specs.Outside.{cell_row, outside}
+use Rattle.rt_tree_walk.specs.InOrder.{cells_of_number}
+use Rattle.rt_tree_walk.proofs.Reaching.{named-by}
+use Rattle.rt_tree_walk.proofs.Progress.{IsSettled, settled-linked}
+use Rattle.rt_tree_walk.proofs.Listed.{levels-below}
 use Rattle.rt_tree.specs.Way.{boxes_in, LeadsTo, way_up, parent_of_number}
 use Rattle.rt_tree.proofs.Rows.{intervals-back}
 use Rattle.rt_tree.proofs.Reading.{number, node-read, cells-read}

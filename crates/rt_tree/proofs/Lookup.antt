@@ -7,9 +7,9 @@ use Rattle.std.proofs.lemmas.Bool.{cases_Bool, cases_lt, and_from, true≢false}
 use Rattle.std.proofs.lemmas.Bool.Decides.{Decides-int_eq}
 use Rattle.rt_box.specs.declared.interval.Interval.{Interval}
 use Rattle.rt_check.specs.Shadow.{ShadowLists}
-use Rattle.rt_walk.specs.declared.searching.Row.{Row}
-use Rattle.rt_walk.proofs.Reaching.{counted-contained}
-use Rattle.rt_node.proofs.Counts.{count-some}
+use Rattle.rt_tree_walk.specs.declared.searching.Row.{Row}
+use Rattle.rt_tree_walk.proofs.Reaching.{counted-contained}
+use Rattle.rt_tree_node.proofs.Counts.{count-some}
 use Rattle.rt_tree.specs.Rows.{rows_of, box_of, GainsRow, LosesRow}
 use Rattle.rt_tree.proofs.Members.{find-one, find-nothing}
 

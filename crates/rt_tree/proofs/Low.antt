@@ -10,20 +10,20 @@ use Rattle.std.proofs.lemmas.List.Elements.{All-head, All-tail}
 use Rattle.std.proofs.lemmas.List.Sums.{sum_by-cons, sum_by-append}
 use Rattle.slab.specs.Slab.{get}
 use Rattle.rt_box.specs.Capacity.{least_fill}
-use Rattle.rt_node.specs.declared.arena.Arena.{Arena}
-use Rattle.rt_node.specs.declared.cell.Cell.{Cell}
-use Rattle.rt_node.specs.Node.{NodeCells}
-use Rattle.rt_node.specs.Places.{key_of, cells_at, leaf_cells_of, leaf_cells_at, level_at, parent_at, count_rows}
-use Rattle.rt_node.specs.Sound.{NamesChild}
-use Rattle.rt_node.specs.Whole.{IsBranched, row_count}
-use Rattle.rt_node.proofs.Places.{leaf-at_leaf}
-use Rattle.rt_insert.proofs.Sums.{count-all}
-use Rattle.rt_walk.specs.Search.{times}
-use Rattle.rt_walk.specs.Preorder.{keys_in, tree_keys}
-use Rattle.rt_walk.proofs.Totals.{sum-listed, upto-list}
-use Rattle.rt_walk.proofs.Reaching.{All_contained, leaf-level}
-use Rattle.rt_walk.proofs.Progress.{IsSettled}
-use Rattle.rt_walk.proofs.Listed.{HasNode, listed-there, listed-once, contained-from_times}
+use Rattle.rt_tree_node.specs.declared.arena.Arena.{Arena}
+use Rattle.rt_tree_node.specs.declared.cell.Cell.{Cell}
+use Rattle.rt_tree_node.specs.Node.{NodeCells}
+use Rattle.rt_tree_node.specs.Places.{key_of, cells_at, leaf_cells_of, leaf_cells_at, level_at, parent_at, count_rows}
+use Rattle.rt_tree_node.specs.Sound.{NamesChild}
+use Rattle.rt_tree_node.specs.Whole.{IsBranched, row_count}
+use Rattle.rt_tree_node.proofs.Places.{leaf-at_leaf}
+use Rattle.rt_tree_insert.proofs.Sums.{count-all}
+use Rattle.rt_tree_walk.specs.Search.{times}
+use Rattle.rt_tree_walk.specs.Preorder.{keys_in, tree_keys}
+use Rattle.rt_tree_walk.proofs.Totals.{sum-listed, upto-list}
+use Rattle.rt_tree_walk.proofs.Reaching.{All_contained, leaf-level}
+use Rattle.rt_tree_walk.proofs.Progress.{IsSettled}
+use Rattle.rt_tree_walk.proofs.Listed.{HasNode, listed-there, listed-once, contained-from_times}
 
 module _ {D : ℕ} (t : Arena D) (s : IsSettled t) where
   least : ℕ

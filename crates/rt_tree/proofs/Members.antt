@@ -3,7 +3,7 @@ use Rattle.std.proofs.Common.{◌≡◌, ◌⊎◌, ℕ, zero, suc, ◌≤◌, B
 use Rattle.std.specs.Prelude.{find}
 use Rattle.std.specs.List.{flat_map, count_by}
 use Rattle.std.proofs.lemmas.Bool.{cases_Bool}
-use Rattle.rt_node.proofs.Counts.{count-cons, count-some}
+use Rattle.rt_tree_node.proofs.Counts.{count-cons, count-some}
 
 module _ {X : Type 0} where
   pub contains-here : (x : X) (xs : List X) → Contains (x ∷ xs) x

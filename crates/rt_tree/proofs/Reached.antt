@@ -9,19 +9,19 @@ use Rattle.std.proofs.lemmas.List.{length-map}
 use Rattle.rt_box.specs.declared.interval.Interval.{Interval}
 use Rattle.rt_box.specs.Window.{MayHold}
 use Rattle.rt_check.specs.declared.node.RawCell.{RawCell}
-use Rattle.rt_node.specs.declared.arena.Arena.{Arena}
-use Rattle.rt_node.specs.declared.cell.Cell.{Cell}
-use Rattle.rt_node.specs.Places.{key_of, cells_at, level_at}
-use Rattle.rt_node.specs.Sound.{NamesChild}
-use Rattle.rt_node.proofs.Counts.{count-some}
-use Rattle.rt_walk.specs.declared.searching.Row.{Row}
-use Rattle.rt_walk.specs.Search.{times, IsReached, Finds}
-use Rattle.rt_walk.specs.Outside.{cell_row, outside}
-use Rattle.rt_walk.specs.InOrder.{cells_of_number}
-use Rattle.rt_walk.proofs.Reaching.{All_contained, counted-contained}
-use Rattle.rt_walk.proofs.Judging.{count-mapped}
-use Rattle.rt_walk.proofs.Progress.{IsSettled}
-use Rattle.rt_walk.proofs.Flawless.{numbering}
+use Rattle.rt_tree_node.specs.declared.arena.Arena.{Arena}
+use Rattle.rt_tree_node.specs.declared.cell.Cell.{Cell}
+use Rattle.rt_tree_node.specs.Places.{key_of, cells_at, level_at}
+use Rattle.rt_tree_node.specs.Sound.{NamesChild}
+use Rattle.rt_tree_node.proofs.Counts.{count-some}
+use Rattle.rt_tree_walk.specs.declared.searching.Row.{Row}
+use Rattle.rt_tree_walk.specs.Search.{times, IsReached, Finds}
+use Rattle.rt_tree_walk.specs.Outside.{cell_row, outside}
+use Rattle.rt_tree_walk.specs.InOrder.{cells_of_number}
+use Rattle.rt_tree_walk.proofs.Reaching.{All_contained, counted-contained}
+use Rattle.rt_tree_walk.proofs.Judging.{count-mapped}
+use Rattle.rt_tree_walk.proofs.Progress.{IsSettled}
+use Rattle.rt_tree_walk.proofs.Flawless.{numbering}
 use Rattle.rt_tree.specs.Lists.{level_of_number}
 use Rattle.rt_tree.specs.Rows.{box_in}
 use Rattle.rt_tree.specs.Finding.{IsReachedIn, FindsIn}

@@ -10,15 +10,15 @@ use Rattle.indexmap.specs.IndexMap.{get as leaf_of, keys as ids_of, spare}
 use Rattle.rt_check.specs.declared.node.NodeRow.{NodeRow}
 use Rattle.rt_check.specs.Shadow.{ShadowLists}
 use Rattle.rt_box.specs.Capacity.{least_fill}
-use Rattle.rt_node.specs.declared.arena.Arena.{Arena}
-use Rattle.rt_node.specs.declared.cell.Cell.{Cell}
-use Rattle.rt_node.specs.declared.cell.Waiting.{Waiting}
-use Rattle.rt_node.specs.Node.{NodeCells}
-use Rattle.rt_node.specs.Places.{key_of, cells_at, leaf_cells_of, waiting_rows}
-use Rattle.rt_node.specs.Sound.{IsLinked, IsFitted, HasHomes}
-use Rattle.rt_node.specs.Whole.{IsWhole, HasRoom, row_count}
-use Rattle.rt_walk.specs.Preorder.{keys_in, tree_keys, number_in}
-use Rattle.rt_walk.specs.Outside.{node_row, row_entry, rising, outside}
+use Rattle.rt_tree_node.specs.declared.arena.Arena.{Arena}
+use Rattle.rt_tree_node.specs.declared.cell.Cell.{Cell}
+use Rattle.rt_tree_node.specs.declared.cell.Waiting.{Waiting}
+use Rattle.rt_tree_node.specs.Node.{NodeCells}
+use Rattle.rt_tree_node.specs.Places.{key_of, cells_at, leaf_cells_of, waiting_rows}
+use Rattle.rt_tree_node.specs.Sound.{IsLinked, IsFitted, HasHomes}
+use Rattle.rt_tree_node.specs.Whole.{IsWhole, HasRoom, row_count}
+use Rattle.rt_tree_walk.specs.Preorder.{keys_in, tree_keys, number_in}
+use Rattle.rt_tree_walk.specs.Outside.{node_row, row_entry, rising, outside}
 use Rattle.rt_tree.specs.TreeInside.{IsKept}
 
 module _ {D : ℕ} where

@@ -15,24 +15,24 @@ use Rattle.rt_box.specs.Rect.{los, his}
 use Rattle.rt_check.specs.declared.node.NodeRow.{NodeRow}
 use Rattle.rt_check.specs.declared.node.RawCell.{RawCell}
 use Rattle.rt_check.specs.Conditions.{is_leaf, leaf_cells}
-use Rattle.rt_node.specs.declared.arena.Arena.{Arena}
-use Rattle.rt_node.specs.declared.cell.Cell.{Cell}
-use Rattle.rt_node.specs.Node.{NodeCells}
-use Rattle.rt_node.specs.Places.{times_listed, waiting_rows, leaf_cells_of, leaf_cells_at, cells_at, level_at, count_rows}
-use Rattle.rt_node.proofs.Places.{leaf-at_leaf}
-use Rattle.rt_walk.specs.declared.searching.Row.{Row}
-use Rattle.rt_walk.specs.Search.{times, row_of}
-use Rattle.rt_walk.specs.InOrder.{row_cell}
-use Rattle.rt_walk.specs.Preorder.{tree_keys, number_in}
-use Rattle.rt_walk.specs.Outside.{cell_row, outside}
-use Rattle.rt_walk.proofs.Totals.{sum-listed, upto-list, times-one}
-use Rattle.rt_walk.proofs.Reaching.{leaf-level, counted-contained}
-use Rattle.rt_walk.proofs.Judging.{count-mapped}
-use Rattle.rt_walk.proofs.Progress.{IsSettled}
-use Rattle.rt_walk.proofs.Listed.{listed-contained}
-use Rattle.rt_walk.proofs.Judged.{row, row-cells, row-leaf}
-use Rattle.rt_walk.proofs.Flawless.{numbering}
-use Rattle.rt_walk.proofs.Rows.{outside-rows}
+use Rattle.rt_tree_node.specs.declared.arena.Arena.{Arena}
+use Rattle.rt_tree_node.specs.declared.cell.Cell.{Cell}
+use Rattle.rt_tree_node.specs.Node.{NodeCells}
+use Rattle.rt_tree_node.specs.Places.{times_listed, waiting_rows, leaf_cells_of, leaf_cells_at, cells_at, level_at, count_rows}
+use Rattle.rt_tree_node.proofs.Places.{leaf-at_leaf}
+use Rattle.rt_tree_walk.specs.declared.searching.Row.{Row}
+use Rattle.rt_tree_walk.specs.Search.{times, row_of}
+use Rattle.rt_tree_walk.specs.InOrder.{row_cell}
+use Rattle.rt_tree_walk.specs.Preorder.{tree_keys, number_in}
+use Rattle.rt_tree_walk.specs.Outside.{cell_row, outside}
+use Rattle.rt_tree_walk.proofs.Totals.{sum-listed, upto-list, times-one}
+use Rattle.rt_tree_walk.proofs.Reaching.{leaf-level, counted-contained}
+use Rattle.rt_tree_walk.proofs.Judging.{count-mapped}
+use Rattle.rt_tree_walk.proofs.Progress.{IsSettled}
+use Rattle.rt_tree_walk.proofs.Listed.{listed-contained}
+use Rattle.rt_tree_walk.proofs.Judged.{row, row-cells, row-leaf}
+use Rattle.rt_tree_walk.proofs.Flawless.{numbering}
+use Rattle.rt_tree_walk.proofs.Rows.{outside-rows}
 use Rattle.rt_tree.specs.Rows.{intervals, row_in, rows_of, box_of}
 use Rattle.rt_tree.proofs.Members.{contains-map, contains-flat, find-one, find-nothing}
 

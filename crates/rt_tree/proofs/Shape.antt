@@ -13,18 +13,18 @@ use Rattle.slab.specs.Slab.{get, slab_len}
 use Rattle.indexmap.specs.IndexMap.{get as leaf_of, keys as ids_of, index_map_len}
 use Rattle.rt_check.specs.declared.node.NodeRow.{NodeRow}
 use Rattle.rt_check.specs.Conditions.{node_of}
-use Rattle.rt_node.specs.declared.arena.Arena.{Arena}
-use Rattle.rt_node.specs.Node.{NodeCells}
-use Rattle.rt_node.specs.Places.{level_of}
-use Rattle.rt_walk.specs.Search.{times}
-use Rattle.rt_walk.specs.Preorder.{tree_keys, number_in}
-use Rattle.rt_walk.specs.Outside.{row_entry, rising, inserted, outside}
-use Rattle.rt_walk.proofs.Totals.{sum-listed, upto-list}
-use Rattle.rt_walk.proofs.Reaching.{All_contained}
-use Rattle.rt_walk.proofs.Progress.{IsSettled}
-use Rattle.rt_walk.proofs.Listed.{HasNode, listed-there, listed-once, contained-from_times}
-use Rattle.rt_walk.proofs.Judged.{row, row-level, looked-up}
-use Rattle.rt_walk.proofs.Flawless.{numbering}
+use Rattle.rt_tree_node.specs.declared.arena.Arena.{Arena}
+use Rattle.rt_tree_node.specs.Node.{NodeCells}
+use Rattle.rt_tree_node.specs.Places.{level_of}
+use Rattle.rt_tree_walk.specs.Search.{times}
+use Rattle.rt_tree_walk.specs.Preorder.{tree_keys, number_in}
+use Rattle.rt_tree_walk.specs.Outside.{row_entry, rising, inserted, outside}
+use Rattle.rt_tree_walk.proofs.Totals.{sum-listed, upto-list}
+use Rattle.rt_tree_walk.proofs.Reaching.{All_contained}
+use Rattle.rt_tree_walk.proofs.Progress.{IsSettled}
+use Rattle.rt_tree_walk.proofs.Listed.{HasNode, listed-there, listed-once, contained-from_times}
+use Rattle.rt_tree_walk.proofs.Judged.{row, row-level, looked-up}
+use Rattle.rt_tree_walk.proofs.Flawless.{numbering}
 use Rattle.rt_tree.specs.Lists.{root_level}
 
 -- ---- the row entries

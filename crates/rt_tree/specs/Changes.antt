@@ -6,10 +6,10 @@ use Rattle.rt_box.specs.Capacity.{least_fill, reinsertion_share}
 use Rattle.rt_check.specs.declared.node.RawCell.{RawCell}
 use Rattle.rt_check.specs.Shadow.{ShadowLists}
 use Rattle.rt_check.specs.Conditions.{entry_of}
-use Rattle.rt_choice.specs.declared.split.Cut.{Cut}
-use Rattle.rt_choice.specs.Split.{IsBestCut, first_group, second_group}
-use Rattle.rt_node.specs.declared.arena.Work.{Work}
-use Rattle.rt_walk.specs.InOrder.{cells_of_number}
+use Rattle.rt_tree_choice.specs.declared.split.Cut.{Cut}
+use Rattle.rt_tree_choice.specs.Split.{IsBestCut, first_group, second_group}
+use Rattle.rt_tree_node.specs.declared.arena.Work.{Work}
+use Rattle.rt_tree_walk.specs.InOrder.{cells_of_number}
 use Rattle.rt_tree.specs.Lists.{root_level}
 use Rattle.rt_tree.specs.Way.{boxes_in, cell_with, LeadsTo, JoinsLeaf, LeavesLeaf}
 

@@ -7,7 +7,7 @@ use Rattle.rt_box.specs.Interval.{interval}
 use Rattle.rt_check.specs.declared.node.RawCell.{RawCell}
 use Rattle.rt_check.specs.Shadow.{ShadowLists}
 use Rattle.rt_check.specs.Conditions.{leaf_cells}
-use Rattle.rt_walk.specs.declared.searching.Row.{Row}
+use Rattle.rt_tree_walk.specs.declared.searching.Row.{Row}
 
 -- on each axis the interval from lo to hi
 abbrev pub intervals : List ℤ → List ℤ → List Interval

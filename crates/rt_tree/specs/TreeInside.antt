@@ -1,8 +1,8 @@
 -- How a `Tree` keeps its nodes. No public clause cites this module.
 use Rattle.std.specs.Prelude.{◌≡◌, ℕ, ◌+◌, ◌^◌, ◌≤◌, [], vec_capacity}
 use Rattle.indexmap.specs.IndexMap.{spare, index_map_len}
-use Rattle.rt_node.specs.Whole.{IsWhole, IsBranched, HasRoom, row_count}
-use Rattle.rt_walk.specs.Outside.{outside}
+use Rattle.rt_tree_node.specs.Whole.{IsWhole, IsBranched, HasRoom, row_count}
+use Rattle.rt_tree_walk.specs.Outside.{outside}
 use Rattle.rt_tree.specs.Lists.{TreeLists}
 use Rattle.rt_tree.specs.declared.tree.Tree.TheInside.{Inside}
 

@@ -10,13 +10,13 @@
 //!   each cell has a box, and there are few nodes and few levels.
 //! - `search` lists the rows that a window admits, and counts the nodes that it went into.
 //!
-//! Stands on `rt_node`, `rt_walk`, `rt_insert` and `rt_remove`, and on `rt_check` for the tree from outside.
+//! Stands on `rt_tree_node`, `rt_tree_walk`, `rt_tree_insert` and `rt_tree_remove`, and on `rt_check` for the tree from outside.
 //! Definitions: `specs/Lists.antt` (a tree from outside), `Rows.antt`, `Boxes.antt`, `Changes.antt` (insertion and
 //! removal), `Finding.antt`, `Way.antt`.
 #![tactic(auto)]
 
 mod tree;
 
-pub use rt_node::Work;
-pub use rt_walk::{Found, Row};
+pub use rt_tree_node::Work;
+pub use rt_tree_walk::{Found, Row};
 pub use tree::Tree;

@@ -1,7 +1,7 @@
 //! The shell's program: `rtsh run` runs a script, and `rtsh check` says whether a dump is sound.
 //!
 //! - It reads the command line (`command`), opens the file, and hands over to `rt_shell::run` or
-//!   `rt_report::run_check`, whose contracts say what is written.
+//!   `rt_check_report::run_check`, whose contracts say what is written.
 //! - `fault` has what goes to the error output where a run comes to no end, `terminal` what a person at a terminal
 //!   sees there.
 //! - Exit status: 0 where nothing was refused and no problem found (or help was asked for), 1 where something was,
@@ -18,7 +18,7 @@ use clap::error::ErrorKind;
 use command::{Asked, asked_by, program};
 use fault::{Cause, Fault, Noting};
 use rt_bytes::{ByteReader, ByteWriter, OverRead, OverWrite, RunFault, Status};
-use rt_report::run_check;
+use rt_check_report::run_check;
 use rt_shell::run;
 use std::alloc::{AllocError, Global};
 use std::env;

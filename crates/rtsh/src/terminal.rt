@@ -1,7 +1,7 @@
 //! A person at a terminal: a hint at the start, and a prompt before each line. All of it goes to the error output,
 //! and nothing of it is there unless input, output and error output are all terminals.
 
-use rt_cut::Cutter;
+use rt_sql_cut::Cutter;
 use std::alloc::{AllocError, Global};
 use std::io::{self, IsTerminal, Read};
 

@@ -1,7 +1,7 @@
 use Rattle.std.proofs.Common.{◌≡◌, Ok, List, map, subst}
-use Rattle.rt_statement.specs.declared.value.Value.{Value}
-use Rattle.rt_row.specs.Edits.{Setting, insert, update}
-use Rattle.rt_row.specs.Tables.{edited}
+use Rattle.rt_sql_statement.specs.declared.value.Value.{Value}
+use Rattle.rt_table_row.specs.Edits.{Setting, insert, update}
+use Rattle.rt_table_row.specs.Tables.{edited}
 use Rattle.rt_table.specs.AnyTrees.{FollowsIfTaken}
 use Rattle.rt_table.specs.Watching.{change_of}
 use Rattle.rt_session.specs.declared.edits.Edit.TheVariants.{Insert, Update, Delete}

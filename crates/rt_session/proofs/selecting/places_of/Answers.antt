@@ -1,6 +1,6 @@
 use Rattle.std.proofs.Common.{refl, sym, ◌∙◌}
-use Rattle.rt_row.specs.Columns.{has_name}
-use Rattle.rt_row.proofs.Filters.{absent}
+use Rattle.rt_table_row.specs.Columns.{has_name}
+use Rattle.rt_table_row.proofs.Filters.{absent}
 use Rattle.rt_session.proofs.Columns.{one_fails}
 use Rattle.rt_session.proofs.selecting.places_of.Goals as goal
 

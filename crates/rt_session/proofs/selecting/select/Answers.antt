@@ -1,5 +1,5 @@
 use Rattle.std.proofs.Common.{◌≡◌, ◌∙◌, true, Some, sym, ap, subst, rules}
-use Rattle.rt_row.specs.Columns.{Columns}
+use Rattle.rt_table_row.specs.Columns.{Columns}
 use Rattle.rt_session.specs.Session.{is_by_id}
 use Rattle.rt_session.specs.Selecting.{ArePlaces}
 use Rattle.rt_session.proofs.Columns.{selected_columns}

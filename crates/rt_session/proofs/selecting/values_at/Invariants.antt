@@ -1,5 +1,5 @@
 use Rattle.std.proofs.Common.{◌≡◌, take}
-use Rattle.rt_row.specs.Entries.{listed_values}
+use Rattle.rt_table_row.specs.Entries.{listed_values}
 use Rattle.rt_session.specs.Selecting.{values_at}
 use Rattle.rt_session.proofs.selecting.values_at.Given as goal
 

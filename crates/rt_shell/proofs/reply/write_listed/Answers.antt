@@ -1,7 +1,7 @@
 use Rattle.std.proofs.Common.{List, ℤ, ◌++◌, map, codes, ap, sym}
 use Rattle.std.specs.Fmt.{signed_decimal}
 use Rattle.std.specs.List.{flat_map, join_by}
-use Rattle.rt_statement.specs.declared.value.Value.TheVariants.{Int}
+use Rattle.rt_sql_statement.specs.declared.value.Value.TheVariants.{Int}
 use Rattle.rt_bytes.proofs.Writing.{Writes-both, Writes-first}
 use Rattle.rt_shell.specs.Lines.{value_text}
 use Rattle.rt_shell.proofs.reply.write_listed.Goals as goal

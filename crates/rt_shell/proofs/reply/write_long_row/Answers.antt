@@ -1,7 +1,7 @@
 use Rattle.std.proofs.Common.{codes}
 use Rattle.std.specs.List.{join_by}
 use Rattle.rt_bytes.proofs.Writing.{Writes-after}
-use Rattle.rt_row.specs.Entries.{listed_values}
+use Rattle.rt_table_row.specs.Entries.{listed_values}
 use Rattle.rt_shell.specs.Lines.{value_text}
 use Rattle.rt_shell.proofs.reply.write_long_row.Goals as goal
 

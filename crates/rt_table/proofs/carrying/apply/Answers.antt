@@ -1,7 +1,7 @@
 use Rattle.std.proofs.Common.{◌≡◌, ◌∷◌, ◌++◌, [], map, refl, arith, ◌∙◌}
 use Rattle.std.specs.Vec.Iter.{into_iter_items}
-use Rattle.rt_row.specs.Entries.{step_of}
-use Rattle.rt_store.specs.Moves.{moves, move_of}
+use Rattle.rt_table_row.specs.Entries.{step_of}
+use Rattle.rt_table_store.specs.Moves.{moves, move_of}
 use Rattle.rt_table.proofs.Moving.{follow_both, moves_split}
 use Rattle.rt_table.proofs.carrying.apply.Goals as goal
 

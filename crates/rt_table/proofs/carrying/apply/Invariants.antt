@@ -1,8 +1,8 @@
 use Rattle.std.proofs.Common.{◌≡◌, ◌≤◌, List, ◌++◌, map}
 use Rattle.std.specs.Vec.Iter.{into_iter_items, into_iter_len}
-use Rattle.rt_row.specs.Edits.{outcome}
-use Rattle.rt_row.specs.Entries.{step_of}
-use Rattle.rt_store.specs.Moves.{Move, moves, MayFollow}
+use Rattle.rt_table_row.specs.Edits.{outcome}
+use Rattle.rt_table_row.specs.Entries.{step_of}
+use Rattle.rt_table_store.specs.Moves.{Move, moves, MayFollow}
 use Rattle.rt_table.specs.Preparing.{ApplyInTurn, places_all, notes_all}
 use Rattle.rt_table.proofs.carrying.apply.Given as goal
 

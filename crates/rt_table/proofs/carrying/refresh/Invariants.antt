@@ -3,8 +3,8 @@ use Rattle.std.specs.Prelude.{if◌then◌else◌}
 use Rattle.std.specs.List.{list_any}
 use Rattle.std.specs.Ordering.{int_eq}
 use Rattle.indexmap.specs.IndexSet.{spare}
-use Rattle.rt_row.specs.Rows.{row_at}
-use Rattle.rt_row.specs.Filters.{admits}
+use Rattle.rt_table_row.specs.Rows.{row_at}
+use Rattle.rt_table_row.specs.Filters.{admits}
 use Rattle.rt_table.specs.Watching.{is_picked}
 use Rattle.rt_table.proofs.carrying.refresh.Given as goal
 

@@ -2,8 +2,8 @@ use Rattle.std.proofs.Common.{arith, sym, ap, ◌∙◌}
 use Rattle.std.specs.Ordering.{int_cmp}
 use Rattle.std.specs.Option.{unwrap_or}
 use Rattle.std.specs.BTreeMap.{get}
-use Rattle.rt_row.specs.Rows.{row_at}
-use Rattle.rt_row.specs.Entries.{step_of}
+use Rattle.rt_table_row.specs.Rows.{row_at}
+use Rattle.rt_table_row.specs.Entries.{step_of}
 use Rattle.rt_table.specs.Fates.{fate_of}
 use Rattle.rt_table.proofs.Noting.{after_noted, outcome_more}
 use Rattle.rt_table.proofs.preparing.fates.Goals as goal

@@ -2,9 +2,9 @@ use Rattle.std.proofs.Common.{◌≡◌, ℤ, List, map, take}
 use Rattle.std.specs.Ordering.{int_cmp}
 use Rattle.std.specs.Option.{unwrap_or}
 use Rattle.std.specs.BTreeMap.{get}
-use Rattle.rt_row.specs.Rows.{TableRow, row_at}
-use Rattle.rt_row.specs.Edits.{outcome}
-use Rattle.rt_row.specs.Entries.{step_of}
+use Rattle.rt_table_row.specs.Rows.{TableRow, row_at}
+use Rattle.rt_table_row.specs.Edits.{outcome}
+use Rattle.rt_table_row.specs.Entries.{step_of}
 use Rattle.rt_table.specs.Fates.{fate_of}
 use Rattle.rt_table.proofs.preparing.fates.Given as goal
 

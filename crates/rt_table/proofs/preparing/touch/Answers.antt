@@ -3,9 +3,9 @@ use Rattle.std.specs.Prelude.{is_some}
 use Rattle.std.specs.Borrow.{Bor}
 use Rattle.std.specs.Ordering.{int_cmp}
 use Rattle.std.specs.BTreeMap.{get}
-use Rattle.rt_row.specs.declared.entry.Entry.{Entry}
-use Rattle.rt_row.specs.Edits.{outcome}
-use Rattle.rt_row.specs.Entries.{step_of}
+use Rattle.rt_table_row.specs.declared.entry.Entry.{Entry}
+use Rattle.rt_table_row.specs.Edits.{outcome}
+use Rattle.rt_table_row.specs.Entries.{step_of}
 use Rattle.rt_table.specs.Fates.{fate_of, rows_after}
 use Rattle.rt_table.specs.Preparing.{DifferAt}
 use Rattle.rt_table.proofs.Noting.{differ_known, rising_outcome}

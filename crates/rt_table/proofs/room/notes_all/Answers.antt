@@ -1,5 +1,5 @@
 use Rattle.std.proofs.Common.{arith}
-use Rattle.rt_row.specs.Entries.{step_of}
+use Rattle.rt_table_row.specs.Entries.{step_of}
 use Rattle.rt_table.proofs.Counting.{notes_few, notes_more}
 use Rattle.rt_table.proofs.room.notes_all.Goals as goal
 

@@ -1,5 +1,5 @@
 use Rattle.std.proofs.Common.{◌≡◌, ◌≤◌, map, take}
-use Rattle.rt_row.specs.Entries.{step_of}
+use Rattle.rt_table_row.specs.Entries.{step_of}
 use Rattle.rt_table.specs.Preparing.{notes_all}
 use Rattle.rt_table.proofs.room.notes_all.Given as goal
 

@@ -1,7 +1,7 @@
 use Rattle.std.proofs.Common.{ap, map, arith, lit<, ◌∙◌}
-use Rattle.rt_row.specs.Rows.{values_of}
-use Rattle.rt_row.specs.Filters.{admits}
-use Rattle.rt_store.proofs.Standing.{found_up, all_found}
+use Rattle.rt_table_row.specs.Rows.{values_of}
+use Rattle.rt_table_row.specs.Filters.{admits}
+use Rattle.rt_table_store.proofs.Standing.{found_up, all_found}
 use Rattle.rt_table.proofs.watched.pick.Goals as goal
 
 pub rows_found-requires : goal.rows_found-requires

@@ -1,6 +1,6 @@
 use Rattle.std.proofs.Common.{◌≡◌, map, take}
 use Rattle.std.specs.List.{filter_map}
-use Rattle.rt_row.specs.Rows.{row_at, values_of}
+use Rattle.rt_table_row.specs.Rows.{row_at, values_of}
 use Rattle.rt_table.proofs.watched.rows_at.Given as goal
 
 abbrev pub invariant-loop-id : goal.invariant-loop-id

@@ -1,9 +1,9 @@
 use Rattle.std.proofs.Common.{arith, refl, lit<, ◌∙◌, ◌≡◌, Some}
 use Rattle.std.specs.Option.{option_map}
-use Rattle.rt_walk.specs.declared.searching.Row.{Row}
-use Rattle.rt_store.specs.Trees.{leaf_row}
-use Rattle.rt_row.specs.Entries.{view_row}
-use Rattle.rt_row.specs.Rows.{row_at}
+use Rattle.rt_tree_walk.specs.declared.searching.Row.{Row}
+use Rattle.rt_table_store.specs.Trees.{leaf_row}
+use Rattle.rt_table_row.specs.Entries.{view_row}
+use Rattle.rt_table_row.specs.Rows.{row_at}
 use Rattle.rt_table.proofs.Picking.{found_more}
 use Rattle.rt_table.proofs.watched.rows_found.Goals as goal
 

@@ -1,6 +1,6 @@
 use Rattle.std.proofs.Common.{map, ap, ◌∙◌}
-use Rattle.rt_row.specs.Rows.{values_of}
-use Rattle.rt_row.specs.Filters.{admits}
+use Rattle.rt_table_row.specs.Rows.{values_of}
+use Rattle.rt_table_row.specs.Filters.{admits}
 use Rattle.rt_table.proofs.Showing.{kept_looked}
 use Rattle.rt_table.proofs.watched.rows_of.Goals as goal
 

@@ -1,9 +1,9 @@
 use Rattle.std.proofs.Common.{List, sym, ap, subst, ◌∙◌}
 use Rattle.std.specs.List.{list_any}
 use Rattle.std.specs.Ordering.{int_eq}
-use Rattle.rt_statement.specs.declared.statement.Test.{Test}
-use Rattle.rt_row.specs.Filters.{admits, IsFilterOf}
-use Rattle.rt_row.specs.Views.{View}
+use Rattle.rt_sql_statement.specs.declared.statement.Test.{Test}
+use Rattle.rt_table_row.specs.Filters.{admits, IsFilterOf}
+use Rattle.rt_table_row.specs.Views.{View}
 use Rattle.rt_table.proofs.Picking.{kept_ids}
 use Rattle.rt_table.proofs.watched.watch.Goals as goal
 

@@ -1,7 +1,7 @@
 use Rattle.std.proofs.Common.{◌≡◌, ◌∙◌, true, false, Ok, ap, sym, refl, length}
 use Rattle.std.specs.Prelude.{is_some, nat_le}
 use Rattle.std.proofs.lemmas.Result.{err_from_is_err_and}
-use Rattle.rt_row.specs.Columns.{columns_of}
+use Rattle.rt_table_row.specs.Columns.{columns_of}
 use Rattle.rt_session.specs.Session.{table_of, is_named}
 use Rattle.rt_session.proofs.Outcomes.{some_found, many_tables, made, names_more, ok_columns, err_columns, few, many, created_new}
 use Rattle.rt_session.proofs.session.Session.create.Goals as goal

@@ -1,6 +1,6 @@
 use Rattle.std.proofs.Common.{◌≡◌, ◌∙◌, true, false, Some, None, ap, sym, refl, length}
 use Rattle.std.proofs.lemmas.List.Quantifiers.{position-Some}
-use Rattle.rt_statement.specs.Name.{same_name}
+use Rattle.rt_sql_statement.specs.Name.{same_name}
 use Rattle.rt_session.specs.declared.tables.Named.{Named}
 use Rattle.rt_session.specs.Session.{table_of, is_named, is_watched}
 use Rattle.rt_session.specs.SessionInside.{named_of}

@@ -1,5 +1,5 @@
 use Rattle.std.proofs.Common.{◌≡◌, Some, None, refl}
-use Rattle.rt_statement.specs.Name.{same_name}
+use Rattle.rt_sql_statement.specs.Name.{same_name}
 use Rattle.rt_session.specs.declared.tables.Named.{Named}
 use Rattle.rt_session.specs.Session.{table_of, is_named}
 use Rattle.rt_session.specs.SessionInside.{named_of}

@@ -1,6 +1,6 @@
 use Rattle.std.proofs.Common.{◌≡◌, Some, None, refl}
 use Rattle.std.proofs.lemmas.Result.{err_from_is_err_and}
-use Rattle.rt_statement.specs.Name.{same_name}
+use Rattle.rt_sql_statement.specs.Name.{same_name}
 use Rattle.rt_session.specs.declared.tables.Named.{Named}
 use Rattle.rt_session.specs.Session.{table_of, is_named}
 use Rattle.rt_session.specs.SessionInside.{named_of}

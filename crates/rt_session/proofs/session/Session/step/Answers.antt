@@ -1,5 +1,5 @@
 use Rattle.std.proofs.Common.{refl}
-use Rattle.rt_statement.specs.declared.statement.Stmt.TheVariants.{Create, Drop, Insert, Update, Delete, Select, Check, Watch, Unwatch, View, Nodes}
+use Rattle.rt_sql_statement.specs.declared.statement.Stmt.TheVariants.{Create, Drop, Insert, Update, Delete, Select, Check, Watch, Unwatch, View, Nodes}
 use Rattle.rt_session.specs.declared.edits.Edit.{Edit}
 use Rattle.rt_session.specs.declared.edits.Edit.TheVariants.{Insert as Inserting, Update as Updating, Delete as Deleting}
 use Rattle.rt_session.specs.Session.{MayChooseFor, created, dropped, carried_out, on_table, table_of, now_watched, on_watched, watched_by, now_unwatched, viewed, selected, checked, dumped}

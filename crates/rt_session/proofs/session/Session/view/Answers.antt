@@ -1,6 +1,6 @@
 use Rattle.std.proofs.Common.{◌≡◌, Some, None, refl}
 use Rattle.std.proofs.lemmas.Result.{err_from_is_err_and}
-use Rattle.rt_row.specs.Tables.{has_view, view}
+use Rattle.rt_table_row.specs.Tables.{has_view, view}
 use Rattle.rt_session.specs.declared.tables.Named.{Named}
 use Rattle.rt_session.specs.Session.{watched_by}
 use Rattle.rt_session.specs.SessionInside.{named_of}

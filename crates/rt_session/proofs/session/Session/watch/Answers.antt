@@ -2,8 +2,8 @@ use Rattle.std.proofs.Common.{◌≡◌, ◌∙◌, true, false, Some, None, ap,
 use Rattle.std.specs.Prelude.{is_some, nat_le}
 use Rattle.std.proofs.lemmas.Result.{err_from_is_err_and}
 use Rattle.std.proofs.lemmas.List.Quantifiers.{position-Some}
-use Rattle.rt_statement.specs.Name.{same_name}
-use Rattle.rt_row.specs.Tables.{has_view, watch}
+use Rattle.rt_sql_statement.specs.Name.{same_name}
+use Rattle.rt_table_row.specs.Tables.{has_view, watch}
 use Rattle.rt_session.specs.declared.tables.Named.{Named}
 use Rattle.rt_session.specs.Session.{table_of, is_named, watched_by, count_views}
 use Rattle.rt_session.specs.SessionInside.{named_of}

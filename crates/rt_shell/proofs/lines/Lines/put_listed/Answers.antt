@@ -1,7 +1,7 @@
 use Rattle.std.proofs.Common.{rules, FitsSigned, w64, to_z-of_z, ◌≡◌, List, ℤ, ℕ, ◌++◌, map, codes, ap, sym, ◌∙◌}
 use Rattle.std.specs.Fmt.{signed_decimal}
 use Rattle.std.specs.List.{flat_map, join_by}
-use Rattle.rt_statement.specs.declared.value.Value.TheVariants.{Int}
+use Rattle.rt_sql_statement.specs.declared.value.Value.TheVariants.{Int}
 use Rattle.rt_shell.specs.Lines.{value_text}
 use Rattle.rt_shell.proofs.Listed.{listed-put}
 use Rattle.rt_shell.proofs.lines.Lines.put_listed.Goals as goal

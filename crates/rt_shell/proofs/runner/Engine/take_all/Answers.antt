@@ -3,7 +3,7 @@ use Rattle.std.specs.Prelude.{IsNone}
 use Rattle.std.proofs.lemmas.List.{length-take-le}
 use Rattle.std.proofs.lemmas.Bool.Decides.{nat_tests}
 use Rattle.std.proofs.lemmas.Result.{err_from_is_err_and}
-use Rattle.rt_cut.specs.Cutter.{ready_piece}
+use Rattle.rt_sql_cut.specs.Cutter.{ready_piece}
 use Rattle.rt_shell.proofs.Taking.{parts, taking_starts, taking_on, taking_stops, taking_fails}
 use Rattle.rt_shell.proofs.runner.Engine.take_all.Goals as goal
 

@@ -1,10 +1,10 @@
 use Rattle.std.proofs.Common.{◌≢◌, [], ◌≤◌, length, map, lit<, sym, subst}
 use Rattle.std.specs.List.{All}
 use Rattle.indexmap.specs.IndexSet.{spare}
-use Rattle.rt_row.specs.Edits.{outcome}
-use Rattle.rt_row.specs.Entries.{step_of}
-use Rattle.rt_store.specs.Trees.{IsTreeOf}
-use Rattle.rt_store.specs.Moves.{FollowsSteps}
+use Rattle.rt_table_row.specs.Edits.{outcome}
+use Rattle.rt_table_row.specs.Entries.{step_of}
+use Rattle.rt_table_store.specs.Trees.{IsTreeOf}
+use Rattle.rt_table_store.specs.Moves.{FollowsSteps}
 use Rattle.rt_table.specs.declared.watched.Watched.{Watched}
 use Rattle.rt_table.specs.Held.{Held}
 use Rattle.rt_table.specs.Preparing.{DifferAt}

@@ -1,5 +1,5 @@
 use Rattle.std.proofs.Common.{IfOk, subst}
-use Rattle.rt_row.specs.Edits.{insert}
+use Rattle.rt_table_row.specs.Edits.{insert}
 use Rattle.rt_table.specs.Held.{Held}
 use Rattle.rt_table.specs.Preparing.{ApplyInTurn}
 use Rattle.rt_table.proofs.Applying.{steps_apply, planned}

@@ -3,7 +3,7 @@ use Rattle.std.specs.List.{All}
 use Rattle.std.proofs.lemmas.List.Elements.{All-weaker}
 use Rattle.rt_table.specs.declared.watched.Watched.{Watched}
 use Rattle.indexmap.specs.IndexSet.{spare}
-use Rattle.rt_row.specs.Entries.{step_of}
+use Rattle.rt_table_row.specs.Entries.{step_of}
 use Rattle.rt_table.specs.Held.{Held}
 use Rattle.rt_table.specs.Preparing.{ApplyInTurn}
 use Rattle.rt_table.proofs.Readying.{ready}

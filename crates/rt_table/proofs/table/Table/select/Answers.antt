@@ -1,6 +1,6 @@
 use Rattle.std.proofs.Common.{ℕ, sym, subst}
-use Rattle.rt_row.specs.Windows.{IsWindowAt}
-use Rattle.rt_row.proofs.Windows.{window-of}
+use Rattle.rt_table_row.specs.Windows.{IsWindowAt}
+use Rattle.rt_table_row.proofs.Windows.{window-of}
 use Rattle.rt_table.specs.TableInside.{held}
 use Rattle.rt_table.proofs.Viewing.{selected}
 use Rattle.rt_table.proofs.table.Table.select.Goals as goal

@@ -1,7 +1,7 @@
 use Rattle.std.proofs.Common.{◌≡◌, sym, subst, inl, refl, Some, None}
 use Rattle.std.specs.Prelude.{position}
 use Rattle.std.proofs.lemmas.List.Quantifiers.{position-Some}
-use Rattle.rt_row.specs.Tables.{is_view}
+use Rattle.rt_table_row.specs.Tables.{is_view}
 use Rattle.rt_table.specs.declared.watched.Watched.{Watched}
 use Rattle.rt_table.specs.TableInside.{held}
 use Rattle.rt_table.specs.Watching.{view_of, IsKept}

@@ -2,10 +2,10 @@ use Rattle.std.proofs.Common.{◌≡◌, ◌<◌, ◌≤◌, length, List, get_o
 use Rattle.std.specs.Ordering.{int_eq}
 use Rattle.slab.specs.Slab.{ContainsKey}
 use Rattle.indexmap.specs.IndexMap.{get as leaf_of}
-use Rattle.rt_node.specs.declared.cell.Cell.{Cell}
-use Rattle.rt_node.specs.Places.{times_listed, cells_of, cells_at}
-use Rattle.rt_remove.proofs.Climbs.{key-there}
-use Rattle.rt_remove.proofs.Taken.{row-listed, listed-place}
+use Rattle.rt_tree_node.specs.declared.cell.Cell.{Cell}
+use Rattle.rt_tree_node.specs.Places.{times_listed, cells_of, cells_at}
+use Rattle.rt_tree_remove.proofs.Climbs.{key-there}
+use Rattle.rt_tree_remove.proofs.Taken.{row-listed, listed-place}
 use Rattle.rt_tree.specs.Lists.{TreeLists}
 use Rattle.rt_tree.specs.Rows.{box_of}
 use Rattle.rt_tree.proofs.Kept.{settled}

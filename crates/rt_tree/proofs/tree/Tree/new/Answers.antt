@@ -1,6 +1,6 @@
 use Rattle.std.proofs.Common.{◌≤◌, ◌^◌, vec_capacity, arith, refl, Some, subst}
 use Rattle.slab.specs.Slab.{Updates}
-use Rattle.rt_node.specs.Node.{NodeCells}
+use Rattle.rt_tree_node.specs.Node.{NodeCells}
 use Rattle.rt_tree.proofs.Fresh.{fresh-kept}
 use Rattle.rt_tree.proofs.tree.Tree.new.Goals as goal
 

@@ -2,8 +2,8 @@ use Rattle.std.proofs.Common.{◌+◌, ◌-◌, ◌*◌, ◌≤◌, ◌^◌, IsS
 use Rattle.std.specs.Ordering.{int_eq}
 use Rattle.indexmap.specs.IndexMap.{get as leaf_of}
 use Rattle.rt_box.specs.Capacity.{least_fill}
-use Rattle.rt_node.specs.Whole.{IsWhole, IsBranched, HasRoom, row_count}
-use Rattle.rt_walk.specs.Outside.{outside}
+use Rattle.rt_tree_node.specs.Whole.{IsWhole, IsBranched, HasRoom, row_count}
+use Rattle.rt_tree_walk.specs.Outside.{outside}
 use Rattle.rt_tree.specs.Lists.{TreeLists}
 use Rattle.rt_tree.specs.Rows.{box_of, LosesRow}
 use Rattle.rt_tree.specs.Changes.{IsRemoval}

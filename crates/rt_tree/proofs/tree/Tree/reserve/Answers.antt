@@ -2,8 +2,8 @@ use Rattle.std.proofs.Common.{◌+◌, ◌-◌, ◌≤◌, length, arith, ap, �
 use Rattle.std.proofs.Math.Nat.{mul-le-mul_left}
 use Rattle.rt_box.specs.Capacity.{least_fill}
 use Rattle.indexmap.specs.IndexMap.{spare}
-use Rattle.rt_node.specs.declared.arena.Arena.{Arena}
-use Rattle.rt_node.specs.Whole.{HasRoom, row_count}
+use Rattle.rt_tree_node.specs.declared.arena.Arena.{Arena}
+use Rattle.rt_tree_node.specs.Whole.{HasRoom, row_count}
 use Rattle.rt_tree.specs.Lists.{TreeLists}
 use Rattle.rt_tree.proofs.Roomier.{outside-same, roomier-kept, grown-room}
 use Rattle.rt_tree.proofs.Changed.{rows-are}

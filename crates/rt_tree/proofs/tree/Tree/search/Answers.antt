@@ -1,7 +1,7 @@
 use Rattle.std.proofs.Common.{subst}
 use Rattle.std.proofs.lemmas.Result.{IfOk-weaker}
-use Rattle.rt_walk.specs.declared.searching.Found.{Found}
-use Rattle.rt_walk.specs.Search.{Finds}
+use Rattle.rt_tree_walk.specs.declared.searching.Found.{Found}
+use Rattle.rt_tree_walk.specs.Search.{Finds}
 use Rattle.rt_tree.specs.Lists.{TreeLists}
 use Rattle.rt_tree.specs.Finding.{FindsIn}
 use Rattle.rt_tree.proofs.Kept.{settled}

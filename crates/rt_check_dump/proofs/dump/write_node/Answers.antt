@@ -1,0 +1,9 @@
+use Rattle.std.proofs.Common.{refl}
+use Rattle.rt_bytes.proofs.Writing.{Writes-both, Writes-first}
+use Rattle.rt_check_dump.proofs.dump.write_node.Goals as goal
+
+pub returns-in_err-write_node_line : goal.returns-in_err-write_node_line
+returns-in_err-write_node_line g c = Writes-first _ _ _ _ _ _ _ _ refl c.from_residual.ensures.0 c.in_err-write_node_line.ensures
+
+pub returns : goal.returns
+returns g c = Writes-both _ _ _ _ _ _ _ _ _ _ refl c.in_ok-write_node_line.ensures c.write_cells.ensures

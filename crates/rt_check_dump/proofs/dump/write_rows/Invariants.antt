@@ -1,0 +1,11 @@
+use Rattle.std.proofs.Common.{take}
+use Rattle.std.specs.List.{flat_map}
+use Rattle.rt_bytes.specs.Bytes.{WritesAll}
+use Rattle.rt_check_dump.specs.Dump.{row_line}
+use Rattle.rt_check_dump.proofs.dump.write_rows.Given as goal
+
+-- what stands before this one is written
+abbrev pub invariant-loop-row : goal.invariant-loop-row
+invariant-loop-row g l = WritesAll (g.W.ByteWriter.written l.initial.writer) (g.W.ByteWriter.written l.writer)
+    (g.W.ByteWriter.faults l.initial.writer) (g.W.ByteWriter.faults l.writer)
+    (flat_map row_line (take l.row-index l.shadow.rows))

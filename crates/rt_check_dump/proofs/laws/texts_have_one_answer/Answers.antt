@@ -1,0 +1,5 @@
+use Rattle.rt_check_dump.proofs.FaultyText.{dump-or-faulty, one-answer}
+use Rattle.rt_check_dump.proofs.laws.texts_have_one_answer.Goals as goal
+
+pub returns : goal.returns
+returns c = record { some = dump-or-faulty; one = one-answer }

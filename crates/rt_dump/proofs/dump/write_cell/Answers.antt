@@ -1,9 +1,0 @@
-use Rattle.std.proofs.Common.{refl}
-use Rattle.rt_bytes.proofs.Writing.{Writes-both, Writes-first}
-use Rattle.rt_dump.proofs.dump.write_cell.Goals as goal
-
-pub returns-in_err-write_cell_start : goal.returns-in_err-write_cell_start
-returns-in_err-write_cell_start g c = Writes-first _ _ _ _ _ _ _ _ refl c.from_residual.ensures.0 c.in_err-write_cell_start.ensures
-
-pub returns : goal.returns
-returns g c = Writes-both _ _ _ _ _ _ _ _ _ _ refl c.in_ok-write_cell_start.ensures c.write_cell_end.ensures

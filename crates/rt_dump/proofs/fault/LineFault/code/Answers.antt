@@ -1,5 +1,0 @@
-use Rattle.std.proofs.Common.{rules}
-use Rattle.rt_dump.proofs.fault.LineFault.code.Goals as goal
-
-pub returns-in-CountWrong : goal.returns-in-CountWrong
-returns-in-CountWrong c = search rules

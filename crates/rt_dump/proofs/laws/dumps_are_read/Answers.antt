@@ -1,5 +1,0 @@
-use Rattle.rt_dump.proofs.FaultyText.{dumps-read}
-use Rattle.rt_dump.proofs.laws.dumps_are_read.Goals as goal
-
-pub returns : goal.returns
-returns c = dumps-read

@@ -1,5 +1,0 @@
-use Rattle.rt_dump.proofs.AcceptedText.{text-accepted}
-use Rattle.rt_dump.proofs.laws.read_is_written.Goals as goal
-
-pub returns : goal.returns
-returns c = text-accepted

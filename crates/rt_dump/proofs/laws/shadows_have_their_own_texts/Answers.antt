@@ -1,6 +1,0 @@
-use Rattle.rt_dump.proofs.WrittenText.{texts-apart}
-use Rattle.rt_dump.proofs.laws.shadows_have_their_own_texts.Goals as goal
-
-pub returns : goal.returns
-returns c =
-    texts-apart c.args.a.now c.args.b.now c.look_at.ensures c.requires.first c.look_at-2.ensures c.requires.second

@@ -1,5 +1,0 @@
-use Rattle.rt_dump.proofs.FaultyText.{dump-or-faulty, one-answer}
-use Rattle.rt_dump.proofs.laws.texts_have_one_answer.Goals as goal
-
-pub returns : goal.returns
-returns c = record { some = dump-or-faulty; one = one-answer }

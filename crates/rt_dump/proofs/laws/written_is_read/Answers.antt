@@ -1,5 +1,0 @@
-use Rattle.rt_dump.proofs.WrittenText.{written-read}
-use Rattle.rt_dump.proofs.laws.written_is_read.Goals as goal
-
-pub returns : goal.returns
-returns c = written-read c.args.shadow.now c.look_at.ensures c.requires

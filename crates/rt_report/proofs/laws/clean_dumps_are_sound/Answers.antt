@@ -1,5 +1,0 @@
-use Rattle.rt_report.proofs.Soundness.{clean-sound}
-use Rattle.rt_report.proofs.laws.clean_dumps_are_sound.Goals as goal
-
-pub returns : goal.returns
-returns c = clean-sound

@@ -1,8 +1,0 @@
-//! Whole scripts and dumps, run over memory, whose readers and writers fail, and shadows whose memory is refused.
-//! Scripts and dumps that meet no fault stand as files beside `rt_cases`.
-#![tactic(auto)]
-
-#[cfg(test)]
-mod faults;
-#[cfg(test)]
-mod growth;

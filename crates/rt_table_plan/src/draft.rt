@@ -1,0 +1,137 @@
+//! A plan while it is made.
+
+ghost use Rattle.std.specs.Prelude.{◌≡◌, ◌≤◌, ◌∷◌, ◌++◌, ℤ, Bool, Option, [], None, map, IfOk, OnOk};
+ghost use Rattle.std.specs.Ordering.{int_eq};
+ghost use Rattle.indexmap.specs.IndexMap.{get};
+ghost use Rattle.rt_table_row.specs.Edits.{row_of as row_from};
+ghost use Rattle.rt_table_row.specs.Entries.{row_of, step_of, candidate_as};
+ghost use Rattle.rt_table_plan.specs.Drafts.{is_there, touched_by, known, known_of};
+
+use indexmap::IndexMap;
+use rt_table_row::{Candidate, Entry, Step};
+use rt_table_store::Store;
+use std::alloc::{AllocError, Global};
+use std::hash::RandomState;
+
+/// The ids that the steps before the last one touched, and whether a row has each of them after those steps.
+type Touched = IndexMap<i64, bool, RandomState>;
+
+/// The id that the last step left without a row, and the one that it gave a row. They go to the other ids that were
+/// touched where another step follows, so that a single step is planned without a map.
+#[derive(Clone, Copy)]
+pub(crate) struct Latest {
+    left: Option<i64>,
+    came: Option<i64>,
+}
+
+impl Latest {
+    fn new(left: Option<i64>, came: Option<i64>) -> Latest
+        ensures left { result.left ≡ left }
+        ensures came { result.came ≡ came }
+    {
+        Latest { left, came }
+    }
+
+    /// What a step touches.
+    fn of<const D: usize>(step: &Step<D>) -> Latest
+        ensures { (before : ℤ → Option Bool) (id : ℤ) → known before result id ≡ touched_by before (step_of step.now) id }
+    {
+        match step {
+            Step::Leaves(id) => Latest::new(Some(*id), None),
+            Step::Comes(row) => Latest::new(None, Some(row.id)),
+            Step::Becomes(id, row) => Latest::new(Some(*id), Some(row.id)),
+        }
+    }
+}
+
+/// What the steps so far left of the id, where they touched it.
+fn known(touched: &Touched, latest: &Latest, id: &i64) -> Option<bool>
+    ensures { result ≡ known (get int_eq touched.now) latest.now id.now }
+{
+    if latest.came == Some(*id) {
+        return Some(true);
+    }
+    if latest.left == Some(*id) {
+        return Some(false);
+    }
+    touched.get(id).copied()
+}
+
+/// Whether a row has the id after the steps so far: the ids that they touched are looked at before the store.
+fn is_there<const D: usize>(store: &Store<D>, draft: &Draft<D>, id: &i64) -> bool
+    ensures { result ≡ is_there store.now.rows (known_of draft.now) id.now }
+{
+    // The contract of `len` says that there are three axes at most.
+    let _ = store.len();
+    match known(&draft.touched, &draft.latest, id) {
+        Some(there) => there,
+        None => store.find(id).is_some(),
+    }
+}
+
+/// Notes what the last step did to its ids.
+fn note(touched: &mut Touched, latest: &Latest) -> Result<(), AllocError>
+    ensures { OnOk result ((id : ℤ) → get int_eq touched.new id ≡ known (get int_eq touched.old) latest.now id) }
+{
+    if let Some(id) = latest.left {
+        touched.insert(id, false)?;
+    }
+    if let Some(id) = latest.came {
+        touched.insert(id, true)?;
+    }
+    Ok(())
+}
+
+/// The steps so far. The rows aren't copied: what the steps left of the ids is enough to plan the next one.
+#[derive(Drop)]
+pub(crate) struct Draft<const D: usize> {
+    pub(crate) steps: Vec<Step<D>>,
+    pub(crate) touched: Touched,
+    pub(crate) latest: Latest,
+}
+
+impl<const D: usize> Draft<D> {
+    /// No steps.
+    pub(crate) fn new(alloc: Global, keys: RandomState) -> Draft<D>
+        requires { D ≤ 3 }
+        ensures steps { result.steps.items ≡ [] }
+        ensures known { (id : ℤ) → known_of result id ≡ None }
+    {
+        Draft {
+            steps: Vec::new(alloc),
+            touched: IndexMap::with_hasher(alloc, keys),
+            latest: Latest::new(None, None),
+        }
+    }
+
+    /// Whether a row has the id after the steps.
+    pub(crate) fn has(&self, store: &Store<D>, id: &i64) -> bool
+        ensures { result ≡ is_there store.now.rows (known_of self.now) id.now }
+    {
+        is_there(store, self, id)
+    }
+
+    /// Adds a step.
+    pub(crate) fn add(&mut self, step: Step<D>) -> Result<(), AllocError>
+        requires { D ≤ 3 }
+        ensures steps { OnOk result (map step_of self.new.steps.items ≡ map step_of self.old.steps.items ++ step_of step.entry ∷ []) }
+        ensures known { OnOk result ((id : ℤ) → known_of self.new id ≡ touched_by (known_of self.old) (step_of step.entry) id) }
+    {
+        note(&mut self.touched, &self.latest)?;
+        self.latest = Latest::of(&step);
+        self.steps.push(step)?;
+        Ok(())
+    }
+}
+
+/// The row of that id that the candidate becomes.
+pub(crate) fn entry_of<const D: usize>(id: &i64, candidate: Candidate<D>) -> Entry<D>
+    requires { D ≤ 3 }
+    ensures { row_of result ≡ row_from id.now (candidate_as candidate.entry) }
+{
+    Entry {
+        id: *id,
+        rect: candidate.rect,
+        more: candidate.more,
+    }
+}

@@ -1,0 +1,109 @@
+//! What an UPDATE does.
+
+ghost use Rattle.std.specs.Prelude.{◌≡◌, ◌≤◌, ◌+◌, ◌*◌, All, length, map, List};
+ghost use Rattle.std.specs.List.{filter_map};
+ghost use Rattle.rt_table_row.specs.Answers.{GivesAs};
+ghost use Rattle.rt_table_row.specs.Rows.{TableRow};
+ghost use Rattle.rt_table_row.specs.Edits.{become_candidate, update};
+ghost use Rattle.rt_table_row.specs.Entries.{view_row, step_of, candidate_as};
+ghost use Rattle.rt_table_store.specs.Picking.{Stands};
+ghost use Rattle.rt_table_plan.specs.Drafts.{Knows, known_of, one_step, row_of, row_set, all_set};
+ghost use Rattle.rt_table_plan.specs.Plans.{Plans};
+
+use crate::draft::{Draft, entry_of};
+use crate::plan::Plan;
+use rt_sql_statement::{Cond, Name, Refusal, Source};
+use rt_table_row::{Candidate, Filter, RowView, Schema, Settings, Step};
+use rt_table_store::Store;
+use rt_tree::Row;
+use std::alloc::Global;
+use std::hash::RandomState;
+
+/// The row of the old id becomes the candidate, unless another row has its id now.
+fn becoming<const D: usize>(
+    store: &Store<D>,
+    draft: &Draft<D>,
+    old: &i64,
+    candidate: Candidate<D>,
+) -> Result<Step<D>, Refusal>
+    requires { D ≤ 3 }
+    ensures { (now : List TableRow) → Knows store.now.rows (known_of draft.now) now
+        → GivesAs one_step (become_candidate now old.now (candidate_as candidate.entry) candidate.entry.id) result }
+{
+    let Some(id) = &candidate.id else {
+        return Err(Refusal::WrongType);
+    };
+    let id = *id;
+    if *old != id && draft.has(store, &id) {
+        return Err(Refusal::IdAlreadyTaken);
+    }
+    Ok(Step::Becomes(*old, entry_of(&id, candidate)))
+}
+
+/// The step of one row, which stands in the store.
+fn row_step<const D: usize>(
+    alloc: Global,
+    store: &Store<D>,
+    draft: &Draft<D>,
+    settings: &Settings,
+    row: &RowView<'_, D>,
+) -> Result<Step<D>, Refusal>
+    requires some { 1 ≤ D }
+    requires few { D ≤ 3 }
+    requires long { 1 + 2 * D ≤ length settings.now.fills }
+    ensures { (now : List TableRow) → Knows store.now.rows (known_of draft.now) now
+        → GivesAs one_step (row_set D settings.now now (view_row row.now)) result }
+{
+    let candidate = settings.candidate(alloc, row)?;
+    becoming(store, draft, &row.id, candidate)
+}
+
+/// The steps of rows that stand in the table, each planned among the rows as they are after those before it.
+fn all_steps<const D: usize>(
+    alloc: Global,
+    keys: RandomState,
+    store: &Store<D>,
+    settings: &Settings,
+    rows: &[Row<D>],
+) -> Result<Vec<Step<D>>, Refusal>
+    requires some { 1 ≤ D }
+    requires few { D ≤ 3 }
+    requires long { 1 + 2 * D ≤ length settings.now.fills }
+    requires stand { All (Stands store.now.rows) rows.now }
+    ensures { GivesAs (λ steps. map step_of steps.items) (all_set D settings.now store.now.rows (filter_map (row_of store.now.rows) rows.now)) result }
+{
+    let mut draft = Draft::new(alloc, keys);
+    for row in rows {
+        let step = row_step(alloc, store, &draft, settings, &store.view(row))?;
+        draft.add(step)?;
+    }
+    Ok(draft.steps)
+}
+
+/// The plan of an UPDATE: the rows of which the condition holds at its start, by rising id, each among the rows as
+/// those before it left them.
+///
+/// # Errors
+///
+/// `BadColumnList` where a column is set twice; `NoSuchColumn` where a column is set, read or looked at that the
+/// table hasn't; then for the first row that can't be what it is to be the first of `WrongType`,
+/// `IntegerOutOfRange`, `MinimumAboveMaximum`, and `IdAlreadyTaken` where another row then has the new id; or
+/// `OutOfMemory`.
+pub fn plan_update<const D: usize>(
+    alloc: Global,
+    keys: RandomState,
+    schema: &Schema,
+    store: &Store<D>,
+    sets: &[(Name, Source)],
+    cond: Cond,
+) -> Result<Plan<D>, Refusal>
+    requires { schema.now.axes ≡ D }
+    ensures { Plans (update schema.now store.now.rows sets.now cond) result }
+{
+    // What the contracts of these say: one to three axes, and columns enough for them.
+    let _ = (store.len(), schema.axes(), schema.len());
+    let settings = Settings::new(alloc, schema, sets)?;
+    let filter = Filter::new(alloc, schema, cond)?;
+    let rows = store.picked_rows(alloc, &filter)?;
+    Ok(Plan::new(all_steps(alloc, keys, store, &settings, rows.as_slice())?))
+}

@@ -1,0 +1,37 @@
+-- The columns that an INSERT lists, looked up: each column of the table has the place of its value. Source: own.
+use Rattle.std.specs.Prelude.{◌≡◌, ◌⊎◌, ℕ, true, false, List, map, length, Option, slice_index_or}
+use Rattle.std.specs.List.{list_all}
+use Rattle.std.specs.Option.{option_map_or}
+use Rattle.rt_sql_statement.specs.declared.value.Value.{Value}
+use Rattle.rt_sql_statement.specs.declared.value.Value.TheVariants.{Null}
+use Rattle.rt_sql_statement.specs.declared.refusal.Refusal.{Refusal}
+use Rattle.rt_sql_statement.specs.declared.refusal.Refusal.TheVariants.{BadColumnList, NoSuchColumn, OutOfMemory}
+use Rattle.rt_table_row.specs.Columns.{Columns, has_name, are_distinct}
+use Rattle.rt_table_row.specs.Edits.{arranged}
+
+pub record Arranged : Type 0 where
+  pub width : ℕ
+  pub places : List (Option ℕ)
+
+-- the value at the place; NULL where the column isn't listed
+abbrev pub value_at : List Value → Option ℕ → Value
+value_at values place = option_map_or (λ k. slice_index_or values k Null) place Null
+
+-- the values in the order of the table's columns
+abbrev pub rearranged : Arranged → List Value → List Value
+rearranged arrangement values = map (value_at values) arrangement.places
+
+-- The names are distinct columns of the table, and values for them are arranged as they ask.
+pub record IsArrangementOf (columns : Columns) (names : List (List ℕ)) (arrangement : Arranged) : Type 0 where
+  pub distinct : are_distinct names ≡ true
+  pub known : list_all (has_name columns.names) names ≡ true
+  pub width_is : arrangement.width ≡ length names
+  pub each : length arrangement.places ≡ length columns.names
+  pub same : (values : List Value) → rearranged arrangement values ≡ arranged columns.names names values
+
+-- why there is none
+abbrev pub IsBadList : Columns → List (List ℕ) → Refusal → Type 0
+IsBadList columns names refusal =
+    ((refusal ≡ BadColumnList) × (are_distinct names ≡ false))
+    ⊎ ((refusal ≡ NoSuchColumn) × (are_distinct names ≡ true) × (list_all (has_name columns.names) names ≡ false))
+    ⊎ (refusal ≡ OutOfMemory)

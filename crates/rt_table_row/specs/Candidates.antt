@@ -1,0 +1,70 @@
+-- What the values of a new row have to be. Source: SQLite's documentation (The SQLite R*Tree Module, section 3.1);
+-- that nothing is converted, and the order of the refusals, are own.
+use Rattle.std.specs.Prelude.{ℕ, ◌+◌, ◌*◌, ◌-◌, ◌^◌, ℤ, pos, negsuc, Bool, true, false, not, ◌&&◌, int_lt, int_le, if◌then◌else◌, List, [], ◌∷◌, map, take, drop, Option, Some, None, Result, Ok, Err, slice_index_or}
+use Rattle.std.specs.List.{list_all}
+use Rattle.rt_box.specs.declared.interval.Interval.{Interval}
+use Rattle.rt_box.specs.Interval.{interval}
+use Rattle.rt_sql_statement.specs.declared.value.Value.{Value}
+use Rattle.rt_sql_statement.specs.declared.value.Value.TheVariants.{Null, Int, Text, Blob}
+use Rattle.rt_sql_statement.specs.declared.refusal.Refusal.{Refusal}
+use Rattle.rt_sql_statement.specs.declared.refusal.Refusal.TheVariants.{WrongType, IntegerOutOfRange, MinimumAboveMaximum}
+
+-- what a new row will be: its id, or none where a new one is asked for, its box, and its further values
+pub record Candidate : Type 0 where
+  pub id : Option ℤ
+  pub box : List Interval
+  pub more : List Value
+
+-- an id is an integer, or NULL for a new one
+abbrev pub is_id : Value → Bool
+is_id Null = true
+is_id (Int n) = true
+is_id (Text t) = false
+is_id (Blob b) = false
+
+abbrev pub is_integer : Value → Bool
+is_integer Null = false
+is_integer (Int n) = true
+is_integer (Text t) = false
+is_integer (Blob b) = false
+
+abbrev pub id_in : Value → Option ℤ
+id_in Null = None
+id_in (Int n) = Some n
+id_in (Text t) = None
+id_in (Blob b) = None
+
+abbrev pub number_in : Value → ℤ
+number_in Null = pos 0
+number_in (Int n) = n
+number_in (Text t) = pos 0
+number_in (Blob b) = pos 0
+
+-- an integer of so many bits less one, with its sign
+abbrev pub fits_bits : ℕ → ℤ → Bool
+fits_bits bits n = int_lt n (pos (2 ^ bits)) && int_le (negsuc (2 ^ bits - 1)) n
+
+abbrev pub id_value : List Value → Value
+id_value values = slice_index_or values 0 Null
+
+-- the values of the coordinates, behind the id
+abbrev pub coordinate_values : ℕ → List Value → List Value
+coordinate_values axes values = take (2 * axes) (drop 1 values)
+
+-- a minimum and a maximum for each axis
+abbrev pub box_of : List ℤ → List Interval
+box_of (lo ∷ hi ∷ rest) = interval lo hi ∷ box_of rest
+box_of _ = []
+
+abbrev pub is_ordered : List Interval → Bool
+is_ordered box = list_all (λ i. int_le i.lo i.hi) box
+
+-- the candidate that the values are, or the first thing that is wrong with them, each over all columns before the
+-- next: a type, a coordinate of more than 32 bits, a minimum above its maximum
+abbrev pub candidate_of : ℕ → List Value → Result Candidate Refusal
+candidate_of axes values =
+    let numbers = map number_in (coordinate_values axes values) in
+    if not (is_id (id_value values) && list_all is_integer (coordinate_values axes values)) then Err WrongType
+    else (if not (list_all (fits_bits 31) numbers) then Err IntegerOutOfRange
+    else (if not (is_ordered (box_of numbers)) then Err MinimumAboveMaximum
+    else Ok (record { id = id_in (id_value values); box = box_of numbers; more = drop (1 + 2 * axes) values })))

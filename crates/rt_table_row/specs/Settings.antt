@@ -1,0 +1,107 @@
+-- What an UPDATE sets, looked up: the columns that the sources read, and where each column's new value comes from.
+-- Source: own.
+use Rattle.std.specs.Prelude.{◌≡◌, ◌⊎◌, ℕ, ◌+ℤ◌, ◌-ℤ◌, Bool, true, false, not, ◌&&◌, if◌then◌else◌, List, map, length, position, Option, Some, Result, Err, slice_index_or}
+use Rattle.std.specs.Option.{option_map, option_map_or}
+use Rattle.std.specs.List.{list_all}
+use Rattle.rt_sql_statement.specs.declared.value.Value.{Value}
+use Rattle.rt_sql_statement.specs.declared.value.Value.TheVariants.{Null, Int}
+use Rattle.rt_sql_statement.specs.declared.refusal.Refusal.{Refusal}
+use Rattle.rt_sql_statement.specs.declared.refusal.Refusal.TheVariants.{BadColumnList, NoSuchColumn, WrongType, IntegerOutOfRange, OutOfMemory}
+use Rattle.rt_sql_statement.specs.Name.{same_name}
+use Rattle.rt_sql_statement.specs.declared.statement.Source.{Source}
+use Rattle.rt_sql_statement.specs.declared.statement.Source.TheVariants as source
+use Rattle.rt_table_row.specs.declared.settings.Reading.{Reading}
+use Rattle.rt_table_row.specs.declared.settings.Reading.TheVariants.{Literal, Column, Plus, Minus}
+use Rattle.rt_table_row.specs.declared.settings.Fill.{Fill}
+use Rattle.rt_table_row.specs.declared.settings.Fill.TheVariants.{Kept, Set}
+use Rattle.rt_table_row.specs.Columns.{Columns, place_of, has_name, are_distinct}
+use Rattle.rt_table_row.specs.Candidates.{Candidate, is_integer, number_in, fits_bits, id_value, coordinate_values, candidate_of}
+use Rattle.rt_table_row.specs.Edits.{Setting, columns_read, is_summable, sum_fits, new_values}
+
+pub record LookedUp : Type 0 where
+  pub readings : List Reading
+  pub fills : List Fill
+
+-- what a set gives its column, from the values that the row had
+abbrev pub read : List Value → Reading → Value
+read values (Literal value) = value
+read values (Column place) = slice_index_or values place Null
+read values (Plus place number) = Int (number_in (slice_index_or values place Null) +ℤ number)
+read values (Minus place number) = Int (number_in (slice_index_or values place Null) -ℤ number)
+
+-- a sum is of an integer
+abbrev pub reads_integer : List Value → Reading → Bool
+reads_integer values (Literal value) = true
+reads_integer values (Column place) = true
+reads_integer values (Plus place number) = is_integer (slice_index_or values place Null)
+reads_integer values (Minus place number) = is_integer (slice_index_or values place Null)
+
+-- a sum has 64 bits
+abbrev pub reading_fits : List Value → Reading → Bool
+reading_fits values (Literal value) = true
+reading_fits values (Column place) = true
+reading_fits values (Plus place number) = fits_bits 63 (number_in (slice_index_or values place Null) +ℤ number)
+reading_fits values (Minus place number) = fits_bits 63 (number_in (slice_index_or values place Null) -ℤ number)
+
+-- what a column holds afterwards
+abbrev pub filled : List Reading → List Value → Fill → Value
+filled readings values (Kept place) = slice_index_or values place Null
+filled readings values (Set at) = read values (slice_index_or readings at (Literal Null))
+
+abbrev pub values_set : LookedUp → List Value → List Value
+values_set sets values = map (filled sets.readings values) sets.fills
+
+-- the candidate that a row of these values becomes, or the first thing that is wrong, each over all columns
+-- before the next: a type, a sum of more than 64 bits, and what a candidate is refused for
+abbrev pub candidate_set : ℕ → LookedUp → List Value → Result Candidate Refusal
+candidate_set axes sets old =
+    let new = values_set sets old in
+    if not (list_all (reads_integer old) sets.readings) then Err WrongType
+    else (if not (is_integer (id_value new) && list_all is_integer (coordinate_values axes new)) then Err WrongType
+    else (if not (list_all (reading_fits old) sets.readings) then Err IntegerOutOfRange
+    else candidate_of axes new))
+
+abbrev pub set_names : List Setting → List (List ℕ)
+set_names sets = map (λ (set : Setting). set.0) sets
+
+-- the columns that are set and those that are read are the table's
+abbrev pub has_set_columns : Columns → List Setting → Bool
+has_set_columns columns sets =
+    list_all (has_name columns.names) (set_names sets) && list_all (λ (set : Setting). list_all (has_name columns.names) (columns_read set.1)) sets
+
+-- The sets are of distinct columns of the table, and what was looked up gives what they give.
+pub record IsSettingsOf (columns : Columns) (sets : List Setting) (found : LookedUp) : Type 0 where
+  pub distinct : are_distinct (set_names sets) ≡ true
+  pub known : has_set_columns columns sets ≡ true
+  pub each : length found.fills ≡ length columns.names
+  pub summable : (values : List Value) → list_all (reads_integer values) found.readings ≡ list_all (λ (set : Setting). is_summable columns.names values set.1) sets
+  pub fits : (values : List Value) → list_all (reading_fits values) found.readings ≡ list_all (λ (set : Setting). sum_fits columns.names values set.1) sets
+  pub same : (values : List Value) → values_set found values ≡ new_values columns.names values sets
+
+-- why there are none
+abbrev pub IsBadSettings : Columns → List Setting → Refusal → Type 0
+IsBadSettings columns sets refusal =
+    ((refusal ≡ BadColumnList) × (are_distinct (set_names sets) ≡ false))
+    ⊎ ((refusal ≡ NoSuchColumn) × (are_distinct (set_names sets) ≡ true) × (has_set_columns columns sets ≡ false))
+    ⊎ (refusal ≡ OutOfMemory)
+
+-- ---- how they are looked up
+
+-- what a set gives, its column looked up; none where no column has the name
+abbrev pub reading_of : List (List ℕ) → Source → Option Reading
+reading_of names (source.Literal value) = Some (Literal value)
+reading_of names (source.Column name) = option_map (λ place. Column place) (place_of names name)
+reading_of names (source.Plus name number) = option_map (λ place. Plus place number) (place_of names name)
+reading_of names (source.Minus name number) = option_map (λ place. Minus place number) (place_of names name)
+
+abbrev pub AreReadings : List (List ℕ) → List Setting → List Reading → Type 0
+AreReadings names sets readings = map (λ (set : Setting). reading_of names set.1) sets ≡ map Some readings
+
+-- a set of this column, or else the column's own place
+abbrev pub fill_of : List (List ℕ) → List Setting → List ℕ → Fill
+fill_of names sets name =
+    option_map_or (λ at. Set at) (position (λ (set : Setting). same_name name set.0) sets) (Kept (option_map_or (λ place. place) (place_of names name) 0))
+
+-- each column that a set reads is the table's
+abbrev pub reads_columns : List (List ℕ) → List Setting → Bool
+reads_columns names sets = list_all (λ (set : Setting). list_all (has_name names) (columns_read set.1)) sets

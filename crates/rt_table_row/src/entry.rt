@@ -1,0 +1,203 @@
+//! A row as a table keeps it.
+
+ghost use Rattle.std.specs.Prelude.{◌≡◌, ◌+◌, ◌*◌, ◌<◌, ◌≤◌, ◌∷◌, ◌++◌, length, map, slice_index_or, IfOk, OnOk, vec_len, vec_capacity};
+ghost use Rattle.rt_sql_statement.specs.declared.value.Value.TheVariants.{Null, Int};
+ghost use Rattle.rt_table_row.specs.Entries.{field_value};
+ghost use Rattle.rt_box.specs.Rect.{coordinates};
+
+use rt_box::Rect;
+use rt_sql_statement::{Items, Value};
+use std::alloc::{AllocError, Global};
+
+/// A row of a table with `D` axes, from one to three: its id, its box, and the values of its
+/// auxiliary columns.
+#[derive(Debug, Drop)]
+pub struct Entry<const D: usize> {
+    pub id: i64,
+    pub rect: Rect<D>,
+    pub more: Items<Value>,
+}
+
+/// A value of a row, looked at where it stands.
+pub enum Field<'a> {
+    /// The id, or a coordinate.
+    Number(i64),
+    /// The value of an auxiliary column.
+    Kept(&'a Value),
+    /// The row has no such column.
+    Missing,
+}
+
+impl Field<'_> {
+    /// A copy of the value; NULL where there is no column.
+    pub fn try_clone(self, alloc: Global) -> Result<Value, AllocError>
+        ensures { IfOk result (λ value. value ≡ field_value self.entry) }
+    {
+        Ok(match self {
+            Field::Number(number) => Value::Int(number),
+            Field::Kept(value) => value.try_clone(alloc)?,
+            Field::Missing => Value::Null,
+        })
+    }
+}
+
+/// A coordinate, in the order of the columns: `lo` and `hi` of the first axis, then of the next.
+fn coordinate<const D: usize>(rect: &Rect<D>, place: usize) -> i32
+    requires { place < 2 * D }
+    ensures { result ≡ slice_index_or (coordinates rect.now) place result }
+{
+    let range = rect.range(place / 2);
+    if place % 2 == 0 { range.lo } else { range.hi }
+}
+
+/// The auxiliary value at that place among them.
+fn kept(more: &[Value], place: usize) -> Field<'_>
+    ensures { field_value result ≡ slice_index_or more.now place Null }
+{
+    if place >= more.len() {
+        return Field::Missing;
+    }
+    Field::Kept(&more[place])
+}
+
+/// Appends the coordinates, for which there is room.
+fn push_coordinates<const D: usize>(numbers: &mut Vec<i64>, rect: &Rect<D>)
+    requires { vec_len numbers.old + 2 * D ≤ vec_capacity numbers.old }
+    ensures { numbers.new.items ≡ numbers.old.items ++ coordinates rect.now }
+{
+    for axis in 0..rect.axes() {
+        let range = rect.range(axis);
+        numbers.push_reserved(i64::from(range.lo));
+        numbers.push_reserved(i64::from(range.hi));
+    }
+}
+
+/// Appends the id and the coordinates.
+pub(crate) fn push_numbers<const D: usize>(
+    numbers: &mut Vec<i64>,
+    id: i64,
+    rect: &Rect<D>,
+) -> Result<(), AllocError>
+    ensures ok { OnOk result (numbers.new.items ≡ numbers.old.items ++ id ∷ coordinates rect.now) }
+    ensures longer { length numbers.old.items ≤ length numbers.new.items }
+{
+    numbers.reserve(1 + 2 * rect.axes())?;
+    numbers.push_reserved(id);
+    push_coordinates(numbers, rect);
+    Ok(())
+}
+
+#[inline]
+pub(crate) fn push_copies(
+    alloc: Global,
+    values: &mut Vec<Value>,
+    more: &[Value],
+) -> Result<(), AllocError>
+    ensures ok { OnOk result (values.new.items ≡ values.old.items ++ more.now) }
+    ensures longer { length values.old.items ≤ length values.new.items }
+{
+    for value in more {
+        values.push(value.try_clone(alloc)?)?;
+    }
+    Ok(())
+}
+
+impl<const D: usize> Entry<D> {
+    ghost use Rattle.rt_table_row.specs.Entries.{row_of, view_row};
+
+    /// The row, looked at where it stands.
+    pub fn view(&self) -> RowView<'_, D>
+        ensures { view_row result ≡ row_of self.now }
+    {
+        RowView {
+            id: self.id,
+            rect: self.rect,
+            more: self.more.as_slice(),
+        }
+    }
+}
+
+/// A row looked at where it stands: nothing of it is copied but its id and its box. A table may keep
+/// boxes and auxiliary values apart.
+#[derive(Clone, Copy)]
+pub struct RowView<'a, const D: usize> {
+    pub id: i64,
+    pub rect: Rect<D>,
+    pub more: &'a [Value],
+}
+
+impl<'a, const D: usize> RowView<'a, D> {
+    ghost use Rattle.rt_table_row.specs.Rows.{values_of};
+    ghost use Rattle.rt_table_row.specs.Entries.{view_row};
+
+    /// The value of the column at that place.
+    pub fn value_at(&self, place: usize) -> Field<'a>
+        ensures { field_value result ≡ slice_index_or (values_of (view_row self.now)) place Null }
+    {
+        let axes = self.rect.axes();
+        if place == 0 {
+            return Field::Number(self.id);
+        }
+        if place <= 2 * axes {
+            return Field::Number(i64::from(coordinate(&self.rect, place - 1)));
+        }
+        kept(self.more, place - 1 - 2 * axes)
+    }
+
+    /// A copy of the row's values, column by column.
+    pub fn values(&self, alloc: Global) -> Result<Items<Value>, AllocError>
+        ensures { IfOk result (λ row. row ≡ values_of (view_row self.now)) }
+    {
+        let mut numbers = Vec::new(alloc);
+        push_numbers(&mut numbers, self.id, &self.rect)?;
+        let row = ListedRow {
+            numbers: &numbers,
+            more: self.more,
+        };
+        row.values(alloc)
+    }
+}
+
+/// A row looked at where it stands in a list: numbers first, and then further values.
+#[derive(Clone, Copy)]
+pub struct ListedRow<'a> {
+    pub numbers: &'a [i64],
+    pub more: &'a [Value],
+}
+
+impl<'a> ListedRow<'a> {
+    ghost use Rattle.rt_table_row.specs.Entries.{listed_values};
+
+    /// The value of the column at that place.
+    pub fn value_at(&self, place: usize) -> Field<'a>
+        ensures { field_value result ≡ slice_index_or (listed_values self.now) place Null }
+    {
+        if place < self.numbers.len() {
+            return Field::Number(self.numbers[place]);
+        }
+        kept(self.more, place - self.numbers.len())
+    }
+
+    /// A copy of the row's values, column by column.
+    pub fn values(&self, alloc: Global) -> Result<Items<Value>, AllocError>
+        ensures { IfOk result (λ row. row ≡ listed_values self.now) }
+    {
+        let mut values = Vec::with_capacity(alloc, self.numbers.len())?;
+        for number in self.numbers {
+            values.push(Value::Int(*number))?;
+        }
+        push_copies(alloc, &mut values, self.more)?;
+        Ok(Items::from_vec(values))
+    }
+}
+
+/// One change of the rows of a table.
+#[derive(Debug, Drop)]
+pub enum Step<const D: usize> {
+    /// The row of that id goes.
+    Leaves(i64),
+    /// A row comes, whose id no row has.
+    Comes(Entry<D>),
+    /// A row stands in the place of the one of that id; the id may change.
+    Becomes(i64, Entry<D>),
+}

@@ -1,0 +1,215 @@
+//! Which rows a condition picks.
+
+ghost use Rattle.std.specs.Prelude.{◌≡◌, zip, true, false, IfSome, IfNone, MatchResult};
+ghost use Rattle.std.specs.List.{list_all, list_any};
+ghost use Rattle.rt_table_row.specs.Conditions.{column_of};
+ghost use Rattle.rt_table_row.specs.Filters.{value_passes, passes_at, fixes_id, ArePlaces, IsFilterOf, IsUnknown};
+ghost use Rattle.rt_table_row.specs.Windows.{is_said};
+ghost use Rattle.rt_table_row.specs.Entries.{view_row, field_value};
+ghost use Rattle.rt_table_row.specs.Rows.{TableRow};
+ghost use Rattle.rt_sql_statement.specs.declared.value.Value.TheVariants.{Int};
+
+use crate::entry::{Field, RowView};
+use crate::schema::Schema;
+use crate::values::{compares, is_null, keeps};
+use crate::window::{is_said, window_of};
+use rt_box::Window;
+use rt_sql_statement::{Compare, Cond, Name, Op6, Refusal, Test, Value};
+use std::alloc::Global;
+use std::marker::Model;
+
+fn column_of(test: &Test) -> &Name
+    ensures { result.now ≡ column_of test.now }
+{
+    match test {
+        Test::Compare(compare) => &compare.column,
+        Test::IsNull(name) => name,
+        Test::IsNotNull(name) => name,
+    }
+}
+
+fn value_passes(value: &Value, test: &Test) -> bool
+    ensures { result ≡ value_passes value.now test.now }
+{
+    match test {
+        Test::Compare(compare) => compares(compare.op, value, &compare.value),
+        Test::IsNull(_) => is_null(value),
+        Test::IsNotNull(_) => !is_null(value),
+    }
+}
+
+/// Most tests compare a number with a number: then no types are looked at.
+fn number_passes(number: i64, test: &Test) -> bool
+    ensures { result ≡ value_passes (Int number) test.now }
+{
+    match test {
+        Test::Compare(
+            Compare {
+                op,
+                value: Value::Int(other),
+                ..
+            },
+        ) => keeps(*op, number.cmp(other)),
+        Test::Compare(_) | Test::IsNull(_) | Test::IsNotNull(_) => {
+            value_passes(&Value::Int(number), test)
+        }
+    }
+}
+
+fn field_passes(field: Field<'_>, test: &Test) -> bool
+    ensures { result ≡ value_passes (field_value field.entry) test.now }
+{
+    match field {
+        Field::Number(number) => number_passes(number, test),
+        Field::Kept(value) => value_passes(value, test),
+        Field::Missing => value_passes(&Value::Null, test),
+    }
+}
+
+fn passes_at<const D: usize>(row: &RowView<'_, D>, test: &Test, place: usize) -> bool
+    ensures { result ≡ passes_at (view_row row.now) (test.now, place) }
+{
+    field_passes(row.value_at(place), test)
+}
+
+fn passes_all<const D: usize>(row: &RowView<'_, D>, tests: &[Test], places: &[usize]) -> bool
+    ensures { result ≡ list_all (passes_at (view_row row.now)) (zip tests.now places.now) }
+{
+    tests.iter().zip(places).all(
+        |pair: (&Test, &usize)| -> bool
+            ensures { result ≡ passes_at (view_row row.entry.now) (pair.entry.0.now, pair.entry.1.now) }
+        { passes_at(row, pair.0, *pair.1) },
+    )
+}
+
+/// The id that each row has that passes the test; the id's column stands first.
+fn id_at(test: &Test, place: usize) -> Option<i64>
+    ensures fixed { IfSome result (λ id. (row : TableRow) → passes_at row (test.now, place) ≡ true → row.id ≡ id) }
+    ensures none { IfNone result (fixes_id (test.now, place) ≡ false) }
+{
+    if place != 0 {
+        return None;
+    }
+    match test {
+        Test::Compare(
+            Compare {
+                op: Op6::Eq,
+                value: Value::Int(id),
+                ..
+            },
+        ) => Some(*id),
+        Test::Compare(_) | Test::IsNull(_) | Test::IsNotNull(_) => None,
+    }
+}
+
+/// The id that each row has that passes all of the tests.
+fn id_among(tests: &[Test], places: &[usize]) -> Option<i64>
+    ensures fixed { IfSome result (λ id. (row : TableRow) → list_all (passes_at row) (zip tests.now places.now) ≡ true → row.id ≡ id) }
+    ensures none { IfNone result (list_any fixes_id (zip tests.now places.now) ≡ false) }
+{
+    for (test, place) in tests.iter().zip(places) {
+        if let Some(id) = id_at(test, *place) {
+            return Some(id);
+        }
+    }
+    None
+}
+
+/// Whether a window says all that each of the tests asks.
+fn are_said(coordinates: usize, tests: &[Test], places: &[usize]) -> bool
+    ensures { result ≡ list_all (is_said coordinates) (zip tests.now places.now) }
+{
+    tests.iter().zip(places).all(
+        |pair: (&Test, &usize)| -> bool
+            ensures { result ≡ is_said coordinates (pair.entry.0.now, pair.entry.1.now) }
+        { is_said(coordinates, pair.0, *pair.1) },
+    )
+}
+
+/// The places of the columns that the tests look at.
+fn places_of(alloc: Global, schema: &Schema, cond: &[Test]) -> Result<Vec<usize>, Refusal>
+    ensures { MatchResult result (λ places. ArePlaces schema.now.names cond.now places.items) (λ refusal. IsUnknown schema.now cond.now refusal) }
+{
+    let mut places = Vec::with_capacity(alloc, cond.len())?;
+    for test in cond {
+        match schema.place_of(column_of(test)) {
+            Some(place) => places.push(place)?,
+            None => return Err(Refusal::NoSuchColumn),
+        }
+    }
+    Ok(places)
+}
+
+/// A condition whose columns were looked up once, so that no name is compared for a row.
+#[derive(Debug, Drop)]
+pub struct Filter {
+    cond: Cond,
+    places: Vec<usize>,
+}
+
+impl Model for Filter {
+    ghost use Rattle.rt_table_row.specs.Filters.{Placed};
+
+    ghost Value = { Placed };
+
+    ghost view = { λ filter. record { cond = filter.cond; places = filter.places.items } };
+}
+
+impl Filter {
+    ghost use Rattle.std.specs.Prelude.{◌≤◌, ◌*◌};
+    ghost use Rattle.rt_table_row.specs.Filters.{admits, IsFilterOf, IsUnknown};
+    ghost use Rattle.rt_table_row.specs.Windows.{IsWindowAt, is_said, SaysAll};
+
+    /// The condition over a table of these columns.
+    ///
+    /// # Errors
+    ///
+    /// `NoSuchColumn` where a test looks at a column that the table hasn't, and `OutOfMemory`.
+    pub fn new(alloc: Global, schema: &Schema, cond: Cond) -> Result<Filter, Refusal>
+        ensures { MatchResult result (IsFilterOf schema.now cond) (IsUnknown schema.now cond) }
+    {
+        let places = places_of(alloc, schema, cond.as_slice())?;
+        Ok(Filter { cond, places })
+    }
+
+    /// The condition.
+    pub fn cond(&self) -> &Cond
+        ensures { result.now ≡ self.now.cond }
+    {
+        &self.cond
+    }
+
+    /// Whether the condition holds of a row. Nothing is copied.
+    pub fn holds<const D: usize>(&self, row: &RowView<'_, D>) -> bool
+        ensures { result ≡ admits self.now (view_row row.now) }
+    {
+        passes_all(row, self.cond.as_slice(), self.places.as_slice())
+    }
+
+    /// The window of the condition: what its tests ask of the coordinates of a row's box. A test by `<>` asks nothing.
+    pub fn window<const D: usize>(&self) -> Window<D>
+        requires { D ≤ 3 }
+        ensures { IsWindowAt D self.now result }
+    {
+        window_of(self.cond.as_slice(), self.places.as_slice())
+    }
+
+    /// Whether its window says all that the condition asks: each test is one of a coordinate, and none is by `<>`. Then
+    /// the condition holds of each row whose box the window admits.
+    pub fn is_said<const D: usize>(&self) -> bool
+        requires { D ≤ 3 }
+        ensures exact { result ≡ list_all (is_said (2 * D)) (zip self.now.cond self.now.places) }
+        ensures all { result ≡ true → SaysAll D self.now }
+    {
+        are_said(2 * D, self.cond.as_slice(), self.places.as_slice())
+    }
+
+    /// The id that each row has that the condition picks, where a test compares the id with an
+    /// integer by `=`; `None` only where no test does.
+    pub fn id(&self) -> Option<i64>
+        ensures fixed { IfSome result (λ id. (row : TableRow) → admits self.now row ≡ true → row.id ≡ id) }
+        ensures none { IfNone result (list_any fixes_id (zip self.now.cond self.now.places) ≡ false) }
+    {
+        id_among(self.cond.as_slice(), self.places.as_slice())
+    }
+}

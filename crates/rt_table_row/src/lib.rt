@@ -1,0 +1,41 @@
+//! The rows of a table, and what columns, conditions and statements mean for them.
+//!
+//! - `Schema` is what a CREATE makes of its columns; names are compared without ASCII case.
+//! - `Entry` is a row as a table keeps it, and `RowView` a row looked at where it stands. `value_at` looks at
+//!   one of its values, and `values` copies them all, column by column.
+//! - `RowList` is rows one behind the other, whose numbers stand in one list and whose further values in another;
+//!   `ListedRow` is one of them, looked at where it stands.
+//! - `Step` is one change of the rows of a table.
+//! - `Candidate` is what a new row will be, made of its values; `Arrangement` has the columns that an INSERT
+//!   lists, and `Settings` what an UPDATE sets. Both look their columns up once.
+//! - `Filter` is a condition whose columns were looked up once; `holds` says of which rows it holds, and
+//!   compares no name and copies nothing. `window` is what it asks of the coordinates of a row's box, and `id`
+//!   the id that it fixes.
+//! - `compares` holds two values against one another: nothing is converted, and NULL is never equal.
+//!
+//! What inserting, deleting, updating and watching do to the rows of a table is defined in `specs/` over plain
+//! lists; the crates above carry them out.
+//!
+//! Stands on `rt_sql_statement` (statements, values, refusals) and `rt_box`. Definitions: `specs/Values.antt`,
+//! `Columns.antt`, `Conditions.antt`, `Windows.antt`, `Edits.antt` (what statements do to rows), `Views.antt`,
+//! `Tables.antt`; `Worked.antt` holds them against worked examples.
+#![tactic(auto)]
+
+mod arrangement;
+mod candidate;
+mod entry;
+mod filter;
+mod row_list;
+mod schema;
+mod settings;
+mod values;
+mod window;
+
+pub use arrangement::Arrangement;
+pub use candidate::Candidate;
+pub use entry::{Entry, Field, ListedRow, RowView, Step};
+pub use filter::Filter;
+pub use row_list::RowList;
+pub use schema::Schema;
+pub use settings::Settings;
+pub use values::compares;

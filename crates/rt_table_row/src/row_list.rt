@@ -1,0 +1,136 @@
+//! Rows one behind the other.
+
+ghost use Rattle.rt_table_row.specs.Rows.{values_of};
+ghost use Rattle.rt_table_row.specs.Entries.{view_row, listed_values};
+
+use crate::entry::{ListedRow, RowView, push_copies, push_numbers};
+use rt_sql_statement::Value;
+use std::alloc::{AllocError, Global};
+use std::marker::Model;
+
+/// Where a part of a list stands.
+#[derive(Clone, Copy, Debug)]
+struct Span {
+    start: usize,
+    end: usize,
+}
+
+/// Where the numbers of a row stand among those of all rows, and where its further values do.
+#[derive(Clone, Copy, Debug)]
+struct Place {
+    numbers: Span,
+    more: Span,
+}
+
+/// Rows: of each its values, column by column, numbers first. The numbers of all rows stand in one list, and the further
+/// values in another, so that no row takes memory by itself.
+#[derive(Debug, Drop)]
+pub struct RowList {
+    numbers: Vec<i64>,
+    values: Vec<Value>,
+    places: Vec<Place>,
+}
+
+// Clauses see the list of the rows.
+impl Model for RowList {
+    ghost use Rattle.rt_table_row.specs.RowLists.{Lists, rows_in, AreWithin};
+
+    ghost Value = { Lists };
+
+    ghost view = { rows_in };
+
+    ghost invariant = { AreWithin };
+}
+
+impl RowList {
+    ghost use Rattle.std.specs.Prelude.{◌≡◌, ◌<◌, ◌++◌, ◌∷◌, [], length, slice_index_or, IfOk, OnOk};
+
+    /// No rows, with room for so many rows, numbers and further values.
+    ///
+    /// # Errors
+    ///
+    /// `AllocError` where no memory is left.
+    pub fn with_capacity(
+        alloc: Global,
+        rows: usize,
+        numbers: usize,
+        values: usize,
+    ) -> Result<RowList, AllocError>
+        ensures { IfOk result (λ list. list ≡ []) }
+    {
+        Ok(RowList {
+            numbers: Vec::with_capacity(alloc, numbers)?,
+            values: Vec::with_capacity(alloc, values)?,
+            places: Vec::with_capacity(alloc, rows)?,
+        })
+    }
+
+    /// How many rows there are.
+    pub fn len(&self) -> usize
+        ensures { result ≡ length self.now }
+    {
+        self.places.len()
+    }
+
+    /// The row at that place.
+    pub fn row(&self, at: usize) -> ListedRow<'_>
+        requires { at < length self.now }
+        ensures { listed_values result ≡ slice_index_or self.now at (listed_values result) }
+    {
+        let place = self.places[at];
+        ListedRow {
+            numbers: &self.numbers[place.numbers.start..place.numbers.end],
+            more: &self.values[place.more.start..place.more.end],
+        }
+    }
+
+    /// Appends the values of a row.
+    ///
+    /// # Errors
+    ///
+    /// `AllocError` where no memory is left.
+    pub fn push<const D: usize>(
+        &mut self,
+        alloc: Global,
+        row: &RowView<'_, D>,
+    ) -> Result<(), AllocError>
+        ensures { OnOk result (self.new ≡ self.old ++ values_of (view_row row.now) ∷ []) }
+    {
+        let (first, start) = (self.numbers.len(), self.values.len());
+        push_numbers(&mut self.numbers, row.id, &row.rect)?;
+        push_copies(alloc, &mut self.values, row.more)?;
+        let numbers = Span {
+            start: first,
+            end: self.numbers.len(),
+        };
+        let more = Span {
+            start,
+            end: self.values.len(),
+        };
+        self.places.push(Place { numbers, more })?;
+        Ok(())
+    }
+
+    /// Appends a row of these values, which aren't copied.
+    ///
+    /// # Errors
+    ///
+    /// `AllocError` where no memory is left.
+    pub fn push_values(&mut self, row: Vec<Value>) -> Result<(), AllocError>
+        ensures { OnOk result (self.new ≡ self.old ++ row.items ∷ []) }
+    {
+        let (first, start) = (self.numbers.len(), self.values.len());
+        let mut row = row;
+        self.values.append(&mut row)?;
+        let numbers = Span {
+            start: first,
+            end: first,
+        };
+        let more = Span {
+            start,
+            end: self.values.len(),
+        };
+        self.places.push(Place { numbers, more })?;
+        Ok(())
+    }
+}

@@ -1,0 +1,406 @@
+//! What an UPDATE sets.
+
+ghost use Rattle.std.specs.Prelude.{◌≡◌, ◌⊎◌, ◌≤◌, ◌+◌, ◌*◌, true, false, length, map, position, IfOk, MatchResult};
+ghost use Rattle.std.specs.List.{list_all};
+ghost use Rattle.rt_sql_statement.specs.declared.value.Value.TheVariants.{Null};
+ghost use Rattle.rt_table_row.specs.Rows.{values_of};
+ghost use Rattle.rt_table_row.specs.Entries.{view_row, field_value, candidate_as};
+ghost use Rattle.rt_table_row.specs.Candidates.{is_integer, number_in, id_value, coordinate_values};
+ghost use Rattle.rt_table_row.specs.Settings.{read, reads_integer, reading_fits, filled, candidate_set, set_names, reading_of, AreReadings, fill_of, reads_columns};
+ghost use Rattle.rt_sql_statement.specs.Name.{same_name};
+ghost use Rattle.rt_table_row.specs.Columns.{has_name, are_distinct};
+ghost use Rattle.rt_table_row.specs.Answers.{GivesAs};
+
+use crate::candidate::{Candidate, is_integer, number_in};
+use crate::entry::{Field, RowView};
+use crate::schema::{FEW_NAMES, Schema, add_name, has_name, place_of};
+use rt_sql_statement::{Name, Refusal, Source, Value};
+use std::alloc::{AllocError, Global};
+use std::collections::BTreeSet;
+use std::marker::Model;
+
+/// What a set gives its column; the column that it reads is looked up.
+#[derive(Debug, Drop)]
+enum Reading {
+    Literal(Value),
+    Column(usize),
+    Plus(usize, i64),
+    Minus(usize, i64),
+}
+
+/// What a column holds afterwards.
+#[derive(Clone, Copy, Debug)]
+enum Fill {
+    /// What the column at that place held.
+    Kept(usize),
+    /// What the set at that place gives.
+    Set(usize),
+}
+
+/// The place of the first set of that column.
+fn set_of(sets: &[(Name, Source)], name: &Name) -> Option<usize>
+    ensures { result ≡ position (λ set. same_name name.now set.0) sets.now }
+{
+    sets.iter().position(|set| name.is_same(&set.0))
+}
+
+fn is_set(sets: &[(Name, Source)], name: &Name) -> bool
+    ensures { result ≡ has_name (set_names sets.now) name.now }
+{
+    set_of(sets, name).is_some()
+}
+
+/// Whether no column is set twice. Each is compared with each, so this is for short lists.
+fn are_distinct(sets: &[(Name, Source)]) -> bool
+    ensures { result ≡ are_distinct (set_names sets.now) }
+{
+    let mut rest = sets;
+    while let Some((set, later)) = rest.split_first() {
+        if is_set(later, &set.0) {
+            return false;
+        }
+        rest = later;
+    }
+    true
+}
+
+/// The same for a long list, where it doesn't compare each column with each.
+fn are_many_distinct(alloc: Global, sets: &[(Name, Source)]) -> Result<bool, AllocError>
+    ensures { IfOk result (λ distinct. distinct ≡ are_distinct (set_names sets.now)) }
+{
+    let mut texts = BTreeSet::new(alloc);
+    for set in sets {
+        if !add_name(alloc, &mut texts, &set.0)? {
+            return Ok(false);
+        }
+    }
+    Ok(true)
+}
+
+/// Whether no column is set twice, in a list of any length.
+fn are_set_once(alloc: Global, sets: &[(Name, Source)]) -> Result<bool, AllocError>
+    ensures { IfOk result (λ distinct. distinct ≡ are_distinct (set_names sets.now)) }
+{
+    if sets.len() <= FEW_NAMES {
+        return Ok(are_distinct(sets));
+    }
+    are_many_distinct(alloc, sets)
+}
+
+/// Whether each set is of a column of the table.
+fn are_known(columns: &[Name], sets: &[(Name, Source)]) -> bool
+    ensures { result ≡ list_all (λ set. has_name columns.now set.0) sets.now }
+{
+    sets.iter().all(
+        |set: &(Name, Source)| -> bool
+            ensures { result ≡ has_name columns.entry.now set.now.0 }
+        { has_name(columns, &set.0) },
+    )
+}
+
+/// What a set gives; none where it reads no column of the table.
+fn reading_of(
+    alloc: Global,
+    columns: &[Name],
+    source: &Source,
+) -> Result<Option<Reading>, AllocError>
+    ensures { IfOk result (λ reading. reading ≡ reading_of columns.now source.now) }
+{
+    Ok(match source {
+        Source::Literal(value) => Some(Reading::Literal(value.try_clone(alloc)?)),
+        Source::Column(name) => place_of(columns, name).map(Reading::Column),
+        Source::Plus(name, number) => {
+            place_of(columns, name).map(|place| Reading::Plus(place, *number))
+        }
+        Source::Minus(name, number) => {
+            place_of(columns, name).map(|place| Reading::Minus(place, *number))
+        }
+    })
+}
+
+fn readings_of(
+    alloc: Global,
+    columns: &[Name],
+    sets: &[(Name, Source)],
+) -> Result<Vec<Reading>, Refusal>
+    ensures { MatchResult result (λ readings. AreReadings columns.now sets.now readings.items) (λ refusal. ((refusal ≡ Refusal.NoSuchColumn) × (reads_columns columns.now sets.now ≡ false)) ⊎ (refusal ≡ Refusal.OutOfMemory)) }
+{
+    let mut readings = Vec::with_capacity(alloc, sets.len())?;
+    for set in sets {
+        match reading_of(alloc, columns, &set.1)? {
+            Some(reading) => readings.push(reading)?,
+            None => return Err(Refusal::NoSuchColumn),
+        }
+    }
+    Ok(readings)
+}
+
+fn fill_of(columns: &[Name], sets: &[(Name, Source)], name: &Name) -> Fill
+    ensures { result ≡ fill_of columns.now sets.now name.now }
+{
+    match set_of(sets, name) {
+        Some(at) => Fill::Set(at),
+        None => Fill::Kept(place_of(columns, name).unwrap_or(0)),
+    }
+}
+
+fn fills_of(
+    alloc: Global,
+    columns: &[Name],
+    sets: &[(Name, Source)],
+) -> Result<Vec<Fill>, AllocError>
+    ensures { IfOk result (λ fills. fills.items ≡ map (fill_of columns.now sets.now) columns.now) }
+{
+    let mut fills = Vec::with_capacity(alloc, columns.len())?;
+    for column in columns {
+        fills.push(fill_of(columns, sets, column))?;
+    }
+    Ok(fills)
+}
+
+fn is_field_integer(field: Field<'_>) -> bool
+    ensures { result ≡ is_integer (field_value field.entry) }
+{
+    match field {
+        Field::Number(_) => true,
+        Field::Kept(value) => is_integer(value),
+        Field::Missing => false,
+    }
+}
+
+fn field_number(field: Field<'_>) -> i64
+    ensures { result ≡ number_in (field_value field.entry) }
+{
+    match field {
+        Field::Number(number) => number,
+        Field::Kept(value) => number_in(value),
+        Field::Missing => 0,
+    }
+}
+
+fn reads_integer<const D: usize>(row: &RowView<'_, D>, reading: &Reading) -> bool
+    ensures { result ≡ reads_integer (values_of (view_row row.now)) reading.now }
+{
+    match reading {
+        Reading::Literal(_) | Reading::Column(_) => true,
+        Reading::Plus(place, _) | Reading::Minus(place, _) => {
+            is_field_integer(row.value_at(*place))
+        }
+    }
+}
+
+fn reading_fits<const D: usize>(row: &RowView<'_, D>, reading: &Reading) -> bool
+    ensures { result ≡ reading_fits (values_of (view_row row.now)) reading.now }
+{
+    match reading {
+        Reading::Literal(_) | Reading::Column(_) => true,
+        Reading::Plus(place, number) => {
+            field_number(row.value_at(*place))
+                .checked_add(*number)
+                .is_some()
+        }
+        Reading::Minus(place, number) => {
+            field_number(row.value_at(*place))
+                .checked_sub(*number)
+                .is_some()
+        }
+    }
+}
+
+fn read<const D: usize>(
+    alloc: Global,
+    row: &RowView<'_, D>,
+    reading: &Reading,
+) -> Result<Value, AllocError>
+    requires { reading_fits (values_of (view_row row.now)) reading.now ≡ true }
+    ensures { IfOk result (λ value. value ≡ read (values_of (view_row row.now)) reading.now) }
+{
+    match reading {
+        Reading::Literal(value) => value.try_clone(alloc),
+        Reading::Column(place) => row.value_at(*place).try_clone(alloc),
+        Reading::Plus(place, number) => {
+            let sum = field_number(row.value_at(*place)) + *number;
+            Ok(Value::Int(sum))
+        }
+        Reading::Minus(place, number) => {
+            let difference = field_number(row.value_at(*place)) - *number;
+            Ok(Value::Int(difference))
+        }
+    }
+}
+
+/// The new value of a column.
+fn filled<const D: usize>(
+    alloc: Global,
+    row: &RowView<'_, D>,
+    readings: &[Reading],
+    fill: Fill,
+) -> Result<Value, AllocError>
+    requires { list_all (reading_fits (values_of (view_row row.now))) readings.now ≡ true }
+    ensures { IfOk result (λ value. value ≡ filled readings.now (values_of (view_row row.now)) fill) }
+{
+    match fill {
+        Fill::Kept(place) => row.value_at(place).try_clone(alloc),
+        Fill::Set(at) if at < readings.len() => read(alloc, row, &readings[at]),
+        Fill::Set(_) => Ok(Value::Null),
+    }
+}
+
+/// Whether a set gives an integer, whatever its size.
+fn gives_integer<const D: usize>(row: &RowView<'_, D>, reading: &Reading) -> bool
+    ensures { result ≡ is_integer (read (values_of (view_row row.now)) reading.now) }
+{
+    match reading {
+        Reading::Literal(value) => is_integer(value),
+        Reading::Column(place) => is_field_integer(row.value_at(*place)),
+        Reading::Plus(..) | Reading::Minus(..) => true,
+    }
+}
+
+/// Whether the new value of a column is an integer, whatever its size.
+fn is_filled_integer<const D: usize>(
+    row: &RowView<'_, D>,
+    readings: &[Reading],
+    fill: &Fill,
+) -> bool
+    ensures { result ≡ is_integer (filled readings.now (values_of (view_row row.now)) fill.now) }
+{
+    match fill {
+        Fill::Kept(place) => is_field_integer(row.value_at(*place)),
+        Fill::Set(at) if *at < readings.len() => gives_integer(row, &readings[*at]),
+        Fill::Set(_) => false,
+    }
+}
+
+fn are_summable<const D: usize>(row: &RowView<'_, D>, readings: &[Reading]) -> bool
+    ensures { result ≡ list_all (reads_integer (values_of (view_row row.now))) readings.now }
+{
+    readings.iter().all(
+        |reading: &Reading| -> bool
+            ensures { result ≡ reads_integer (values_of (view_row row.entry.now)) reading.now }
+        { reads_integer(row, reading) },
+    )
+}
+
+fn do_sums_fit<const D: usize>(row: &RowView<'_, D>, readings: &[Reading]) -> bool
+    ensures { result ≡ list_all (reading_fits (values_of (view_row row.now))) readings.now }
+{
+    readings.iter().all(
+        |reading: &Reading| -> bool
+            ensures { result ≡ reading_fits (values_of (view_row row.entry.now)) reading.now }
+        { reading_fits(row, reading) },
+    )
+}
+
+fn are_filled_integers<const D: usize>(
+    row: &RowView<'_, D>,
+    readings: &[Reading],
+    fills: &[Fill],
+) -> bool
+    ensures { result ≡ list_all (λ fill. is_integer (filled readings.now (values_of (view_row row.now)) fill)) fills.now }
+{
+    fills.iter().all(
+        |fill: &Fill| -> bool
+            ensures { result ≡ is_integer (filled readings.entry.now (values_of (view_row row.entry.now)) fill.now) }
+        { is_filled_integer(row, readings, fill) },
+    )
+}
+
+fn all_filled<const D: usize>(
+    alloc: Global,
+    row: &RowView<'_, D>,
+    readings: &[Reading],
+    fills: &[Fill],
+) -> Result<Vec<Value>, AllocError>
+    requires { list_all (reading_fits (values_of (view_row row.now))) readings.now ≡ true }
+    ensures { IfOk result (λ values. values.items ≡ map (filled readings.now (values_of (view_row row.now))) fills.now) }
+{
+    let mut values = Vec::with_capacity(alloc, fills.len())?;
+    for fill in fills {
+        values.push(filled(alloc, row, readings, *fill)?)?;
+    }
+    Ok(values)
+}
+
+/// What a row becomes.
+fn candidate<const D: usize>(
+    alloc: Global,
+    row: &RowView<'_, D>,
+    readings: &[Reading],
+    fills: &[Fill],
+) -> Result<Candidate<D>, Refusal>
+    requires some { 1 ≤ D }
+    requires few { D ≤ 3 }
+    requires long { 1 + 2 * D ≤ length fills.now }
+    ensures { GivesAs candidate_as (candidate_set D (record { readings = readings.now; fills = fills.now }) (values_of (view_row row.now))) result }
+{
+    if !are_summable(row, readings) {
+        return Err(Refusal::WrongType);
+    }
+    if !are_filled_integers(row, readings, &fills[..1 + 2 * D]) {
+        return Err(Refusal::WrongType);
+    }
+    if !do_sums_fit(row, readings) {
+        return Err(Refusal::IntegerOutOfRange);
+    }
+    Candidate::new(all_filled(alloc, row, readings, fills)?)
+}
+
+/// What an UPDATE sets, with its columns looked up once, so that no name is compared for a row.
+#[derive(Debug, Drop)]
+pub struct Settings {
+    readings: Vec<Reading>,
+    fills: Vec<Fill>,
+}
+
+impl Model for Settings {
+    ghost use Rattle.rt_table_row.specs.Settings.{LookedUp};
+
+    ghost Value = { LookedUp };
+
+    ghost view = { λ settings. record { readings = settings.readings.items; fills = settings.fills.items } };
+}
+
+impl Settings {
+    ghost use Rattle.rt_table_row.specs.Settings.{IsSettingsOf, IsBadSettings};
+
+    /// The sets over a table of these columns.
+    ///
+    /// # Errors
+    ///
+    /// `BadColumnList` where two sets are of one column, else `NoSuchColumn` where a set is of or reads a
+    /// column that the table hasn't, and `OutOfMemory`.
+    pub fn new(alloc: Global, schema: &Schema, sets: &[(Name, Source)]) -> Result<Settings, Refusal>
+        ensures { MatchResult result (IsSettingsOf schema.now sets.now) (IsBadSettings schema.now sets.now) }
+    {
+        if !are_set_once(alloc, sets)? {
+            return Err(Refusal::BadColumnList);
+        }
+        if !are_known(schema.names(), sets) {
+            return Err(Refusal::NoSuchColumn);
+        }
+        let readings = readings_of(alloc, schema.names(), sets)?;
+        let fills = fills_of(alloc, schema.names(), sets)?;
+        Ok(Settings { readings, fills })
+    }
+
+    /// What a row becomes. Sums are of whole numbers.
+    ///
+    /// # Errors
+    ///
+    /// The first of these that holds: `WrongType` where a sum is of no integer, or an id or a coordinate is
+    /// none; `IntegerOutOfRange` where a sum has more than 64 bits, or a coordinate more than 32;
+    /// `MinimumAboveMaximum`; or `OutOfMemory`.
+    pub fn candidate<const D: usize>(
+        &self,
+        alloc: Global,
+        row: &RowView<'_, D>,
+    ) -> Result<Candidate<D>, Refusal>
+        requires some { 1 ≤ D }
+        requires few { D ≤ 3 }
+        requires long { 1 + 2 * D ≤ length self.now.fills }
+        ensures { GivesAs candidate_as (candidate_set D self.now (values_of (view_row row.now))) result }
+    {
+        candidate(alloc, row, self.readings.as_slice(), self.fills.as_slice())
+    }
+}

@@ -1,0 +1,73 @@
+use Rattle.std.proofs.Common.{◌≡◌, ◌≢◌, ◌≤◌, ◌<◌, ◌^◌, ℤ, true, [], length, None, Some, IsSome, arith, rules, refl, sym, ap, ◌∙◌, subst}
+use Rattle.std.specs.Option.{unwrap_or}
+use Rattle.std.specs.Ordering.{int_eq}
+use Rattle.indexmap.specs.IndexMap.{get}
+use Rattle.rt_tree.specs.Rows.{box_of}
+use Rattle.rt_table_row.specs.Rows.{has_id, with_row, without_id}
+use Rattle.rt_table_store.specs.Stored.{Stored}
+use Rattle.rt_table_store.specs.StoreInside.{rows_in}
+use Rattle.rt_table_store.proofs.Moved.{a-box, rows-exchanged}
+use Rattle.rt_table_store.proofs.Kept.{noted-kept, still-there, longer, one-fewer}
+use Rattle.rt_table_store.proofs.store.Store.move_row.Goals as goal
+
+pub remove-requires : goal.remove-requires
+remove-requires g c =
+    let i = c.self.inside in
+    let d : g.row.D ≤ 3 = c.self.invariant.few in
+    let there : IsSome (box_of i.tree.lists c.args.id.now) =
+    a-box i.tree.lists c.is_in_shape.ensures i.notes c.args.id.now (subst (λ (v : Stored g.row.D). has_id v.rows c.args.id.now ≡ true) (sym c.self.view_is) c.requires.there) in
+    search rules
+
+pub insert-requires : goal.insert-requires
+insert-requires g c =
+    let i = c.self.inside in
+    let d : g.row.D ≤ 3 = c.self.invariant.few in
+    let between = c.remove.new.self.lists in
+    let loses = c.remove.ensures.rows in
+    let absent : box_of between c.args.id.now ≡ None = loses.gone in
+    let few : length between.rows < 2 ^ 20 =
+    omega (arith, c.self.invariant.most, one-fewer i.tree.lists between c.is_in_shape.ensures c.is_in_shape-2.ensures i.notes c.args.id.now c.remove.result loses) in
+    let room : 1 ≤ i.tree.spare = subst (λ (v : Stored g.row.D). 1 ≤ v.room) (sym c.self.view_is) c.requires.room in
+    let some : 1 ≤ c.remove.new.self.spare = omega (arith, room, c.remove.ensures.spare) in
+    search rules
+
+pub invariant_of-self : goal.invariant_of-self
+invariant_of-self g c =
+    let i = c.self.inside in
+    let k = c.self.invariant in
+    let id = c.args.id.now in
+    let old = i.tree.lists in
+    let between = c.remove.new.self.lists in
+    let new = c.insert.new.self.lists in
+    let loses = c.remove.ensures.rows in
+    let gains = c.insert.ensures.rows in
+    let boxes : (other : ℤ) → other ≢ id → box_of new other ≡ box_of old other = λ other ne. gains.others other ne ∙ loses.others other ne in
+    let was : IsSome (box_of old id) = subst IsSome (sym loses.was) refl in
+    let here : IsSome (box_of new id) = subst IsSome (sym gains.here) refl in
+    record {
+      some = k.some;
+      few = k.few;
+      most = omega (arith, k.most, one-fewer old between c.is_in_shape.ensures c.is_in_shape-2.ensures i.notes id c.remove.result loses, longer between new c.is_in_shape-2.ensures c.is_in_shape-3.ensures i.notes id c.args.rect.now gains);
+      noted = noted-kept old new id boxes i.notes c.keep.new.notes c.keep.ensures.others (λ some. here) k.noted;
+      room = omega (arith, k.room, c.remove.ensures.spare, c.insert.ensures.spare);
+      ranked = λ other some. k.ranked other (still-there new old id (λ one ne. sym (boxes one ne)) was other some);
+      top = λ other is_top. still-there old new id boxes here other (k.top other is_top);
+      nothing = k.nothing;
+    }
+
+pub returns-clause-rows : goal.returns-clause-rows
+returns-clause-rows g c row same box more =
+    let i = c.self.inside in
+    let id = c.args.id.now in
+    let old = i.tree.lists in
+    let new = c.insert.new.self.lists in
+    let loses = c.remove.ensures.rows in
+    let gains = c.insert.ensures.rows in
+    let boxes : (other : ℤ) → other ≢ row.id → box_of new other ≡ box_of old other =
+    subst (λ (z : ℤ). (other : ℤ) → other ≢ z → box_of new other ≡ box_of old other) (sym same) (λ other ne. gains.others other ne ∙ loses.others other ne) in
+    let here : box_of new row.id ≡ Some row.box = ap (box_of new) same ∙ gains.here ∙ ap Some (sym box) in
+    let others = subst (λ (z : ℤ). (other : ℤ) → other ≢ z → get int_eq c.keep.new.notes other ≡ get int_eq i.notes other) (sym same) c.keep.ensures.others in
+    let values : unwrap_or (get int_eq c.keep.new.notes row.id) [] ≡ row.more = ap (λ (z : ℤ). unwrap_or (get int_eq c.keep.new.notes z) []) same ∙ c.keep.ensures.here ∙ sym more in
+    rows-exchanged old new c.is_in_shape.ensures c.is_in_shape-3.ensures i.notes c.keep.new.notes row (boxes, others) here values
+    ∙ ap (λ (z : ℤ). with_row (without_id (rows_in old i.notes) z) row) same
+    ∙ ap (λ (v : Stored g.row.D). with_row (without_id v.rows id) row) c.self.view_is

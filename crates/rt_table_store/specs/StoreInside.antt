@@ -1,0 +1,41 @@
+-- How a store keeps its rows: the boxes in a tree, the auxiliary values in a map by id.
+use Rattle.std.specs.Prelude.{◌≡◌, ℕ, ◌≤◌, ℤ, true, List, [], map, length, IsSome, Some}
+use Rattle.std.specs.Option.{unwrap_or}
+use Rattle.std.specs.List.{list_any}
+use Rattle.std.specs.Ordering.{int_eq}
+use Rattle.indexmap.specs.IndexMap.{IndexMap, get, spare}
+use Rattle.rt_check.specs.Shadow.{ShadowLists}
+use Rattle.rt_sql_statement.specs.declared.value.Value.{Value}
+use Rattle.rt_tree.specs.Rows.{box_of}
+use Rattle.rt_table_row.specs.Rows.{TableRow}
+use Rattle.rt_table_row.specs.Edits.{most_rows}
+use Rattle.rt_table_store.specs.Stored.{Stored}
+use Rattle.rt_table_store.specs.Ranked.{IsTop}
+use Rattle.rt_table_store.specs.declared.store.Store.TheInside.{Inside}
+
+-- the row of an id: its box from the tree, its auxiliary values from the map, which has none of most rows
+abbrev pub joined : {D : _} {S : Type 0} → ShadowLists D → IndexMap ℤ (List Value) S → ℤ → TableRow
+joined tree notes id = record { id = id; box = unwrap_or (box_of tree id) []; more = unwrap_or (get int_eq notes id) [] }
+
+abbrev pub rows_in : {D : _} {S : Type 0} → ShadowLists D → IndexMap ℤ (List Value) S → List TableRow
+rows_in tree notes = map (λ entry. joined tree notes entry.id) tree.rows
+
+abbrev pub stored : {D : _} → Inside D → Stored D
+stored s = record {
+  rows = rows_in s.tree.lists s.notes;
+  tree = s.tree.lists;
+  room = s.tree.spare;
+  note_room = spare s.notes;
+}
+
+-- one to three axes; auxiliary values are kept of rows that are there, and room for an id with each row; the largest of
+-- the ids that were noted is that of a row, and each row's was
+pub record IsJoined (D : ℕ) (s : Inside D) : Type 0 where
+  pub some : 1 ≤ D
+  pub few : D ≤ 3
+  pub most : length s.tree.lists.rows ≤ most_rows
+  pub noted : (id : ℤ) → IsSome (get int_eq s.notes id) → IsSome (box_of s.tree.lists id)
+  pub room : s.tree.spare ≤ s.largest.room
+  pub ranked : (id : ℤ) → IsSome (box_of s.tree.lists id) → list_any (int_eq id) s.largest.ids ≡ true
+  pub top : (id : ℤ) → IsTop s.largest.ids (Some id) → IsSome (box_of s.tree.lists id)
+  pub nothing : s.nothing ≡ []

@@ -1,0 +1,57 @@
+ghost use Rattle.std.specs.Prelude.{◌≡◌, ◌<◌, ◌≤◌, length, All};
+ghost use Rattle.rt_tree_choice.specs.Hull.{hull, AreFronts, AreBacks};
+
+use super::MOST_CELLS;
+use rt_box::Rect;
+
+/// The least box that holds all of them.
+pub(super) fn hull_of<const D: usize>(boxes: &[Rect<D>]) -> Rect<D>
+    requires { 0 < length boxes.now }
+    ensures { result ≡ hull boxes.now }
+{
+    let mut hull = boxes[0];
+    for place in 1..boxes.len() {
+        hull = hull.union(&boxes[place]);
+    }
+    hull
+}
+
+/// At each place the hull of the boxes in the order up to that place, with it.
+pub(super) fn front_hulls<const D: usize>(
+    boxes: &[Rect<D>],
+    order: &[usize],
+) -> [Rect<D>; MOST_CELLS]
+    requires some { 0 < length order.now }
+    requires few { length order.now ≤ 52 }
+    requires within { All (λ position. position < length boxes.now) order.now }
+    ensures { AreFronts boxes.now order.now result }
+{
+    let mut hull = boxes[order[0]];
+    let mut hulls = [hull; MOST_CELLS];
+    for place in 1..order.len() {
+        hull = hull.union(&boxes[order[place]]);
+        hulls[place] = hull;
+    }
+    hulls
+}
+
+/// At each place the hull of the boxes in the order from that place on.
+pub(super) fn back_hulls<const D: usize>(
+    boxes: &[Rect<D>],
+    order: &[usize],
+) -> [Rect<D>; MOST_CELLS]
+    requires some { 0 < length order.now }
+    requires few { length order.now ≤ 52 }
+    requires within { All (λ position. position < length boxes.now) order.now }
+    ensures { AreBacks boxes.now order.now result }
+{
+    let last = order.len() - 1;
+    let mut hull = boxes[order[last]];
+    let mut hulls = [hull; MOST_CELLS];
+    for back in 1..order.len() {
+        let place = last - back;
+        hull = boxes[order[place]].union(&hull);
+        hulls[place] = hull;
+    }
+    hulls
+}

@@ -1,0 +1,30 @@
+-- What placing waiting cells takes (Beckmann, Kriegel, Schneider, Seeger 1990, section 4.3; the counts own).
+use Rattle.std.specs.Prelude.{◌≡◌, ℕ, ◌+◌, ◌*◌, ◌≤◌, ◌<◌, List, length}
+use Rattle.slab.specs.Slab.{slab_len}
+use Rattle.rt_box.specs.Capacity.{reinsertion_share}
+use Rattle.rt_tree_node.specs.declared.arena.Arena.{Arena}
+use Rattle.rt_tree_node.specs.declared.arena.Work.{Work}
+use Rattle.rt_tree_node.specs.declared.cell.Cell.{Cell}
+use Rattle.rt_tree_node.specs.Places.{cells_at}
+use Rattle.rt_tree_node.specs.Path.{LeadsTo}
+use Rattle.rt_tree_place.specs.Placing.{JoinsLeaf, HalvesRoot}
+
+module _ {D : ℕ} where
+  -- All waiting cells but the first `base` were placed, and each that was inserted again. A level gives up cells at
+  -- most once; a split makes one node, and so does a new root.
+  pub record CountsWork (old new : Arena D) (base : ℕ) (work : Work) : Type 0 where
+    pub placements : base + work.placements ≡ length old.waiting.items + reinsertion_share old.capacity * work.reinsertions
+    pub few : work.reinsertions ≤ new.level
+    pub nodes : slab_len new.nodes + old.level ≡ slab_len old.nodes + work.splits + new.level
+
+  -- A row goes to the leaf that best children lead its box to. It joins that leaf's rows where the leaf isn't full, a
+  -- full root is halved, and of another full leaf cells are inserted again.
+  pub record PlacesRow (old new : Arena D) (cell : Cell D) (work : Work) : Type 0 where
+    pub leaf : ℕ
+    pub path : List ℕ
+    pub leads : LeadsTo old.nodes old.level old.root cell.rect leaf path
+    pub joins : length (cells_at old.nodes leaf) < old.capacity →
+        JoinsLeaf old new leaf path cell × (work.splits ≡ 0) × (work.reinsertions ≡ 0)
+    pub halves : old.level ≡ 0 → old.capacity ≤ length (cells_at old.nodes leaf) →
+        HalvesRoot old new cell × (work.splits ≡ 1) × (work.reinsertions ≡ 0)
+    pub again : 1 ≤ old.level → old.capacity ≤ length (cells_at old.nodes leaf) → 1 ≤ work.reinsertions

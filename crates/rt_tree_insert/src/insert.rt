@@ -1,0 +1,59 @@
+//! The insertion of a row.
+
+ghost use Rattle.std.specs.Prelude.{◌≡◌, ◌+◌, ◌^◌, ◌<◌, ◌≤◌, [], None, vec_len, vec_capacity};
+ghost use Rattle.std.specs.Ordering.{int_eq};
+ghost use Rattle.indexmap.specs.IndexMap.{get as leaf_of, spare};
+ghost use Rattle.rt_tree_node.specs.Whole.{IsWhole, IsBranched, HasRoom, row_count};
+ghost use Rattle.rt_tree_insert.specs.Awaiting.{Learns, AwaitsLeaf};
+ghost use Rattle.rt_tree_insert.specs.Insertion.{Inserts};
+
+use crate::waiting::settle;
+use indexmap::IndexMap;
+use rt_box::Rect;
+use rt_tree_node::{Arena, Cell, Waiting, Work};
+use std::hash::RandomState;
+
+/// AwaitsLeaf an id that isn't in the map.
+fn learn(leaves: &mut IndexMap<i64, usize, RandomState>, id: &i64, leaf: usize)
+    requires absent { leaf_of int_eq leaves.old id.now ≡ None }
+    requires room { 1 ≤ spare leaves.old }
+    ensures { Learns leaves.old leaves.new id.now leaf }
+{
+    // There is room for one more, so that it takes no memory and can't fail.
+    let _ = leaves.insert(*id, leaf);
+}
+
+/// Lets a row wait for a leaf. Its id gets an entry already, of any leaf, so that placing the row takes no memory.
+fn await_leaf<const D: usize>(tree: &mut Arena<D>, id: &i64, rect: &Rect<D>)
+    requires absent { leaf_of int_eq tree.old.leaves id.now ≡ None }
+    requires leaves_room { 1 ≤ spare tree.old.leaves }
+    requires waiting_room { vec_len tree.old.waiting < vec_capacity tree.old.waiting }
+    ensures { AwaitsLeaf tree.old tree.new record { number = id.now; rect = rect.now } }
+{
+    let leaf = tree.root;
+    learn(&mut tree.leaves, id, leaf);
+    let cell = Cell {
+        number: *id,
+        rect: *rect,
+    };
+    tree.waiting.push_reserved(Waiting { level: 0, cell });
+}
+
+/// Puts a row into the tree, which has no row with that id. It takes no memory: there is room for the nodes, the id
+/// and the cells that wait meanwhile.
+pub fn insert_row<const D: usize>(tree: &mut Arena<D>, id: &i64, rect: &Rect<D>) -> Work
+    requires whole { IsWhole tree.old }
+    requires branched { IsBranched tree.old }
+    requires idle { tree.old.waiting.items ≡ [] }
+    requires absent { leaf_of int_eq tree.old.leaves id.now ≡ None }
+    requires rows { row_count tree.old < 2 ^ 20 }
+    requires room { HasRoom tree.old (row_count tree.old + 1) }
+    requires leaves_room { 1 ≤ spare tree.old.leaves }
+    requires waiting_room { 513 ≤ vec_capacity tree.old.waiting }
+    ensures { Inserts tree.old tree.new id.now rect.now result }
+{
+    // The contract of `axes` says that it is a box.
+    let _ = rect.axes();
+    await_leaf(tree, id, rect);
+    settle(tree, 0)
+}

@@ -1,0 +1,23 @@
+//! The nodes of an R*-tree, in an arena.
+//!
+//! - `Node` and the calls on a slab of nodes: each changes the one node that it names, and nothing else.
+//! - A sound arena is said node by node: each clause speaks of a node, its parent and its children, so that a
+//!   change of one node is a matter of three.
+//!
+//! Stands on `rt_box` and `rt_tree_choice`. Definitions: `specs/Node.antt`, `Sound.antt` and `Whole.antt` (a sound
+//! arena), `Open.antt` (one in the middle of a change), `Places.antt`, `Changes.antt`, `Homes.antt` (the map from
+//! ids to leaves).
+#![tactic(auto)]
+
+mod access;
+mod arena;
+mod cell;
+mod node;
+
+pub use access::{
+    add_cell, add_cells, clear_cells, hull_at, node_at, remove_cell, set_cell, set_leaf,
+    set_parent, take_cells,
+};
+pub use arena::{Arena, Work};
+pub use cell::{Cell, Waiting, key_of, number_of};
+pub use node::{MOST_CELLS, Node};

@@ -1,0 +1,48 @@
+use Rattle.std.proofs.Common.{◌≡◌, ◌+◌, ◌^◌, ◌<◌, ◌≤◌, Some, length, vec_len, vec_capacity, arith, rules, ap, sym, subst, ◌∙◌}
+use Rattle.slab.specs.Slab.{HasRoomFor}
+use Rattle.rt_tree_node.specs.Places.{cells_at, parent_at, parent_of}
+use Rattle.rt_tree_place.specs.Rise.{HasRisen}
+use Rattle.rt_tree_place.specs.Steps.{IsRising}
+use Rattle.rt_tree_place.proofs.Risen.{risen-more, ends-at_root, room-left, waiting-room_left, reinsertions-few}
+use Rattle.rt_tree_place.proofs.Rested.{risen-rests}
+use Rattle.rt_tree_place.proofs.rise.rise.Goals as goal
+
+pub lift-requires : goal.lift-requires
+lift-requires g c =
+    let s = c.args.tree.now in
+    let t = c.loop-parent.tree in
+    let so_far = c.loop-parent.invariant in
+    let few = c.requires.few in
+    let rising : IsRising t c.loop-parent.key = so_far.rising in
+    let up : parent_at t.nodes c.loop-parent.key ≡ Some c.in-Some.parent = ap parent_of c.node_at.ensures ∙ sym c.parent.ensures ∙ c.in-Some.is in
+    let left = room-left s t c.args.from c.loop-parent.key c.in-Some.parent c.args.marks.now c.loop-parent.marks c.args.work.now c.loop-parent.work so_far up c.requires.height c.requires.room in
+    let room : HasRoomFor t.nodes 1 = left.0 in
+    let keys : t.nodes.capacity ≤ 2 ^ 62 = omega (arith, so_far.keeps.room, c.requires.keys) in
+    let height : t.level ≤ 30 = left.2 in
+    let waiting_room : t.capacity < length (cells_at t.nodes c.loop-parent.key) → vec_len t.waiting + 15 ≤ vec_capacity t.waiting = λ full.
+    omega (
+      arith,
+      t.waiting.ok.0,
+      waiting-room_left s t c.args.from c.loop-parent.key c.args.marks.now c.loop-parent.marks c.args.work.now c.loop-parent.work so_far
+          (omega (arith, s.waiting.ok.0, c.requires.waiting_room)) full,
+    ) in
+    let splits : c.loop-parent.work.splits + 1 < 2 ^ 32 = omega (arith, left.1, c.requires.splits) in
+    let reinsertions : c.loop-parent.work.reinsertions + 1 < 2 ^ 32 =
+    omega (arith, reinsertions-few s t c.args.from c.loop-parent.key c.args.marks.now c.loop-parent.marks c.args.work.now c.loop-parent.work so_far, c.requires.reinsertions) in
+    search rules
+
+pub loop-parent-preserved : goal.loop-parent-preserved
+loop-parent-preserved g c =
+    risen-more c.args.tree.now c.loop-parent.tree c.lift.new.tree c.args.from c.loop-parent.key c.in-Some.parent c.args.marks.now c.loop-parent.marks c.lift.new.marks
+    c.args.work.now c.loop-parent.work c.lift.new.work c.loop-parent.invariant (ap parent_of c.node_at.ensures ∙ sym c.parent.ensures ∙ c.in-Some.is) c.lift.ensures
+
+pub returns-then-is_at_rest : goal.returns-then-is_at_rest
+returns-then-is_at_rest g c =
+    risen-rests c.args.tree.now c.loop-parent.tree c.args.from c.loop-parent.key c.in-Some.parent c.args.marks.now c.loop-parent.marks c.args.work.now c.loop-parent.work
+    c.loop-parent.invariant (ap parent_of c.node_at.ensures ∙ sym c.parent.ensures ∙ c.in-Some.is) (c.is_at_rest.ensures c.if-is_at_rest.true)
+
+pub returns : goal.returns
+returns g c =
+    let t = c.loop-parent.tree in
+    subst (λ k. HasRisen c.args.tree.now t c.args.from k c.args.marks.now c.loop-parent.marks c.args.work.now c.loop-parent.work)
+    (ends-at_root t c.loop-parent.key c.loop-parent.invariant.rising (ap parent_of c.node_at.ensures ∙ sym c.parent.ensures ∙ c.in_default.is)) c.loop-parent.invariant

@@ -1,0 +1,95 @@
+-- What placing one waiting cell comes to (Beckmann, Kriegel, Schneider, Seeger 1990, section 4.3: Insert and
+-- OverflowTreatment; that what is to be inserted again waits in a list is own).
+use Rattle.std.specs.Prelude.{◌≡◌, ◌≢◌, ◌⊎◌, ℕ, suc, ◌+◌, ◌≤◌, ◌<◌, Bool, ℤ, List, [], ◌∷◌, ◌++◌, Some, length, vec_capacity}
+use Rattle.std.specs.Ordering.{int_eq}
+use Rattle.indexmap.specs.IndexMap.{get as leaf_of}
+use Rattle.slab.specs.Slab.{slab_len}
+use Rattle.rt_box.specs.Capacity.{reinsertion_share}
+use Rattle.rt_tree_choice.specs.declared.split.Cut.{Cut}
+use Rattle.rt_tree_choice.specs.Split.{IsBestCut, first_group, second_group}
+use Rattle.rt_tree_node.specs.declared.arena.Arena.{Arena}
+use Rattle.rt_tree_node.specs.declared.arena.Work.{Work}
+use Rattle.rt_tree_node.specs.declared.cell.Cell.{Cell}
+use Rattle.rt_tree_node.specs.declared.cell.Waiting.{Waiting}
+use Rattle.rt_tree_node.specs.Places.{key_of, picked, rects, cells_at, level_at, parent_at, count_rows}
+use Rattle.rt_tree_node.specs.Whole.{IsWhole, IsBranched}
+use Rattle.rt_tree_node.specs.Homes.{KeepsIds}
+use Rattle.rt_tree_node.specs.Path.{LeadsTo, KeepsShape}
+use Rattle.rt_tree_place.specs.Steps.{waiting_at}
+
+module _ {D : ℕ} where
+  -- the row is the leaf's last cell; of all else only the boxes of the cells above it changed
+  pub record JoinsLeaf (old new : Arena D) (leaf : ℕ) (path : List ℕ) (cell : Cell D) : Type 0 where
+    pub root : new.root ≡ old.root
+    pub height : new.level ≡ old.level
+    pub level : level_at new.nodes leaf ≡ level_at old.nodes leaf
+    pub parent : parent_at new.nodes leaf ≡ parent_at old.nodes leaf
+    pub cells : cells_at new.nodes leaf ≡ cells_at old.nodes leaf ++ cell ∷ []
+    pub others : (k : ℕ) → k ≢ leaf → KeepsShape old.nodes new.nodes path k
+    pub home : leaf_of int_eq new.leaves cell.number ≡ Some leaf
+    pub homes : (other : ℤ) → other ≢ cell.number → leaf_of int_eq new.leaves other ≡ leaf_of int_eq old.leaves other
+
+  -- a root that is a full leaf: the two groups of its cells and the row are the two leaves of a new root, in this
+  -- order
+  pub record HalvesRoot (old new : Arena D) (cell : Cell D) : Type 0 where
+    pub cut : Cut
+    pub best : IsBestCut D (rects (cells_at old.nodes old.root ++ cell ∷ [])) old.capacity cut
+    pub first : Cell D
+    pub second : Cell D
+    pub height : new.level ≡ 1
+    pub top : cells_at new.nodes new.root ≡ first ∷ second ∷ []
+    pub first_cells : cells_at new.nodes (key_of first) ≡
+        picked (cells_at old.nodes old.root ++ cell ∷ []) (first_group (rects (cells_at old.nodes old.root ++ cell ∷ [])) cut)
+    pub second_cells : cells_at new.nodes (key_of second) ≡
+        picked (cells_at old.nodes old.root ++ cell ∷ []) (second_group (rects (cells_at old.nodes old.root ++ cell ∷ [])) cut)
+
+  -- a row goes to the leaf that best children lead its box to, which takes it where it isn't full; a full root is
+  -- halved; of another full leaf, where no level is marked, cells are inserted again
+  pub record TakesRow (old new : Arena D) (cell : Cell D) (marks : ℕ) (work work1 : Work) : Type 0 where
+    pub leaf : ℕ
+    pub path : List ℕ
+    pub leads : LeadsTo old.nodes old.level old.root cell.rect leaf path
+    pub joins : length (cells_at old.nodes leaf) < old.capacity →
+        JoinsLeaf old new leaf path cell × (work1.splits ≡ work.splits) × (work1.reinsertions ≡ work.reinsertions)
+    pub halves : old.level ≡ 0 → old.capacity ≤ length (cells_at old.nodes leaf) →
+        HalvesRoot old new cell × (work1.splits ≡ suc work.splits) × (work1.reinsertions ≡ work.reinsertions)
+    pub again : 1 ≤ old.level → old.capacity ≤ length (cells_at old.nodes leaf) → marks ≡ 0 →
+        work1.reinsertions ≡ suc work.reinsertions
+
+  -- Levels below `marks` are marked. A node of a level that wasn't gave up cells, which wait beside those that are
+  -- left, and the level is marked now.
+  pub record InsertsAgain (old new : Arena D) (left : List (Waiting D)) (marks marks1 : ℕ) (work work1 : Work) : Type 0 where
+    pub level : ℕ
+    pub unmarked : marks ≤ level
+    pub marked : marks1 ≡ suc level
+    pub inner : level < new.level
+    pub far : List (Cell D)
+    pub share : length far ≡ reinsertion_share old.capacity
+    pub waiting : new.waiting.items ≡ left ++ waiting_at level far
+    pub counted : work1.reinsertions ≡ suc work.reinsertions
+
+  -- no node gave up cells
+  pub record InsertsNone (new : Arena D) (left : List (Waiting D)) (marks marks1 : ℕ) (work work1 : Work) : Type 0 where
+    pub marked : marks1 ≡ marks
+    pub waiting : new.waiting.items ≡ left
+    pub counted : work1.reinsertions ≡ work.reinsertions
+
+  -- the last of the waiting cells is in the tree now, and it is whole; at most one node gave up cells
+  pub record PlacesLast (old new : Arena D) (marks marks1 : ℕ) (work work1 : Work) : Type 0 where
+    pub left : List (Waiting D)
+    pub entry : Waiting D
+    pub was : old.waiting.items ≡ left ++ entry ∷ []
+    pub whole : IsWhole new
+    pub rows : (test : Cell D → Bool) →
+        count_rows test new.nodes new.waiting.items ≡ count_rows test old.nodes old.waiting.items
+    pub ids : KeepsIds old.leaves new.leaves
+    pub capacity : new.capacity ≡ old.capacity
+    pub room : new.nodes.capacity ≡ old.nodes.capacity
+    pub waiting_room : vec_capacity old.waiting ≤ vec_capacity new.waiting
+    pub branched : IsBranched old → IsBranched new
+    pub height : (new.level ≡ old.level) ⊎ (new.level ≡ suc old.level)
+    pub waits : InsertsAgain old new left marks marks1 work work1 ⊎ InsertsNone new left marks marks1 work work1
+    pub placements : work1.placements ≡ suc work.placements
+    pub splits : work.splits ≤ work1.splits
+    pub len : slab_len new.nodes + work.splits + old.level ≡ slab_len old.nodes + work1.splits + new.level
+    pub row : entry.level ≡ 0 → TakesRow old new entry.cell marks work work1

@@ -1,0 +1,54 @@
+ghost use Rattle.std.specs.Prelude.{◌≡◌, ℕ, ◌≤◌, List, Some, length};
+ghost use Rattle.slab.specs.Slab.{ContainsKey};
+ghost use Rattle.rt_tree_node.specs.Places.{cells_at, level_at};
+ghost use Rattle.rt_tree_node.specs.Path.{LeadsTo};
+ghost use Rattle.rt_tree_place.specs.Steps.{IsPassable, IsBestAt};
+ghost use Rattle.rt_tree_place.specs.Way.{LeadsUp};
+
+use rt_box::Rect;
+use rt_tree_choice::choose_subtree;
+use rt_tree_node::{Node, node_at};
+use slab::Slab;
+
+/// The child that the box goes into.
+fn best_child<const D: usize>(
+    nodes: &Slab<Node<D>>,
+    key: usize,
+    above_leaves: bool,
+    rect: &Rect<D>,
+) -> usize
+    requires present { ContainsKey nodes.now key }
+    requires some { 1 ≤ length (cells_at nodes.now key) }
+    ensures { IsBestAt nodes.now key above_leaves rect.now result }
+{
+    let node = node_at(nodes, key);
+    let at = choose_subtree(node.boxes(), above_leaves, rect);
+    let cell = node.cell(at);
+    cell.key()
+}
+
+/// The node of a level that best children lead the box to, from the root down (Beckmann, Kriegel, Schneider, Seeger
+/// 1990, section 4.1).
+pub fn choose_node<const D: usize>(
+    nodes: &Slab<Node<D>>,
+    root: usize,
+    level: u8,
+    target: u8,
+    rect: &Rect<D>,
+) -> usize
+    requires passable { IsPassable nodes.now root level }
+    requires below { target ≤ level }
+    ensures level { level_at nodes.now result ≡ Some target }
+    ensures way { (steps : ℕ) × LeadsUp nodes.now root steps result }
+    ensures path { target ≡ 0 → (path : List ℕ) × LeadsTo nodes.now level root rect.now result path }
+{
+    // Says that there are one to three axes.
+    let _ = rect.axes();
+    let mut key = root;
+    let mut height = level;
+    while height > target {
+        key = best_child(nodes, key, height == 1, rect);
+        height -= 1;
+    }
+    key
+}

@@ -1,0 +1,55 @@
+//! The root at the end of a placement.
+
+ghost use Rattle.std.specs.Prelude.{◌+◌, ◌^◌, ◌<◌, ◌≤◌, length};
+ghost use Rattle.slab.specs.Slab.{HasRoomFor};
+ghost use Rattle.rt_tree_node.specs.Places.{cells_at};
+ghost use Rattle.rt_tree_place.specs.Steps.{IsRising};
+ghost use Rattle.rt_tree_place.specs.Rise.{Raises, Grows};
+
+use crate::attach::attach;
+use crate::refit::{cell_for, refit};
+use crate::split::divide;
+use rt_tree_node::{Arena, Node, Waiting, Work, hull_at, node_at};
+
+/// Makes a new root with one cell, which names the old one.
+fn raise<const D: usize>(tree: &mut Arena<D>)
+    requires few { D ≤ 3 }
+    requires rising { IsRising tree.old tree.old.root }
+    requires full { tree.old.capacity < length (cells_at tree.old.nodes tree.old.root) }
+    requires room { HasRoomFor tree.old.nodes 1 }
+    requires keys { tree.old.nodes.capacity ≤ 2 ^ 62 }
+    requires height { tree.old.level ≤ 30 }
+    ensures { Raises tree.old tree.new }
+{
+    // Says that keys are below the capacity, and so fit into a cell.
+    let _ = tree.nodes.capacity();
+    let hull = hull_at(&tree.nodes, tree.root);
+    let cell = cell_for(tree.root, &hull);
+    let level = tree.level + 1;
+    let root = tree.nodes.insert_reserved(Node::new(level, None, &hull));
+    tree.root = root;
+    tree.level = level;
+    attach(tree, root, &Waiting { level, cell });
+}
+
+/// The overflow of the root: it is split, and the nodes of the two groups become the children of a new root (Beckmann,
+/// Kriegel, Schneider, Seeger 1990, section 4.3).
+pub(crate) fn grow<const D: usize>(tree: &mut Arena<D>, work: &mut Work)
+    requires few { D ≤ 3 }
+    requires rising { IsRising tree.old tree.old.root }
+    requires room { HasRoomFor tree.old.nodes 2 }
+    requires keys { tree.old.nodes.capacity ≤ 2 ^ 62 }
+    requires height { tree.old.level ≤ 30 }
+    requires splits { work.old.splits + 1 < 2 ^ 32 }
+    ensures { Grows tree.old tree.new work.old work.new }
+{
+    let key = tree.root;
+    if node_at(&tree.nodes, key).len() <= tree.capacity.greatest() {
+        return;
+    }
+    raise(tree);
+    let root = tree.root;
+    divide(tree, key, root);
+    refit(&mut tree.nodes, root, key);
+    work.splits += 1;
+}

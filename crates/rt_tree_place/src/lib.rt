@@ -1,0 +1,27 @@
+//! Placing cells in an R*-tree (Beckmann, Kriegel, Schneider, Seeger 1990, section 4): the last of the cells that wait
+//! goes down by best children to a node of its level. From there up to the root each overfull node gives up cells, to be
+//! inserted again, or is split, and the boxes of cells above are made the least ones again; an overfull root is split
+//! under a new one.
+//!
+//! - `place_last`: of the cells that wait the last is placed, and the tree is whole again; which cells wait then is
+//!   said.
+//! - `choose_node`: the way down, by best children.
+//! - `has_least_box`: whether a node's box is its parent's already.
+//!
+//! Stands on `rt_tree_node` and `rt_tree_choice`. Definitions: `specs/Placing.antt` (what it comes to), `Rise.antt`,
+//! `Steps.antt` and `Way.antt` (its parts, and the way up).
+#![tactic(auto)]
+
+mod attach;
+mod descent;
+mod grow;
+mod overflow;
+mod placing;
+mod refit;
+mod reinsertion;
+mod rise;
+mod split;
+
+pub use descent::choose_node;
+pub use placing::place_last;
+pub use refit::has_least_box;

@@ -1,0 +1,60 @@
+ghost use Rattle.std.specs.Prelude.{◌≡◌, ℕ, ◌^◌, ◌<◌, ◌≤◌, ◌↔◌, Some, IsTrue, pos, length};
+ghost use Rattle.slab.specs.Slab.{get, ContainsKey};
+ghost use Rattle.rt_tree_node.specs.Node.{NodeCells};
+ghost use Rattle.rt_tree_node.specs.Places.{times_named, cells_at};
+ghost use Rattle.rt_tree_place.specs.Steps.{IsNamedAt, HasLeastBox, Refits};
+
+use rt_box::Rect;
+use rt_tree_node::{Cell, Node, hull_at, node_at, number_of, set_cell};
+use slab::Slab;
+
+/// The cell that names a node and has this box.
+pub(crate) fn cell_for<const D: usize>(key: usize, rect: &Rect<D>) -> Cell<D>
+    requires { key < 2 ^ 63 }
+    ensures number { result.number ≡ pos key }
+    ensures rect { result.rect ≡ rect.now }
+{
+    Cell {
+        number: number_of(key),
+        rect: *rect,
+    }
+}
+
+/// Whether the parent's cell that names the node has the least box around the node's cells.
+pub fn has_least_box<const D: usize>(nodes: &Slab<Node<D>>, parent: usize, key: usize) -> bool
+    requires few { D ≤ 3 }
+    requires keys { nodes.now.capacity ≤ 2 ^ 62 }
+    requires present { ContainsKey nodes.now key }
+    requires some { 1 ≤ length (cells_at nodes.now key) }
+    requires above { ContainsKey nodes.now parent }
+    requires named { (at : ℕ) × IsNamedAt (cells_at nodes.now parent) at key }
+    requires once { times_named key (cells_at nodes.now parent) ≤ 1 }
+    ensures { IsTrue result ↔ HasLeastBox nodes.now key parent }
+{
+    // Says that keys are below the capacity, and so fit into a cell.
+    let _ = nodes.capacity();
+    let hull = hull_at(nodes, key);
+    let cell = cell_for(key, &hull);
+    let node = node_at(nodes, parent);
+    let at = node.position(&cell.number);
+    node.cell(at).rect == cell.rect
+}
+
+/// Gives the parent's cell that names the node the least box around the node's cells.
+pub(crate) fn refit<const D: usize>(nodes: &mut Slab<Node<D>>, parent: usize, key: usize)
+    requires few { D ≤ 3 }
+    requires keys { nodes.old.capacity ≤ 2 ^ 62 }
+    requires present { ContainsKey nodes.old key }
+    requires some { 1 ≤ length (cells_at nodes.old key) }
+    requires above { ContainsKey nodes.old parent }
+    requires named { (at : ℕ) × IsNamedAt (cells_at nodes.old parent) at key }
+    ensures { (n : NodeCells D) → get nodes.old parent ≡ Some n → Refits nodes.old nodes.new parent key n }
+{
+    // Says that keys are below the capacity, and so fit into a cell.
+    let _ = nodes.capacity();
+    let hull = hull_at(nodes, key);
+    let cell = cell_for(key, &hull);
+    let node = node_at(nodes, parent);
+    let at = node.position(&cell.number);
+    set_cell(nodes, parent, at, &cell);
+}

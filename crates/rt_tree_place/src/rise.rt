@@ -1,0 +1,77 @@
+//! The way up from a node that a cell was placed in.
+
+ghost use Rattle.std.specs.Prelude.{◌≡◌, ◌+◌, ◌^◌, ◌<◌, ◌≤◌, Some, true, length, vec_len, vec_capacity};
+ghost use Rattle.slab.specs.Slab.{HasRoomFor};
+ghost use Rattle.rt_tree_node.specs.Places.{cells_at, parent_at};
+ghost use Rattle.rt_tree_place.specs.Steps.{IsRising, Rests, Lifts};
+ghost use Rattle.rt_tree_place.specs.Rise.{HasRisen};
+
+use crate::overflow::relieve;
+use crate::refit::{has_least_box, refit};
+use rt_tree_node::{Arena, Work, node_at};
+
+/// One step up: the node is relieved of the cells that it has too many, and the parent's cell gets the least box around
+/// those that are left.
+fn lift<const D: usize>(
+    tree: &mut Arena<D>,
+    key: usize,
+    parent: usize,
+    marks: &mut u8,
+    work: &mut Work,
+)
+    requires few { D ≤ 3 }
+    requires rising { IsRising tree.old key }
+    requires up { parent_at tree.old.nodes key ≡ Some parent }
+    requires room { HasRoomFor tree.old.nodes 1 }
+    requires keys { tree.old.nodes.capacity ≤ 2 ^ 62 }
+    requires height { tree.old.level ≤ 30 }
+    requires waiting_room { tree.old.capacity < length (cells_at tree.old.nodes key) → vec_len tree.old.waiting + 15 ≤ vec_capacity tree.old.waiting }
+    requires splits { work.old.splits + 1 < 2 ^ 32 }
+    requires reinsertions { work.old.reinsertions + 1 < 2 ^ 32 }
+    ensures { Lifts tree.old tree.new key parent marks.old marks.new work.old work.new }
+{
+    relieve(tree, key, parent, marks, work);
+    refit(&mut tree.nodes, parent, key);
+}
+
+/// Whether nothing is left to be done on the way up: the node isn't overfull, and the cell above it has the least box.
+fn is_at_rest<const D: usize>(tree: &Arena<D>, key: usize, parent: usize) -> bool
+    requires few { D ≤ 3 }
+    requires rising { IsRising tree.now key }
+    requires up { parent_at tree.now.nodes key ≡ Some parent }
+    requires keys { tree.now.nodes.capacity ≤ 2 ^ 62 }
+    ensures { result ≡ true → Rests tree.now key parent }
+{
+    if node_at(&tree.nodes, key).len() > tree.capacity.greatest() {
+        return false;
+    }
+    has_least_box(&tree.nodes, parent, key)
+}
+
+/// The steps up from a node that a cell was placed in, to the root, which may have one cell too many then.
+pub(crate) fn rise<const D: usize>(
+    tree: &mut Arena<D>,
+    from: usize,
+    marks: &mut u8,
+    work: &mut Work,
+)
+    requires few { D ≤ 3 }
+    requires rising { IsRising tree.old from }
+    requires room { HasRoomFor tree.old.nodes 30 }
+    requires keys { tree.old.nodes.capacity ≤ 2 ^ 62 }
+    requires height { tree.old.level ≤ 30 }
+    requires waiting_room { vec_len tree.old.waiting + 15 ≤ vec_capacity tree.old.waiting }
+    requires splits { work.old.splits ≤ 2 ^ 31 }
+    requires reinsertions { work.old.reinsertions ≤ 2 ^ 31 }
+    ensures { HasRisen tree.old tree.new from tree.new.root marks.old marks.new work.old work.new }
+{
+    let mut key = from;
+    while let Some(parent) = node_at(&tree.nodes, key).parent() {
+        // Most rows come into a leaf whose box holds them already.
+        if is_at_rest(tree, key, parent) {
+            return;
+        }
+        lift(tree, key, parent, marks, work);
+        key = parent;
+    }
+}

@@ -1,0 +1,115 @@
+ghost use Rattle.std.specs.Prelude.{◌≡◌, ◌≢◌, ℕ, suc, ◌+◌, ◌^◌, ◌<◌, ◌≤◌, All, Some, IsSome, length, take, drop};
+ghost use Rattle.std.specs.Ordering.{int_eq};
+ghost use Rattle.indexmap.specs.IndexMap.{get as leaf_of};
+ghost use Rattle.slab.specs.Slab.{get, ContainsKey, HasRoomFor};
+ghost use Rattle.rt_tree_node.specs.Node.{NodeCells};
+ghost use Rattle.rt_tree_node.specs.Places.{key_of as key_in, cells_at, level_at, picked};
+ghost use Rattle.rt_tree_place.specs.Steps.{Adopts, Rehouses, TakesOver, Splits, IsPair, Divides};
+
+use crate::attach::attach;
+use crate::refit::cell_for;
+use indexmap::IndexMap;
+use rt_tree_choice::{choose_split, sorted_positions};
+use rt_tree_node::{
+    Arena, Node, Waiting, add_cells, hull_at, node_at, set_leaf, set_parent, take_cells,
+};
+use slab::Slab;
+use std::hash::RandomState;
+
+/// Notes that the rows of the cells at the positions lie in another leaf now.
+fn rehouse<const D: usize>(
+    leaves: &mut IndexMap<i64, usize, RandomState>,
+    leaf: usize,
+    from: &Node<D>,
+    positions: &[usize],
+)
+    requires few { D ≤ 3 }
+    requires within { All (λ p. p < length from.now.cells) positions.now }
+    requires known { All (λ c. IsSome (leaf_of int_eq leaves.old c.number)) (picked from.now.cells positions.now) }
+    ensures { Rehouses leaves.old leaves.new leaf (picked from.now.cells positions.now) }
+{
+    for at in positions {
+        let cell = from.cell(*at);
+        set_leaf(leaves, &cell.number, leaf);
+    }
+}
+
+/// Makes the nodes that the cells at the positions name the children of another node.
+fn adopt<const D: usize>(nodes: &mut Slab<Node<D>>, key: usize, from: &Node<D>, positions: &[usize])
+    requires few { D ≤ 3 }
+    requires within { All (λ p. p < length from.now.cells) positions.now }
+    requires present { All (λ c. ContainsKey nodes.old (key_in c)) (picked from.now.cells positions.now) }
+    ensures { Adopts nodes.old nodes.new key (picked from.now.cells positions.now) }
+{
+    for at in positions {
+        let cell = from.cell(*at);
+        set_parent(nodes, cell.key(), Some(key));
+    }
+}
+
+/// Notes at what the cells at the positions name that they stand in another node now.
+fn take_over<const D: usize>(tree: &mut Arena<D>, key: usize, from: &Node<D>, positions: &[usize])
+    requires few { D ≤ 3 }
+    requires within { All (λ p. p < length from.now.cells) positions.now }
+    requires known { from.now.level ≡ 0 → All (λ c. IsSome (leaf_of int_eq tree.old.leaves c.number)) (picked from.now.cells positions.now) }
+    requires present { 1 ≤ from.now.level → All (λ c. ContainsKey tree.old.nodes (key_in c)) (picked from.now.cells positions.now) }
+    ensures { TakesOver tree.old tree.new key from.now.level (picked from.now.cells positions.now) }
+{
+    if from.level() == 0 {
+        rehouse(&mut tree.leaves, key, from, positions);
+        return;
+    }
+    adopt(&mut tree.nodes, key, from, positions);
+}
+
+/// The first positions of an order, and the others.
+fn groups(order: &[usize], first: usize) -> (&[usize], &[usize])
+    requires { first ≤ length order.now }
+    ensures first { result.0.now ≡ take first order.now }
+    ensures second { result.1.now ≡ drop first order.now }
+{
+    order.split_at(first)
+}
+
+/// Split: the cells of an overfull node are cut into two groups; the first stays, and the second goes to a new node,
+/// whose key is the answer (Beckmann, Kriegel, Schneider, Seeger 1990, section 4.2).
+pub(crate) fn split<const D: usize>(tree: &mut Arena<D>, key: usize) -> usize
+    requires few { D ≤ 3 }
+    requires present { ContainsKey tree.old.nodes key }
+    requires full { length (cells_at tree.old.nodes key) ≡ tree.old.capacity + 1 }
+    requires room { HasRoomFor tree.old.nodes 1 }
+    requires known { level_at tree.old.nodes key ≡ Some 0 → All (λ c. IsSome (leaf_of int_eq tree.old.leaves c.number)) (cells_at tree.old.nodes key) }
+    requires children { (l : ℕ) → level_at tree.old.nodes key ≡ Some (suc l) → All (λ c. ContainsKey tree.old.nodes (key_in c) × (key_in c ≢ key)) (cells_at tree.old.nodes key) }
+    ensures { (n : NodeCells D) → get tree.old.nodes key ≡ Some n → Splits tree.old tree.new key n result }
+{
+    // Says that the capacity is from 5 to 51.
+    let _ = tree.capacity.greatest();
+    let old = take_cells(&mut tree.nodes, key);
+    let cut = choose_split(old.boxes(), tree.capacity);
+    let order = sorted_positions(old.boxes(), cut.axis, cut.upper);
+    let (first, second) = groups(order.as_slice(), cut.first);
+    add_cells(&mut tree.nodes, key, &old, first);
+    let cell = old.cell(0);
+    let sibling = tree
+        .nodes
+        .insert_reserved(Node::new(old.level(), old.parent(), &cell.rect));
+    take_over(tree, sibling, &old, second);
+    add_cells(&mut tree.nodes, sibling, &old, second);
+    sibling
+}
+
+/// Splits an overfull node below the root, and appends the new node's cell to the parent.
+pub(crate) fn divide<const D: usize>(tree: &mut Arena<D>, key: usize, parent: usize)
+    requires few { D ≤ 3 }
+    requires pair { IsPair tree.old key parent }
+    requires full { length (cells_at tree.old.nodes key) ≡ tree.old.capacity + 1 }
+    requires room { HasRoomFor tree.old.nodes 1 }
+    requires keys { tree.old.nodes.capacity ≤ 2 ^ 62 }
+    ensures { Divides tree.old tree.new key parent }
+{
+    let sibling = split(tree, key);
+    let hull = hull_at(&tree.nodes, sibling);
+    let cell = cell_for(sibling, &hull);
+    let level = node_at(&tree.nodes, parent).level();
+    attach(tree, parent, &Waiting { level, cell });
+}

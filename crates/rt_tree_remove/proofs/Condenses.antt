@@ -1,0 +1,180 @@
+-- The steps up from a leaf that lost a row.
+use Rattle.std.specs.Prelude.{unsigned_abs}
+use Rattle.std.proofs.Common.{◌≡◌, ◌≢◌, ℕ, zero, suc, ◌-◌, ◌*◌, ◌≤◌, pos, List, [], ◌∷◌, length, drop, get_or, Some, None, arith, refl, ap, sym, subst, ◌∙◌, inl, inr}
+use Rattle.std.specs.List.{All, Contains}
+use Rattle.std.specs.Option.{option_map_or}
+use Rattle.std.proofs.lemmas.Option.{same_Some, none-some}
+use Rattle.std.proofs.Math.Nat.{mul-le-mul_left}
+use Rattle.std.proofs.lemmas.Bool.{cases_eq}
+use Rattle.slab.specs.Slab.{Slab}
+use Rattle.rt_box.specs.Capacity.{least_fill}
+use Rattle.rt_tree_node.specs.declared.arena.Arena.{Arena}
+use Rattle.rt_tree_node.specs.declared.cell.Cell.{Cell}
+use Rattle.rt_tree_node.specs.Node.{NodeCells}
+use Rattle.rt_tree_node.specs.Places.{key_of, numbers, cells_at, level_at, parent_at}
+use Rattle.rt_tree_node.specs.Path.{KeepsShape}
+use Rattle.rt_tree_node.specs.Whole.{IsWhole}
+use Rattle.rt_tree_place.proofs.Rested.{rested-whole}
+use Rattle.rt_tree_remove.specs.Above.{way_up}
+use Rattle.rt_tree_remove.specs.Steps.{IsSoundBut, KeepsRows, Climbs, Rests, Spares, IsClimbing, Condenses}
+use Rattle.rt_tree_remove.proofs.Climbs.{parent-level}
+use Rattle.rt_tree_remove.proofs.Dissolved.{unnamed-below, parent-named}
+
+module _ {D : ℕ} where
+  pub KeepsRows-none : (t : Arena D) → KeepsRows t t
+  KeepsRows-none t = record { rows = λ test. refl; leaves = refl; root = refl; level = refl; capacity = refl; room = refl; waiting_room = refl }
+
+  pub KeepsRows-then : (s t u : Arena D) → KeepsRows s t → KeepsRows t u → KeepsRows s u
+  KeepsRows-then s t u p q = record {
+    rows = λ test. q.rows test ∙ p.rows test;
+    leaves = q.leaves ∙ p.leaves;
+    root = q.root ∙ p.root;
+    level = q.level ∙ p.level;
+    capacity = q.capacity ∙ p.capacity;
+    room = q.room ∙ p.room;
+    waiting_room = q.waiting_room ∙ p.waiting_room;
+  }
+
+  pub KeepsShape-none : (a : Slab (NodeCells D)) (path : List ℕ) (k : ℕ) → KeepsShape a a path k
+  KeepsShape-none a path k = record { level = refl; parent = refl; rows = refl; numbers_same = refl; boxes = λ j x off. refl }
+
+  key-same : (cs bs : List (Cell D)) (j : ℕ) (x : Cell D) → numbers bs ≡ numbers cs → key_of (get_or bs j x) ≡ key_of (get_or cs j x)
+  key-same [] [] j x e = refl
+  key-same [] (b ∷ bs) j x e = let long = ap length e in absurd (omega arith)
+  key-same (c ∷ cs) [] j x e = let long = ap length e in absurd (omega arith)
+  key-same (c ∷ cs) (b ∷ bs) zero x e = ap unsigned_abs (ap (λ ns. get_or ns 0 (pos 0)) e)
+  key-same (c ∷ cs) (b ∷ bs) (suc j) x e = key-same cs bs j x (ap (drop 1) e)
+
+  pub KeepsShape-then : (a b c : Slab (NodeCells D)) (path : List ℕ) (k : ℕ) → KeepsShape a b path k → KeepsShape b c path k → KeepsShape a c path k
+  KeepsShape-then a b c path k p q = record {
+    level = q.level ∙ p.level;
+    parent = q.parent ∙ p.parent;
+    rows = q.rows ∙ p.rows;
+    numbers_same = q.numbers_same ∙ p.numbers_same;
+    boxes = λ j x off.
+        q.boxes j x (λ on. off (subst (Contains path) (key-same (cells_at a k) (cells_at b k) j x p.numbers_same) on)) ∙ p.boxes j x off;
+  }
+
+  pub way_up-first : (a : Slab (NodeCells D)) (levels key : ℕ) → Contains (way_up a levels key) key
+  way_up-first a zero key = (0, omega arith, refl)
+  way_up-first a (suc l) key = (0, omega arith, refl)
+
+  -- what is above the parent is above the node
+  pub way_up-parent : (a : Slab (NodeCells D)) (levels key parent k : ℕ) → parent_at a key ≡ Some parent → Contains (way_up a levels parent) k → Contains (way_up a (suc levels) key) k
+  way_up-parent a levels key parent k up on =
+      let rest : option_map_or (way_up a levels) (parent_at a key) [] ≡ way_up a levels parent = ap (λ o. option_map_or (way_up a levels) o []) up in
+      subst (λ ks. Contains (key ∷ ks) k) (sym rest) (suc on.0, (let w = on.1 in omega arith), on.2)
+
+  -- the root, where the steps end
+  pub ends-at_root : (t : Arena D) (key : ℕ) → IsSoundBut t key → parent_at t.nodes key ≡ None → key ≡ t.root
+  ends-at_root t key but none = elim (cases_eq key t.root) [
+    | inl e ↦ e
+    | inr away ↦
+        let linked = but.sound.linked in
+        let low : All (λ w. w.level ≤ but.level) t.waiting.items = λ k d within. let lower = but.below k d within in omega arith in
+        let found = parent-named t.nodes t.root t.level t.waiting.items linked key but.level but.here away
+        (unnamed-below t.nodes key but.level t.waiting.items but.here low linked.waiting_named) in
+        absurd (none-some found.0 (sym none ∙ found.1))
+  ]
+
+  -- at the root no node is out of shape
+  pub whole-at_root : (t : Arena D) (key : ℕ) → IsSoundBut t key → key ≡ t.root → IsWhole t
+  whole-at_root t key but e =
+      let linked = but.sound.linked in
+      let fitted = but.sound.fitted in
+      record {
+        linked = linked;
+        fitted = record {
+          cap = fitted.cap;
+          some = fitted.some;
+          least = λ k l here away odd. fitted.least k l here away (λ s. away (sym (same_Some key k s) ∙ e));
+          most = λ k l here odd. elim (cases_eq k key) [
+            | inl same ↦ let long = ap (λ y. length (cells_at t.nodes y)) same in let most = but.most in omega arith
+            | inr other ↦ fitted.most k l here (λ s. other (sym (same_Some key k s)))
+          ];
+          boxes = fitted.boxes;
+          hulls = λ k l here j x within odd. fitted.hulls k l here j x within (λ s.
+              none-some k (sym linked.root_parent ∙ ap (parent_at t.nodes) (sym e ∙ same_Some key _ s) ∙ (linked.children k l here j x within).parent_is));
+          waiting_boxes = fitted.waiting_boxes;
+          waiting_hulls = fitted.waiting_hulls;
+        };
+        homes = but.sound.homes;
+      }
+
+  pub climbing-start : (t : Arena D) (leaf : ℕ) → IsSoundBut t leaf → level_at t.nodes leaf ≡ Some 0 → IsClimbing t t leaf leaf
+  climbing-start t leaf but bottom = record {
+    but = but;
+    keeps = KeepsRows-none t;
+    exact = λ roomy. record {
+      waiting = refl;
+      shape = KeepsShape-none t.nodes (way_up t.nodes t.level leaf);
+      full = roomy;
+      levels = t.level;
+      level = 0;
+      here = bottom;
+      height = omega arith;
+      above = λ k on. on;
+    };
+  }
+
+  spares-more : (s t u : Arena D) (leaf key parent : ℕ) → IsSoundBut t key → parent_at t.nodes key ≡ Some parent → KeepsRows s t → Climbs t u key parent →
+      Spares s t leaf key → key ≢ t.root → Spares s u leaf parent
+  spares-more s t u leaf key parent but up keeps climbs so_far away =
+      let exact = climbs.exact (so_far.full away) in
+      let on = so_far.above key (way_up-first s.nodes so_far.levels key) in
+      let new_level = climbs.up so_far.level so_far.here in
+      let high = climbs.next.sound.linked.levels parent (suc so_far.level) new_level in
+      let top = climbs.keeps.level in
+      let top2 = keeps.level in
+      let height = so_far.height in
+      let fewer : so_far.levels ≡ suc (so_far.levels - 1) = omega arith in
+      record {
+        waiting = exact.waiting ∙ so_far.waiting;
+        shape = λ k. KeepsShape-then s.nodes t.nodes u.nodes (way_up s.nodes s.level leaf) k (so_far.shape k) (exact.shape (way_up s.nodes s.level leaf) on k);
+        full = exact.full;
+        levels = so_far.levels - 1;
+        level = suc so_far.level;
+        here = new_level;
+        height = omega arith;
+        above = λ k in_rest. so_far.above k (subst (λ n. Contains (way_up s.nodes n key) k) (sym fewer)
+            (way_up-parent s.nodes (so_far.levels - 1) key parent k (sym ((so_far.shape key).parent) ∙ up) in_rest));
+      }
+
+  pub climbing-more : (s t u : Arena D) (leaf key parent : ℕ) → IsClimbing s t leaf key → parent_at t.nodes key ≡ Some parent → Climbs t u key parent →
+      IsClimbing s u leaf parent
+  climbing-more s t u leaf key parent so_far up climbs =
+      let away : key ≢ t.root = λ e. none-some parent (sym so_far.but.sound.linked.root_parent ∙ ap (parent_at t.nodes) (sym e) ∙ up) in
+      record {
+        but = climbs.next;
+        keeps = KeepsRows-then s t u so_far.keeps climbs.keeps;
+        exact = λ roomy. spares-more s t u leaf key parent so_far.but up so_far.keeps climbs (so_far.exact roomy) away;
+      }
+
+  pub climbing-end : (s t : Arena D) (leaf key : ℕ) → IsClimbing s t leaf key → parent_at t.nodes key ≡ None → Condenses s t leaf
+  climbing-end s t leaf key so_far none =
+      let but = so_far.but in
+      let at_root = ends-at_root t key but none in
+      let level_is : but.level ≡ t.level = same_Some _ _ (sym but.here ∙ ap (level_at t.nodes) at_root ∙ but.sound.linked.root_level) in
+      record {
+        whole = whole-at_root t key but at_root;
+        keeps = so_far.keeps;
+        few = subst (λ l. length t.waiting.items ≤ (least_fill t.capacity - 1) * l) level_is but.few;
+        waiting = λ roomy. (so_far.exact roomy).waiting;
+        shape = λ roomy. (so_far.exact roomy).shape;
+      }
+
+  -- the steps may end below the root
+  pub climbing-rests : (s t : Arena D) (leaf key parent : ℕ) → IsClimbing s t leaf key → parent_at t.nodes key ≡ Some parent → Rests t key parent → Condenses s t leaf
+  climbing-rests s t leaf key parent so_far up rests =
+      let but = so_far.but in
+      let above = parent-level t key parent but up in
+      let high : but.level ≤ t.level = but.sound.linked.levels key but.level but.here in
+      let product : (least_fill t.capacity - 1) * but.level ≤ (least_fill t.capacity - 1) * t.level = mul-le-mul_left (least_fill t.capacity - 1) high in
+      let few = but.few in
+      record {
+        whole = rested-whole t key parent but.level but.sound but.here up above rests.filled but.most rests.box;
+        keeps = so_far.keeps;
+        few = omega arith;
+        waiting = λ roomy. (so_far.exact roomy).waiting;
+        shape = λ roomy. (so_far.exact roomy).shape;
+      }

@@ -1,0 +1,171 @@
+-- The steps of a removal, and the trees between them: a cell leaves its leaf, nodes that are too thin then leave
+-- the tree and their cells wait, and a root with one child gives way (Guttman 1984, section 3.3; that the waiting
+-- cells are placed before the root gives way is own).
+use Rattle.std.specs.Prelude.{◌≡◌, ◌≢◌, ℕ, suc, ◌+◌, ◌-◌, ◌*◌, ◌<◌, ◌≤◌, Bool, ℤ, List, length, map, remove, slice_get, slice_set, slice_index_or, if◌then◌else◌, None, Some, All, Contains, vec_len, vec_capacity}
+use Rattle.std.specs.Ordering.{int_eq}
+use Rattle.slab.specs.Slab.{Slab, get}
+use Rattle.indexmap.specs.IndexMap.{IndexMap, get as leaf_of, spare, index_map_len}
+use Rattle.rt_box.specs.declared.interval.Interval.{Interval}
+use Rattle.rt_box.specs.Capacity.{least_fill}
+use Rattle.rt_box.specs.Rect.{IsBox}
+use Rattle.rt_tree_node.specs.declared.arena.Arena.{Arena}
+use Rattle.rt_tree_node.specs.declared.cell.Cell.{Cell}
+use Rattle.rt_tree_node.specs.declared.cell.Waiting.{Waiting}
+use Rattle.rt_tree_node.specs.Node.{NodeCells}
+use Rattle.rt_tree_node.specs.Places.{key_of, cells_at, level_at, parent_at, hull_at, count_rows}
+use Rattle.rt_tree_node.specs.Whole.{IsSound, IsWhole, IsBranched}
+use Rattle.rt_tree_node.specs.Changes.{Changes}
+use Rattle.rt_tree_node.specs.Homes.{KeepsIds}
+use Rattle.rt_tree_node.specs.Path.{KeepsShape}
+use Rattle.rt_tree_place.specs.Steps.{HasLeastBox}
+use Rattle.rt_tree_remove.specs.Above.{way_up}
+
+module _ {S : Type 0} where
+  -- the map lost the id, and leads each other one to where it led
+  pub record Forgets (old new : IndexMap ℤ ℕ S) (id : ℤ) : Type 0 where
+    pub gone : leaf_of int_eq new id ≡ None
+    pub others : (other : ℤ) → other ≢ id → leaf_of int_eq new other ≡ leaf_of int_eq old other
+    pub len : index_map_len new + 1 ≡ index_map_len old
+    pub room : spare old ≤ spare new
+
+module _ {D : ℕ} where
+  -- the position of a cell that names the node at the key
+  pub record IsNamedAt (cells : List (Cell D)) (key at : ℕ) : Type 0 where
+    pub within : at < length cells
+    pub names : (d : Cell D) → key_of (slice_index_or cells at d) ≡ key
+
+  -- the parent's cell for the node has the least box around the node's cells
+  pub record Refits (old new : Slab (NodeCells D)) (key parent at : ℕ) : Type 0 where
+    pub place : IsNamedAt (cells_at old parent) key at
+    pub cell : Cell D
+    pub number : (d : Cell D) → cell.number ≡ (slice_index_or (cells_at old parent) at d).number
+    pub rect : cell.rect ≡ hull_at old key
+    pub is_box : IsBox D cell.rect
+    pub change : Changes (λ n. record n { cells = slice_set n.cells at cell }) old new parent
+
+  -- the node left the slab, and its cell left the parent
+  pub record Dissolves (old new : Slab (NodeCells D)) (key parent at : ℕ) : Type 0 where
+    pub place : IsNamedAt (cells_at old parent) key at
+    pub gone : get new key ≡ None
+    pub levels : (k : ℕ) → k ≢ key → level_at new k ≡ level_at old k
+    pub parents : (k : ℕ) → k ≢ key → parent_at new k ≡ parent_at old k
+    pub cells : (k : ℕ) → k ≢ key → k ≢ parent → cells_at new k ≡ cells_at old k
+    pub shorter : cells_at new parent ≡ remove (cells_at old parent) at
+    pub room : new.capacity ≡ old.capacity
+
+  -- cells as they wait for a node of a level
+  abbrev pub waiting_at : ℕ → List (Cell D) → List (Waiting D)
+  waiting_at l cells = map (λ c. record { level = l; cell = c }) cells
+
+  -- sound, but that the node at the key lost a cell and may have one too few, and that the cell above it may have
+  -- another box; what waits belongs below it
+  pub record IsSoundBut (t : Arena D) (key : ℕ) : Type 0 where
+    pub axes : D ≤ 3
+    pub sound : IsSound t (Some key)
+    pub level : ℕ
+    pub here : level_at t.nodes key ≡ Some level
+    pub below : All (λ w. w.level < level) t.waiting.items
+    pub few : length t.waiting.items ≤ (least_fill t.capacity - 1) * level
+    pub nearly : key ≢ t.root → least_fill t.capacity ≤ suc (length (cells_at t.nodes key))
+    pub most : length (cells_at t.nodes key) ≤ t.capacity
+    pub branched : key ≢ t.root → 2 ≤ length (cells_at t.nodes t.root)
+
+  -- the rows in the tree and among what waits stay, and the root, the map of leaves and the room
+  pub record KeepsRows (old new : Arena D) : Type 0 where
+    pub rows : (test : Cell D → Bool) →
+        count_rows test new.nodes new.waiting.items ≡ count_rows test old.nodes old.waiting.items
+    pub leaves : new.leaves ≡ old.leaves
+    pub root : new.root ≡ old.root
+    pub level : new.level ≡ old.level
+    pub capacity : new.capacity ≡ old.capacity
+    pub room : new.nodes.capacity ≡ old.nodes.capacity
+    pub waiting_room : vec_capacity new.waiting ≡ vec_capacity old.waiting
+
+  -- a step up that took nothing out: of all cells only the box of the one that names the node changed
+  pub record KeepsShapes (old new : Arena D) (key parent : ℕ) : Type 0 where
+    pub waiting : new.waiting.items ≡ old.waiting.items
+    pub shape : (path : List ℕ) → Contains path key → (k : ℕ) → KeepsShape old.nodes new.nodes path k
+    pub full : parent ≢ new.root → least_fill new.capacity ≤ length (cells_at new.nodes parent)
+
+  -- a step up: the node is in order or gone, and its parent may now be out of shape
+  pub record Climbs (old new : Arena D) (key parent : ℕ) : Type 0 where
+    pub next : IsSoundBut new parent
+    pub up : (l : ℕ) → level_at old.nodes key ≡ Some l → level_at new.nodes parent ≡ Some (suc l)
+    pub keeps : KeepsRows old new
+    pub exact : least_fill old.capacity ≤ length (cells_at old.nodes key) → KeepsShapes old new key parent
+
+  -- nothing is left to be done on the way up: the node has enough cells, and the cell above it has the least box
+  pub record Rests (t : Arena D) (key parent : ℕ) : Type 0 where
+    pub filled : least_fill t.capacity ≤ length (cells_at t.nodes key)
+    pub box : HasLeastBox t.nodes key parent
+
+  -- steps up from the leaf have come to the node at the key and taken nothing out: of all cells only the boxes of
+  -- those that name nodes of the way up changed
+  pub record Spares (old new : Arena D) (leaf key : ℕ) : Type 0 where
+    pub waiting : new.waiting.items ≡ old.waiting.items
+    pub shape : (k : ℕ) → KeepsShape old.nodes new.nodes (way_up old.nodes old.level leaf) k
+    pub full : key ≢ new.root → least_fill new.capacity ≤ length (cells_at new.nodes key)
+    pub levels : ℕ
+    pub level : ℕ
+    pub here : level_at new.nodes key ≡ Some level
+    pub height : levels + level ≡ old.level
+    pub above : (k : ℕ) → Contains (way_up old.nodes levels key) k → Contains (way_up old.nodes old.level leaf) k
+
+  -- the leaf is the root or has enough cells
+  abbrev pub IsRoomy : Arena D → ℕ → Type 0
+  IsRoomy t leaf = leaf ≢ t.root → least_fill t.capacity ≤ length (cells_at t.nodes leaf)
+
+  -- the steps up from the leaf so far
+  pub record IsClimbing (old t : Arena D) (leaf key : ℕ) : Type 0 where
+    pub but : IsSoundBut t key
+    pub keeps : KeepsRows old t
+    pub exact : IsRoomy old leaf → Spares old t leaf key
+
+  -- no node is out of shape any more, and the cells of the thin ones wait
+  pub record Condenses (old new : Arena D) (leaf : ℕ) : Type 0 where
+    pub whole : IsWhole new
+    pub keeps : KeepsRows old new
+    pub few : length new.waiting.items ≤ (least_fill new.capacity - 1) * new.level
+    pub waiting : IsRoomy old leaf → new.waiting.items ≡ old.waiting.items
+    pub shape : IsRoomy old leaf → (k : ℕ) → KeepsShape old.nodes new.nodes (way_up old.nodes old.level leaf) k
+
+  -- the root gave way to its only child, if it had but one; nothing waits
+  pub record GivesWay (old new : Arena D) : Type 0 where
+    pub whole : IsWhole new
+    pub branched : IsBranched new
+    pub waiting : new.waiting ≡ old.waiting
+    pub rows : (test : Cell D → Bool) →
+        count_rows test new.nodes new.waiting.items ≡ count_rows test old.nodes old.waiting.items
+    pub leaves : new.leaves ≡ old.leaves
+    pub capacity : new.capacity ≡ old.capacity
+    pub room : new.nodes.capacity ≡ old.nodes.capacity
+    pub still : IsBranched old → new ≡ old
+
+  -- the row with the id left its leaf, and its id the map of leaves
+  pub record Takes (old new : Arena D) (id : ℤ) (leaf at : ℕ) (rect : List Interval) : Type 0 where
+    pub but : IsSoundBut new leaf
+    pub home : leaf_of int_eq old.leaves id ≡ Some leaf
+    pub bottom : level_at new.nodes leaf ≡ Some 0
+    pub cell : slice_get (cells_at old.nodes leaf) at ≡ Some record { number = id; rect = rect }
+    pub change : Changes (λ n. record n { cells = remove n.cells at }) old.nodes new.nodes leaf
+    pub forgets : Forgets old.leaves new.leaves id
+    pub rows : (test : Cell D → Bool) →
+        count_rows test new.nodes new.waiting.items + (if test record { number = id; rect = rect } then 1 else 0)
+        ≡ count_rows test old.nodes old.waiting.items
+    pub waiting : new.waiting ≡ old.waiting
+    pub root : new.root ≡ old.root
+    pub level : new.level ≡ old.level
+    pub capacity : new.capacity ≡ old.capacity
+
+  -- some of the waiting cells were placed, the last first
+  pub record Places (old new : Arena D) : Type 0 where
+    pub whole : IsWhole new
+    pub rows : (test : Cell D → Bool) →
+        count_rows test new.nodes new.waiting.items ≡ count_rows test old.nodes old.waiting.items
+    pub ids : KeepsIds old.leaves new.leaves
+    pub capacity : new.capacity ≡ old.capacity
+    pub room : new.nodes.capacity ≡ old.nodes.capacity
+    pub waiting_room : vec_capacity old.waiting ≤ vec_capacity new.waiting
+    pub fewer : vec_len new.waiting ≤ vec_len old.waiting
+    pub branched : IsBranched old → IsBranched new
+    pub still : vec_len old.waiting ≡ 0 → new ≡ old

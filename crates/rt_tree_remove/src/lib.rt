@@ -1,0 +1,19 @@
+//! Removal of a row from an R*-tree (Guttman 1984, section 3.3): the cell leaves its leaf, nodes with too few cells
+//! leave the tree from there up and their cells are placed again, and an inner root with one child gives way to it.
+//!
+//! - `remove_row`: exactly one row fewer in a whole tree, which is whole again; its box is answered. Where the
+//!   row's leaf was the root or had cells to spare, no other row moves.
+//!
+//! Stands on `rt_tree_insert`, `rt_tree_place` and `rt_tree_node`. Definitions: `specs/Removal.antt` (what it comes to),
+//! `Steps.antt`, `Above.antt`.
+#![tactic(auto)]
+
+mod condense;
+mod find;
+mod give_way;
+mod refit;
+mod remove;
+mod settle;
+mod take;
+
+pub use remove::remove_row;

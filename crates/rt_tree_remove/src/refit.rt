@@ -1,0 +1,74 @@
+//! One step up from a node that lost a cell.
+
+ghost use Rattle.std.specs.Prelude.{◌≡◌, ◌≢◌, ℕ, ◌+◌, ◌-◌, ◌*◌, ◌<◌, ◌≤◌, ◌++◌, length, vec_len, vec_capacity};
+ghost use Rattle.slab.specs.Slab.{get, ContainsKey};
+ghost use Rattle.rt_box.specs.Capacity.{least_fill};
+ghost use Rattle.rt_tree_node.specs.Places.{times_named, cells_at, parent_at};
+ghost use Rattle.rt_tree_remove.specs.Steps.{Refits, Dissolves, IsSoundBut, Climbs, waiting_at};
+
+use crate::find::place_of_child;
+use rt_tree_node::{Arena, Node, Waiting, hull_at, node_at, remove_cell, set_cell};
+use slab::Slab;
+
+/// Gives the parent's cell for the node the least box around the node's cells.
+pub(crate) fn refit<const D: usize>(nodes: &mut Slab<Node<D>>, key: usize, parent: usize)
+    requires here { ContainsKey nodes.old key }
+    requires above { ContainsKey nodes.old parent }
+    requires named { 0 < times_named key (cells_at nodes.old parent) }
+    requires some { 0 < length (cells_at nodes.old key) }
+    ensures { (at : ℕ) × Refits nodes.old nodes.new key parent at }
+{
+    let rect = hull_at(nodes, key);
+    let above = node_at(nodes, parent);
+    let at = place_of_child(above.numbers(), key);
+    let mut cell = above.cell(at);
+    cell.rect = rect;
+    set_cell(nodes, parent, at, &cell);
+}
+
+/// Takes the node out of the slab, and the cell that names it out of the parent.
+pub(crate) fn take_out<const D: usize>(
+    nodes: &mut Slab<Node<D>>,
+    key: usize,
+    parent: usize,
+) -> Node<D>
+    requires here { ContainsKey nodes.old key }
+    requires above { ContainsKey nodes.old parent }
+    requires apart { key ≢ parent }
+    requires named { 0 < times_named key (cells_at nodes.old parent) }
+    ensures node { get nodes.old key ≡ Some result }
+    ensures change { (at : ℕ) × Dissolves nodes.old nodes.new key parent at }
+{
+    let at = place_of_child(node_at(nodes, parent).numbers(), key);
+    remove_cell(nodes, parent, at);
+    nodes.remove(key)
+}
+
+/// Lets the cells of a node wait for another node of its level.
+pub(crate) fn await_places<const D: usize>(waiting: &mut Vec<Waiting<D>>, node: &Node<D>)
+    requires { vec_len waiting.old + length node.now.cells ≤ vec_capacity waiting.old }
+    ensures items { waiting.new.items ≡ waiting.old.items ++ waiting_at node.now.level node.now.cells }
+    ensures room { vec_capacity waiting.new ≡ vec_capacity waiting.old }
+{
+    let level = node.level();
+    for at in 0..node.len() {
+        let cell = node.cell(at);
+        waiting.push_reserved(Waiting { level, cell });
+    }
+}
+
+/// A node with too few cells is taken out of its parent and its cells wait; of another the parent's cell gets
+/// the least box around its cells.
+pub(crate) fn climb<const D: usize>(tree: &mut Arena<D>, key: usize, parent: usize)
+    requires but { IsSoundBut tree.old key }
+    requires up { parent_at tree.old.nodes key ≡ Some parent }
+    requires room { (least_fill tree.old.capacity - 1) * tree.old.level ≤ vec_capacity tree.old.waiting }
+    ensures { Climbs tree.old tree.new key parent }
+{
+    if node_at(&tree.nodes, key).len() >= tree.capacity.least() {
+        refit(&mut tree.nodes, key, parent);
+        return;
+    }
+    let node = take_out(&mut tree.nodes, key, parent);
+    await_places(&mut tree.waiting, &node);
+}

@@ -1,0 +1,44 @@
+//! The removal of a row.
+
+ghost use Rattle.std.specs.Prelude.{◌≡◌, ◌+◌, ◌-◌, ◌*◌, ◌^◌, ◌++◌, ◌≤◌, [], IsSome, reverse, vec_capacity};
+ghost use Rattle.std.specs.Ordering.{int_eq};
+ghost use Rattle.indexmap.specs.IndexMap.{get as leaf_of};
+ghost use Rattle.rt_box.specs.Capacity.{least_fill};
+ghost use Rattle.rt_tree_node.specs.Whole.{IsWhole, IsBranched, HasRoom, row_count};
+ghost use Rattle.rt_tree_remove.specs.Removal.{Removes};
+
+use crate::condense::condense;
+use crate::give_way::give_way;
+use crate::settle::place_waiting;
+use crate::take::{Taken, take_row};
+use rt_box::Rect;
+use rt_tree_node::{Arena, Waiting};
+
+/// Turns the waiting cells round: the last are placed first.
+fn turn_round<const D: usize>(waiting: &mut Vec<Waiting<D>>)
+    ensures items { waiting.new.items ≡ reverse waiting.old.items }
+    ensures room { vec_capacity waiting.new ≡ vec_capacity waiting.old }
+{
+    waiting.reverse();
+}
+
+/// Takes the row with the id out of the tree, and answers its box. Nodes that have too few cells then are taken
+/// out too, from the leaf up, and their cells are placed again, those of the lowest level first; at last an inner
+/// root with one child gives way to it. It takes no memory.
+pub fn remove_row<const D: usize>(tree: &mut Arena<D>, id: &i64) -> Rect<D>
+    requires whole { IsWhole tree.old }
+    requires branched { IsBranched tree.old }
+    requires idle { tree.old.waiting.items ≡ [] }
+    requires known { IsSome (leaf_of int_eq tree.old.leaves id.now) }
+    requires rows { row_count tree.old ≤ 2 ^ 20 }
+    requires room { HasRoom tree.old (row_count tree.old) }
+    requires waiting_room { (least_fill tree.old.capacity - 1) * tree.old.level + 512 ≤ vec_capacity tree.old.waiting }
+    ensures { Removes tree.old tree.new id.now result }
+{
+    let Taken { leaf, rect } = take_row(tree, id);
+    condense(tree, leaf);
+    turn_round(&mut tree.waiting);
+    place_waiting(tree);
+    give_way(tree);
+    rect
+}

@@ -1,0 +1,47 @@
+use Rattle.std.proofs.Common.{◌≡◌, ℕ, ◌≤◌, List, [], ◌∷◌, ◌++◌, ◌-◌, take, append-nil, rules, arith, ap, sym, ◌∙◌, subst}
+use Rattle.rt_tree_walk.specs.declared.searching.Row.{Row}
+use Rattle.slab.specs.Slab.{ContainsKey}
+use Rattle.rt_tree_walk.proofs.Progress.{level-some, Progress, IsSettled, Progress-start, Progress-step, Progress-end, visited-few, key-there}
+use Rattle.rt_tree_walk.proofs.searching.search.Goals as goal
+
+pub loop-key-init : goal.loop-key-init
+loop-key-init g c =
+    let s : IsSettled c.args.tree.now = record { whole = c.requires.whole; none = c.requires.settled } in
+    let e = c.in_ok-push.ensures.items ∙ ap (λ (xs : List ℕ). xs ++ c.args.tree.now.root ∷ []) c.in_ok-keys.ensures.items in
+    subst (λ (rs : List (Row g.row.D)). Progress c.args.tree.now c.args.window.now c.push.new.self.items rs 0) (sym c.in_ok-rows.ensures.items)
+    (Progress-start c.args.tree.now c.args.window.now c.push.new.self.items s e)
+
+pub visit-requires : goal.visit-requires
+visit-requires g c =
+    let s : IsSettled c.args.tree.now = record { whole = c.requires.whole; none = c.requires.settled } in
+    let few : g.row.D ≤ 3 = c.requires.few in
+    let there = key-there c.args.tree.now c.args.window.now s c.loop-key.keys.items c.pop.new.self.items c.in-Some.key c.loop-key.found.rows.items c.loop-key.found.visited c.loop-key.invariant c.in-Some.ensures.items in
+    let held : ContainsKey c.args.tree.now.nodes c.in-Some.key = level-some c.args.tree.now.nodes c.in-Some.key there.0 there.1 in
+    search rules
+
+pub overflow_add-found : goal.overflow_add-found
+overflow_add-found g c =
+    let s : IsSettled c.args.tree.now = record { whole = c.requires.whole; none = c.requires.settled } in
+    let few = visited-few c.args.tree.now c.args.window.now s c.loop-key.keys.items c.pop.new.self.items c.in-Some.key c.loop-key.found.rows.items c.loop-key.found.visited c.loop-key.invariant c.in-Some.ensures.items in
+    omega (arith, few, c.capacity.ensures.slots, c.capacity.type_inv)
+
+pub loop-key-smaller : goal.loop-key-smaller
+loop-key-smaller g c =
+    let s : IsSettled c.args.tree.now = record { whole = c.requires.whole; none = c.requires.settled } in
+    let few = visited-few c.args.tree.now c.args.window.now s c.loop-key.keys.items c.pop.new.self.items c.in-Some.key c.loop-key.found.rows.items c.loop-key.found.visited c.loop-key.invariant c.in-Some.ensures.items in
+    omega (arith, few)
+
+pub loop-key-preserved : goal.loop-key-preserved
+loop-key-preserved g c =
+    let s : IsSettled c.args.tree.now = record { whole = c.requires.whole; none = c.requires.settled } in
+    Progress-step c.args.tree.now c.args.window.now s c.loop-key.keys.items c.pop.new.self.items c.in-Some.key c.loop-key.found.rows.items c.loop-key.found.visited c.loop-key.invariant c.in-Some.ensures.items
+    c.visit.new.rows.items c.visit.new.keys.items c.in_ok-visit.ensures
+
+pub returns : goal.returns
+returns g c =
+    let s : IsSettled c.args.tree.now = record { whole = c.requires.whole; none = c.requires.settled } in
+    let none : c.loop-key.keys.items ≡ [] =
+    c.in_default.ensures.items ∙ append-nil c.pop.new.self.items ∙ c.in_default.ensures.rest
+    ∙ ap (λ n. take (n - 1) c.loop-key.keys.items) c.in_default.ensures.cases.0 in
+    Progress-end c.args.tree.now c.args.window.now s c.loop-key.found.rows.items c.loop-key.found.visited
+    (subst (λ (ks : List ℕ). Progress c.args.tree.now c.args.window.now ks c.loop-key.found.rows.items c.loop-key.found.visited) none c.loop-key.invariant)

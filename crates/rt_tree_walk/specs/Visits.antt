@@ -1,0 +1,37 @@
+-- What a search takes from one node.
+use Rattle.std.specs.Prelude.{◌≡◌, ℕ, ◌≤◌, ◌<◌, Bool, List, ◌++◌, map, All, count_by, slice_get}
+use Rattle.std.specs.List.{flat_map}
+use Rattle.std.specs.Option.{option_to_list}
+use Rattle.slab.specs.Slab.{Slab}
+use Rattle.rt_box.specs.declared.interval.Interval.{Interval}
+use Rattle.rt_box.specs.Window.{Admits}
+use Rattle.rt_tree_node.specs.declared.cell.Cell.{Cell}
+use Rattle.rt_tree_node.specs.Node.{NodeCells}
+use Rattle.rt_tree_node.specs.Places.{times_named, leaf_cells_at, inner_cells_at}
+use Rattle.rt_tree_walk.specs.declared.searching.Row.{Row}
+use Rattle.rt_tree_walk.specs.Search.{times, row_of, LeadsInto, AsksAdmitted}
+
+module _ {D : ℕ} where
+  -- the rows of those cells that the window admits came last
+  pub record TakesRows (window : List Interval) (cells : List (Cell D)) (old new : List (Row D)) : Type 0 where
+    pub more : List (Row D)
+    pub is : new ≡ old ++ more
+    pub admitted : All (λ r. Admits window r.rect) more
+    pub each : (test : Row D → Bool) → AsksAdmitted window test → count_by test more ≡ count_by (λ c. test (row_of c)) cells
+
+  -- the rows of the cells at these positions
+  abbrev pub rows_at : List (Cell D) → List ℕ → List (Row D)
+  rows_at cells positions = flat_map (λ at. map row_of (option_to_list (slice_get cells at))) positions
+
+  -- the keys came last of those cells in which the window may hold a box
+  pub record TakesChildren (window : List Interval) (cells : List (Cell D)) (old new : List ℕ) : Type 0 where
+    pub more : List ℕ
+    pub is : new ≡ old ++ more
+    pub each : (key : ℕ) → times key more ≤ times_named key cells
+    pub named : (key : ℕ) → 0 < times key more → LeadsInto window cells key
+    pub all : (key : ℕ) → LeadsInto window cells key → 0 < times key more
+
+  -- both, at a leaf and at another node
+  pub record Visits (a : Slab (NodeCells D)) (window : List Interval) (key : ℕ) (rows rows1 : List (Row D)) (keys keys1 : List ℕ) : Type 0 where
+    pub rows_are : TakesRows window (leaf_cells_at a key) rows rows1
+    pub children_are : TakesChildren window (inner_cells_at a key) keys keys1

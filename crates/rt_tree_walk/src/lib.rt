@@ -1,0 +1,21 @@
+//! Walks over the nodes of an R*-tree.
+//!
+//! - `search`: the rows whose boxes a window admits, each once, and the number of nodes that it went into.
+//! - `shadow_of`: the tree from outside, as the checker takes it: nodes in preorder, numbered from 1, and row
+//!   entries by rising id.
+//! - `laws`: the checker finds no problem in it, its nodes are in preorder, and its leaves' cells are the rows.
+//!
+//! Both ask for a whole tree in which no cell waits, and take memory for what they answer and for a stack of
+//! keys.
+//!
+//! Stands on `rt_tree_node`, and on `rt_check` for the tree from outside. Definitions: `specs/Search.antt`,
+//! `Outside.antt`, `Preorder.antt`, `InOrder.antt`.
+#![tactic(auto)]
+
+pub mod laws;
+mod listing;
+mod outside;
+mod searching;
+
+pub use outside::shadow_of;
+pub use searching::{Found, Row, search};

@@ -1,0 +1,9 @@
+//! Tests of boxes and windows and of the choices of the R*-tree, over the public calls of `rt_box` and `rt_tree_choice`.
+#![tactic(auto)]
+
+#[cfg(test)]
+mod boxes;
+#[cfg(test)]
+mod choosing;
+#[cfg(test)]
+mod windows;

@@ -1,0 +1,290 @@
+//! Each form of the grammar in several spellings, with the statement that it is.
+
+use rt_sql::{Refusal, parse};
+use rt_sql_cut::{Ending, Piece};
+use std::alloc::{AllocError, Global};
+use std::process::Abort;
+
+/// A form's tokens, and its statement in the shorter spelling of `in_full`.
+type Form = (&'static [&'static str], &'static str);
+
+const TABLES: [Form; 5] = [
+    (
+        &[
+            "create",
+            "virtual",
+            "table",
+            "t",
+            "using",
+            "rtree_i32",
+            "(",
+            "id",
+            ",",
+            "minX",
+            ")",
+            ";",
+        ],
+        "Create { table: <t>, if_absent: false, columns: [ColumnDef { name: <id>, auxiliary: false }, ColumnDef { name: <minX>, auxiliary: false }] }",
+    ),
+    (
+        &[
+            "create",
+            "virtual",
+            "table",
+            "if",
+            "not",
+            "exists",
+            "\"a b\"",
+            "using",
+            "rtree_i32",
+            "(",
+            "id",
+            "integer",
+            "primary",
+            "key",
+            ",",
+            "a",
+            "varchar",
+            "(",
+            "20",
+            ",",
+            "2",
+            ")",
+            "not",
+            "null",
+            ",",
+            "b",
+            "(",
+            "3",
+            ")",
+            ",",
+            "+",
+            "n",
+            ",",
+            "+",
+            "\"m\"\"\"",
+            "text",
+            ")",
+            ";",
+        ],
+        "Create { table: <a b>, if_absent: true, columns: [ColumnDef { name: <id>, auxiliary: false }, ColumnDef { name: <a>, auxiliary: false }, ColumnDef { name: <b>, auxiliary: false }, ColumnDef { name: <n>, auxiliary: true }, ColumnDef { name: <m\\\">, auxiliary: true }] }",
+    ),
+    (
+        &["drop", "table", "t", ";"],
+        "Drop { table: <t>, if_there: false }",
+    ),
+    (
+        &["drop", "table", "if", "exists", "_1$", ";"],
+        "Drop { table: <_1$>, if_there: true }",
+    ),
+    (
+        &["select", "rtreecheck", "(", "'t'", ")", ";"],
+        "Check { table: <t> }",
+    ),
+];
+
+const CHANGES: [Form; 9] = [
+    (
+        &[
+            "insert", "into", "t", "values", "(", "null", ",", "+", "5", ",", "-", "7", ")", ";",
+        ],
+        "Insert { rule: Abort, table: <t>, columns: None, rows: [[Null, Int(5), Int(-7)]] }",
+    ),
+    (
+        &[
+            "insert", "into", "t", "(", "a", ",", "b", ")", "values", "(", "1", ")", ",", "(",
+            "'it''s'", ",", "x'00fF'", ")", ";",
+        ],
+        "Insert { rule: Abort, table: <t>, columns: Some([<a>, <b>]), rows: [[Int(1)], [Text(Text { text: \"it's\" }), Blob(Blob { bytes: ⟨0, 255⟩ })]] }",
+    ),
+    (
+        &["replace", "into", "t", "values", "(", "1", ")", ";"],
+        "Insert { rule: Replace, table: <t>, columns: None, rows: [[Int(1)]] }",
+    ),
+    (
+        &[
+            "insert", "or", "abort", "into", "t", "values", "(", "1", ")", ";",
+        ],
+        "Insert { rule: Abort, table: <t>, columns: None, rows: [[Int(1)]] }",
+    ),
+    (
+        &[
+            "insert", "or", "ignore", "into", "t", "values", "(", "1", ")", ";",
+        ],
+        "Insert { rule: Ignore, table: <t>, columns: None, rows: [[Int(1)]] }",
+    ),
+    (
+        &[
+            "insert", "or", "replace", "into", "t", "values", "(", "1", ")", ";",
+        ],
+        "Insert { rule: Replace, table: <t>, columns: None, rows: [[Int(1)]] }",
+    ),
+    (
+        &[
+            "update", "t", "set", "a", "=", "-", "1", ",", "b", "=", "b", "+", "2", ",", "c", "=",
+            "c", "-", "3", ",", "d", "=", "e", "where", "a", "is", "null", "and", "b", "is", "not",
+            "null", ";",
+        ],
+        "Update { table: <t>, sets: [(<a>, Literal(Int(-1))), (<b>, Plus(<b>, 2)), (<c>, Minus(<c>, 3)), (<d>, Column(<e>))], cond: [IsNull(<a>), IsNotNull(<b>)] }",
+    ),
+    (
+        &["delete", "from", "t", ";"],
+        "Delete { table: <t>, cond: [] }",
+    ),
+    (
+        &[
+            "delete", "from", "t", "where", "a", "<", "1", "and", "a", "<=", "2", "and", "a", ">",
+            "'x'", "and", "a", ">=", "x''", ";",
+        ],
+        "Delete { table: <t>, cond: [Compare(Compare { column: <a>, op: Lt, value: Int(1) }), Compare(Compare { column: <a>, op: Le, value: Int(2) }), Compare(Compare { column: <a>, op: Gt, value: Text(Text { text: \"x\" }) }), Compare(Compare { column: <a>, op: Ge, value: Blob(Blob { bytes: ⟨⟩ }) })] }",
+    ),
+];
+
+const QUERIES: [Form; 4] = [
+    (
+        &["select", "*", "from", "t", ";"],
+        "Select { columns: None, table: <t>, cond: [], order: None }",
+    ),
+    (
+        &[
+            "select", "a", ",", "b", "from", "t", "where", "a", "=", "1", "and", "a", "==", "2",
+            "and", "a", "<>", "3", "and", "a", "!=", "null", "order", "by", "b", "asc", ";",
+        ],
+        "Select { columns: Some([<a>, <b>]), table: <t>, cond: [Compare(Compare { column: <a>, op: Eq, value: Int(1) }), Compare(Compare { column: <a>, op: Eq, value: Int(2) }), Compare(Compare { column: <a>, op: Ne, value: Int(3) }), Compare(Compare { column: <a>, op: Ne, value: Null })], order: Some(<b>) }",
+    ),
+    (
+        &[
+            "select",
+            "rtreecheck",
+            "from",
+            "t",
+            "order",
+            "by",
+            "asc",
+            ";",
+        ],
+        "Select { columns: Some([<rtreecheck>]), table: <t>, cond: [], order: Some(<asc>) }",
+    ),
+    (
+        &["select", "*", "from", "t", "order", "by", "id", ";"],
+        "Select { columns: None, table: <t>, cond: [], order: Some(<id>) }",
+    ),
+];
+
+const DOT_LINES: [Form; 7] = [
+    (
+        &[".watch", "v", "from", "t"],
+        "Watch { view: <v>, table: <t>, cond: [] }",
+    ),
+    (
+        &[".watch", "v", "from", "t", "where", "a", "=", "1", ";"],
+        "Watch { view: <v>, table: <t>, cond: [Compare(Compare { column: <a>, op: Eq, value: Int(1) })] }",
+    ),
+    (&[".unwatch", "v"], "Unwatch { view: <v> }"),
+    (&[".unwatch", "v", ";"], "Unwatch { view: <v> }"),
+    (&[".view", "\"select\""], "View { view: <select> }"),
+    (&[".nodes", "t"], "Nodes { table: <t> }"),
+    (&[".nodes", "t", ";"], "Nodes { table: <t> }"),
+];
+
+const RESERVED: [&str; 21] = [
+    "and", "between", "create", "delete", "drop", "exists", "from", "insert", "into", "is", "not",
+    "null", "or", "order", "select", "set", "table", "update", "using", "values", "where",
+];
+
+/// The text with each other character in upper case.
+fn mixed(alloc: Global, text: &str) -> Result<String, AllocError> {
+    let mut mixed = String::new(alloc);
+    let mut is_upper = false;
+    for c in text.chars() {
+        mixed.push(if is_upper { c.to_ascii_uppercase() } else { c })?;
+        is_upper = !is_upper;
+    }
+    Ok(mixed)
+}
+
+/// The tokens with this between them.
+fn spelled(alloc: Global, tokens: &[&str], between: &str) -> Result<String, AllocError> {
+    let mut text = String::new(alloc);
+    for token in tokens {
+        if !text.is_empty() {
+            text.push_str(between)?;
+        }
+        text.push_str(token)?;
+    }
+    Ok(text)
+}
+
+/// What `Debug` prints, where `<t>` stands for the name t, `[..]` for `Items` and `⟨..⟩` for a blob's bytes.
+fn in_full(alloc: Global, statement: &str) -> Result<String, AllocError> {
+    let mut full = String::new(alloc);
+    for c in statement.chars() {
+        match c {
+            '<' => full.push_str("Name { text: \"")?,
+            '>' => full.push_str("\" }")?,
+            '[' => full.push_str("Items { items: [")?,
+            ']' => full.push_str("] }")?,
+            '⟨' => full.push('[')?,
+            '⟩' => full.push(']')?,
+            _ => full.push(c)?,
+        }
+    }
+    Ok(full)
+}
+
+fn parsed(alloc: Global, text: &str) -> Result<String, Refusal> {
+    let stmt = parse(alloc, &Piece::new(text.as_bytes(), Ending::Whole))?;
+    Ok(format!(in alloc; "{stmt:?}")?)
+}
+
+/// Each form is its statement, plainly spelled, in mixed case, and with this between its tokens.
+fn expect(rt: &(impl Abort + AllocGlobal), forms: &[Form], between: &str) -> Result<(), Refusal> {
+    let alloc = rt.alloc();
+    for (tokens, statement) in forms {
+        let full = in_full(alloc, statement)?;
+        let plain = spelled(alloc, tokens, " ")?;
+        let spaced = spelled(alloc, tokens, between)?;
+        assert_eq!(rt; parsed(alloc, plain.as_str())?, full);
+        assert_eq!(rt; parsed(alloc, spaced.as_str())?, full);
+        let other = parsed(alloc, mixed(alloc, plain.as_str())?.as_str())?;
+        assert!(rt;
+            other.as_str().eq_ignore_ascii_case(full.as_str()),
+            "{other}"
+        );
+    }
+    Ok(())
+}
+
+#[test]
+fn each_form_is_its_statement(rt: HostRuntime) -> Result<(), Refusal> {
+    let between = " /* ; ' */\t-- x;\"\n\r\x0C /**/";
+    expect(&rt, &TABLES, between)?;
+    expect(&rt, &CHANGES, between)?;
+    expect(&rt, &QUERIES, between)?;
+    expect(&rt, &DOT_LINES, "/* ; ' */\t /**/")?;
+    Ok(())
+}
+
+/// The word is a name where it is quoted, and only there.
+fn expect_reserved(rt: &(impl Abort + AllocGlobal), word: &str) -> Result<(), Refusal> {
+    let plain = format!(in rt.alloc(); "drop table {word};")?;
+    let quoted = format!(in rt.alloc(); "drop table \"{word}\";")?;
+    let short = format!(in rt.alloc(); "Drop {{ table: <{word}>, if_there: false }}")?;
+    let full = in_full(rt.alloc(), short.as_str())?;
+    assert_eq!(rt;
+        parsed(rt.alloc(), plain.as_str()),
+        Err(Refusal::SyntaxError)
+    );
+    assert_eq!(rt; parsed(rt.alloc(), quoted.as_str())?, full);
+    Ok(())
+}
+
+#[test]
+fn a_reserved_word_is_a_name_only_in_quotes(rt: HostRuntime) -> Result<(), Refusal> {
+    for word in RESERVED {
+        expect_reserved(&rt, word)?;
+        let mixed = mixed(rt.alloc(), word)?;
+        expect_reserved(&rt, mixed.as_str())?;
+    }
+    Ok(())
+}

@@ -1,0 +1,94 @@
+//! A table with as many rows as it may have.
+
+use rt_box::Capacity;
+use rt_sql::{Items, Refusal, Rule, Stmt, Value, parse};
+use rt_sql_cut::{Ending, Piece};
+use rt_table::AnyTable;
+use rt_table_row::Schema;
+use std::alloc::{AllocError, Global};
+use std::hash::RandomState;
+use std::process::Abort;
+use std::test::Fail;
+
+const MOST_ROWS: i64 = 1_048_576;
+
+/// A table of one axis without rows.
+fn table(alloc: Global, keys: RandomState) -> Result<AnyTable, Fail> {
+    let text = b"CREATE VIRTUAL TABLE t USING rtree_i32(id,a,b);";
+    let piece = Piece::new(text, Ending::Whole);
+    let Ok(Stmt::Create { columns, .. }) = parse(alloc, &piece) else {
+        return Err(Fail::from("no CREATE"));
+    };
+    let schema = Schema::new(alloc, columns.as_slice()).map_err(|_| "no columns")?;
+    let capacity = Capacity::new(51).ok_or("no capacity")?;
+    Ok(AnyTable::new(alloc, keys, capacity, schema)?)
+}
+
+/// Rows of these ids, each at the point 0.
+fn rows(alloc: Global, first: i64, count: i64) -> Result<Vec<Items<Value>>, AllocError> {
+    let mut rows = Vec::new(alloc);
+    for step in 0..count {
+        let id = first.wrapping_add(step);
+        let row = vec![in alloc; Value::Int(id), Value::Int(0), Value::Int(0)]?;
+        rows.push(Items::from_vec(row))?;
+    }
+    Ok(rows)
+}
+
+/// Whether the rows of these ids are taken; what refuses them is a full table.
+fn takes(
+    alloc: Global,
+    table: &mut AnyTable,
+    rule: Rule,
+    first: i64,
+    count: i64,
+) -> Result<bool, Fail> {
+    let rows = rows(alloc, first, count)?;
+    match table.insert(alloc, rule, &None, rows.as_slice()) {
+        Ok(_) => Ok(true),
+        Err(Refusal::TableFull) => Ok(false),
+        Err(_) => Err(Fail::from("refused for something else")),
+    }
+}
+
+/// A table with the rows of all ids from 1 up but the last.
+fn filled(rt: &(impl Abort + AllocGlobal), keys: RandomState) -> Result<AnyTable, Fail> {
+    let mut table = table(rt.alloc(), keys)?;
+    for block in 0..1023i64 {
+        let first = block.wrapping_mul(1025).wrapping_add(1);
+        expect(rt, &mut table, Rule::Abort, first, 1025, true)?;
+    }
+    assert!(rt; table.len() == 1_048_575);
+    Ok(table)
+}
+
+/// Whether the rows are taken, and how many rows there are then.
+fn expect(
+    rt: &(impl Abort + AllocGlobal),
+    table: &mut AnyTable,
+    rule: Rule,
+    first: i64,
+    count: i64,
+    taken: bool,
+) -> Result<(), Fail> {
+    let rows = table.len();
+    assert!(rt; takes(rt.alloc(), table, rule, first, count)? == taken);
+    assert!(rt; taken || table.len() == rows);
+    Ok(())
+}
+
+/// A table that wants one row more takes no two, and a full one takes a row in the place of its own alone.
+fn expect_the_last(rt: &(impl Abort + AllocGlobal), table: &mut AnyTable) -> Result<(), Fail> {
+    expect(rt, table, Rule::Abort, MOST_ROWS, 2, false)?;
+    expect(rt, table, Rule::Abort, MOST_ROWS, 1, true)?;
+    expect(rt, table, Rule::Abort, 0, 1, false)?;
+    expect(rt, table, Rule::Replace, 7, 1, true)?;
+    assert!(rt; table.len() == 1_048_576);
+    Ok(())
+}
+
+#[test]
+fn a_full_table_takes_other_rows_in_the_place_of_its_own(rt: HostRuntime) -> Result<(), Fail> {
+    let mut table = filled(&rt, RandomState::new(&rt)?)?;
+    expect_the_last(&rt, &mut table)
+}
