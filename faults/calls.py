@@ -44,8 +44,8 @@ def growths_refused(program, case):
 
 
 def writes_refused(program, case):
-    """Has the output fail after each number of bytes, or take none from there on: those bytes are out. Then each write of
-    one byte fails in turn: a front of the output is out."""
+    """Has the output fail after each number of bytes, or take none from there on. Then each write of one byte fails in turn,
+    and those after it would succeed. What the device took before is out, and nothing more."""
     printed = case.wanted.printed
     rooms = range(min(len(printed), MOST_PRINTED))
     for room in rooms:
@@ -54,8 +54,7 @@ def writes_refused(program, case):
             if not outcome.failed_with("write fault", printed[:room]):
                 return f"{how} at {room} bytes: {outcome}", ""
         outcome = program.run_with(case.words, case.given, SHORT=1, REFUSE_WRITE=room + 1)
-        front = outcome.printed
-        if not printed.startswith(front) or not outcome.failed_with("write fault", front):
+        if not outcome.failed_with("write fault", printed[:room]):
             return f"write {room + 1} of one byte: {outcome}", ""
     return None, f"at each of {len(rooms)} bytes"
 

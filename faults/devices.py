@@ -1,10 +1,13 @@
 """Devices that are full, closed, missing, slow or endless."""
 
 import os
+import pty
 import resource
+import select
 import shlex
 import subprocess
 import tempfile
+import termios
 import threading
 import time
 from pathlib import Path
@@ -14,6 +17,17 @@ from program import SECONDS, Outcome
 ROWS = b"CREATE VIRTUAL TABLE t USING rtree_i32(id,a,b); INSERT INTO t VALUES(9,5,7),(2,-1,0); SELECT * FROM t;"
 PRINTED = b"2|-1|0\n9|5|7\n"
 DUMP = b"rtree 1 5 1 1 0\nnode 1 0 - 0\nend\n"
+
+# What a person types, line by line, and what must show before the next line is typed.
+PROMPT, CONTINUATION = b"rtsh> ", b" ...> "
+TYPED = [
+    (b"CREATE VIRTUAL TABLE t USING rtree_i32(id,a,b);", PROMPT),
+    (b"INSERT INTO t VALUES(9,5,7),", CONTINUATION),
+    (b"(2,-1,0);", PROMPT),
+    (b"SELECT * FROM t;", PRINTED + PROMPT),
+    (b".watch v FROM t WHERE a<0", PROMPT),
+    (b"DELETE FROM t WHERE id=2; FOO;", b"-v 2|-1|0\nrefused 6 1: syntax error\n" + PROMPT),
+]
 
 # The length of a long input, and what the program may take of memory beside one of any length.
 LONG = 100_000_000
@@ -189,6 +203,39 @@ def slow_output(program):
     return wrong or (f"status {started.returncode}" if started.wait(SECONDS) else None)
 
 
+def shown(terminal, wanted):
+    """What a terminal shows until it ends in what is wanted, or nothing more comes for long."""
+    text = b""
+    while not text.endswith(wanted) and select.select([terminal], [], [], 10)[0]:
+        text += os.read(terminal, 4096).replace(b"\r\n", b"\n")
+    return text
+
+
+def typed_at_a_terminal(program):
+    """Each answer is there before the next line is typed."""
+    terminal, end = pty.openpty()
+    how = termios.tcgetattr(end)
+    how[3] &= ~termios.ECHO
+    termios.tcsetattr(end, termios.TCSANOW, how)
+    started = subprocess.Popen([program.path, "run"], stdin=end, stdout=end, stderr=end)
+    try:
+        text = shown(terminal, PROMPT)
+        if not text.startswith(b"rtsh: ") or not text.endswith(b"\n" + PROMPT):
+            return f"at the start: {text}"
+        for line, wanted in TYPED:
+            os.write(terminal, line + b"\n")
+            text = shown(terminal, wanted)
+            if text != wanted:
+                return f"after {line}: {text}"
+        os.write(terminal, b"\x04")
+        status = started.wait(SECONDS)
+        return None if status == 1 else f"status {status}"
+    finally:
+        started.kill()
+        os.close(end)
+        os.close(terminal)
+
+
 def little_memory(program):
     """Rows until memory runs out, and then more: once another table has gone, what was taken is still there, and the table
     goes on."""
@@ -233,6 +280,7 @@ CHECKS = {
     "--bail with more input to come": bail_with_more_to_come,
     "an input of one byte, and then none for long": slow_input,
     "an output that is read late": slow_output,
+    "a script that is typed at a terminal": typed_at_a_terminal,
     "rows until memory runs out": little_memory,
     "capacities at and past the limits": capacities,
 }

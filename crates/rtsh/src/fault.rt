@@ -28,6 +28,14 @@ impl<'a> Fault<'a> {
         Fault::of_device(RunFault::Write, "standard output", reason)
     }
 
+    /// Whether a write or a flush failed.
+    pub fn is_of_writing(&self) -> bool {
+        matches!(
+            self,
+            Fault::Device(RunFault::Write, _) | Fault::Run(RunFault::Write)
+        )
+    }
+
     fn of_device(fault: RunFault, name: &'a str, reason: Option<io::Error>) -> Fault<'a> {
         match reason {
             Some(reason) => Fault::Device(fault, Cause { name, reason }),
@@ -75,6 +83,12 @@ impl<T> Noting<T> {
     /// Why it last failed.
     pub fn reason(&self) -> Option<io::Error> {
         self.reason
+    }
+
+    /// What it was laid over, and why that last failed.
+    pub fn into_parts(self) -> (T, Option<io::Error>) {
+        let Noting { inner, reason } = self;
+        (inner, reason)
     }
 }
 

@@ -146,15 +146,23 @@ fn read_from<'a, R: Read + Drop>(
     };
     let (alloc, writer) = (rt.alloc(), io::writer(rt));
     if rt.stdout().is_terminal() {
-        return read_and_write(alloc, keys, reader, name, writer, asked);
+        let (answer, _writer) = read_and_write(alloc, keys, reader, name, writer, asked);
+        return answer;
     }
     let Ok(buffer) = BufWriter::with_capacity(alloc, GATHERED, writer) else {
         return Err(Fault::Run(RunFault::Memory));
     };
-    read_and_write(alloc, keys, reader, name, buffer, asked)
+    let (answer, buffer) = read_and_write(alloc, keys, reader, name, buffer, asked);
+    if let Err(fault) = &answer
+        && fault.is_of_writing()
+    {
+        // A buffer that is dropped writes what it holds once more.
+        let _ = buffer.into_parts();
+    }
+    answer
 }
 
-/// Does what is asked, and says of a fault why it came.
+/// Does what is asked, and says of a fault why it came. Hands the writer back.
 fn read_and_write<'a, R: Read + Drop, W: Write + Drop>(
     alloc: Global,
     keys: RandomState,
@@ -162,15 +170,18 @@ fn read_and_write<'a, R: Read + Drop, W: Write + Drop>(
     name: &'a str,
     writer: W,
     asked: &Asked<'a>,
-) -> Result<Status, Fault<'a>> {
+) -> (Result<Status, Fault<'a>>, W) {
     let mut reader = OverRead::new(Noting::new(reader));
     let mut writer = OverWrite::new(Noting::new(writer));
-    match answer(alloc, keys, &mut reader, &mut writer, asked) {
+    let answer = answer(alloc, keys, &mut reader, &mut writer, asked);
+    let (writer, reason) = writer.into_inner().into_parts();
+    let answer = match answer {
         Ok(status) => Ok(status),
         Err(RunFault::Read) => Err(Fault::read(name, reader.into_inner().reason())),
-        Err(RunFault::Write) => Err(Fault::write(writer.into_inner().reason())),
+        Err(RunFault::Write) => Err(Fault::write(reason)),
         Err(RunFault::Memory) => Err(Fault::Run(RunFault::Memory)),
-    }
+    };
+    (answer, writer)
 }
 
 fn answer<R: ByteReader, W: ByteWriter>(
