@@ -73,7 +73,9 @@ fn report<W: ByteWriter>(
 {
     match read_dump(alloc, keys, bytes) {
         Ok(shadow) => {
-            let problems = problems_of(alloc, &shadow)?;
+            let problems = problems_of(alloc, &shadow);
+            drop(shadow);
+            let problems = problems?;
             write_verdict(&problems, writer)?;
             Ok(status_of(&problems))
         }
