@@ -1,4 +1,7 @@
 //! Times of a choice on nodes and new boxes of a tree that was built row by row.
+//!
+//! `choices` times nodes of drawn boxes. The nodes here are those that insertions left, filled and overlapping as
+//! in a table.
 
 use crate::tree::{Load, SHAPES, rect_of, time_insertions};
 use rt_box::{Capacity, Rect};

@@ -1,3 +1,8 @@
+//! Times of the three choices of the R*-tree on nodes of drawn boxes.
+//!
+//! Boxes are drawn by arithmetic, so each run has the same ones. Beside each time stands the sum of what was
+//! chosen, so that no call can be left out as dead code.
+
 ghost use Rattle.std.specs.Prelude.{◌≡◌};
 
 use rt_box::{Capacity, Rect};

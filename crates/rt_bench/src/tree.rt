@@ -1,8 +1,11 @@
 //! Times of a tree: rows and windows drawn by arithmetic, so that another program can draw the same.
+//!
+//! `bench/` does the same work on Boost.Geometry. Times are nanoseconds a call. Searches are timed twice: for some
+//! ten rows, and for a hundredth of all rows.
 
 ghost use Rattle.std.specs.Prelude.{◌≤◌};
 
-use rt_box::{Capacity, Op6, Rect, Window};
+use rt_box::{Capacity, Operator, Rect, Window};
 use rt_tree::Tree;
 use rt_tree_node::Node;
 use std::alloc::Global;
@@ -90,8 +93,8 @@ fn window_of<const D: usize>(shape: Shape, row: u64, grow: i64) -> Window<D>
     let mut window = Window::all();
     for axis in 0..D {
         let (from, to) = ends(shape, row, axis as u64);
-        window.narrow(2 * axis, Op6::Le, to.wrapping_add(grow));
-        window.narrow(2 * axis + 1, Op6::Ge, from.wrapping_sub(grow));
+        window.narrow(2 * axis, Operator::Le, to.wrapping_add(grow));
+        window.narrow(2 * axis + 1, Operator::Ge, from.wrapping_sub(grow));
     }
     window
 }

@@ -4,9 +4,9 @@ use Rattle.std.proofs.lemmas.Bool.{cases_eq}
 use Rattle.std.proofs.lemmas.List.{get_or_default}
 use Rattle.std.proofs.lemmas.List.Elements.{All-head, All-tail, All-nil, All-cons}
 use Rattle.rt_box.specs.declared.interval.Interval.{Interval}
-use Rattle.rt_box.specs.declared.op6.Op6.{Op6}
+use Rattle.rt_box.specs.declared.operator.Operator.{Operator}
 use Rattle.rt_box.specs.Interval.{interval, Includes, FitsEnds}
-use Rattle.rt_box.specs.Op6.{Keeps}
+use Rattle.rt_box.specs.Operators.{Keeps}
 use Rattle.rt_box.specs.Rect.{IsBox, coordinates}
 use Rattle.rt_box.specs.Window.{Allows, IsUnlimited, Narrows, Admits, Comparison, NarrowsInTurn, KeepsAt, KeepsBox}
 use Rattle.rt_box.specs.Laws.{WindowAllowsWhatIsKept, WindowAdmitsWhatIsKept}
@@ -23,14 +23,14 @@ fits_at (i ∷ b) fits (suc zero) z h = (All-head FitsEnds i b fits).1
 fits_at (i ∷ b) fits (suc (suc k)) z h = fits_at b (All-tail FitsEnds i b fits) k z (omega arith)
 
 -- a number that a narrowed window allows was allowed, and the other way round
-kept : (old new b : List Interval) (k : ℕ) (op : Op6) (value : ℤ) → Narrows old new k op value → (j : ℕ) →
+kept : (old new b : List Interval) (k : ℕ) (op : Operator) (value : ℤ) → Narrows old new k op value → (j : ℕ) →
     Allows old k (get_or (coordinates b) k (pos 0)) → Allows new j (get_or (coordinates b) j (pos 0)) → Allows old j (get_or (coordinates b) j (pos 0))
 kept old new b k op value narrows j at_k at_j = elim (cases_eq j k) [
   | inl same ↦ rw same at_k
   | inr ne ↦ (narrows.others j (get_or (coordinates b) j (pos 0)) ne).0 at_j
 ]
 
-allowed : (old new b : List Interval) (k : ℕ) (op : Op6) (value : ℤ) → Narrows old new k op value → (j : ℕ) →
+allowed : (old new b : List Interval) (k : ℕ) (op : Operator) (value : ℤ) → Narrows old new k op value → (j : ℕ) →
     Allows old j (get_or (coordinates b) j (pos 0)) → Keeps op (get_or (coordinates b) k (pos 0)) value → Allows new j (get_or (coordinates b) j (pos 0))
 allowed old new b k op value narrows j at_j holds = elim (cases_eq j k) [
   | inl same ↦ rw same ((narrows.taken (get_or (coordinates b) k (pos 0))).1 (rw same at at_j, holds))
@@ -48,7 +48,7 @@ admits_from window b same h =
     (λ k d z l. rw (get_or_default window k d (interval (pos 1) (pos 0)) l, get_or_default (coordinates b) k z (pos 0) (omega arith)) (h k l))
 
 -- the boxes that a narrowed window admits
-pub Admits-narrowed : (old new b : List Interval) (k : ℕ) (op : Op6) (value : ℤ) →
+pub Admits-narrowed : (old new b : List Interval) (k : ℕ) (op : Operator) (value : ℤ) →
     length old ≡ length (coordinates b) → k < length old → Narrows old new k op value →
     Admits new b ↔ (Admits old b × Keeps op (get_or (coordinates b) k (pos 0)) value)
 Admits-narrowed old new b k op value same h narrows = (

@@ -6,10 +6,10 @@ use Rattle.std.proofs.lemmas.List.{length-set, get_or_default, get_or-set_same, 
 use Rattle.std.proofs.lemmas.List.Elements.{All-head, All-tail, All-nil, All-cons, All-get_or}
 use lib.Pointwise.{pointwise}
 use Rattle.rt_box.specs.declared.interval.Interval.{Interval}
-use Rattle.rt_box.specs.declared.op6.Op6.{Op6}
+use Rattle.rt_box.specs.declared.operator.Operator.{Operator}
 use Rattle.rt_box.specs.declared.window.Ends.{Ends}
 use Rattle.rt_box.specs.Interval.{interval, Includes, Covers, FitsEnds}
-use Rattle.rt_box.specs.Op6.{Keeps}
+use Rattle.rt_box.specs.Operators.{Keeps}
 use Rattle.rt_box.specs.Rect.{IsBox, Holds}
 use Rattle.rt_box.specs.Ends.{in_order, paired_up, paired_up-in_order, AdmitsSide, MayHoldSide, Reaches}
 use Rattle.rt_box.proofs.Made.{IsOrdered}
@@ -69,7 +69,7 @@ nothing : Interval
 nothing = interval (pos 1) (pos 0)
 
 -- a window of which one interval is replaced by what a comparison keeps of it
-pub Narrows-set : (w : List Interval) (k : ℕ) (x : Interval) (op : Op6) (value : ℤ) → k < length w →
+pub Narrows-set : (w : List Interval) (k : ℕ) (x : Interval) (op : Operator) (value : ℤ) → k < length w →
     ((z : ℤ) → Includes x z ↔ (Allows w k z × Keeps op z value)) → Narrows w (set w k x) k op value
 Narrows-set w k x op value h narrowed = record {
   long = length-set w k x;
@@ -96,7 +96,7 @@ Admits-side (x ∷ es) (y ∷ b) zero e d l h = (h.0, h.1.0)
 Admits-side (x ∷ es) (y ∷ b) (suc i) e d l h = Admits-side es b i e d (omega arith) h.1.1
 
 -- a write to one of a window's pairs
-pub Narrows-set_lo : (es : List Ends) (window : List Interval) (i k : ℕ) (new e : Ends) (x : Interval) (op : Op6) (value given : ℤ) →
+pub Narrows-set_lo : (es : List Ends) (window : List Interval) (i k : ℕ) (new e : Ends) (x : Interval) (op : Operator) (value given : ℤ) →
     in_order es ≡ window → k ≡ 2 * i → i < length es → new ≡ record { lo = x; hi = (get_or es i e).hi } → given ≡ value →
     ((z : ℤ) → Includes x z ↔ (Includes (get_or es i e).lo z × Keeps op z given)) →
     Narrows window (in_order (set es i new)) k op value
@@ -105,7 +105,7 @@ Narrows-set_lo es window i k new e x op value given window_is even h new_is give
     (Narrows-set (in_order es) k x op given (omega (arith, length-in_order es))
     (λ z. rw (get_or-in_order_lo es i k (interval (pos 1) (pos 0)) e even h) (narrowed z)))
 
-pub Narrows-set_hi : (es : List Ends) (window : List Interval) (i k : ℕ) (new e : Ends) (x : Interval) (op : Op6) (value given : ℤ) →
+pub Narrows-set_hi : (es : List Ends) (window : List Interval) (i k : ℕ) (new e : Ends) (x : Interval) (op : Operator) (value given : ℤ) →
     in_order es ≡ window → k ≡ 2 * i + 1 → i < length es → new ≡ record { lo = (get_or es i e).lo; hi = x } → given ≡ value →
     ((z : ℤ) → Includes x z ↔ (Includes (get_or es i e).hi z × Keeps op z given)) →
     Narrows window (in_order (set es i new)) k op value

@@ -1,6 +1,6 @@
 pub mod Capacity
 pub mod Interval
-pub mod Op6
+pub mod Operators
 pub mod Rect
 pub mod Ends
 pub mod Window

@@ -4,9 +4,9 @@ use Rattle.std.specs.Prelude.{◌≡◌, ◌≢◌, ℕ, ◌*◌, ◌<◌, ◌�
 use Rattle.std.specs.Int.{w32}
 use Rattle.std.specs.List.{AllZip}
 use Rattle.rt_box.specs.declared.interval.Interval.{Interval}
-use Rattle.rt_box.specs.declared.op6.Op6.{Op6}
+use Rattle.rt_box.specs.declared.operator.Operator.{Operator}
 use Rattle.rt_box.specs.Interval.{interval, Includes}
-use Rattle.rt_box.specs.Op6.{Keeps}
+use Rattle.rt_box.specs.Operators.{Keeps}
 use Rattle.rt_box.specs.Rect.{IsBox, Holds, coordinates}
 
 -- the window allows the coordinate the number z
@@ -20,7 +20,7 @@ pub record IsUnlimited (axes : ℕ) (window : List Interval) : Type 0 where
 
 -- of the numbers that the coordinate was allowed, those stay of which the comparison holds, and all for
 -- `<>`; the other coordinates keep theirs
-pub record Narrows (old new : List Interval) (coordinate : ℕ) (op : Op6) (value : ℤ) : Type 0 where
+pub record Narrows (old new : List Interval) (coordinate : ℕ) (op : Operator) (value : ℤ) : Type 0 where
   pub long : length new ≡ length old
   pub taken : (z : ℤ) → Allows new coordinate z ↔ (Allows old coordinate z × Keeps op z value)
   pub others : (k : ℕ) (z : ℤ) → k ≢ coordinate → (Allows new k z ↔ Allows old k z)
@@ -40,7 +40,7 @@ IsReach axes window reach = (b : List Interval) → IsBox axes b → (Admits rea
 -- a comparison of a coordinate with a number
 pub record Comparison : Type 0 where
   pub coordinate : ℕ
-  pub op : Op6
+  pub op : Operator
   pub value : ℤ
 
 -- narrowing by one comparison after another leads from the old window to the new one

@@ -1,3 +1,8 @@
+//! The capacity of a tree's nodes, and the two numbers that follow from it.
+//!
+//! It is at most 51, as in SQLite's nodes. It is at least 5, so that neither number is 0 and a split leaves no
+//! cell alone (`specs/Capacity.antt`).
+
 ghost use Rattle.std.specs.Prelude.{◌≡◌, ◌↔◌, IsSome, IfSome};
 ghost use Rattle.rt_box.specs.Capacity.{IsCapacity, least_fill, reinsertion_share};
 

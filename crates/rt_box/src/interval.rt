@@ -1,13 +1,20 @@
+//! Intervals of 32-bit numbers: what a box covers on an axis, or what a window allows a coordinate.
+//!
+//! Both ends belong to an interval, and one whose `lo` is above its `hi` is empty. Lengths and distances have
+//! types that hold every result, so nothing wraps (`specs/Interval.antt`).
+
 ghost use Rattle.std.specs.Prelude.{◌≡◌, ◌^◌, ◌≤◌, ◌↔◌, ℤ, ◌≤ℤ◌, IsTrue};
 ghost use Rattle.rt_box.specs.Interval.{Includes, Covers, side, common_part, cover, apart};
-ghost use Rattle.rt_box.specs.Op6.{Keeps};
+ghost use Rattle.rt_box.specs.Operators.{Keeps};
 
-use crate::op6::Op6;
+use crate::operator::Operator;
 
 /// The whole numbers from `lo` to `hi`, with both ends; none where `lo` is above `hi`.
 #[derive(Clone, Copy, Debug, PartialEq, Eq)]
 pub struct Interval {
+    /// The least number.
     pub lo: i32,
+    /// The greatest number.
     pub hi: i32,
 }
 
@@ -111,22 +118,22 @@ impl Interval {
     }
 
     /// The numbers of this interval of which a comparison with `value` holds, or all of them for `<>`.
-    pub(crate) fn narrowed(self, op: Op6, value: i64) -> Interval
+    pub(crate) fn narrowed(self, op: Operator, value: i64) -> Interval
         ensures { (z : ℤ) → Includes result z ↔ (Includes self z × Keeps op z value) }
     {
         match op {
-            Op6::Eq => self.at_least(value).at_most(value),
-            Op6::Ne => self,
-            Op6::Lt => match value.checked_sub(1) {
+            Operator::Eq => self.at_least(value).at_most(value),
+            Operator::Ne => self,
+            Operator::Lt => match value.checked_sub(1) {
                 Some(bound) => self.at_most(bound),
                 None => Interval::EMPTY, // no number is below the least
             },
-            Op6::Le => self.at_most(value),
-            Op6::Gt => match value.checked_add(1) {
+            Operator::Le => self.at_most(value),
+            Operator::Gt => match value.checked_add(1) {
                 Some(bound) => self.at_least(bound),
                 None => Interval::EMPTY, // no number is above the greatest
             },
-            Op6::Ge => self.at_least(value),
+            Operator::Ge => self.at_least(value),
         }
     }
 }

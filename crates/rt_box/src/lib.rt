@@ -17,12 +17,12 @@
 mod capacity;
 mod interval;
 pub mod laws;
-mod op6;
+mod operator;
 mod rect;
 mod window;
 
 pub use capacity::Capacity;
 pub use interval::Interval;
-pub use op6::Op6;
+pub use operator::Operator;
 pub use rect::Rect;
 pub use window::Window;

@@ -1,3 +1,8 @@
+//! Boxes of one to three axes, and their measures.
+//!
+//! Measures are exact whole numbers. The contract of each gives its formula, which `specs/Rect.antt` defines, and
+//! a bound by which callers show that their sums don't wrap.
+
 ghost use Rattle.std.specs.Prelude.{◌≡◌, ◌+◌, ◌*◌, ◌^◌, ◌<◌, ◌≤◌, ◌↔◌, ◌≤ℤ◌, IsTrue, IsSome, IfSome, slice_index_or};
 ghost use Rattle.std.specs.List.{AllZip};
 ghost use Rattle.rt_box.specs.Rect.{IsBox, los, his, area, margin, overlap, union_box, Holds, centre_distance};

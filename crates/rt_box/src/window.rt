@@ -1,9 +1,14 @@
+//! Windows: what a search asks of the coordinates of a box.
+//!
+//! A window has two intervals for each axis, one for `lo` and one for `hi`. Rows are tested by the window itself,
+//! and the boxes around them by its `reach` (`specs/Window.antt`; `specs/Ends.antt` for one axis).
+
 ghost use Rattle.std.specs.Prelude.{◌*◌, ◌<◌, ◌↔◌, IsTrue};
 ghost use Rattle.rt_box.specs.Ends.{AdmitsSide, Reaches};
-ghost use Rattle.rt_box.specs.Window.{IsUnlimited, Narrows, Admits, IsReach};
+ghost use Rattle.rt_box.specs.Window.{IsUnlimited, Narrows, Admits, MayHold, IsReach};
 
 use crate::interval::Interval;
-use crate::op6::Op6;
+use crate::operator::Operator;
 use crate::rect::Rect;
 use std::marker::Model;
 
@@ -90,7 +95,7 @@ impl<const D: usize> Window<D> {
 
     /// Takes the numbers from a coordinate of which the comparison with `value` doesn't hold; `<>` takes
     /// none, since it would leave a gap.
-    pub fn narrow(&mut self, coordinate: usize, op: Op6, value: i64)
+    pub fn narrow(&mut self, coordinate: usize, op: Operator, value: i64)
         requires { coordinate < 2 * D }
         ensures { Narrows self.old self.new coordinate op value }
     {
@@ -119,6 +124,16 @@ impl<const D: usize> Window<D> {
             admitted &= self.axes[axis].admits(rect.range(axis));
         }
         admitted
+    }
+
+    /// Whether a box that this window admits may lie in the box. A search that asks it of many boxes makes the `reach`
+    /// once.
+    pub fn may_hold(&self, rect: &Rect<D>) -> bool
+        ensures { IsTrue result ↔ MayHold D self.now rect.now }
+    {
+        // The contract of `axes` says that it is a box.
+        let _ = rect.axes();
+        self.reach().admits(rect)
     }
 
     /// The window that admits the boxes in which one may lie that this window admits. A search that goes down a tree

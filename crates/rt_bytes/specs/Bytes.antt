@@ -1,5 +1,5 @@
 -- What readers and writers count, and what a whole write leaves (own).
-use Rattle.std.specs.Prelude.{◌≡◌, ℕ, ◌+◌, ◌-◌, ◌^◌, ◌≤◌, min, List, length, take, MatchResult, Result, Option}
+use Rattle.std.specs.Prelude.{◌≡◌, ℕ, ◌+◌, ◌-◌, ◌^◌, ◌≤◌, min, List, length, take, MatchResult, Result, Ok, Err, Option}
 use Rattle.std.specs.Io.KnownBytes.{Appends}
 
 -- a count raised by one, which stays at 2^64 - 1
@@ -9,6 +9,11 @@ one_more n = min (n + 1) (2 ^ 64 - 1)
 -- an Err raises the count by one, an Ok leaves it
 abbrev pub CountsErr : {T E : Type 0} → ℕ → ℕ → Result T E → Type 0
 CountsErr old new r = MatchResult r (λ _. new ≡ old) (λ _. new ≡ one_more old)
+
+-- an answer is passed on under another fault: an Ok stays, an Err becomes that fault and is counted
+abbrev pub PassesOn : {T E F : Type 0} → Result T E → F → ℕ → ℕ → Result T F → Type 0
+PassesOn (Ok given) fault old new r = (r ≡ Ok given) × (new ≡ old)
+PassesOn (Err reason) fault old new r = (r ≡ Err fault) × (new ≡ one_more old)
 
 -- all of the bytes were written, and no fault was counted
 abbrev pub WritesAll : Option (List ℕ) → Option (List ℕ) → ℕ → ℕ → List ℕ → Type 0

@@ -1,4 +1,7 @@
 //! Readers and writers of bytes, whose contracts know what is left, written and counted.
+//!
+//! `left` and `written` are `None` where the bytes aren't known, as of a file. Contracts then speak of the counts
+//! alone.
 
 ghost use Rattle.std.specs.Prelude.{◌≡◌, ℕ, ◌<◌, ◌≤◌, Bool, true, false, List, length, IfOk, OnOk, Option};
 ghost use Rattle.std.specs.Io.{ReadsAtMost, WritesAtMost};

@@ -1,4 +1,6 @@
 //! A reader and a writer that fail at a chosen point, for tests.
+//!
+//! The reader fails at one read and goes on after it. The writer takes no further byte once its room is used up.
 
 ghost use Rattle.std.specs.Prelude.{◌≡◌, ◌+◌, ◌<◌, ◌≤◌, ◌⊎◌, true, false, min, length, IsErr, IfOk, OnOk, OnErr};
 ghost use Rattle.std.specs.Io.{ReadsAtMost, WritesAtMost};

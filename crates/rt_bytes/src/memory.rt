@@ -1,4 +1,7 @@
 //! A reader and a writer over memory.
+//!
+//! All of their bytes are known (`specs/Memory.antt`). The reader never fails, and the writer fails only for want
+//! of memory.
 
 ghost use Rattle.std.specs.Prelude.{◌≡◌, ◌<◌, true, false, [], ◌++◌, Some, length, min, IfOk, OnOk, OnErr, IsOk};
 ghost use Rattle.std.specs.Io.{ReadsAtMost};

@@ -1,4 +1,6 @@
 //! How a run over a reader and a writer ends.
+//!
+//! A refusal is a `Status`, since the run still came to its end. A `RunFault` says why it came to none.
 
 use crate::device::{ReadFault, WriteFault};
 use std::alloc::AllocError;

@@ -1,9 +1,12 @@
 //! Readers and writers laid over those of std.
+//!
+//! They add the counts, and turn each error of std into a `ReadFault` or a `WriteFault`. A call that failed isn't
+//! tried again.
 
 ghost use Rattle.std.specs.Prelude.{◌≡◌};
 ghost use Rattle.rt_bytes.specs.Bytes.{one_more};
 
-use crate::counts::count_one;
+use crate::counts::{count_one, pass_on};
 use crate::device::{ByteReader, ByteWriter, ReadFault, WriteFault};
 use std::io::{Read, Write};
 
@@ -71,13 +74,8 @@ impl<R: Read> ByteReader for OverRead<R> {
 
     fn read(&mut self, buffer: &mut [u8]) -> Result<usize, ReadFault> {
         count_one(&mut self.reads);
-        match self.inner.read(buffer) {
-            Ok(count) => Ok(count),
-            Err(_) => {
-                count_one(&mut self.failures);
-                Err(ReadFault)
-            }
-        }
+        let answer = self.inner.read(buffer);
+        pass_on(&mut self.failures, answer, ReadFault)
     }
 }
 
@@ -139,25 +137,17 @@ impl<W: Write> ByteWriter for OverWrite<W> {
 
     fn write(&mut self, bytes: &[u8]) -> Result<usize, WriteFault> {
         self.flushed = false;
-        match self.inner.write(bytes) {
-            Ok(count) if count > 0 || bytes.is_empty() => Ok(count),
-            _ => {
-                count_one(&mut self.faults);
-                Err(WriteFault)
-            }
+        let answer = self.inner.write(bytes);
+        if matches!(answer, Ok(0)) && !bytes.is_empty() {
+            count_one(&mut self.faults);
+            return Err(WriteFault);
         }
+        pass_on(&mut self.faults, answer, WriteFault)
     }
 
     fn flush(&mut self) -> Result<(), WriteFault> {
-        match self.inner.flush() {
-            Ok(()) => {
-                self.flushed = true;
-                Ok(())
-            }
-            Err(_) => {
-                count_one(&mut self.faults);
-                Err(WriteFault)
-            }
-        }
+        let answer = self.inner.flush();
+        self.flushed = answer.is_ok();
+        pass_on(&mut self.faults, answer, WriteFault)
     }
 }

@@ -1,4 +1,6 @@
 //! Writers that take one byte at a time, or are never flushed, for tests.
+//!
+//! Both pass the bytes on to the writer inside, so what was written stands there.
 
 ghost use Rattle.std.specs.Prelude.{◌≡◌, ◌<◌, false, min, length, IsErr, IfOk};
 ghost use Rattle.std.specs.Io.KnownBytes.{WriteAppends};

@@ -1,4 +1,6 @@
 //! Writes of all bytes, or of a front of them where the writer fails.
+//!
+//! A writer may take only some of the bytes at a time; these calls go on until it has taken all. They don't flush.
 
 ghost use Rattle.std.specs.List.{flat_map};
 ghost use Rattle.rt_bytes.specs.Devices.{WritesTo};

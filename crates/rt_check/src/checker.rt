@@ -1,4 +1,7 @@
 //! The checker: the list of all problems of a shadow.
+//!
+//! Counts and hulls are found once for all nodes and handed to the tests, so no test goes through the whole
+//! shadow. Problems come in the order of `problems_of` in `specs/Conditions.antt`.
 
 ghost use Rattle.std.specs.Prelude.{◌≡◌, ◌++◌, IfOk, OnOk};
 ghost use Rattle.rt_check.specs.Shadow.{numbers_of, ids_of};

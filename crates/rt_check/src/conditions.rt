@@ -1,4 +1,7 @@
-//! The tests of the nine conditions.
+//! The tests of the conditions C1 to C8, each of one node or one cell.
+//!
+//! Each has the name that its definition has in `specs/Conditions.antt`. C9 compares a count, which `checker`
+//! does.
 
 ghost use Rattle.std.specs.Prelude.{◌≡◌, ◌<◌, ◌&&◌, min, int_le};
 ghost use Rattle.rt_check.specs.Conditions.{coordinate, has_root, is_root, is_below, has_place, names_child, is_ordered, lies_in, holds_child, fits_child, is_filled, has_entry, times_named, inner_cells};

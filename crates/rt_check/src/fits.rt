@@ -1,4 +1,7 @@
 //! The cell that fits a node, the hull of its cells, found once for all of the cells that name the node.
+//!
+//! A cell holds all cells of a node exactly where it holds their hull, so C5 and C6 look at the hull alone
+//! (`specs/Fits.antt`).
 
 ghost use Rattle.std.specs.Prelude.{◌≡◌, ◌<◌, ◌≤◌, IfOk};
 ghost use Rattle.std.specs.Option.{option_copied};

@@ -1,4 +1,7 @@
 //! What a shadow lists: nodes with their cells, and row entries.
+//!
+//! All of it is plain data that may be wrong: a number may name no node, and `lo` may exceed `hi`. `check` finds
+//! that.
 
 ghost use Rattle.std.specs.Prelude.{◌≡◌, length};
 

@@ -1,4 +1,6 @@
-//! What the checker lists.
+//! What the checker lists: problems, each a condition and the place where it fails.
+//!
+//! `specs/Conditions.antt` defines the nine conditions, and has the numbers that a program prints for them.
 
 ghost use Rattle.std.specs.Prelude.{◌≡◌};
 

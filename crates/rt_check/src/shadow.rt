@@ -1,4 +1,7 @@
 //! A tree seen from outside.
+//!
+//! Two sets tell at which place of its list a number or an id stands, so a look-up goes through no list. Contracts
+//! see the lists alone (`specs/Shadow.antt`).
 
 ghost use Rattle.std.specs.Prelude.{◌≡◌, ◌≤◌, ◌↔◌, [], ◌∷◌, ◌++◌, Contains, position, IsErrOf, OnOk, OnErr};
 ghost use Rattle.std.specs.Option.{option_copied};
@@ -16,7 +19,6 @@ use thiserror::Error;
 
 /// A tree seen from outside: a capacity, the root's number, nodes with distinct numbers and row
 /// entries with distinct ids, each in the order in which they were added.
-#[derive(Drop)]
 pub struct Shadow<const D: usize> {
     capacity: Capacity,
     root: i64,
@@ -36,6 +38,20 @@ impl<const D: usize> Model for Shadow<D> {
     ghost view = { lists_of };
 
     ghost invariant = { IsWhole };
+}
+
+// By hand, since a derived drop is written out, field by field, wherever a shadow ends.
+impl<const D: usize> Drop for Shadow<D> {
+    fn drop(self) {
+        let Shadow {
+            capacity: _,
+            root: _,
+            nodes: _,
+            rows: _,
+            numbers: _,
+            ids: _,
+        } = self;
+    }
 }
 
 /// Why a node or a row entry isn't added.

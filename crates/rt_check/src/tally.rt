@@ -1,4 +1,6 @@
 //! How often cells name numbers, counted in one pass for all of the numbers.
+//!
+//! A count stops at 2, since the conditions only ask whether it is 1 (`specs/Tally.antt`).
 
 ghost use Rattle.std.specs.Prelude.{◌≡◌, ◌∷◌, [], ◌++◌, List, length, IfOk};
 ghost use Rattle.rt_check.specs.declared.node.RawCell.{RawCell as Cell};

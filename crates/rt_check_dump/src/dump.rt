@@ -1,4 +1,7 @@
 //! A shadow written as text.
+//!
+//! The contract of each call names the bytes that it writes, by `specs/Dump.antt`. Numbers are formatted on the
+//! stack, so writing takes no memory.
 
 ghost use Rattle.std.specs.Prelude.{◌<◌, ◌≡◌, ◌++◌, ◌∷◌, codes, length};
 ghost use Rattle.std.specs.List.{flat_map, zip};

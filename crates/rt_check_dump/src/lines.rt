@@ -1,4 +1,7 @@
 //! The lines of a dump, by their spelling and by what they say.
+//!
+//! Spelling comes first, and `kind_of` takes numbers of any size. Then `node_head`, `raw_cell` and `row_entry`
+//! return `None` where a number is out of range (`specs/Lines.antt`).
 
 ghost use Rattle.std.specs.Prelude.{◌≡◌, ◌≤◌, codes, drop, IfSome, OnSome};
 ghost use Rattle.rt_check_dump.specs.Lines.{are_numbers, words, is_plain, is_parent, is_node, is_cell, kind_of, node_head, row_entry, first_range, ranges_of, raw_cell};

@@ -1,4 +1,7 @@
 //! What its types say of a shadow.
+//!
+//! A proof knows that a number fits its type once code has read it. These calls read each number and do nothing
+//! else; `laws` needs them (`specs/InRange.antt`).
 
 ghost use Rattle.std.specs.Prelude.{◌≡◌, ◌≤◌, length};
 ghost use Rattle.std.specs.List.{All};

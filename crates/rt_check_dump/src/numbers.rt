@@ -1,4 +1,7 @@
 //! Numbers as words of a dump.
+//!
+//! A number has one spelling, without leading zeros and without `-0`, so a dump that was read is written back byte
+//! for byte. Its size is looked at after its spelling (`specs/Numbers.antt`).
 
 ghost use Rattle.std.specs.Prelude.{◌≡◌, ◌≤◌, ◌^◌, ◌<◌, pos, neg_ℤ, Some, IfSome, IfNone};
 ghost use Rattle.std.specs.List.{list_all};

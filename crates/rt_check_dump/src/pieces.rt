@@ -1,4 +1,7 @@
 //! The pieces of a text between the bytes that part them.
+//!
+//! A dump is cut into lines at line feeds, and a line into words at spaces. A text that ends with its separator
+//! has an empty last piece (`specs/Pieces.antt`).
 
 ghost use Rattle.std.specs.Prelude.{◌≡◌, ◌≤◌, ◌↔◌, ◌∷◌, [], ◌==◌, ◌+◌, IsTrue, MatchOption, length};
 ghost use Rattle.std.specs.List.{position_or_len};

@@ -1,4 +1,7 @@
 //! The check of a dump.
+//!
+//! The dump is read to its end before anything is printed, so no problem is printed of a text that isn't a dump.
+//! `specs/CheckRun.antt` says what a run does to its reader and its writer.
 
 ghost use Rattle.std.specs.Prelude.{◌≡◌, ◌+◌, ◌^◌, ◌≤◌, IfOk, OnOk, Ok, Err, true};
 ghost use Rattle.rt_check_report.specs.CheckRun.{ReadsAll, ReportsFault, Reports, Checks, items_or_fault};

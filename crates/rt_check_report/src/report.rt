@@ -1,4 +1,6 @@
 //! What is printed of a dump: a verdict, or the first fault in it. Printing takes no memory.
+//!
+//! The contract of each call names the bytes of its lines, by `specs/Report.antt`.
 
 ghost use Rattle.std.specs.List.{flat_map};
 ghost use Rattle.rt_bytes.specs.Devices.{WritesTo};

@@ -7,8 +7,9 @@ use Rattle.std.proofs.lemmas.List.Elements.{All-nil, All-cons, All-head, All-tai
 use Rattle.std.proofs.lemmas.Option.{same_Some}
 use Rattle.std.proofs.Math.Seq.{map-set_same}
 use Rattle.rt_sql_statement.specs.Name.{same_name}
+use Rattle.rt_sql_statement.specs.declared.statement.Edit.{Edit}
 use Rattle.rt_sql_statement.specs.declared.statement.Stmt.{Stmt}
-use Rattle.rt_sql_statement.specs.declared.statement.Stmt.TheVariants.{Create, Drop, Insert, Update, Delete, Select, Check, Watch, Unwatch, View, Nodes}
+use Rattle.rt_sql_statement.specs.declared.statement.Stmt.TheVariants.{Create, Drop, Edit as Edits, Select, Check, Watch, Unwatch, View, Nodes}
 use Rattle.rt_sql_statement.specs.declared.statement.Test.{Test}
 use Rattle.rt_sql_statement.specs.declared.statement.ColumnDef.{ColumnDef}
 use Rattle.rt_sql_statement.specs.declared.refusal.Refusal.{Refusal}
@@ -16,14 +17,14 @@ use Rattle.rt_sql_statement.specs.declared.refusal.Refusal.TheVariants.{TableAlr
 use Rattle.rt_table_row.specs.Columns.{Columns, columns_of, are_distinct}
 use Rattle.rt_table_row.specs.Rows.{TableRow, values_of}
 use Rattle.rt_table_row.specs.Conditions.{has_columns}
-use Rattle.rt_table_row.specs.Edits.{Step, Steps, outcome, and_then}
+use Rattle.rt_table_row.specs.Edits.{Step, Steps, outcome, and_then, steps_of}
 use Rattle.rt_table_row.specs.Views.{View as Watched}
 use Rattle.rt_table_row.specs.Tables.{TableLists, new_table, has_view, is_view, select, unwatch, view}
 use Rattle.rt_check_dump.specs.declared.dump.AnyShadow.{AnyShadow}
 use Rattle.rt_table.specs.AnyTrees.{new_tree, Follows, FollowsIfTaken}
 use Rattle.rt_session.specs.declared.reply.Reply.{Reply}
 use Rattle.rt_session.specs.declared.reply.Reply.TheVariants.{Nothing, Rows}
-use Rattle.rt_session.specs.Session.{State, NamedTable, empty, Outcome, state_after, answer, Answers, MayChoose, MayChooseFor, created, dropped, carried_out, selected, now_watched, on_watched, now_unwatched, viewed, checked, dumped, on_table, table_of, watched_by, is_named, is_watched, is_by_id, are_columns, shown, count_views, with_table, without_table, inserting, updating, deleting}
+use Rattle.rt_session.specs.Session.{State, NamedTable, empty, Outcome, state_after, answer, Answers, MayChoose, MayChooseFor, created, dropped, carried_out, selected, now_watched, on_watched, now_unwatched, viewed, checked, dumped, on_table, table_of, watched_by, is_named, is_watched, is_by_id, are_columns, shown, count_views, with_table, without_table}
 use Rattle.rt_session.specs.Laws.{LeadTo}
 use Rattle.rt_session.proofs.Places.{Distinct, replaced_by, replaced, distinct-filter, distinct-one_more, any_mapped, same_self}
 use Rattle.rt_session.proofs.Outcomes.{any_found}
@@ -163,12 +164,12 @@ module _ (capacity : ℕ) (P : NamedTable → Type 0)
         (λ before. edited t steps tree before follows)
     carried-holds tree name t found (Err refusal) follows = tt
 
-    edited-holds : (tree : AnyShadow) (name : List ℕ) (edit : TableLists → Steps) → MayChooseFor (table_of state name) edit tree
-        → Keeps (on_table (table_of state name) (λ t. carried_out tree state name t (edit t)))
+    edited-holds : (tree : AnyShadow) (name : List ℕ) (edit : Edit) → MayChooseFor (table_of state name) edit tree
+        → Keeps (on_table (table_of state name) (λ t. carried_out tree state name t (steps_of edit t.columns t.rows)))
     edited-holds tree name edit choice =
-        elim (table_of state name) as (λ found. table_of state name ≡ found → MayChooseFor found edit tree → Keeps (on_table found (λ t. carried_out tree state name t (edit t)))) [
+        elim (table_of state name) as (λ found. table_of state name ≡ found → MayChooseFor found edit tree → Keeps (on_table found (λ t. carried_out tree state name t (steps_of edit t.columns t.rows)))) [
           | None ↦ λ is choice. tt
-          | Some t ↦ λ is choice. carried-holds tree name t is (edit t.table) choice
+          | Some t ↦ λ is choice. carried-holds tree name t is (steps_of edit t.table.columns t.table.rows) choice
         ] refl choice
 
     -- ---- SELECT and views
@@ -225,9 +226,7 @@ module _ (capacity : ℕ) (P : NamedTable → Type 0)
     answer-holds : (tree : AnyShadow) (statement : Stmt) → MayChoose state statement tree → Keeps (answer tree state statement)
     answer-holds tree (Create name if_absent columns) choice = created-holds name if_absent columns
     answer-holds tree (Drop name if_there) choice = dropped-holds name if_there
-    answer-holds tree (Insert rule name columns rows) choice = edited-holds tree name (inserting rule columns rows) choice
-    answer-holds tree (Update name sets cond) choice = edited-holds tree name (updating sets cond) choice
-    answer-holds tree (Delete name cond) choice = edited-holds tree name (deleting cond) choice
+    answer-holds tree (Edits name edit) choice = edited-holds tree name edit choice
     answer-holds tree (Select columns name cond order) choice = on_found name (selected state columns cond order) (λ t found. selected-holds columns cond order t.table)
     answer-holds tree (Check name) choice = on_found name (checked state) (λ t found. holds)
     answer-holds tree (Watch name table cond) choice = on_found table (now_watched state name table cond) (watched-holds name table cond)

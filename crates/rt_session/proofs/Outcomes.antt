@@ -22,12 +22,13 @@ use Rattle.rt_table.specs.Held.{TableAndTree}
 use Rattle.rt_table.specs.AnyTrees.{new_tree}
 use Rattle.rt_table.specs.Watching.{change_of as view_change}
 use Rattle.rt_table.specs.Replies.{Refuses, Shows}
-use Rattle.rt_session.specs.declared.edits.Edit.{Edit}
+use Rattle.rt_sql_statement.specs.declared.statement.Edit.{Edit}
 use Rattle.rt_table.specs.declared.watched.Change.{Change}
 use Rattle.rt_session.specs.declared.reply.Reply.TheVariants.{Nothing, Rows, Changes}
 use Rattle.rt_session.specs.declared.tables.Named.{Named}
 use Rattle.rt_session.specs.Session.{State, NamedTable, is_named, table_of, with_table, with_tree, without_table, created, dropped, is_watched, count_views, watched_by, now_watched, viewed, carried_out, on_table, change_of}
-use Rattle.rt_session.specs.Steps.{steps_of, edited_by}
+use Rattle.rt_table_row.specs.Edits.{steps_of}
+use Rattle.rt_session.specs.Steps.{edited_by}
 use Rattle.rt_session.specs.SessionInside.{named_of, HaveNames}
 use Rattle.rt_session.proofs.Places.{found_at, not_found, replaced, removed, replaced_by, Distinct, find_mapped, any_mapped, distinct-filter, distinct-one_more}
 
@@ -114,9 +115,9 @@ in_turn (Ok a) f g = refl
 in_turn (Err refusal) f g = refl
 
 pub carried : (tree : AnyShadow) (state : State) (name : List ℕ) (t : TableLists) (edit : Edit) (answer : Result (List Change × TableLists) Refusal) → edited_by edit t ≡ answer
-    → carried_out tree state name t (steps_of edit t) ≡ and_then answer (λ done. Ok (Changes done.0, with_tree state name done.1 tree))
+    → carried_out tree state name t (steps_of edit t.columns t.rows) ≡ and_then answer (λ done. Ok (Changes done.0, with_tree state name done.1 tree))
 carried tree state name t edit answer is =
-    sym (in_turn (edited t (steps_of edit t)) (λ done. Ok (map change_of done.0, done.1)) (λ done. Ok (Changes done.0, with_tree state name done.1 tree)))
+    sym (in_turn (edited t (steps_of edit t.columns t.rows)) (λ done. Ok (map change_of done.0, done.1)) (λ done. Ok (Changes done.0, with_tree state name done.1 tree)))
     ∙ ap (λ r. and_then r (λ done. Ok (Changes done.0, with_tree state name done.1 tree))) is
 
 -- ---- CREATE and DROP
@@ -250,8 +251,8 @@ same_changes [] = refl
 same_changes (c ∷ cs) = ap (λ (ds : List Change). c ∷ ds) (same_changes cs)
 
 -- what a table answered to an edit
-pub done : (edit : Edit) (t after : TableLists) (changes : List Change) → edited t (steps_of edit t) ≡ Ok (map view_change changes, after) → edited_by edit t ≡ Ok (changes, after)
+pub done : (edit : Edit) (t after : TableLists) (changes : List Change) → edited t (steps_of edit t.columns t.rows) ≡ Ok (map view_change changes, after) → edited_by edit t ≡ Ok (changes, after)
 done edit t after changes is = rw (is, same_changes changes) refl
 
-pub not_done : (edit : Edit) (t : TableLists) (refusal : Refusal) → Refuses (edited t (steps_of edit t)) refusal → refusal ≢ OutOfMemory → edited_by edit t ≡ Err refusal
-not_done edit t refusal refuses other = rw (refused (edited t (steps_of edit t)) refusal refuses other) refl
+pub not_done : (edit : Edit) (t : TableLists) (refusal : Refusal) → Refuses (edited t (steps_of edit t.columns t.rows)) refusal → refusal ≢ OutOfMemory → edited_by edit t ≡ Err refusal
+not_done edit t refusal refuses other = rw (refused (edited t (steps_of edit t.columns t.rows)) refusal refuses other) refl

@@ -8,18 +8,18 @@ use Rattle.rt_sql_statement.specs.Name.{same_name}
 use Rattle.rt_sql_statement.specs.declared.value.Value.{Value}
 use Rattle.rt_sql_statement.specs.declared.statement.ColumnDef.{ColumnDef}
 use Rattle.rt_sql_statement.specs.declared.statement.Test.{Test}
+use Rattle.rt_sql_statement.specs.declared.statement.Edit.{Edit}
 use Rattle.rt_sql_statement.specs.declared.statement.Stmt.{Stmt}
-use Rattle.rt_sql_statement.specs.declared.statement.Stmt.TheVariants.{Create, Drop, Insert, Update, Delete, Select, Check, Watch, Unwatch, View, Nodes}
+use Rattle.rt_sql_statement.specs.declared.statement.Stmt.TheVariants.{Create, Drop, Edit as Edits, Select, Check, Watch, Unwatch, View, Nodes}
 use Rattle.rt_sql_statement.specs.declared.refusal.Refusal.{Refusal}
 use Rattle.rt_sql_statement.specs.declared.refusal.Refusal.TheVariants.{OutOfMemory, NoSuchTable, TableAlreadyExists, NoSuchColumn, NoSuchView, ViewAlreadyExists, TableIsWatched, TooManyTablesOrViews}
 use Rattle.rt_table_row.specs.Columns.{Columns, columns_of, has_name}
 use Rattle.rt_table_row.specs.Rows.{TableRow, values_of}
 use Rattle.rt_table_row.specs.Conditions.{value_in}
-use Rattle.rt_table_row.specs.Edits.{Steps, Setting, and_then, insert, update, delete}
+use Rattle.rt_table_row.specs.Edits.{Steps, and_then, steps_of}
 use Rattle.rt_table_row.specs.Views.{ViewChange}
 use Rattle.rt_table_row.specs.Tables.{TableLists, new_table, edited, select, watch, unwatch, view, has_view}
 use Rattle.rt_check_dump.specs.declared.dump.AnyShadow.{AnyShadow}
-use Rattle.rt_sql_statement.specs.declared.statement.Rule.{Rule}
 use Rattle.rt_table.specs.declared.watched.Change.{Change}
 use Rattle.rt_table.specs.AnyTrees.{new_tree, FollowsIfTaken}
 use Rattle.rt_session.specs.declared.reply.Reply.{Reply}
@@ -169,26 +169,12 @@ dumped state (Some t) = Ok (Dump t.tree, state)
 
 -- ---- all statements
 
--- what an INSERT, an UPDATE and a DELETE do to the rows of a table
-abbrev pub inserting : Rule → Option (List (List ℕ)) → List (List Value) → TableLists → Steps
-inserting rule columns rows t = insert t.columns t.rows rule columns rows
-
-abbrev pub updating : List Setting → List Test → TableLists → Steps
-updating sets cond t = update t.columns t.rows sets cond
-
-abbrev pub deleting : List Test → TableLists → Steps
-deleting cond t = delete t.columns t.rows cond
-
 -- the reply and the state afterwards, or the refusal, where the table that the statement changes gets this tree
 abbrev pub answer : AnyShadow → State → Stmt → Outcome
 answer tree state (Create name if_absent columns) = created state name if_absent columns
 answer tree state (Drop name if_there) = dropped state name if_there
-answer tree state (Insert rule name columns rows) =
-    on_table (table_of state name) (λ t. carried_out tree state name t (inserting rule columns rows t))
-answer tree state (Update name sets cond) =
-    on_table (table_of state name) (λ t. carried_out tree state name t (updating sets cond t))
-answer tree state (Delete name cond) =
-    on_table (table_of state name) (λ t. carried_out tree state name t (deleting cond t))
+answer tree state (Edits name edit) =
+    on_table (table_of state name) (λ t. carried_out tree state name t (steps_of edit t.columns t.rows))
 answer tree state (Select columns name cond order) =
     on_table (table_of state name) (selected state columns cond order)
 answer tree state (Check name) = on_table (table_of state name) (checked state)
@@ -198,17 +184,15 @@ answer tree state (View name) = on_watched (watched_by state name) (viewed state
 answer tree state (Nodes name) = dumped state (table_of state name)
 
 -- The rows of a table don't determine its tree. It has their ids and boxes and the table's capacity, and the checker
--- finds no problem in it; it stays where no id comes or goes and no box changes; it follows one row that comes, or one
--- that goes, as an insertion or a removal does.
-abbrev pub MayChooseFor : Option NamedTable → (TableLists → Steps) → AnyShadow → Type 0
+-- finds no problem in it. It takes the steps of the statement one after the other: a row that comes is an insertion, one
+-- that goes a removal, one that moves the one and then the other; a row that keeps its id and its box leaves it alone.
+abbrev pub MayChooseFor : Option NamedTable → Edit → AnyShadow → Type 0
 MayChooseFor None edit tree = Unit {0}
-MayChooseFor (Some t) edit tree = FollowsIfTaken t.table.rows (edit t.table) t.tree tree
+MayChooseFor (Some t) edit tree = FollowsIfTaken t.table.rows (steps_of edit t.table.columns t.table.rows) t.tree tree
 
 -- the trees that the table which a statement changes may have afterwards
 abbrev pub MayChoose : State → Stmt → AnyShadow → Type 0
-MayChoose old (Insert rule name columns rows) tree = MayChooseFor (table_of old name) (inserting rule columns rows) tree
-MayChoose old (Update name sets cond) tree = MayChooseFor (table_of old name) (updating sets cond) tree
-MayChoose old (Delete name cond) tree = MayChooseFor (table_of old name) (deleting cond) tree
+MayChoose old (Edits name edit) tree = MayChooseFor (table_of old name) edit tree
 MayChoose old (Create name if_absent columns) tree = Unit {0}
 MayChoose old (Drop name if_there) tree = Unit {0}
 MayChoose old (Select columns name cond order) tree = Unit {0}

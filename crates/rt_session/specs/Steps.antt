@@ -2,11 +2,10 @@
 use Rattle.std.specs.Prelude.{◌≡◌, ◌≢◌, List, map, Result, Ok, Err, MatchResult}
 use Rattle.rt_sql_statement.specs.declared.refusal.Refusal.{Refusal}
 use Rattle.rt_sql_statement.specs.declared.refusal.Refusal.TheVariants.{OutOfMemory}
+use Rattle.rt_sql_statement.specs.declared.statement.Edit.{Edit}
 use Rattle.rt_sql_statement.specs.declared.value.Value.{Value}
-use Rattle.rt_table_row.specs.Edits.{Steps, and_then, insert, update, delete}
+use Rattle.rt_table_row.specs.Edits.{and_then, steps_of}
 use Rattle.rt_table_row.specs.Tables.{TableLists, edited}
-use Rattle.rt_session.specs.declared.edits.Edit.{Edit}
-use Rattle.rt_session.specs.declared.edits.Edit.TheVariants.{Insert, Update, Delete}
 use Rattle.rt_check_dump.specs.declared.dump.AnyShadow.{AnyShadow}
 use Rattle.rt_table.specs.declared.watched.Change.{Change}
 use Rattle.rt_session.specs.declared.reply.Reply.{Reply}
@@ -31,12 +30,6 @@ abbrev pub ShowsRows : (State → Outcome) → Result (List (List Value)) Refusa
 ShowsRows expected r =
     (state : State) → MatchResult r (λ rows. expected state ≡ Ok (Rows rows, state)) (λ refusal. refusal ≢ OutOfMemory → expected state ≡ Err refusal)
 
--- what an edit does to the rows of a table
-abbrev pub steps_of : Edit → TableLists → Steps
-steps_of (Insert rule columns rows) t = insert t.columns t.rows rule columns rows
-steps_of (Update sets cond) t = update t.columns t.rows sets cond
-steps_of (Delete cond) t = delete t.columns t.rows cond
-
 -- the changes of its views that are shown, and the table afterwards
 abbrev pub edited_by : Edit → TableLists → Result (List Change × TableLists) Refusal
-edited_by edit t = and_then (edited t (steps_of edit t)) (λ done. Ok (map change_of done.0, done.1))
+edited_by edit t = and_then (edited t (steps_of edit t.columns t.rows)) (λ done. Ok (map change_of done.0, done.1))

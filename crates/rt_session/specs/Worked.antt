@@ -7,12 +7,13 @@ use Rattle.rt_sql_statement.specs.declared.value.Value.{Value}
 use Rattle.rt_sql_statement.specs.declared.value.Value.TheVariants.{Int}
 use Rattle.rt_sql_statement.specs.declared.statement.ColumnDef.{ColumnDef}
 use Rattle.rt_sql_statement.specs.declared.statement.Rule.TheVariants.{Abort, Replace}
-use Rattle.rt_sql_statement.specs.declared.statement.Op6.TheVariants.{Gt}
+use Rattle.rt_sql_statement.specs.declared.statement.Operator.TheVariants.{Gt}
 use Rattle.rt_sql_statement.specs.declared.statement.Source.TheVariants.{Literal}
 use Rattle.rt_sql_statement.specs.declared.statement.Test.{Test}
 use Rattle.rt_sql_statement.specs.declared.statement.Test.TheVariants.{Compare}
+use Rattle.rt_sql_statement.specs.declared.statement.Edit.TheVariants.{Insert, Update, Delete}
 use Rattle.rt_sql_statement.specs.declared.statement.Stmt.{Stmt}
-use Rattle.rt_sql_statement.specs.declared.statement.Stmt.TheVariants.{Create, Drop, Insert, Update, Delete, Select, Check, Watch, Unwatch, View, Nodes}
+use Rattle.rt_sql_statement.specs.declared.statement.Stmt.TheVariants.{Create, Drop, Edit as Edits, Select, Check, Watch, Unwatch, View, Nodes}
 use Rattle.rt_sql_statement.specs.declared.refusal.Refusal.{Refusal}
 use Rattle.rt_sql_statement.specs.declared.refusal.Refusal.TheVariants.{NoSuchTable, TableAlreadyExists, BadColumnList, NoSuchColumn, IdAlreadyTaken, NoSuchView, ViewAlreadyExists, TableIsWatched, TooManyTablesOrViews}
 use Rattle.rt_table_row.specs.Rows.{TableRow}
@@ -45,10 +46,10 @@ abbrev shown : ℕ → ℕ → ℕ → List Value
 shown id lo hi = n id ∷ n lo ∷ n hi ∷ []
 
 abbrev stored : ℕ → ℕ → ℕ → TableRow
-stored id lo hi = record { id = pos id; box = interval (pos lo) (pos hi) ∷ []; more = [] }
+stored id lo hi = record { id = pos id; box = interval (pos lo) (pos hi) ∷ []; auxiliary = [] }
 
 abbrev put : List ℕ → List (List Value) → Stmt
-put name rows = Insert Abort name None rows
+put name rows = Edits name (Insert Abort None rows)
 
 abbrev above : ℕ → Test
 above k = Compare (record { column = codes "minX"; op = Gt; value = n k })
@@ -117,10 +118,10 @@ create-limit_before_columns = refl
 no_table-insert : last [] (put (codes "t") (shown 1 2 3 ∷ [])) ≡ Err NoSuchTable
 no_table-insert = refl
 
-no_table-update : last (create (codes "u") ∷ []) (Update (codes "t") ((codes "minX", Literal (n 0)) ∷ []) []) ≡ Err NoSuchTable
+no_table-update : last (create (codes "u") ∷ []) (Edits (codes "t") (Update ((codes "minX", Literal (n 0)) ∷ []) [])) ≡ Err NoSuchTable
 no_table-update = refl
 
-no_table-delete : last [] (Delete (codes "t") []) ≡ Err NoSuchTable
+no_table-delete : last [] (Edits (codes "t") (Delete [])) ≡ Err NoSuchTable
 no_table-delete = refl
 
 no_table-select : last [] (Select None (codes "t") [] None) ≡ Err NoSuchTable
@@ -177,7 +178,7 @@ insert-all_or_none = refl
 insert-elsewhere : last (filled ++ create (codes "u") ∷ put (codes "u") (shown 9 0 0 ∷ []) ∷ []) (Select None (codes "t") [] None) ≡ Ok (Rows (shown 2 20 21 ∷ shown 7 10 11 ∷ []))
 insert-elsewhere = refl
 
-delete-where : last (filled ++ Delete (codes "t") (above 15 ∷ []) ∷ []) (Select None (codes "t") [] None) ≡ Ok (Rows (shown 7 10 11 ∷ []))
+delete-where : last (filled ++ Edits (codes "t") (Delete (above 15 ∷ [])) ∷ []) (Select None (codes "t") [] None) ≡ Ok (Rows (shown 7 10 11 ∷ []))
 delete-where = refl
 
 -- ---- views
@@ -198,11 +199,11 @@ unwatch-missing : last watching (Unwatch (codes "w")) ≡ Err NoSuchView
 unwatch-missing = refl
 
 -- the changes of a statement, by rising id, the row that left before the one that came
-changes-of_an_update : last watching (Update (codes "t") ((codes "minX", Literal (n 16)) ∷ (codes "maxX", Literal (n 30)) ∷ []) []) ≡ Ok (Changes (left (codes "v") (shown 2 20 21) ∷ came (codes "v") (shown 2 16 30) ∷ came (codes "v") (shown 7 16 30) ∷ []))
+changes-of_an_update : last watching (Edits (codes "t") (Update ((codes "minX", Literal (n 16)) ∷ (codes "maxX", Literal (n 30)) ∷ []) [])) ≡ Ok (Changes (left (codes "v") (shown 2 20 21) ∷ came (codes "v") (shown 2 16 30) ∷ came (codes "v") (shown 7 16 30) ∷ []))
 changes-of_an_update = refl
 
 -- what a statement made and unmade isn't shown
-changes-of_a_statement : last watching (Insert Replace (codes "t") None (shown 4 50 50 ∷ shown 4 0 0 ∷ [])) ≡ Ok (Changes [])
+changes-of_a_statement : last watching (Edits (codes "t") (Insert Replace None (shown 4 50 50 ∷ shown 4 0 0 ∷ []))) ≡ Ok (Changes [])
 changes-of_a_statement = refl
 
 changes-elsewhere : last (watching ++ create (codes "u") ∷ []) (put (codes "u") (shown 9 50 50 ∷ [])) ≡ Ok (Changes [])
@@ -272,7 +273,7 @@ nodes-three_axes = refl
 nodes-edited : last filled (Nodes (codes "t")) ≡ Ok (Dump any_tree)
 nodes-edited = refl
 
-nodes-elsewhere : last (filled ++ create (codes "u") ∷ Delete (codes "t") [] ∷ []) (Nodes (codes "u")) ≡ Ok (Dump (One (empty_lists 5)))
+nodes-elsewhere : last (filled ++ create (codes "u") ∷ Edits (codes "t") (Delete []) ∷ []) (Nodes (codes "u")) ≡ Ok (Dump (One (empty_lists 5)))
 nodes-elsewhere = refl
 
 -- a view that is named or forgotten leaves the tree

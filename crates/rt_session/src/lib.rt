@@ -12,7 +12,6 @@
 //! `Laws.antt`; `Worked.antt` holds them against worked examples.
 #![tactic(auto)]
 
-mod edits;
 pub mod laws;
 mod reply;
 mod selecting;

@@ -1,4 +1,6 @@
 //! What statements answer.
+//!
+//! A reply owns what it shows and borrows nothing from the tables, so it stays as it is when they change.
 
 use rt_check::Problem;
 use rt_check_dump::AnyShadow;

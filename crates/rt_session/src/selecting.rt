@@ -1,4 +1,7 @@
 //! What a SELECT shows of a table.
+//!
+//! Column names are looked up before the table is searched. Rows are copied a second time only where columns are
+//! listed.
 
 ghost use Rattle.std.specs.Prelude.{◌≡◌, map, IfOk, IfErr};
 ghost use Rattle.rt_table_row.specs.Entries.{listed_values};
@@ -76,11 +79,11 @@ pub(crate) fn select(
         return Err(Refusal::NoSuchColumn);
     }
     let Some(names) = columns else {
-        let picked = table.select(alloc, cond)?;
-        return Ok(picked.rows);
+        let picked = table.rows(alloc, cond)?;
+        return Ok(picked);
     };
     let places = places_of(alloc, table.schema(), names.as_slice())?;
-    let picked = table.select(alloc, cond)?;
-    let rows = columns_of(alloc, &picked.rows, places.as_slice())?;
+    let picked = table.rows(alloc, cond)?;
+    let rows = columns_of(alloc, &picked, places.as_slice())?;
     Ok(rows)
 }

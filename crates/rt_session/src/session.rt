@@ -1,15 +1,18 @@
 //! The tables of a session, and what it answers to a statement.
+//!
+//! A session finds the table by its name, and tests the limits of tables and views. What a statement does to rows
+//! and views is the table's part. `specs/Session.antt` defines the answer to each statement over plain lists.
 
 ghost use Rattle.std.specs.Prelude.{◌≡◌};
+ghost use Rattle.rt_table_row.specs.Edits.{steps_of};
 ghost use Rattle.rt_session.specs.Session.{empty, CarriesOut, MayChooseFor, created, dropped, carried_out, on_table, table_of, now_watched, on_watched, watched_by, now_unwatched, viewed, selected, checked, dumped};
-ghost use Rattle.rt_session.specs.Steps.{AnswersUnlessMemory, AnswersByTree, steps_of};
+ghost use Rattle.rt_session.specs.Steps.{AnswersUnlessMemory, AnswersByTree};
 
-use crate::edits::{Edit, carry_out};
 use crate::reply::Reply;
 use crate::selecting::select;
 use crate::tables::{Named, have_views, place_of, place_of_view};
 use rt_box::Capacity;
-use rt_sql_statement::{ColumnDef, Cond, Items, Name, Refusal, Stmt};
+use rt_sql_statement::{ColumnDef, Cond, Edit, Items, Name, Refusal, Stmt};
 use rt_table::AnyTable;
 use rt_table_row::Schema;
 use std::alloc::Global;
@@ -23,7 +26,6 @@ const MOST_TABLES: usize = 64;
 const MOST_VIEWS: usize = 64;
 
 /// The tables of a session, each under its name.
-#[derive(Drop)]
 pub struct Session {
     alloc: Global,
     // The capacity of the nodes of each table's tree.
@@ -32,6 +34,18 @@ pub struct Session {
     keys: RandomState,
     // In the order in which they were made.
     tables: Vec<Named>,
+}
+
+// By hand, since a derived drop is written out, field by field, wherever such a value ends.
+impl Drop for Session {
+    fn drop(self) {
+        let Session {
+            alloc: _,
+            capacity: _,
+            keys: _,
+            tables: _,
+        } = self;
+    }
 }
 
 impl Model for Session {
@@ -76,21 +90,7 @@ impl Session {
                 columns,
             } => self.create(table, if_absent, &columns),
             Stmt::Drop { table, if_there } => self.drop_table(&table, if_there),
-            Stmt::Insert {
-                rule,
-                table,
-                columns,
-                rows,
-            } => self.edit(
-                &table,
-                Edit::Insert {
-                    rule,
-                    columns,
-                    rows,
-                },
-            ),
-            Stmt::Update { table, sets, cond } => self.edit(&table, Edit::Update { sets, cond }),
-            Stmt::Delete { table, cond } => self.edit(&table, Edit::Delete { cond }),
+            Stmt::Edit { table, edit } => self.edit(&table, edit),
             Stmt::Select {
                 columns,
                 table,
@@ -145,13 +145,13 @@ impl Session {
     }
 
     fn edit(&mut self, name: &Name, edit: Edit) -> Result<Reply, Refusal>
-        ensures { AnswersByTree (λ tree. on_table (table_of self.old name.now) (λ t. carried_out tree self.old name.now t (steps_of edit t))) (MayChooseFor (table_of self.old name.now) (steps_of edit)) result self.old self.new }
+        ensures { AnswersByTree (λ tree. on_table (table_of self.old name.now) (λ t. carried_out tree self.old name.now t (steps_of edit t.columns t.rows))) (MayChooseFor (table_of self.old name.now) edit) result self.old self.new }
     {
         let Some(at) = place_of(self.tables.as_slice(), name) else {
             return Err(Refusal::NoSuchTable);
         };
-        let changes = carry_out(self.alloc, &mut self.tables[at].table, edit)?;
-        Ok(Reply::Changes(changes))
+        let changes = self.tables[at].table.edit(self.alloc, edit)?;
+        Ok(Reply::Changes(Items::from_vec(changes)))
     }
 
     fn watch(&mut self, view: Name, name: &Name, cond: Cond) -> Result<Reply, Refusal>

@@ -1,4 +1,6 @@
 //! Tables under their names, and where one of a name stands.
+//!
+//! A statement may name a view without its table, so a view's name is looked for in all tables.
 
 ghost use Rattle.std.specs.Prelude.{◌≡◌, position, nat_le, sum_by, length};
 ghost use Rattle.rt_sql_statement.specs.Name.{same_name};

@@ -7,17 +7,18 @@ use Rattle.rt_check_dump.specs.declared.dump.AnyShadow.{AnyShadow}
 use Rattle.rt_sql_statement.specs.Name.{same_name}
 use Rattle.rt_sql_statement.specs.declared.statement.ColumnDef.{ColumnDef}
 use Rattle.rt_sql_statement.specs.declared.statement.Test.{Test}
+use Rattle.rt_sql_statement.specs.declared.statement.Edit.{Edit}
 use Rattle.rt_sql_statement.specs.declared.statement.Stmt.{Stmt}
-use Rattle.rt_sql_statement.specs.declared.statement.Stmt.TheVariants.{Create, Drop, Insert, Update, Delete, Select, Check, Watch, Unwatch, View, Nodes}
+use Rattle.rt_sql_statement.specs.declared.statement.Stmt.TheVariants.{Create, Drop, Edit as Edits, Select, Check, Watch, Unwatch, View, Nodes}
 use Rattle.rt_sql_statement.specs.declared.refusal.Refusal.{Refusal}
 use Rattle.rt_table_row.specs.Columns.{Columns, columns_of}
 use Rattle.rt_table_row.specs.Rows.{values_of}
-use Rattle.rt_table_row.specs.Edits.{Steps, and_then}
+use Rattle.rt_table_row.specs.Edits.{Steps, and_then, steps_of}
 use Rattle.rt_table_row.specs.Tables.{TableLists, new_table, edited, select, watch, unwatch, view, has_view}
 use Rattle.rt_table.specs.AnyTrees.{new_tree}
 use Rattle.rt_session.specs.declared.reply.Reply.{Reply}
 use Rattle.rt_session.specs.declared.reply.Reply.TheVariants.{Nothing, Rows, Verdict, Dump}
-use Rattle.rt_session.specs.Session.{State, NamedTable, Outcome, is_named, table_of, with_table, with_tree, without_table, on_table, most_tables, created, is_watched, dropped, carried_out, is_by_id, are_columns, shown, selected, most_views, count_views, watched_by, now_watched, on_watched, now_unwatched, viewed, dumped, inserting, updating, deleting, answer}
+use Rattle.rt_session.specs.Session.{State, NamedTable, Outcome, is_named, table_of, with_table, with_tree, without_table, on_table, most_tables, created, is_watched, dropped, carried_out, is_by_id, are_columns, shown, selected, most_views, count_views, watched_by, now_watched, on_watched, now_unwatched, viewed, dumped, answer}
 
 -- ---- tables
 
@@ -206,11 +207,11 @@ module _ (T : AnyShadow → AnyShadow → Type 0) where
         (on_both (table_of s name) (table_of u name) found _ _
         (λ t. both_choose (is_watched t) (is_watched t) refl _ _ _ _ refl (inl refl, without_table_alike s u same name)))
 
-    both_edited : (tree given : AnyShadow) (name : List ℕ) (edit : TableLists → Steps)
-        → SameAnswer (on_table (table_of s name) (λ t. carried_out tree s name t (edit t))) (on_table (table_of u name) (λ t. carried_out given u name t (edit t)))
+    both_edited : (tree given : AnyShadow) (name : List ℕ) (edit : Edit)
+        → SameAnswer (on_table (table_of s name) (λ t. carried_out tree s name t (steps_of edit t.columns t.rows))) (on_table (table_of u name) (λ t. carried_out given u name t (steps_of edit t.columns t.rows)))
     both_edited tree given name edit =
-        on_both (table_of s name) (table_of u name) (table_alike s u same name) (λ t. carried_out tree s name t (edit t)) (λ t. carried_out given u name t (edit t))
-        (λ t. both_next (edited t (edit t)) _ _ (λ done. (inl refl, with_tree_alike s u same name done.1 tree given)))
+        on_both (table_of s name) (table_of u name) (table_alike s u same name) (λ t. carried_out tree s name t (steps_of edit t.columns t.rows)) (λ t. carried_out given u name t (steps_of edit t.columns t.rows))
+        (λ t. both_next (edited t (steps_of edit t.columns t.rows)) _ _ (λ done. (inl refl, with_tree_alike s u same name done.1 tree given)))
 
     both_selected : (columns : Option (List (List ℕ))) (cond : List Test) (order : Option (List ℕ)) (t : TableLists) → SameAnswer (selected s columns cond order t) (selected u columns cond order t)
     both_selected columns cond order t =
@@ -243,9 +244,7 @@ module _ (T : AnyShadow → AnyShadow → Type 0) where
     pub both_answer : AreRelated s u → (tree given : AnyShadow) (statement : Stmt) → SameAnswer (answer tree s statement) (answer given u statement)
     both_answer related tree given (Create name if_absent columns) = both_created name if_absent columns
     both_answer related tree given (Drop name if_there) = both_dropped name if_there
-    both_answer related tree given (Insert rule name columns rows) = both_edited tree given name (inserting rule columns rows)
-    both_answer related tree given (Update name sets cond) = both_edited tree given name (updating sets cond)
-    both_answer related tree given (Delete name cond) = both_edited tree given name (deleting cond)
+    both_answer related tree given (Edits name edit) = both_edited tree given name edit
     both_answer related tree given (Select columns name cond order) =
         on_both (table_of s name) (table_of u name) (table_alike s u same name) _ _ (both_selected columns cond order)
     both_answer related tree given (Check name) =

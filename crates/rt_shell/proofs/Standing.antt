@@ -14,21 +14,22 @@ use Rattle.rt_check_dump.specs.declared.dump.AnyShadow.TheVariants.{One, Two, Th
 use Rattle.rt_sql_statement.specs.Name.{same_name}
 use Rattle.rt_sql_statement.specs.declared.statement.ColumnDef.{ColumnDef}
 use Rattle.rt_sql_statement.specs.declared.statement.Test.{Test}
+use Rattle.rt_sql_statement.specs.declared.statement.Edit.{Edit}
 use Rattle.rt_sql_statement.specs.declared.statement.Stmt.{Stmt}
-use Rattle.rt_sql_statement.specs.declared.statement.Stmt.TheVariants.{Create, Drop, Insert, Update, Delete, Select, Check, Watch, Unwatch, View, Nodes}
+use Rattle.rt_sql_statement.specs.declared.statement.Stmt.TheVariants.{Create, Drop, Edit as Edits, Select, Check, Watch, Unwatch, View, Nodes}
 use Rattle.rt_sql_statement.specs.declared.refusal.Refusal.{Refusal}
 use Rattle.rt_sql_statement.specs.declared.refusal.Refusal.TheVariants.{NoSuchColumn, NoSuchView, TableAlreadyExists, ViewAlreadyExists, TableIsWatched, TooManyTablesOrViews, BadColumnList}
 use Rattle.rt_tree.specs.Lists.{empty_lists}
 use Rattle.rt_table_row.specs.Columns.{Columns, is_column_list, plain_columns}
 use Rattle.rt_table_row.specs.Rows.{TableRow}
 use Rattle.rt_table_row.specs.Conditions.{has_columns}
-use Rattle.rt_table_row.specs.Edits.{Step, Steps, and_then, outcome}
+use Rattle.rt_table_row.specs.Edits.{Step, Steps, and_then, outcome, steps_of}
 use Rattle.rt_table_row.specs.Tables.{TableLists, new_table, select, view, has_view, is_view}
 use Rattle.rt_table_row.specs.Views.{View as WatchedView}
 use Rattle.rt_table_store.specs.Trees.{IsTreeOf}
 use Rattle.rt_table.specs.AnyTrees.{new_tree, StandsFor, Follows, FollowsIfTaken}
 use Rattle.rt_session.specs.declared.reply.Reply.TheVariants.{Nothing, Rows}
-use Rattle.rt_session.specs.Session.{State, NamedTable, Outcome, state_after, is_named, table_of, with_table, without_table, on_table, most_tables, created, is_watched, dropped, carried_out, is_by_id, are_columns, shown, selected, most_views, count_views, watched_by, now_watched, on_watched, now_unwatched, viewed, checked, dumped, inserting, updating, deleting, answer, MayChooseFor, MayChoose, Answers}
+use Rattle.rt_session.specs.Session.{State, NamedTable, Outcome, state_after, is_named, table_of, with_table, without_table, on_table, most_tables, created, is_watched, dropped, carried_out, is_by_id, are_columns, shown, selected, most_views, count_views, watched_by, now_watched, on_watched, now_unwatched, viewed, checked, dumped, answer, MayChooseFor, MayChoose, Answers}
 
 -- ---- names
 
@@ -327,10 +328,10 @@ module _ (s : State) (stands : IsStanding s) where
       stand-edited s.capacity name (record t.table { rows = outcome t.table.rows steps }) tree
       (followed s.capacity t.table.columns t.table.rows steps t.tree tree here follows) s.tables stands
 
-  edited_stands : (tree : AnyShadow) (name : List ℕ) (edit : TableLists → Steps) (o : Option NamedTable) → table_of s name ≡ o → MayChooseFor o edit tree
-      → LeavesStanding (on_table o (λ t. carried_out tree s name t (edit t)))
+  edited_stands : (tree : AnyShadow) (name : List ℕ) (edit : Edit) (o : Option NamedTable) → table_of s name ≡ o → MayChooseFor o edit tree
+      → LeavesStanding (on_table o (λ t. carried_out tree s name t (steps_of edit t.columns t.rows)))
   edited_stands tree name edit None is may = tt
-  edited_stands tree name edit (Some t) is may = taken_stands tree name t (found_stands s.capacity (is_named name) s.tables t stands is) (edit t.table) may
+  edited_stands tree name edit (Some t) is may = taken_stands tree name t (found_stands s.capacity (is_named name) s.tables t stands is) (steps_of edit t.table.columns t.table.rows) may
 
   selected_stands : (columns : Option (List (List ℕ))) (cond : List Test) (order : Option (List ℕ)) (t : TableLists) → LeavesStanding (selected s columns cond order t)
   selected_stands columns cond order t =
@@ -368,9 +369,7 @@ module _ (s : State) (stands : IsStanding s) where
   answer_stands : (tree : AnyShadow) (statement : Stmt) → MayChoose s statement tree → LeavesStanding (answer tree s statement)
   answer_stands tree (Create name if_absent columns) may = created_stands name if_absent columns
   answer_stands tree (Drop name if_there) may = dropped_stands name if_there
-  answer_stands tree (Insert rule name columns rows) may = edited_stands tree name (inserting rule columns rows) (table_of s name) refl may
-  answer_stands tree (Update name sets cond) may = edited_stands tree name (updating sets cond) (table_of s name) refl may
-  answer_stands tree (Delete name cond) may = edited_stands tree name (deleting cond) (table_of s name) refl may
+  answer_stands tree (Edits name edit) may = edited_stands tree name edit (table_of s name) refl may
   answer_stands tree (Select columns name cond order) may = on_found (table_of s name) (selected s columns cond order) (λ t _. selected_stands columns cond order t.table)
   answer_stands tree (Check name) may = on_found (table_of s name) (checked s) (λ t _. stands)
   answer_stands tree (Watch name table cond) may = on_found (table_of s table) (now_watched s name table cond) (λ t is. watched_stands name table cond t is)

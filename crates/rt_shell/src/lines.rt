@@ -1,4 +1,7 @@
 //! The lines of rows put together, so that they are written at once.
+//!
+//! A call returns `None` where the room is used up, or where a value takes more than a copy. `reply` then writes
+//! that row value by value.
 
 ghost use Rattle.std.specs.Prelude.{◌≡◌, ◌≤◌, ◌++◌, ◌∷◌, ℕ, List, [], IfSome, codes, drop, length, take};
 ghost use Rattle.std.specs.Fmt.{signed_decimal};
@@ -168,9 +171,9 @@ impl Lines {
         ensures { IfSome result (λ _. self.new ≡ join_by value_text (codes "|") (listed_values row.now) ++ self.old) }
     {
         let Some((first, rest)) = row.numbers.split_first() else {
-            return self.put_values(row.more);
+            return self.put_values(row.auxiliary);
         };
-        self.put_more(row.more)?;
+        self.put_more(row.auxiliary)?;
         self.put_more_numbers(rest)?;
         self.put_integer(*first)?;
         Some(())

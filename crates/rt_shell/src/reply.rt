@@ -1,4 +1,7 @@
 //! What is printed of an answer. Printing takes no memory, so no line is ever cut off by a want of it.
+//!
+//! Rows are written in two ways with the same bytes: short ones are put together by `lines` and written some at a
+//! time, others value by value. `specs/Lines.antt` names the bytes.
 
 ghost use Rattle.std.specs.Prelude.{◌≡◌, ◌<◌, ◌≤◌, ◌++◌, if◌then◌else◌, codes, map, length, take, drop, IfOk, OnErr};
 ghost use Rattle.rt_bytes.specs.Bytes.{WritesAll, WritesFront};
@@ -111,7 +114,7 @@ fn write_change<W: ByteWriter>(
     write_parts(writer, &parts)?;
     let row = ListedRow {
         numbers: &[],
-        more: change.row.as_slice(),
+        auxiliary: change.row.as_slice(),
     };
     write_row(lines, &row, writer)
 }
@@ -143,10 +146,10 @@ fn write_listed<W: ByteWriter>(row: &ListedRow<'_>, writer: &mut W) -> Result<()
     ensures { WritesTo W.ByteWriter writer.old writer.new result (join_by value_text (codes "|") (listed_values row.now)) }
 {
     let Some((first, rest)) = row.numbers.split_first() else {
-        return write_values(row.more, writer);
+        return write_values(row.auxiliary, writer);
     };
     write_integer(first, writer)?;
-    write_more_listed(rest, row.more, writer)
+    write_more_listed(rest, row.auxiliary, writer)
 }
 
 /// Writes the numbers that follow a first one, and the values behind them.

@@ -1,4 +1,7 @@
 //! The run of a whole script.
+//!
+//! The contract of a step holds for whatever bytes follow those that it took, so no loop speaks of the script's
+//! end (`Moves` in `specs/Engine.antt`). `specs/Run.antt` says what a run does to its reader and writer.
 
 ghost use Rattle.std.specs.Prelude.{◌≡◌, ℕ, ◌+◌, ◌-◌, ◌<◌, ◌^◌, true, length, None, IfOk, OnOk, ◌≤◌};
 ghost use Rattle.rt_shell.specs.Engine.{IsFresh, GivesAnswer, AnswersNext, AnswersReady, TakesAll, Finishes, flow_of};

@@ -1,4 +1,7 @@
 //! What is printed of a value: the literal of SQL that SQLite's `quote()` gives.
+//!
+//! A text is written in parts that end behind a quote, and a blob through a small buffer, so printing a value
+//! takes no memory.
 
 ghost use Rattle.std.specs.Prelude.{◌≡◌, ◌*◌, ◌<◌, ◌≤◌, ◌++◌, ◌==◌, true, length, take, codes};
 ghost use Rattle.std.specs.Fmt.{digit_glyph, signed_decimal};

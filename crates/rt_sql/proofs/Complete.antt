@@ -4,7 +4,7 @@ use lib.IntN.{ℤ}
 use denote.Enum.Bare.{true_same, sameb}
 use Rattle.rt_sql.specs.contracts.token.Sign.{the_type}
 use Rattle.rt_sql_statement.specs.declared.statement.ColumnDef.{ColumnDef}
-use Rattle.rt_sql_statement.specs.declared.statement.Op6.{Op6}
+use Rattle.rt_sql_statement.specs.declared.statement.Operator.{Operator}
 use Rattle.rt_sql.specs.declared.token.Sign.{Sign}
 use Rattle.rt_sql.specs.declared.token.Sign.TheVariants.{LeftParenthesis, RightParenthesis, Comma, Plus, Minus, Equal, DoubleEqual, LessGreater, BangEqual, Less, LessOrEqual, Greater, GreaterOrEqual}
 use Rattle.rt_sql.specs.declared.token.Token.{Token}
@@ -21,7 +21,7 @@ use Rattle.rt_sql.proofs.Basics.{test}
 use Rattle.std.proofs.lemmas.Slice.Eq.{bytes_eq-Decides}
 use Rattle.std.specs.List.{list_any}
 use Rattle.std.specs.Str.{bytes_eq, str_to_ascii_lowercase}
-use Rattle.rt_sql_statement.specs.declared.statement.Op6.TheVariants.{Eq, Ne, Lt, Le, Gt, Ge}
+use Rattle.rt_sql_statement.specs.declared.statement.Operator.TheVariants.{Eq, Ne, Lt, Le, Gt, Ge}
 use Rattle.rt_sql.proofs.Separated.{TakesTokens, turn_last, turn_more}
 use Rattle.rt_sql.proofs.Shorter.{sign_shorter, word_shorter, value_takes}
 use Rattle.rt_sql.proofs.Sound.{TakesEach}
@@ -165,7 +165,7 @@ complete_operator ts Le after g = rw g refl
 complete_operator ts Gt after g = rw g refl
 complete_operator ts Ge after g = rw g refl
 
-pub no_word_at_operator : (w : Text) (op : Op6) (ts after : List Token) → G.operator op ts after → R.sees_word w ts ≡ false
+pub no_word_at_operator : (w : Text) (op : Operator) (ts after : List Token) → G.operator op ts after → R.sees_word w ts ≡ false
 no_word_at_operator w Eq ts after (inl g) = no_word_at_sign w Equal ts after g
 no_word_at_operator w Eq ts after (inr g) = no_word_at_sign w DoubleEqual ts after g
 no_word_at_operator w Ne ts after (inl g) = no_word_at_sign w LessGreater ts after g

@@ -7,6 +7,7 @@ use Rattle.rt_sql_statement.specs.declared.statement.Rule.{Rule}
 use Rattle.rt_sql_statement.specs.declared.statement.Rule.TheVariants.{Abort, Replace, Ignore}
 use Rattle.rt_sql_statement.specs.declared.statement.Source.{Source}
 use Rattle.rt_sql_statement.specs.declared.statement.Stmt.{Stmt}
+use Rattle.rt_sql_statement.specs.declared.statement.Edit.TheVariants as edit
 use Rattle.rt_sql_statement.specs.declared.statement.Stmt.TheVariants as stmt
 use Rattle.rt_sql_statement.specs.declared.statement.Test.{Test}
 use Rattle.rt_sql.specs.declared.token.Sign.{Sign}
@@ -149,7 +150,7 @@ abbrev Inserted : Writes → Text → Option (List Text) → List (List Value) �
 Inserted writes table columns rows ts after =
     (a : List Token) × G.word (codes "INTO") ts a × ((b : List Token) × G.name table a b × ((c : List Token) × G.named_columns columns b c × ((d : List Token) × G.word (codes "VALUES") c d × G.by_commas (G.list writes) rows d after)))
 
-complete_insert : (read : Read) (writes : Writes) (each : TakesEach read writes) (how : Rule) (table : Text) (columns : Option (List Text)) (rows : List (List Value)) (ts after : List Token) → Inserted writes table columns rows ts after → Ends after → R.insert read how ts ≡ Some (stmt.Insert how table columns rows, after)
+complete_insert : (read : Read) (writes : Writes) (each : TakesEach read writes) (how : Rule) (table : Text) (columns : Option (List Text)) (rows : List (List Value)) (ts after : List Token) → Inserted writes table columns rows ts after → Ends after → R.insert read how ts ≡ Some (stmt.Edit table (edit.Insert how columns rows), after)
 unfolding R.insert
 complete_insert read writes each how table columns rows ts after g ends =
     rw (
@@ -321,7 +322,7 @@ complete_drop read writes each table if_there ts after g ends =
     )
     refl
 
-complete_update : (read : Read) (writes : Writes) (each : TakesEach read writes) (table : Text) (sets : List (Text × Source)) (cond : List Test) (ts after : List Token) → G.statement writes (stmt.Update table sets cond) ts after → Ends after → R.statement read ts ≡ Some (stmt.Update table sets cond, after)
+complete_update : (read : Read) (writes : Writes) (each : TakesEach read writes) (table : Text) (sets : List (Text × Source)) (cond : List Test) (ts after : List Token) → G.statement writes (stmt.Edit table (edit.Update sets cond)) ts after → Ends after → R.statement read ts ≡ Some (stmt.Edit table (edit.Update sets cond), after)
 unfolding R.statement R.insertion R.replacement R.change R.update
 complete_update read writes each table sets cond ts after g ends =
     rw (
@@ -337,7 +338,7 @@ complete_update read writes each table sets cond ts after g ends =
     )
     refl
 
-complete_delete : (read : Read) (writes : Writes) (each : TakesEach read writes) (table : Text) (cond : List Test) (ts after : List Token) → G.statement writes (stmt.Delete table cond) ts after → Ends after → R.statement read ts ≡ Some (stmt.Delete table cond, after)
+complete_delete : (read : Read) (writes : Writes) (each : TakesEach read writes) (table : Text) (cond : List Test) (ts after : List Token) → G.statement writes (stmt.Edit table (edit.Delete cond)) ts after → Ends after → R.statement read ts ≡ Some (stmt.Edit table (edit.Delete cond), after)
 unfolding R.statement R.insertion R.replacement R.change R.delete
 complete_delete read writes each table cond ts after g ends =
     rw (
@@ -383,7 +384,7 @@ complete_check read writes each table ts after g ends =
     )
     refl
 
-complete_inserted : (read : Read) (writes : Writes) (each : TakesEach read writes) (how : Rule) (table : Text) (columns : Option (List Text)) (rows : List (List Value)) (ts after : List Token) → G.statement writes (stmt.Insert how table columns rows) ts after → Ends after → R.statement read ts ≡ Some (stmt.Insert how table columns rows, after)
+complete_inserted : (read : Read) (writes : Writes) (each : TakesEach read writes) (how : Rule) (table : Text) (columns : Option (List Text)) (rows : List (List Value)) (ts after : List Token) → G.statement writes (stmt.Edit table (edit.Insert how columns rows)) ts after → Ends after → R.statement read ts ≡ Some (stmt.Edit table (edit.Insert how columns rows), after)
 complete_inserted read writes each how table columns rows ts after g ends =
     head_read read how ts g.0 g.2.0 g.1 g.2.1 ∙ complete_insert read writes each how table columns rows g.0 after g.2 ends
 
@@ -455,13 +456,13 @@ complete_whole read writes each ts (stmt.Create table if_absent columns) g =
     whole_at_word read g.1.1.0 ts g.1.0 g.1.1.1 ∙ ended_statement read (stmt.Create table if_absent columns) ts g.0 (complete_create read writes each table if_absent columns ts g.0 g.1 (inr ([], g.2))) g.2
 complete_whole read writes each ts (stmt.Drop table if_there) g =
     whole_at_word read g.1.1.0 ts g.1.0 g.1.1.1 ∙ ended_statement read (stmt.Drop table if_there) ts g.0 (complete_drop read writes each table if_there ts g.0 g.1 (inr ([], g.2))) g.2
-complete_whole read writes each ts (stmt.Insert how table columns rows) g =
+complete_whole read writes each ts (stmt.Edit table (edit.Insert how columns rows)) g =
     let k = head_word how ts g.1.0 g.1.1 in
-    whole_at_word read k.0 ts k.1 k.2 ∙ ended_statement read (stmt.Insert how table columns rows) ts g.0 (complete_inserted read writes each how table columns rows ts g.0 g.1 (inr ([], g.2))) g.2
-complete_whole read writes each ts (stmt.Update table sets cond) g =
-    whole_at_word read g.1.1.0 ts g.1.0 g.1.1.1 ∙ ended_statement read (stmt.Update table sets cond) ts g.0 (complete_update read writes each table sets cond ts g.0 g.1 (inr ([], g.2))) g.2
-complete_whole read writes each ts (stmt.Delete table cond) g =
-    whole_at_word read g.1.1.0 ts g.1.0 g.1.1.1 ∙ ended_statement read (stmt.Delete table cond) ts g.0 (complete_delete read writes each table cond ts g.0 g.1 (inr ([], g.2))) g.2
+    whole_at_word read k.0 ts k.1 k.2 ∙ ended_statement read (stmt.Edit table (edit.Insert how columns rows)) ts g.0 (complete_inserted read writes each how table columns rows ts g.0 g.1 (inr ([], g.2))) g.2
+complete_whole read writes each ts (stmt.Edit table (edit.Update sets cond)) g =
+    whole_at_word read g.1.1.0 ts g.1.0 g.1.1.1 ∙ ended_statement read (stmt.Edit table (edit.Update sets cond)) ts g.0 (complete_update read writes each table sets cond ts g.0 g.1 (inr ([], g.2))) g.2
+complete_whole read writes each ts (stmt.Edit table (edit.Delete cond)) g =
+    whole_at_word read g.1.1.0 ts g.1.0 g.1.1.1 ∙ ended_statement read (stmt.Edit table (edit.Delete cond)) ts g.0 (complete_delete read writes each table cond ts g.0 g.1 (inr ([], g.2))) g.2
 complete_whole read writes each ts (stmt.Select columns table cond by) g =
     whole_at_word read g.1.1.0 ts g.1.0 g.1.1.1 ∙ ended_statement read (stmt.Select columns table cond by) ts g.0 (complete_select read writes each columns table cond by ts g.0 g.1 (inr ([], g.2))) g.2
 complete_whole read writes each ts (stmt.Check table) g =

@@ -19,6 +19,7 @@ use Rattle.rt_sql.specs.Lex.{piece_tokens}
 use Rattle.rt_sql.specs.Number.{Writes, WritesAnySize, WritesWithin64Bits, with_sign, decimal, fits, within, number_by}
 use Rattle.rt_sql.specs.Parse.{IsText, ParsesText, ParsesAs, Parses, is_unknown}
 use Rattle.rt_sql.specs.Word.{same_word}
+use Rattle.rt_sql_statement.specs.declared.statement.Edit.TheVariants as edit
 use Rattle.rt_sql_statement.specs.declared.statement.Stmt.TheVariants as stmt
 use Rattle.rt_sql.specs.declared.token.Token.TheVariants as token
 use Rattle.rt_sql_cut.specs.Piece.{PieceText}
@@ -153,9 +154,9 @@ nodes_known w h = or_true (same_word w (codes "WATCH") || same_word w (codes "UN
 spelled_known : (writes : Writes) (ts : List Token) (s : Stmt) → Spells writes ts s → is_unknown ts ≡ false
 spelled_known writes ts (stmt.Create a b c) g = known_at_word g.1.1.0 ts g.1.0 g.1.1.1
 spelled_known writes ts (stmt.Drop a b) g = known_at_word g.1.1.0 ts g.1.0 g.1.1.1
-spelled_known writes ts (stmt.Insert how a b c) g = let k = head_word how ts g.1.0 g.1.1 in known_at_word k.0 ts k.1 k.2
-spelled_known writes ts (stmt.Update a b c) g = known_at_word g.1.1.0 ts g.1.0 g.1.1.1
-spelled_known writes ts (stmt.Delete a b) g = known_at_word g.1.1.0 ts g.1.0 g.1.1.1
+spelled_known writes ts (stmt.Edit a (edit.Insert how b c)) g = let k = head_word how ts g.1.0 g.1.1 in known_at_word k.0 ts k.1 k.2
+spelled_known writes ts (stmt.Edit a (edit.Update b c)) g = known_at_word g.1.1.0 ts g.1.0 g.1.1.1
+spelled_known writes ts (stmt.Edit a (edit.Delete b)) g = known_at_word g.1.1.0 ts g.1.0 g.1.1.1
 spelled_known writes ts (stmt.Select a b c d) g = known_at_word g.1.1.0 ts g.1.0 g.1.1.1
 spelled_known writes ts (stmt.Check a) g = known_at_word g.1.1.0 ts g.1.0 g.1.1.1
 spelled_known writes ts (stmt.Watch a b c) g = known_at_dot g.1.1.0 ts g.1.0 g.1.1.1 (watch_known g.1.1.0 g.1.1.2)

@@ -2,8 +2,8 @@
 use Rattle.std.proofs.Common.{◌≡◌, ◌<◌, ◌≤◌, ◌⊎◌, inl, inr, Bool, true, false, List, [], ◌∷◌, map, length, Some, codes, ap, length-append, arith}
 use lib.IntN.{ℤ}
 use Rattle.rt_sql_statement.specs.declared.statement.ColumnDef.{ColumnDef}
-use Rattle.rt_sql_statement.specs.declared.statement.Op6.{Op6}
-use Rattle.rt_sql_statement.specs.declared.statement.Op6.TheVariants.{Eq, Ne, Lt, Le, Gt, Ge}
+use Rattle.rt_sql_statement.specs.declared.statement.Operator.{Operator}
+use Rattle.rt_sql_statement.specs.declared.statement.Operator.TheVariants.{Eq, Ne, Lt, Le, Gt, Ge}
 use Rattle.rt_sql_statement.specs.declared.statement.Source.{Source}
 use Rattle.rt_sql_statement.specs.declared.statement.Source.TheVariants as sources
 use Rattle.rt_sql_statement.specs.declared.statement.Test.{Test}
@@ -79,7 +79,7 @@ column_shorter : (writes : Writes) (c : ColumnDef) (ts after : List Token) → G
 column_shorter writes c ts after g =
     omega (arith, flag_shorter c.auxiliary ts g.0 g.1, name_shorter c.name g.0 g.2.0 g.2.1, words_shorter g.2.0 g.2.2.0 g.2.2.1, sized_shorter writes g.2.2.0 after g.2.2.2)
 
-operator_shorter : (op : Op6) (ts after : List Token) → G.operator op ts after → length after < length ts
+operator_shorter : (op : Operator) (ts after : List Token) → G.operator op ts after → length after < length ts
 operator_shorter Eq ts after (inl g) = sign_shorter Equal ts after g
 operator_shorter Eq ts after (inr g) = sign_shorter DoubleEqual ts after g
 operator_shorter Ne ts after (inl g) = sign_shorter LessGreater ts after g

@@ -4,6 +4,7 @@ use Rattle.std.specs.Option.{is_some}
 use Rattle.rt_sql_statement.specs.declared.statement.Rule.{Rule}
 use Rattle.rt_sql_statement.specs.declared.statement.Rule.TheVariants.{Replace}
 use Rattle.rt_sql_statement.specs.declared.statement.Stmt.{Stmt}
+use Rattle.rt_sql_statement.specs.declared.statement.Edit.TheVariants as edit
 use Rattle.rt_sql_statement.specs.declared.statement.Stmt.TheVariants as stmt
 use Rattle.rt_sql_statement.specs.declared.statement.Test.{Test}
 use Rattle.rt_sql.specs.declared.token.Sign.TheVariants.{LeftParenthesis, RightParenthesis, Semicolon, Plus, Minus, Star, Equal}
@@ -347,9 +348,7 @@ ends_all (stmt.View view) ts after g = inr g
 ends_all (stmt.Nodes table) ts after g = inr g
 ends_all (stmt.Create t i c) ts after g = g
 ends_all (stmt.Drop t i) ts after g = g
-ends_all (stmt.Insert r t c v) ts after g = g
-ends_all (stmt.Update t s c) ts after g = g
-ends_all (stmt.Delete t c) ts after g = g
+ends_all (stmt.Edit t edit) ts after g = g
 ends_all (stmt.Select c t d o) ts after g = g
 ends_all (stmt.Check t) ts after g = g
 

@@ -5,6 +5,7 @@ use Rattle.rt_sql_statement.specs.declared.statement.ColumnDef.{ColumnDef}
 use Rattle.rt_sql_statement.specs.declared.statement.Source.{Source}
 use Rattle.rt_sql_statement.specs.declared.statement.Source.TheVariants as sources
 use Rattle.rt_sql_statement.specs.declared.statement.Stmt.{Stmt}
+use Rattle.rt_sql_statement.specs.declared.statement.Edit.TheVariants as edit
 use Rattle.rt_sql_statement.specs.declared.statement.Stmt.TheVariants as stmt
 use Rattle.rt_sql_statement.specs.declared.statement.Test.{Test}
 use Rattle.rt_sql_statement.specs.declared.statement.Test.TheVariants as tests
@@ -103,16 +104,16 @@ module _ (one other : Writes) (carries : Carries one other) where
       let xs = carry_separated (G.sign Comma) (G.column one) (G.column other) carry_column columns (g.1.2.2.2.2.2.2.2.0) (g.1.2.2.2.2.2.2.2.2.0) (g.1.2.2.2.2.2.2.2.2.1) in
       (stmt.Create table if_absent xs.0, (g.0, (g.1.0, g.1.1, (g.1.2.0, g.1.2.1, (g.1.2.2.0, g.1.2.2.1, (g.1.2.2.2.0, g.1.2.2.2.1, (g.1.2.2.2.2.0, g.1.2.2.2.2.1, (g.1.2.2.2.2.2.0, g.1.2.2.2.2.2.1, (g.1.2.2.2.2.2.2.0, g.1.2.2.2.2.2.2.1, (g.1.2.2.2.2.2.2.2.0, g.1.2.2.2.2.2.2.2.1, (g.1.2.2.2.2.2.2.2.2.0, xs.1, g.1.2.2.2.2.2.2.2.2.2))))))))), g.2))
   carry ts (stmt.Drop table if_there) g = (stmt.Drop table if_there, g)
-  carry ts (stmt.Insert how table columns rows) g =
+  carry ts (stmt.Edit table (edit.Insert how columns rows)) g =
       let xs = carry_separated (G.sign Comma) (G.list one) (G.list other) carry_list rows (g.1.2.2.2.2.0) (g.0) (g.1.2.2.2.2.2) in
-      (stmt.Insert how table columns xs.0, (g.0, (g.1.0, g.1.1, (g.1.2.0, g.1.2.1, (g.1.2.2.0, g.1.2.2.1, (g.1.2.2.2.0, g.1.2.2.2.1, (g.1.2.2.2.2.0, g.1.2.2.2.2.1, xs.1))))), g.2))
-  carry ts (stmt.Update table sets cond) g =
+      (stmt.Edit table (edit.Insert how columns xs.0), (g.0, (g.1.0, g.1.1, (g.1.2.0, g.1.2.1, (g.1.2.2.0, g.1.2.2.1, (g.1.2.2.2.0, g.1.2.2.2.1, (g.1.2.2.2.2.0, g.1.2.2.2.2.1, xs.1))))), g.2))
+  carry ts (stmt.Edit table (edit.Update sets cond)) g =
       let xs = carry_separated (G.sign Comma) (G.set one) (G.set other) carry_set sets (g.1.2.2.0) (g.1.2.2.2.0) (g.1.2.2.2.1) in
       let c = carry_condition cond (g.1.2.2.2.0) (g.0) (g.1.2.2.2.2) in
-      (stmt.Update table xs.0 c.0, (g.0, (g.1.0, g.1.1, (g.1.2.0, g.1.2.1, (g.1.2.2.0, g.1.2.2.1, (g.1.2.2.2.0, xs.1, c.1)))), g.2))
-  carry ts (stmt.Delete table cond) g =
+      (stmt.Edit table (edit.Update xs.0 c.0), (g.0, (g.1.0, g.1.1, (g.1.2.0, g.1.2.1, (g.1.2.2.0, g.1.2.2.1, (g.1.2.2.2.0, xs.1, c.1)))), g.2))
+  carry ts (stmt.Edit table (edit.Delete cond)) g =
       let c = carry_condition cond (g.1.2.2.0) (g.0) (g.1.2.2.2) in
-      (stmt.Delete table c.0, (g.0, (g.1.0, g.1.1, (g.1.2.0, g.1.2.1, (g.1.2.2.0, g.1.2.2.1, c.1))), g.2))
+      (stmt.Edit table (edit.Delete c.0), (g.0, (g.1.0, g.1.1, (g.1.2.0, g.1.2.1, (g.1.2.2.0, g.1.2.2.1, c.1))), g.2))
   carry ts (stmt.Select columns table cond by) g =
       let c = carry_condition cond (g.1.2.2.2.0) (g.1.2.2.2.2.0) (g.1.2.2.2.2.1) in
       (stmt.Select columns table c.0 by, (g.0, (g.1.0, g.1.1, (g.1.2.0, g.1.2.1, (g.1.2.2.0, g.1.2.2.1, (g.1.2.2.2.0, g.1.2.2.2.1, (g.1.2.2.2.2.0, c.1, g.1.2.2.2.2.2))))), g.2))

@@ -3,14 +3,15 @@
 use Rattle.std.specs.Prelude.{◌≡◌, ◌⊎◌, Bool, true, false, List, [], ◌∷◌, ◌++◌, map, Option, Some, None, IsTrue, codes}
 use lib.IntN.{ℤ}
 use Rattle.rt_sql_statement.specs.declared.statement.ColumnDef.{ColumnDef}
-use Rattle.rt_sql_statement.specs.declared.statement.Op6.{Op6}
-use Rattle.rt_sql_statement.specs.declared.statement.Op6.TheVariants.{Eq, Ne, Lt, Le, Gt, Ge}
+use Rattle.rt_sql_statement.specs.declared.statement.Operator.{Operator}
+use Rattle.rt_sql_statement.specs.declared.statement.Operator.TheVariants.{Eq, Ne, Lt, Le, Gt, Ge}
 use Rattle.rt_sql_statement.specs.declared.statement.Rule.{Rule}
 use Rattle.rt_sql_statement.specs.declared.statement.Rule.TheVariants.{Abort, Replace, Ignore}
 use Rattle.rt_sql_statement.specs.declared.statement.Source.{Source}
 use Rattle.rt_sql_statement.specs.declared.statement.Source.TheVariants as sources
+use Rattle.rt_sql_statement.specs.declared.statement.Edit.TheVariants.{Insert, Update, Delete}
 use Rattle.rt_sql_statement.specs.declared.statement.Stmt.{Stmt}
-use Rattle.rt_sql_statement.specs.declared.statement.Stmt.TheVariants.{Create, Drop, Insert, Update, Delete, Select, Check, Watch, Unwatch, View, Nodes}
+use Rattle.rt_sql_statement.specs.declared.statement.Stmt.TheVariants.{Create, Drop, Edit, Select, Check, Watch, Unwatch, View, Nodes}
 use Rattle.rt_sql_statement.specs.declared.statement.Test.{Test}
 use Rattle.rt_sql_statement.specs.declared.statement.Test.TheVariants as tests
 use Rattle.rt_sql.specs.declared.token.Sign.{Sign}
@@ -119,7 +120,7 @@ column writes c = flag (sign Plus) c.auxiliary ⨾ name c.name ⨾ any_words ⨾
 
 -- ---- conditions
 
-abbrev pub operator : Op6 → Part
+abbrev pub operator : Operator → Part
 operator Eq = sign Equal or sign DoubleEqual
 operator Ne = sign LessGreater or sign BangEqual
 operator Lt = sign Less
@@ -186,11 +187,11 @@ statement writes (Create table if_absent columns) =
     ⨾ word (codes "USING") ⨾ word (codes "RTREE_I32") ⨾ sign LeftParenthesis ⨾ by_commas (column writes) columns ⨾ sign RightParenthesis
 statement writes (Drop table if_there) =
     word (codes "DROP") ⨾ word (codes "TABLE") ⨾ flag (word (codes "IF") ⨾ word (codes "EXISTS")) if_there ⨾ name table
-statement writes (Insert rule table columns rows) =
+statement writes (Edit table (Insert rule columns rows)) =
     head rule ⨾ word (codes "INTO") ⨾ name table ⨾ named_columns columns ⨾ word (codes "VALUES") ⨾ by_commas (list writes) rows
-statement writes (Update table sets cond) =
+statement writes (Edit table (Update sets cond)) =
     word (codes "UPDATE") ⨾ name table ⨾ word (codes "SET") ⨾ by_commas (set writes) sets ⨾ condition writes cond
-statement writes (Delete table cond) = word (codes "DELETE") ⨾ word (codes "FROM") ⨾ name table ⨾ condition writes cond
+statement writes (Edit table (Delete cond)) = word (codes "DELETE") ⨾ word (codes "FROM") ⨾ name table ⨾ condition writes cond
 statement writes (Select columns table cond by) =
     word (codes "SELECT") ⨾ shown columns ⨾ word (codes "FROM") ⨾ name table ⨾ condition writes cond ⨾ order by
 statement writes (Check table) =
@@ -204,9 +205,7 @@ statement writes (Nodes table) = dot (codes "NODES") ⨾ name table
 abbrev pub end_of : Stmt → Part
 end_of (Create table if_absent columns) = sign Semicolon
 end_of (Drop table if_there) = sign Semicolon
-end_of (Insert rule table columns rows) = sign Semicolon
-end_of (Update table sets cond) = sign Semicolon
-end_of (Delete table cond) = sign Semicolon
+end_of (Edit table edit) = sign Semicolon
 end_of (Select columns table cond by) = sign Semicolon
 end_of (Check table) = sign Semicolon
 end_of (Watch view table cond) = ending

@@ -11,13 +11,14 @@ use Rattle.rt_sql.specs.declared.token.Token.TheVariants as token
 use Rattle.rt_sql_statement.specs.declared.refusal.Refusal.{Refusal}
 use Rattle.rt_sql_statement.specs.declared.refusal.Refusal.TheVariants.{OutOfMemory}
 use Rattle.rt_sql_statement.specs.declared.statement.ColumnDef.{ColumnDef}
-use Rattle.rt_sql_statement.specs.declared.statement.Op6.{Op6}
-use Rattle.rt_sql_statement.specs.declared.statement.Op6.TheVariants.{Eq, Ne, Lt, Le, Gt, Ge}
+use Rattle.rt_sql_statement.specs.declared.statement.Operator.{Operator}
+use Rattle.rt_sql_statement.specs.declared.statement.Operator.TheVariants.{Eq, Ne, Lt, Le, Gt, Ge}
 use Rattle.rt_sql_statement.specs.declared.statement.Rule.{Rule}
 use Rattle.rt_sql_statement.specs.declared.statement.Rule.TheVariants.{Abort, Replace, Ignore}
 use Rattle.rt_sql_statement.specs.declared.statement.Source.{Source}
 use Rattle.rt_sql_statement.specs.declared.statement.Source.TheVariants as source
 use Rattle.rt_sql_statement.specs.declared.statement.Stmt.{Stmt}
+use Rattle.rt_sql_statement.specs.declared.statement.Edit.TheVariants as edit
 use Rattle.rt_sql_statement.specs.declared.statement.Stmt.TheVariants as stmt
 use Rattle.rt_sql_statement.specs.declared.statement.Test.{Test}
 use Rattle.rt_sql_statement.specs.declared.statement.Test.TheVariants as test
@@ -288,11 +289,11 @@ insert read how = do
   columns ← named_columns
   keyword (codes "VALUES")
   rows ← by_commas (list read)
-  pure (stmt.Insert how table columns rows)
+  pure (stmt.Edit table (edit.Insert how columns rows))
 
 -- ---- conditions
 
-unfoldable pub operator_in : Option Token → Option Op6
+unfoldable pub operator_in : Option Token → Option Operator
 operator_in (Some (token.Sign Equal)) = Some Eq
 operator_in (Some (token.Sign DoubleEqual)) = Some Eq
 operator_in (Some (token.Sign LessGreater)) = Some Ne
@@ -303,7 +304,7 @@ operator_in (Some (token.Sign Greater)) = Some Gt
 operator_in (Some (token.Sign GreaterOrEqual)) = Some Ge
 operator_in _ = None
 
-unfoldable pub operator : Parser Op6
+unfoldable pub operator : Parser Operator
 operator = from_first operator_in
 
 unfoldable pub null_test : Text → Parser Test
@@ -370,14 +371,14 @@ update read = do
   keyword (codes "SET")
   sets ← by_commas (set read)
   tests ← condition read
-  pure (stmt.Update table sets tests)
+  pure (stmt.Edit table (edit.Update sets tests))
 
 unfoldable pub delete : Read → Parser Stmt
 delete read = do
   keyword (codes "FROM")
   table ← name
   tests ← condition read
-  pure (stmt.Delete table tests)
+  pure (stmt.Edit table (edit.Delete tests))
 
 -- ---- SELECT
 

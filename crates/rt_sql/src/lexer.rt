@@ -1,3 +1,8 @@
+//! The first token of a text, past the white space and comments before it.
+//!
+//! A token is as long as it can be. A character that begins no token is one of its own, `Bad`, so every text has a
+//! list of tokens. `specs/Lex.antt` has this code as functions; `specs/Tokens.antt` says which tokens a text has.
+
 ghost use Rattle.std.specs.Prelude.{◌≡◌, ◌≢◌, ◌<◌, ◌≤◌, ◌+◌, [], length, slice_index, true, drop, None, IfSome, ◌⊎◌};
 ghost use Rattle.std.specs.Char.{is_ascii_digit};
 ghost use Rattle.std.specs.List.{prefix_len};

@@ -25,6 +25,6 @@ mod word;
 
 pub use parser::parse;
 pub use rt_sql_statement::{
-    Blob, ColumnDef, Compare, Cond, Items, Name, Op6, Refusal, Rule, Source, Stmt, Test, Text,
-    Value,
+    Blob, ColumnDef, Compare, Cond, Edit, Items, Name, Operator, Refusal, Rule, Source, Stmt, Test,
+    Text, Value,
 };

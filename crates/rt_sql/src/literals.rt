@@ -1,3 +1,7 @@
+//! What the inside of quotes and the digits of a blob stand for.
+//!
+//! Both calls make a new value: a doubled quote becomes one, and two digits become a byte (`specs/Token.antt`).
+
 ghost use Rattle.std.specs.Prelude.{◌≡◌, ℕ, ◌+◌, ◌<◌, ◌++◌, length, take, drop, slice_index, IfOk, MatchOption};
 ghost use Rattle.std.specs.String.{string_bytes};
 ghost use Rattle.rt_sql.specs.Token as spec;

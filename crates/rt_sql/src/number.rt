@@ -1,3 +1,8 @@
+//! The integer that digits write.
+//!
+//! A reading takes integers within 64 bits, or integers of any size. The second kind tells an integer out of range
+//! from a syntax error (`specs/Number.antt`).
+
 ghost use Rattle.std.specs.Prelude.{◌≡◌, ◌<◌, ◌^◌, SomeIff, FitsSigned};
 ghost use Rattle.std.specs.Int.{w64};
 ghost use Rattle.rt_sql.specs.Number as spec;

@@ -1,3 +1,8 @@
+//! The statement that a piece spells, or why it is refused.
+//!
+//! A text that spells no statement with integers within 64 bits is read again with integers of any size, to find
+//! its refusal (`specs/Parse.antt`).
+
 ghost use Rattle.std.specs.Prelude.{◌≡◌, ◌⊎◌, Contains, MatchOption, None, Err};
 ghost use Rattle.rt_sql.specs.Lex.{piece_tokens};
 ghost use Rattle.rt_sql.specs.Number.{number_by};

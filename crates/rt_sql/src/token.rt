@@ -1,3 +1,7 @@
+//! Tokens, which borrow the text of their piece.
+//!
+//! Digits stay text, and quotes inside stay doubled: nothing is copied before a statement is made of them.
+
 use std::marker::Model;
 
 /// A part of a text, as it is written there.
@@ -17,12 +21,14 @@ impl<'a> Model for Spelling<'a> {
 impl<'a> Spelling<'a> {
     ghost use Rattle.std.specs.Prelude.{◌≡◌};
 
+    /// A spelling that is this text.
     pub fn new(text: &'a str) -> Spelling<'a>
         ensures { result ≡ text.now }
     {
         Spelling { text }
     }
 
+    /// The text, which may outlive this spelling.
     pub fn as_str(&self) -> &'a str
         ensures { result.now ≡ self.now }
     {
@@ -53,9 +59,11 @@ pub enum Sign {
 /// The least part of a statement that means something, which borrows the statement's text.
 #[derive(Debug, Drop)]
 pub enum Token<'a> {
+    /// A word without quotes: a keyword or a name.
     Word(Spelling<'a>),
     /// A name in `"`, without the quotes round it; one inside is doubled.
     Quoted(Spelling<'a>),
+    /// An integer without a sign, of any size.
     Digits(Spelling<'a>),
     /// A text in `'`, without the quotes round it; one inside is doubled.
     Text(Spelling<'a>),
@@ -72,6 +80,7 @@ impl<'a> Token<'a> {
     ghost use Rattle.std.specs.Prelude.{◌≡◌};
     ghost use Rattle.rt_sql.specs.Reading as reading;
 
+    /// It is this sign.
     #[tactic(auto, unfolding(crate::specs::Reading::is_sign))]
     pub fn is_sign(&self, sign: Sign) -> bool
         ensures { result ≡ reading.is_sign sign self.now }

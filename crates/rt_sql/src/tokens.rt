@@ -1,3 +1,8 @@
+//! The tokens of a piece, from a place on.
+//!
+//! The next token is cut, and the text behind it isn't yet. So tokens take no memory, and contracts see the list
+//! of those that are left (`specs/Cursor.antt`).
+
 use crate::lexer::{dot_len, lex};
 use crate::token::{Sign, Spelling, Token};
 use rt_sql_statement::Refusal;
@@ -50,6 +55,7 @@ impl<'a> Tokens<'a> {
         }
     }
 
+    /// The next token, which isn't taken.
     #[tactic(auto, using(crate::proofs::Cursor::first_left))]
     pub fn peek(&self) -> Option<&Token<'a>>
         ensures { option_copied result ≡ reading.first self.now }
@@ -57,6 +63,7 @@ impl<'a> Tokens<'a> {
         self.next.as_ref()
     }
 
+    /// Takes the next token.
     #[tactic(auto, using(crate::proofs::Cursor::first_left, crate::proofs::Cursor::rest_left))]
     pub fn take(&mut self) -> Option<Token<'a>>
         ensures first { result ≡ reading.first self.old }
@@ -75,6 +82,7 @@ impl<'a> Tokens<'a> {
         lex(self.text).0
     }
 
+    /// The sign is the next token.
     #[tactic(auto, using(crate::proofs::Cursor::first_left), unfolding(crate::specs::Reading::sees_sign))]
     pub fn sees_sign(&self, sign: Sign) -> bool
         ensures { result ≡ reading.sees_sign sign self.now }
@@ -96,6 +104,7 @@ impl<'a> Tokens<'a> {
         }
     }
 
+    /// Takes the next token if it is this sign, and returns whether it was.
     pub fn eat_sign(&mut self, sign: Sign) -> bool
         ensures found { result ≡ reading.sees_sign sign self.old }
         ensures after { self.new ≡ (if reading.sees_sign sign self.old then reading.rest self.old else self.old) }
@@ -107,6 +116,7 @@ impl<'a> Tokens<'a> {
         found
     }
 
+    /// Takes the next token if it is this word, in whatever ASCII case, and returns whether it was.
     pub fn eat_word(&mut self, word: &str) -> bool
         ensures found { result ≡ reading.sees_word word.now self.old }
         ensures after { self.new ≡ (if reading.sees_word word.now self.old then reading.rest self.old else self.old) }
@@ -118,6 +128,7 @@ impl<'a> Tokens<'a> {
         found
     }
 
+    /// Takes the next token, which has to be this sign. Any other is a `SyntaxError`, and isn't taken.
     #[tactic(auto, unfolding(crate::specs::Reading::sign))]
     pub fn expect_sign(&mut self, sign: Sign) -> Result<(), Refusal>
         ensures { Reads (reading.sign sign self.old) result self.new }
@@ -129,6 +140,8 @@ impl<'a> Tokens<'a> {
         }
     }
 
+    /// Takes the next token, which has to be this word, in whatever ASCII case. Any other is a `SyntaxError`, and
+    /// isn't taken.
     #[tactic(auto, unfolding(crate::specs::Reading::keyword))]
     pub fn expect_word(&mut self, word: &str) -> Result<(), Refusal>
         ensures { Reads (reading.keyword word.now self.old) result self.new }

@@ -1,3 +1,7 @@
+//! The words that are names only in quotes.
+//!
+//! A word is compared with the reserved words of its own length alone (`specs/Word.antt`).
+
 ghost use Rattle.std.specs.Prelude.{◌≡◌};
 ghost use Rattle.std.specs.List.{list_any};
 ghost use Rattle.rt_sql.specs.Word as spec;

@@ -1,3 +1,8 @@
+//! The cutter: an automaton over the bytes of a script, and the bytes of the piece so far.
+//!
+//! Beside these bytes it has to remember one `Place`. `StandsAt` in `specs/Cutter.antt` says which bytes lead to
+//! which place.
+
 ghost use Rattle.std.specs.Prelude.{◌≡◌, ℕ, ◌+◌, ◌<◌, ◌≤◌, ◌⊎◌, List, [], ◌∷◌, ◌++◌, length, take, IsTrue, IsSome, IsNone, IfSome, IfOk, MatchOption, Some};
 ghost use Rattle.rt_sql_cut.specs.Piece.{PieceText};
 ghost use Rattle.rt_sql_cut.specs.Pieces.{is_gap_byte, IsGap, IsWholePiece, IsLastPiece};
@@ -250,9 +255,10 @@ impl Cutter {
         taken
     }
 
-    /// The input has ended. What has begun is then the last piece, until `clear`.
+    /// The input has ended. What has begun is then the last piece, until `clear`. A second call changes nothing.
     pub fn finish(&mut self)
-        ensures { (x : List ℕ) → StandsAt self.old x → FinishedAt self.new x }
+        ensures finished { (x : List ℕ) → StandsAt self.old x → FinishedAt self.new x }
+        ensures again { (x : List ℕ) → FinishedAt self.old x → self.new ≡ self.old }
     {
         self.finished = true;
     }

@@ -1,3 +1,7 @@
+//! A piece of a script, as a cutter hands it out.
+//!
+//! It borrows the bytes that the cutter holds, so it is used before the cutter is fed again or cleared.
+
 use std::marker::Model;
 
 /// How a piece of a script ended.

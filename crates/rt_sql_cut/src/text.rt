@@ -1,4 +1,6 @@
 //! Characters of a script's text, as its cutting and its tokens both see them.
+//!
+//! White space is ASCII, so a script can be cut before its text is known to be UTF-8 (`specs/Text.antt`).
 
 ghost use Rattle.std.specs.Prelude.{◌≡◌};
 ghost use Rattle.rt_sql_cut.specs.Text as spec;

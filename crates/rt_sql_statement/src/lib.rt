@@ -16,5 +16,5 @@ pub mod value;
 pub use name::Name;
 pub use refusal::Refusal;
 pub use sqlite_items::Items;
-pub use statement::{ColumnDef, Compare, Cond, Op6, Rule, Source, Stmt, Test};
+pub use statement::{ColumnDef, Compare, Cond, Edit, Operator, Rule, Source, Stmt, Test};
 pub use value::{Blob, Text, Value};

@@ -1,3 +1,8 @@
+//! Names of tables, columns and views.
+//!
+//! A name keeps the case that was written. Two names are one where they differ in ASCII case at most
+//! (`specs/Name.antt`).
+
 use std::alloc::{AllocError, Global};
 use std::marker::Model;
 

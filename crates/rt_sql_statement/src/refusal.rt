@@ -1,3 +1,7 @@
+//! Refusals, with the numbers and the words that are printed.
+//!
+//! The refusals of all crates stand here, so that each has a number of its own (`specs/Refusal.antt`).
+
 ghost use Rattle.std.specs.Prelude.{◌≡◌};
 ghost use Rattle.rt_sql_statement.specs.Refusal.{code_of, text_of};
 

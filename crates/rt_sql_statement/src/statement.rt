@@ -1,3 +1,8 @@
+//! Statements, and what they are made of.
+//!
+//! A statement owns its parts and borrows no text. Its names are as they were written: no table and no column is
+//! looked up yet.
+
 use crate::name::Name;
 use crate::value::Value;
 use sqlite_items::Items;
@@ -5,14 +10,17 @@ use sqlite_items::Items;
 /// What an INSERT does with a row whose id is taken.
 #[derive(Clone, Copy, PartialEq, Eq, Debug)]
 pub enum Rule {
+    /// Refuses the statement.
     Abort,
+    /// Puts the new row in the place of the old one.
     Replace,
+    /// Passes over the new row, and also over one whose minimum is above its maximum.
     Ignore,
 }
 
 /// A comparison: `=`, `<>`, `<`, `<=`, `>` or `>=`.
 #[derive(Clone, Copy, PartialEq, Eq, Debug)]
-pub enum Op6 {
+pub enum Operator {
     Eq,
     Ne,
     Lt,
@@ -25,7 +33,7 @@ pub enum Op6 {
 #[derive(Debug, Drop)]
 pub struct Compare {
     pub column: Name,
-    pub op: Op6,
+    pub op: Operator,
     pub value: Value,
 }
 
@@ -43,9 +51,13 @@ pub type Cond = Items<Test>;
 /// What an UPDATE gives a column.
 #[derive(Debug, Drop)]
 pub enum Source {
+    /// This value.
     Literal(Value),
+    /// What that column held before.
     Column(Name),
+    /// What that column held before, plus the integer.
     Plus(Name, i64),
+    /// What that column held before, less the integer.
     Minus(Name, i64),
 }
 
@@ -56,33 +68,45 @@ pub struct ColumnDef {
     pub auxiliary: bool,
 }
 
+/// What a statement does to the rows of its table. An INSERT without a list of columns names them all.
+#[derive(Debug, Drop)]
+pub enum Edit {
+    /// `INSERT` or `REPLACE`: a row for each list of values.
+    Insert {
+        rule: Rule,
+        columns: Option<Items<Name>>,
+        rows: Items<Items<Value>>,
+    },
+    /// `UPDATE`: the columns that are set, each to what it is given.
+    Update {
+        sets: Items<(Name, Source)>,
+        cond: Cond,
+    },
+    Delete {
+        cond: Cond,
+    },
+}
+
 /// What a piece of a script asks for.
 #[derive(Debug, Drop)]
 pub enum Stmt {
+    /// `CREATE VIRTUAL TABLE`; with `if_absent` a table of that name is no refusal.
     Create {
         table: Name,
         if_absent: bool,
         columns: Items<ColumnDef>,
     },
+    /// `DROP TABLE`; with `if_there` a missing table is no refusal.
     Drop {
         table: Name,
         if_there: bool,
     },
-    Insert {
-        rule: Rule,
+    /// `INSERT`, `REPLACE`, `UPDATE` or `DELETE`.
+    Edit {
         table: Name,
-        columns: Option<Items<Name>>,
-        rows: Items<Items<Value>>,
+        edit: Edit,
     },
-    Update {
-        table: Name,
-        sets: Items<(Name, Source)>,
-        cond: Cond,
-    },
-    Delete {
-        table: Name,
-        cond: Cond,
-    },
+    /// `SELECT`: the columns listed or `None` for all, and the column of `ORDER BY`.
     Select {
         columns: Option<Items<Name>>,
         table: Name,
@@ -93,17 +117,21 @@ pub enum Stmt {
     Check {
         table: Name,
     },
+    /// `.watch`: names a view of the rows that the condition picks.
     Watch {
         view: Name,
         table: Name,
         cond: Cond,
     },
+    /// `.unwatch`: forgets a view.
     Unwatch {
         view: Name,
     },
+    /// `.view`: shows the rows of a view.
     View {
         view: Name,
     },
+    /// `.nodes`: shows a table's tree.
     Nodes {
         table: Name,
     },

@@ -1,3 +1,8 @@
+//! Values, and the texts and blobs among them.
+//!
+//! Here NULL equals NULL, and values of two kinds are never equal (`specs/Value.antt`). The comparison of SQL is
+//! `compares` in `rt_table_row`.
+
 use std::alloc::{AllocError, Global};
 use std::marker::Model;
 

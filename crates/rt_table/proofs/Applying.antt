@@ -5,6 +5,7 @@ use Rattle.std.specs.List.{AllByRecursion, list_any, list_all}
 use Rattle.std.specs.Ordering.{int_eq}
 use Rattle.std.proofs.lemmas.Bool.{leb-false}
 use Rattle.rt_sql_statement.specs.declared.value.Value.{Value}
+use Rattle.rt_sql_statement.specs.declared.statement.Edit.TheVariants.{Insert, Update, Delete}
 use Rattle.rt_sql_statement.specs.declared.statement.Rule.{Rule}
 use Rattle.rt_sql_statement.specs.declared.statement.Rule.TheVariants.{Abort, Replace, Ignore}
 use Rattle.rt_sql_statement.specs.declared.statement.Test.{Test}
@@ -236,7 +237,9 @@ apply-update columns rows sets cond rise =
     (λ right. apply-update_all columns rows sets (picked columns cond rows) (stand-filter (holds columns cond) rows rows (stand rows (rises (λ r. r.id) rows rise)))))
 
 pub steps_apply : StepsApply
-steps_apply columns rows rise = (λ rule listed lists. apply-insert columns rows rule listed lists, λ cond. apply-delete columns rows cond rise, λ sets cond. apply-update columns rows sets cond rise)
+steps_apply columns rows rise (Insert rule listed lists) = apply-insert columns rows rule listed lists
+steps_apply columns rows rise (Update sets cond) = apply-update columns rows sets cond rise
+steps_apply columns rows rise (Delete cond) = apply-delete columns rows cond rise
 
 -- what holds of the wanted steps holds of those of a plan
 pub planned : (P : List Step → Type 0) (wanted : Steps) (given : Result (List Step) Refusal) → Plans wanted given → IfOk wanted P → IfOk given P

@@ -3,7 +3,7 @@ use Rattle.std.proofs.Common.{◌≡◌, ℕ, ◌+◌, ◌<◌, ◌≤◌, Bool,
 use Rattle.std.specs.Prelude.{if◌then◌else◌, ◌==◌}
 use Rattle.std.proofs.lemmas.List.{take_more, map-append}
 use Rattle.rt_table_row.specs.Edits.{Step, Leaves, Comes, Becomes}
-use Rattle.rt_table.specs.Preparing.{places, places_all, notes_of, notes_all}
+use Rattle.rt_table.specs.Preparing.{places, places_all, auxiliary_rows_of, auxiliary_rows_all}
 
 pub places_few : (step : Step) → places step ≤ 1
 places_few (Leaves id) = omega arith
@@ -14,18 +14,18 @@ none_or_one : (b : Bool) → (if b then 0 else 1) ≤ 1
 none_or_one true = omega arith
 none_or_one false = omega arith
 
-pub notes_few : (step : Step) → notes_of step ≤ 1
-notes_few (Leaves id) = omega arith
-notes_few (Comes row) = none_or_one (length row.more == 0)
-notes_few (Becomes id row) = none_or_one (length row.more == 0)
+pub auxiliary_rows_few : (step : Step) → auxiliary_rows_of step ≤ 1
+auxiliary_rows_few (Leaves id) = omega arith
+auxiliary_rows_few (Comes row) = none_or_one (length row.auxiliary == 0)
+auxiliary_rows_few (Becomes id row) = none_or_one (length row.auxiliary == 0)
 
 places_last : (steps : List Step) (step : Step) → places_all (steps ++ step ∷ []) ≡ places_all steps + places step
 places_last [] step = omega arith
 places_last (first ∷ steps) step = let later = places_last steps step in omega arith
 
-notes_last : (steps : List Step) (step : Step) → notes_all (steps ++ step ∷ []) ≡ notes_all steps + notes_of step
-notes_last [] step = omega arith
-notes_last (first ∷ steps) step = let later = notes_last steps step in omega arith
+auxiliary_rows_last : (steps : List Step) (step : Step) → auxiliary_rows_all (steps ++ step ∷ []) ≡ auxiliary_rows_all steps + auxiliary_rows_of step
+auxiliary_rows_last [] step = omega arith
+auxiliary_rows_last (first ∷ steps) step = let later = auxiliary_rows_last steps step in omega arith
 
 steps_more : {X : Type 0} (f : X → Step) (xs : List X) (i : ℕ) (x : X) → i < length xs → x ≡ get_or xs i x → map f (take (i + 1) xs) ≡ map f (take i xs) ++ f x ∷ []
 steps_more f xs i x within here =
@@ -35,5 +35,5 @@ steps_more f xs i x within here =
 pub places_more : {X : Type 0} (f : X → Step) (xs : List X) (i : ℕ) (x : X) → i < length xs → x ≡ get_or xs i x → places_all (map f (take (i + 1) xs)) ≡ places_all (map f (take i xs)) + places (f x)
 places_more f xs i x within here = ap places_all (steps_more f xs i x within here) ∙ places_last (map f (take i xs)) (f x)
 
-pub notes_more : {X : Type 0} (f : X → Step) (xs : List X) (i : ℕ) (x : X) → i < length xs → x ≡ get_or xs i x → notes_all (map f (take (i + 1) xs)) ≡ notes_all (map f (take i xs)) + notes_of (f x)
-notes_more f xs i x within here = ap notes_all (steps_more f xs i x within here) ∙ notes_last (map f (take i xs)) (f x)
+pub auxiliary_rows_more : {X : Type 0} (f : X → Step) (xs : List X) (i : ℕ) (x : X) → i < length xs → x ≡ get_or xs i x → auxiliary_rows_all (map f (take (i + 1) xs)) ≡ auxiliary_rows_all (map f (take i xs)) + auxiliary_rows_of (f x)
+auxiliary_rows_more f xs i x within here = ap auxiliary_rows_all (steps_more f xs i x within here) ∙ auxiliary_rows_last (map f (take i xs)) (f x)

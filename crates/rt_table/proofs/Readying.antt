@@ -20,7 +20,7 @@ use Rattle.rt_table.specs.declared.watched.Watched.{Watched}
 use Rattle.rt_table.specs.declared.watched.Change.{Change}
 use Rattle.rt_table.specs.Held.{Held}
 use Rattle.rt_table.specs.Watching.{view_of, change_of}
-use Rattle.rt_table.specs.Preparing.{ApplyInTurn, places_all, notes_all, DifferAt, IsReady}
+use Rattle.rt_table.specs.Preparing.{ApplyInTurn, places_all, auxiliary_rows_all, DifferAt, IsReady}
 
 -- ---- the ids of a map
 
@@ -50,27 +50,27 @@ any_listed fates q = any_key fates.entries q
 -- ---- room
 
 abbrev made : {D : ℕ} → Columns → List TableRow → ShadowLists D → List View → ℕ → ℕ → List ℕ → List ℤ → List Change → Held D
-made columns rows tree views room note_room id_rooms touched changes = record {
+made columns rows tree views room auxiliary_room id_rooms touched changes = record {
   lists = record { columns = columns; rows = rows; views = views };
   tree = tree;
   room = room;
-  note_room = note_room;
+  auxiliary_room = auxiliary_room;
   id_rooms = id_rooms;
   touched = touched;
   staged = map change_of changes;
 }
 
-pub ready : {D : ℕ} (columns : Columns) (rows now : List TableRow) (tree : ShadowLists D) (views new : List Watched) (room note_room : ℕ) (touched : List ℤ) (changes : List Change) (steps : List Step) → now ≡ rows
-    → map view_of new ≡ map view_of views → ApplyInTurn rows steps → places_all steps ≤ room → notes_all steps ≤ note_room → (views ≢ [] → DifferAt touched rows (outcome rows steps)) → All (λ w. length touched ≤ spare w.ids) new
+pub ready : {D : ℕ} (columns : Columns) (rows now : List TableRow) (tree : ShadowLists D) (views new : List Watched) (room auxiliary_room : ℕ) (touched : List ℤ) (changes : List Change) (steps : List Step) → now ≡ rows
+    → map view_of new ≡ map view_of views → ApplyInTurn rows steps → places_all steps ≤ room → auxiliary_rows_all steps ≤ auxiliary_room → (views ≢ [] → DifferAt touched rows (outcome rows steps)) → All (λ w. length touched ≤ spare w.ids) new
     → map change_of changes ≡ deltas columns (map view_of views) rows (outcome rows steps)
-    → IsReady (made columns now tree (map view_of new) room note_room (map (λ (w : Watched). spare w.ids) new) touched changes) steps
-ready columns rows now tree views new room note_room touched changes steps same_rows same_views apply fits notes_fit differ roomy staged =
-    subst (λ (rs : List TableRow). IsReady (made columns rs tree (map view_of new) room note_room (map (λ (w : Watched). spare w.ids) new) touched changes) steps) (sym same_rows)
-    (subst (λ (vs : List View). IsReady (made columns rows tree vs room note_room (map (λ (w : Watched). spare w.ids) new) touched changes) steps) (sym same_views)
+    → IsReady (made columns now tree (map view_of new) room auxiliary_room (map (λ (w : Watched). spare w.ids) new) touched changes) steps
+ready columns rows now tree views new room auxiliary_room touched changes steps same_rows same_views apply fits auxiliary_rows_fit differ roomy staged =
+    subst (λ (rs : List TableRow). IsReady (made columns rs tree (map view_of new) room auxiliary_room (map (λ (w : Watched). spare w.ids) new) touched changes) steps) (sym same_rows)
+    (subst (λ (vs : List View). IsReady (made columns rows tree vs room auxiliary_room (map (λ (w : Watched). spare w.ids) new) touched changes) steps) (sym same_views)
     (record {
       apply = apply;
       room = fits;
-      note_room = notes_fit;
+      auxiliary_room = auxiliary_rows_fit;
       touched = λ some. differ (λ none. some (ap (map view_of) none));
       id_rooms = All-map (λ room. length touched ≤ room) (λ (w : Watched). spare w.ids) new roomy;
       staged = staged;

@@ -12,7 +12,7 @@ pub record Held (D : ℕ) : Type 0 where
   pub lists : TableLists
   pub tree : ShadowLists D
   pub room : ℕ
-  pub note_room : ℕ
+  pub auxiliary_room : ℕ
   pub id_rooms : List ℕ
   pub touched : List ℤ
   pub staged : List ViewChange

@@ -29,17 +29,17 @@ places_all [] = 0
 places_all (step ∷ steps) = places step + places_all steps
 
 -- how many rows with auxiliary values a step places
-abbrev pub notes : TableRow → ℕ
-notes row = if length row.more == 0 then 0 else 1
+abbrev pub auxiliary_rows : TableRow → ℕ
+auxiliary_rows row = if length row.auxiliary == 0 then 0 else 1
 
-abbrev pub notes_of : Step → ℕ
-notes_of (Leaves id) = 0
-notes_of (Comes row) = notes row
-notes_of (Becomes id row) = notes row
+abbrev pub auxiliary_rows_of : Step → ℕ
+auxiliary_rows_of (Leaves id) = 0
+auxiliary_rows_of (Comes row) = auxiliary_rows row
+auxiliary_rows_of (Becomes id row) = auxiliary_rows row
 
-abbrev pub notes_all : List Step → ℕ
-notes_all [] = 0
-notes_all (step ∷ steps) = notes_of step + notes_all steps
+abbrev pub auxiliary_rows_all : List Step → ℕ
+auxiliary_rows_all [] = 0
+auxiliary_rows_all (step ∷ steps) = auxiliary_rows_of step + auxiliary_rows_all steps
 
 -- at each other id the rows are the same
 abbrev pub DifferAt : List ℤ → List TableRow → List TableRow → Type 0
@@ -50,7 +50,7 @@ DifferAt ids before after = (id : ℤ) → list_any (int_eq id) ids ≡ false �
 pub record IsReady {D : ℕ} (held : Held D) (steps : List Step) : Type 0 where
   pub apply : ApplyInTurn held.lists.rows steps
   pub room : places_all steps ≤ held.room
-  pub note_room : notes_all steps ≤ held.note_room
+  pub auxiliary_room : auxiliary_rows_all steps ≤ held.auxiliary_room
   pub touched : held.lists.views ≢ [] → DifferAt held.touched held.lists.rows (outcome held.lists.rows steps)
   pub id_rooms : All (λ room. length held.touched ≤ room) held.id_rooms
   pub staged : held.staged ≡ deltas held.lists.columns held.lists.views held.lists.rows (outcome held.lists.rows steps)

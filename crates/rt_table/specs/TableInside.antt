@@ -12,7 +12,7 @@ held t = record {
   lists = record { columns = t.columns; rows = t.store.rows; views = map view_of t.views.items };
   tree = t.store.tree;
   room = t.store.room;
-  note_room = t.store.note_room;
+  auxiliary_room = t.store.auxiliary_room;
   id_rooms = map (λ w. spare w.ids) t.views.items;
   touched = t.touched.items;
   staged = map change_of t.staged.items;

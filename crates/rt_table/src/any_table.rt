@@ -1,4 +1,7 @@
 //! A table, whatever its number of axes.
+//!
+//! Each call goes to the table of that number of axes. `edit` plans, prepares and commits in one call, so no plan
+//! meets a table of other axes.
 
 ghost use Rattle.std.specs.Prelude.{◌≡◌, ◌<◌, List, [], map, length, nat_lt, Ok, IfOk, IfErr, OnOk, OnErr};
 ghost use Rattle.rt_box.specs.declared.interval.Interval.{Interval};
@@ -8,8 +11,8 @@ use crate::watched::{Change, Picked};
 use rt_box::Capacity;
 use rt_check::Problem;
 use rt_check_dump::AnyShadow;
-use rt_sql_statement::{Cond, Items, Name, Refusal, Rule, Source, Value};
-use rt_table_row::Schema;
+use rt_sql_statement::{Cond, Edit, Name, Refusal};
+use rt_table_row::{RowList, Schema};
 use std::alloc::{AllocError, Global};
 use std::hash::RandomState;
 use std::marker::Model;
@@ -39,7 +42,7 @@ impl Model for AnyTable {
 
 impl AnyTable {
     ghost use Rattle.rt_table_row.specs.Tables.{new_table, has_view, select, watch, unwatch, view};
-    ghost use Rattle.rt_table_row.specs.Edits.{insert, update, delete};
+    ghost use Rattle.rt_table_row.specs.Edits.{steps_of};
     ghost use Rattle.rt_table_row.specs.Tables.{edited};
     ghost use Rattle.rt_table.specs.Watching.{change_of};
     ghost use Rattle.rt_table.specs.Replies.{Refuses, Shows};
@@ -148,13 +151,31 @@ impl AnyTable {
         }
     }
 
-    /// The rows of a view, by rising id.
+    /// The rows that a condition picks, by rising id, where nobody asks for the nodes that are reached: a condition
+    /// that fixes the id looks that row up, whatever else it tests.
+    ///
+    /// # Errors
+    ///
+    /// Those of `select`.
+    pub fn rows(&self, alloc: Global, cond: Cond) -> Result<RowList, Refusal>
+        ensures ok { IfOk result (Shows (select self.now.lists cond)) }
+        ensures err { IfErr result (Refuses (select self.now.lists cond)) }
+    {
+        match &self.axes {
+            Axes::One(table) => table.rows(alloc, cond),
+            Axes::Two(table) => table.rows(alloc, cond),
+            Axes::Three(table) => table.rows(alloc, cond),
+        }
+    }
+
+    /// The rows of a view, by rising id. No node is visited for them.
     ///
     /// # Errors
     ///
     /// `NoSuchView` where no view of this table has the name, and `OutOfMemory`.
     pub fn view(&self, alloc: Global, name: &Name) -> Result<Picked, Refusal>
         ensures ok { IfOk result (λ picked. Shows (view self.now.lists name.now) picked.rows) }
+        ensures visited { IfOk result (λ picked. picked.visited ≡ 0) }
         ensures err { IfErr result (Refuses (view self.now.lists name.now)) }
     {
         match &self.axes {
@@ -200,69 +221,21 @@ impl AnyTable {
         }
     }
 
-    /// Inserts rows, each among those before it, and answers what changed in the views. A refusal changes nothing.
+    /// Carries an INSERT, UPDATE or DELETE out, and answers what it changed in the views. A refusal changes nothing.
     ///
     /// # Errors
     ///
-    /// What the plan of an INSERT is refused for, and `OutOfMemory`.
-    pub fn insert(
-        &mut self,
-        alloc: Global,
-        rule: Rule,
-        columns: &Option<Items<Name>>,
-        rows: &[Items<Value>],
-    ) -> Result<Vec<Change>, Refusal>
-        ensures ok { IfOk result (λ changes. edited self.old.lists (insert self.old.lists.columns self.old.lists.rows rule columns.now rows.now) ≡ Ok (map change_of changes.items, self.new.lists)) }
-        ensures tree { OnOk result (FollowsIfTaken self.old.lists.rows (insert self.old.lists.columns self.old.lists.rows rule columns.now rows.now) self.old.tree self.new.tree) }
-        ensures err { IfErr result (Refuses (edited self.old.lists (insert self.old.lists.columns self.old.lists.rows rule columns.now rows.now))) }
+    /// Those of `Table::plan`.
+    pub fn edit(&mut self, alloc: Global, edit: Edit) -> Result<Vec<Change>, Refusal>
+        ensures ok { IfOk result (λ changes. edited self.old.lists (steps_of edit self.old.lists.columns self.old.lists.rows) ≡ Ok (map change_of changes.items, self.new.lists)) }
+        ensures tree { OnOk result (FollowsIfTaken self.old.lists.rows (steps_of edit self.old.lists.columns self.old.lists.rows) self.old.tree self.new.tree) }
+        ensures err { IfErr result (Refuses (edited self.old.lists (steps_of edit self.old.lists.columns self.old.lists.rows))) }
         ensures refused { OnErr result (self.new ≡ self.old) }
     {
         match &mut self.axes {
-            Axes::One(table) => table.insert(alloc, rule, columns, rows),
-            Axes::Two(table) => table.insert(alloc, rule, columns, rows),
-            Axes::Three(table) => table.insert(alloc, rule, columns, rows),
-        }
-    }
-
-    /// Sets columns of the rows that a condition picks, and answers what changed in the views. A refusal changes
-    /// nothing.
-    ///
-    /// # Errors
-    ///
-    /// What the plan of an UPDATE is refused for, and `OutOfMemory`.
-    pub fn update(
-        &mut self,
-        alloc: Global,
-        sets: &[(Name, Source)],
-        cond: Cond,
-    ) -> Result<Vec<Change>, Refusal>
-        ensures ok { IfOk result (λ changes. edited self.old.lists (update self.old.lists.columns self.old.lists.rows sets.now cond) ≡ Ok (map change_of changes.items, self.new.lists)) }
-        ensures tree { OnOk result (FollowsIfTaken self.old.lists.rows (update self.old.lists.columns self.old.lists.rows sets.now cond) self.old.tree self.new.tree) }
-        ensures err { IfErr result (Refuses (edited self.old.lists (update self.old.lists.columns self.old.lists.rows sets.now cond))) }
-        ensures refused { OnErr result (self.new ≡ self.old) }
-    {
-        match &mut self.axes {
-            Axes::One(table) => table.update(alloc, sets, cond),
-            Axes::Two(table) => table.update(alloc, sets, cond),
-            Axes::Three(table) => table.update(alloc, sets, cond),
-        }
-    }
-
-    /// Deletes the rows that a condition picks, and answers what changed in the views. A refusal changes nothing.
-    ///
-    /// # Errors
-    ///
-    /// `NoSuchColumn` where a test looks at a column that the table hasn't, and `OutOfMemory`.
-    pub fn delete(&mut self, alloc: Global, cond: Cond) -> Result<Vec<Change>, Refusal>
-        ensures ok { IfOk result (λ changes. edited self.old.lists (delete self.old.lists.columns self.old.lists.rows cond) ≡ Ok (map change_of changes.items, self.new.lists)) }
-        ensures tree { OnOk result (FollowsIfTaken self.old.lists.rows (delete self.old.lists.columns self.old.lists.rows cond) self.old.tree self.new.tree) }
-        ensures err { IfErr result (Refuses (edited self.old.lists (delete self.old.lists.columns self.old.lists.rows cond))) }
-        ensures refused { OnErr result (self.new ≡ self.old) }
-    {
-        match &mut self.axes {
-            Axes::One(table) => table.delete(alloc, cond),
-            Axes::Two(table) => table.delete(alloc, cond),
-            Axes::Three(table) => table.delete(alloc, cond),
+            Axes::One(table) => table.edit(alloc, edit),
+            Axes::Two(table) => table.edit(alloc, edit),
+            Axes::Three(table) => table.edit(alloc, edit),
         }
     }
 

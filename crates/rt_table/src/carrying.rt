@@ -1,4 +1,7 @@
 //! A plan carried out.
+//!
+//! All room was reserved before, so nothing here takes memory or fails. A view changes only at the ids that the
+//! plan touched (`specs/Preparing.antt`, `specs/Watching.antt`).
 
 ghost use Rattle.std.specs.Prelude.{◌≡◌, ◌≤◌, ◌<◌, ◌+◌, ℕ, ℤ, List, All, slice_index_or, map, length, if◌then◌else◌};
 ghost use Rattle.std.specs.List.{list_any};
@@ -9,8 +12,8 @@ ghost use Rattle.rt_table_row.specs.Rows.{TableRow, row_at};
 ghost use Rattle.rt_table_row.specs.Filters.{admits};
 ghost use Rattle.rt_table_row.specs.Edits.{after_step, outcome};
 ghost use Rattle.rt_table_row.specs.Entries.{step_of};
-ghost use Rattle.rt_table_store.specs.Moves.{move_of, moves, MayFollow};
-ghost use Rattle.rt_table.specs.Preparing.{Applies, ApplyInTurn, places, places_all, notes_of, notes_all, DifferAt};
+ghost use Rattle.rt_table_store.specs.Moves.{TakesStep, TakesEach};
+ghost use Rattle.rt_table.specs.Preparing.{Applies, ApplyInTurn, places, places_all, auxiliary_rows_of, auxiliary_rows_all, DifferAt};
 ghost use Rattle.rt_table.specs.declared.watched.Watched.{Watched};
 ghost use Rattle.rt_table.specs.Watching.{view_of, is_picked, IsKept, IsRefreshed};
 
@@ -23,21 +26,20 @@ use std::hash::RandomState;
 fn apply_step<const D: usize>(store: &mut Store<D>, step: Step<D>)
     requires applies { Applies store.old.rows (step_of step) }
     requires room { places (step_of step) ≤ store.old.room }
-    requires note_room { notes_of (step_of step) ≤ store.old.note_room }
+    requires auxiliary_room { auxiliary_rows_of (step_of step) ≤ store.old.auxiliary_room }
     ensures rows { store.new.rows ≡ after_step store.old.rows (step_of step.entry) }
-    ensures tree { MayFollow (move_of store.old.rows (step_of step.entry)) store.old.tree store.new.tree }
+    ensures tree { TakesStep store.old.rows (step_of step.entry) store.old.tree store.new.tree }
     ensures capacity { store.new.tree.capacity ≡ store.old.tree.capacity }
     ensures room { store.old.room ≤ store.new.room + places (step_of step.entry) }
-    ensures note_room { store.old.note_room ≤ store.new.note_room + notes_of (step_of step.entry) }
+    ensures auxiliary_room { store.old.auxiliary_room ≤ store.new.auxiliary_room + auxiliary_rows_of (step_of step.entry) }
 {
-    // The contract of `len` says that there are three axes at most.
-    let _ = store.len();
+    store.facts();
     match step {
         Step::Leaves(id) => {
-            let _ = store.take_out(&id);
+            let _ = store.remove(&id);
         }
-        Step::Comes(row) => store.place(row),
-        Step::Becomes(id, row) => store.exchange(&id, row),
+        Step::Comes(row) => store.insert(row),
+        Step::Becomes(id, row) => store.replace(&id, row),
     }
 }
 
@@ -45,14 +47,15 @@ fn apply_step<const D: usize>(store: &mut Store<D>, step: Step<D>)
 pub(crate) fn apply<const D: usize>(store: &mut Store<D>, plan: Vec<Step<D>>)
     requires apply { ApplyInTurn store.old.rows (map step_of plan.items) }
     requires room { places_all (map step_of plan.items) ≤ store.old.room }
-    requires note_room { notes_all (map step_of plan.items) ≤ store.old.note_room }
+    requires auxiliary_room { auxiliary_rows_all (map step_of plan.items) ≤ store.old.auxiliary_room }
     ensures rows { store.new.rows ≡ outcome store.old.rows (map step_of plan.entry.items) }
-    ensures tree { MayFollow (moves store.old.rows (map step_of plan.entry.items)) store.old.tree store.new.tree }
+    ensures tree { TakesEach store.old.rows (map step_of plan.entry.items) store.old.tree store.new.tree }
     ensures capacity { store.new.tree.capacity ≡ store.old.tree.capacity }
 {
     let mut steps = plan.into_iter();
     while let Some(step) = steps.next() {
         apply_step(store, step);
+        store.facts();
     }
 }
 
@@ -60,9 +63,8 @@ pub(crate) fn apply<const D: usize>(store: &mut Store<D>, plan: Vec<Step<D>>)
 fn shows<const D: usize>(store: &Store<D>, condition: &Filter, id: &i64) -> bool
     ensures { result ≡ is_picked (admits condition.now) (row_at store.now.rows id.now) }
 {
-    // The contract of `len` says that there are three axes at most.
-    let _ = store.len();
-    match store.find(id) {
+    store.facts();
+    match store.get(id) {
         Some(row) => condition.holds(&row),
         None => false,
     }

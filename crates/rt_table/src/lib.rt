@@ -1,10 +1,10 @@
 //! A table: its columns, its rows and its views.
 //!
-//! - `Table` selects, names and forgets views, and shows them and the tree of its rows. `plan_insert`, `plan_update` and
-//!   `plan_delete` answer a `Plan`, the steps of a statement, or its refusal. `prepare` makes the table ready for a plan:
-//!   it reserves what the plan takes and stages what it changes in the views. `commit` then carries the plan out, with no
-//!   memory and no refusal, and hands out the changes.
-//! - `AnyTable` is a table whatever its number of axes; its `insert`, `update` and `delete` do all three at once.
+//! - `Table` selects, names and forgets views, and shows them and the tree of its rows. `plan` answers a `Plan`, the
+//!   steps of an INSERT, UPDATE or DELETE, or its refusal. `prepare` makes the table ready for a plan: it reserves what
+//!   the plan takes and stages what it changes in the views. `commit` then carries the plan out, with no memory and no
+//!   refusal, and hands out the changes. `edit` does all three at once.
+//! - `AnyTable` is a table whatever its number of axes.
 //! - `laws`: the changes of a view turn the rows that it showed into those that it shows.
 //!
 //! A view keeps the ids of its rows; a plan looks again at the ids that it touches, and at no others.

@@ -1,4 +1,7 @@
 //! What a plan touches, and what it changes in the views.
+//!
+//! All of it is found before anything changes. At each touched id the row that is there is compared with the row
+//! that has the id after the plan (`specs/Fates.antt`).
 
 ghost use Rattle.std.specs.Prelude.{◌≡◌, ◌≢◌, ◌≤◌, ◌++◌, ◌∷◌, [], All, ℕ, ℤ, List, AllPairs, ◌<ℤ◌, is_some, map, OnOk, IfOk};
 ghost use Rattle.std.specs.Ordering.{int_eq, int_cmp};
@@ -93,12 +96,11 @@ fn row_after<'a, const D: usize>(
 ) -> Option<RowView<'a, D>>
     ensures { option_map view_row result ≡ rows_after store.now.rows fates.now id.now }
 {
-    // The contract of `len` says that there are three axes at most.
-    let _ = store.len();
+    store.facts();
     match fates.get(id) {
         Some(Some(row)) => Some(row.view()),
         Some(None) => None,
-        None => store.find(id),
+        None => store.get(id),
     }
 }
 
@@ -110,9 +112,8 @@ fn shown_before<'a, const D: usize>(
 ) -> Option<RowView<'a, D>>
     ensures { option_map view_row result ≡ shown (admits condition.now) (row_at store.now.rows id.now) }
 {
-    // The contract of `len` says that there are three axes at most.
-    let _ = store.len();
-    let Some(row) = store.find(id) else {
+    store.facts();
+    let Some(row) = store.get(id) else {
         return None;
     };
     if !condition.holds(&row) {
@@ -130,8 +131,7 @@ fn shown_after<'a, const D: usize>(
 ) -> Option<RowView<'a, D>>
     ensures { option_map view_row result ≡ shown (admits condition.now) (rows_after store.now.rows fates.now id.now) }
 {
-    // The contract of `len` says that there are three axes at most.
-    let _ = store.len();
+    store.facts();
     let Some(row) = row_after(store, fates, id) else {
         return None;
     };
@@ -216,8 +216,7 @@ fn change_at<'a, const D: usize>(
 ) -> Result<RowChange, AllocError>
     ensures { IfOk result (λ c. changes_of view.now.name c.left c.came ≡ changes_at view.now store.now.rows (rows_after store.now.rows fates.now) id.now) }
 {
-    // The contract of `len` says that there are three axes at most.
-    let _ = store.len();
+    store.facts();
     let before = shown_before(store, &view.filter, id);
     let after = shown_after(store, fates, &view.filter, id);
     row_change(alloc, &before, &after)
@@ -308,8 +307,7 @@ fn touch<'a, const D: usize>(
     ensures changes { IfOk result (λ touched. (columns : Columns) → All (IsKept columns store.now.rows) views.now
         → map change_of touched.changes.items ≡ deltas columns (map view_of views.now) store.now.rows (outcome store.now.rows (map step_of plan.now))) }
 {
-    // The contract of `len` says that the ids of the rows rise.
-    let _ = store.len();
+    store.facts();
     let fates = fates(alloc, plan)?;
     let ids = rising_ids(alloc, &fates)?;
     let changes = stage(alloc, views, store, &fates, ids.as_slice())?;
@@ -327,8 +325,7 @@ pub(crate) fn touch_where_watched<'a, const D: usize>(
     ensures changes { IfOk result (λ touched. (columns : Columns) → All (IsKept columns store.now.rows) views.now
         → map change_of touched.changes.items ≡ deltas columns (map view_of views.now) store.now.rows (outcome store.now.rows (map step_of plan.now))) }
 {
-    // The contract of `len` says that there are three axes at most.
-    let _ = store.len();
+    store.facts();
     if views.is_empty() {
         return Ok(Touched::nothing(alloc));
     }

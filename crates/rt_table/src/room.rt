@@ -1,8 +1,11 @@
 //! The room that a plan takes.
+//!
+//! A row that takes the place of another counts like a row that comes, since `Store::replace` asks for the same
+//! room.
 
 ghost use Rattle.std.specs.Prelude.{◌≡◌, map};
 ghost use Rattle.rt_table_row.specs.Entries.{row_of, step_of};
-ghost use Rattle.rt_table.specs.Preparing.{places, places_all, notes, notes_of, notes_all};
+ghost use Rattle.rt_table.specs.Preparing.{places, places_all, auxiliary_rows, auxiliary_rows_of, auxiliary_rows_all};
 
 use rt_table_row::{Entry, Step};
 
@@ -28,29 +31,29 @@ pub(crate) fn places_all<const D: usize>(plan: &[Step<D>]) -> usize
 }
 
 /// 1 where the row has auxiliary values, else 0.
-fn notes<const D: usize>(row: &Entry<D>) -> usize
-    ensures { result ≡ notes (row_of row.now) }
+fn auxiliary_rows<const D: usize>(row: &Entry<D>) -> usize
+    ensures { result ≡ auxiliary_rows (row_of row.now) }
 {
-    if row.more.is_empty() { 0 } else { 1 }
+    if row.auxiliary.is_empty() { 0 } else { 1 }
 }
 
 /// How many rows with auxiliary values a step places.
-fn notes_of<const D: usize>(step: &Step<D>) -> usize
-    ensures { result ≡ notes_of (step_of step.now) }
+fn auxiliary_rows_of<const D: usize>(step: &Step<D>) -> usize
+    ensures { result ≡ auxiliary_rows_of (step_of step.now) }
 {
     match step {
         Step::Leaves(_) => 0,
-        Step::Comes(row) | Step::Becomes(_, row) => notes(row),
+        Step::Comes(row) | Step::Becomes(_, row) => auxiliary_rows(row),
     }
 }
 
 /// How many rows with auxiliary values a plan places.
-pub(crate) fn notes_all<const D: usize>(plan: &[Step<D>]) -> usize
-    ensures { result ≡ notes_all (map step_of plan.now) }
+pub(crate) fn auxiliary_rows_all<const D: usize>(plan: &[Step<D>]) -> usize
+    ensures { result ≡ auxiliary_rows_all (map step_of plan.now) }
 {
     let mut count = 0;
     for step in plan {
-        count += notes_of(step);
+        count += auxiliary_rows_of(step);
     }
     count
 }

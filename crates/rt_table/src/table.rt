@@ -1,4 +1,7 @@
 //! A table of `D` axes.
+//!
+//! A statement that changes rows goes in three steps: `plan` only looks, `prepare` takes all the memory, and
+//! `commit` can't fail. Contracts see a table as `Held` (`specs/Held.antt`).
 
 ghost use Rattle.std.specs.Prelude.{◌≡◌, ◌≤◌, ◌<◌, List, [], not, map, filter, length, position, nat_lt, Ok, IfOk, IfErr, OnOk, OnErr};
 ghost use Rattle.std.specs.List.{list_any};
@@ -7,13 +10,13 @@ ghost use Rattle.rt_sql_statement.specs.Name.{same_name};
 
 use crate::carrying::{apply, refresh_all};
 use crate::preparing::{Touched, touch_where_watched};
-use crate::room::{notes_all, places_all};
-use crate::watched::{Change, Picked, Watched, pick, reserve_ids, rows_of, watch};
+use crate::room::{auxiliary_rows_all, places_all};
+use crate::watched::{Change, Picked, Watched, pick, reserve_ids, rows_of, rows_picked, watch};
 use rt_box::Capacity;
 use rt_check::{Problem, Shadow, check};
-use rt_sql_statement::{Cond, Items, Name, Refusal, Rule, Source, Value};
-use rt_table_plan::{Plan, plan_delete, plan_insert, plan_update};
-use rt_table_row::{Filter, Schema, Step};
+use rt_sql_statement::{Cond, Edit, Name, Refusal};
+use rt_table_plan::Plan;
+use rt_table_row::{Filter, RowList, Schema, Step};
 use rt_table_store::Store;
 use std::alloc::{AllocError, Global};
 use std::hash::RandomState;
@@ -42,7 +45,6 @@ fn forget(views: &mut Vec<Watched>, name: &Name)
 }
 
 /// A table of `D` axes: its columns, its rows by rising id, and its views in the order in which they were named.
-#[derive(Drop)]
 pub struct Table<const D: usize> {
     alloc: Global,
     keys: RandomState,
@@ -51,6 +53,21 @@ pub struct Table<const D: usize> {
     views: Vec<Watched>,
     touched: Vec<i64>,
     staged: Vec<Change>,
+}
+
+// By hand, since a derived drop is written out, field by field, wherever such a value ends.
+impl<const D: usize> Drop for Table<D> {
+    fn drop(self) {
+        let Table {
+            alloc: _,
+            keys: _,
+            columns: _,
+            store: _,
+            views: _,
+            touched: _,
+            staged: _,
+        } = self;
+    }
 }
 
 impl<const D: usize> Model for Table<D> {
@@ -70,7 +87,7 @@ impl<const D: usize> Table<D> {
     ghost use Rattle.rt_table_row.specs.Edits.{outcome};
     ghost use Rattle.rt_table_row.specs.Entries.{step_of};
     ghost use Rattle.rt_table_row.specs.Views.{deltas};
-    ghost use Rattle.rt_table_row.specs.Edits.{insert, update, delete};
+    ghost use Rattle.rt_table_row.specs.Edits.{steps_of};
     ghost use Rattle.rt_table_row.specs.Tables.{edited};
     ghost use Rattle.rt_table_plan.specs.Plans.{Plans};
     ghost use Rattle.rt_table.specs.Replies.{Refuses, Shows};
@@ -79,7 +96,7 @@ impl<const D: usize> Table<D> {
     ghost use Rattle.rt_table_row.specs.Windows.{IsWindowOf};
     ghost use Rattle.rt_tree.specs.Lists.{empty_lists};
     ghost use Rattle.rt_table_store.specs.Trees.{Visits};
-    ghost use Rattle.rt_table_store.specs.Moves.{moves, MayFollow, FollowsSteps};
+    ghost use Rattle.rt_table_store.specs.Moves.{FollowsSteps};
 
     /// A table of these columns, without rows and views. The nodes of its tree have at most `capacity` cells. Look-ups
     /// hash by `keys`, which are to be random where others choose the ids.
@@ -156,13 +173,28 @@ impl<const D: usize> Table<D> {
         Ok(pick(alloc, &self.store, &condition)?)
     }
 
-    /// The rows of a view, by rising id.
+    /// The rows that a condition picks, by rising id, where nobody asks for the nodes that are reached: a condition
+    /// that fixes the id looks that row up, whatever else it tests.
+    ///
+    /// # Errors
+    ///
+    /// Those of `select`.
+    pub fn rows(&self, alloc: Global, cond: Cond) -> Result<RowList, Refusal>
+        ensures ok { IfOk result (Shows (select self.now.lists cond)) }
+        ensures err { IfErr result (Refuses (select self.now.lists cond)) }
+    {
+        let condition = Filter::new(alloc, &self.columns, cond)?;
+        Ok(rows_picked(alloc, &self.store, &condition)?)
+    }
+
+    /// The rows of a view, by rising id. No node is visited for them.
     ///
     /// # Errors
     ///
     /// `NoSuchView` where no view of this table has the name, and `OutOfMemory`.
     pub fn view(&self, alloc: Global, name: &Name) -> Result<Picked, Refusal>
         ensures ok { IfOk result (λ picked. Shows (view self.now.lists name.now) picked.rows) }
+        ensures visited { IfOk result (λ picked. picked.visited ≡ 0) }
         ensures err { IfErr result (Refuses (view self.now.lists name.now)) }
     {
         let Some(at) = position(self.views.as_slice(), name) else {
@@ -191,63 +223,21 @@ impl<const D: usize> Table<D> {
         Ok(())
     }
 
-    /// The plan of a DELETE: the rows of which the condition holds go, by rising id. The table stays.
+    /// The plan of an edit. The table stays.
     ///
     /// # Errors
     ///
-    /// `NoSuchColumn` where a test looks at a column that the table hasn't, and `OutOfMemory`.
-    pub fn plan_delete(&self, alloc: Global, cond: Cond) -> Result<Plan<D>, Refusal>
-        ensures plans { Plans (delete self.now.lists.columns self.now.lists.rows cond) result }
+    /// - Of an INSERT: `BadColumnList`, `NoSuchColumn` and `WrongNumberOfValues` of the statement; `WrongType`,
+    ///   `IntegerOutOfRange`, `MinimumAboveMaximum`, `NoIdLeft`, `IdAlreadyTaken` and `TableFull` of a row.
+    /// - Of an UPDATE: `BadColumnList` and `NoSuchColumn` of the statement; `WrongType`, `IntegerOutOfRange`,
+    ///   `MinimumAboveMaximum` and `IdAlreadyTaken` of a row.
+    /// - Of a DELETE: `NoSuchColumn`.
+    /// - Of any: `OutOfMemory`.
+    pub fn plan(&self, alloc: Global, edit: Edit) -> Result<Plan<D>, Refusal>
+        ensures plans { Plans (steps_of edit self.now.lists.columns self.now.lists.rows) result }
         ensures applies { IfOk result (ApplyInTurn self.now.lists.rows) }
     {
-        plan_delete(alloc, &self.columns, &self.store, cond)
-    }
-
-    /// The plan of an INSERT: each row comes, among those before it; by the rule for conflicts one may be passed over, or
-    /// take the place of another. The table stays.
-    ///
-    /// # Errors
-    ///
-    /// `BadColumnList`, `NoSuchColumn` and `WrongNumberOfValues` of the statement, `WrongType`, `IntegerOutOfRange`,
-    /// `MinimumAboveMaximum`, `NoIdLeft`, `IdAlreadyTaken` and `TableFull` of a row, and `OutOfMemory`.
-    pub fn plan_insert(
-        &self,
-        alloc: Global,
-        rule: Rule,
-        columns: &Option<Items<Name>>,
-        rows: &[Items<Value>],
-    ) -> Result<Plan<D>, Refusal>
-        ensures plans { Plans (insert self.now.lists.columns self.now.lists.rows rule columns.now rows.now) result }
-        ensures applies { IfOk result (ApplyInTurn self.now.lists.rows) }
-    {
-        plan_insert(
-            alloc,
-            self.keys,
-            &self.columns,
-            &self.store,
-            rule,
-            columns,
-            rows,
-        )
-    }
-
-    /// The plan of an UPDATE: the rows of which the condition holds, by rising id, each with these columns set. The table
-    /// stays.
-    ///
-    /// # Errors
-    ///
-    /// `BadColumnList` and `NoSuchColumn` of the statement, `WrongType`, `IntegerOutOfRange`, `MinimumAboveMaximum` and
-    /// `IdAlreadyTaken` of a row, and `OutOfMemory`.
-    pub fn plan_update(
-        &self,
-        alloc: Global,
-        sets: &[(Name, Source)],
-        cond: Cond,
-    ) -> Result<Plan<D>, Refusal>
-        ensures plans { Plans (update self.now.lists.columns self.now.lists.rows sets.now cond) result }
-        ensures applies { IfOk result (ApplyInTurn self.now.lists.rows) }
-    {
-        plan_update(alloc, self.keys, &self.columns, &self.store, sets, cond)
+        Plan::new(alloc, self.keys, &self.columns, &self.store, edit)
     }
 
     /// Makes the table ready for a plan: reserves what carrying it out takes, and stages what it changes in the
@@ -264,7 +254,7 @@ impl<const D: usize> Table<D> {
     {
         let touched = touch_where_watched(alloc, self.views.as_slice(), &self.store, plan)?;
         self.store
-            .reserve(alloc, places_all(plan), notes_all(plan))?;
+            .reserve(alloc, places_all(plan), auxiliary_rows_all(plan))?;
         reserve_ids(&mut self.views, touched.ids.len())?;
         let Touched { ids, changes } = touched;
         self.touched = ids;
@@ -280,8 +270,7 @@ impl<const D: usize> Table<D> {
         ensures tree { FollowsSteps self.old.lists.rows (map step_of plan.entry.items) self.old.tree self.new.tree }
     {
         apply(&mut self.store, plan);
-        // The contract of `len` says that the ids rise, and that the tree stands for the rows.
-        let _ = self.store.len();
+        self.store.facts();
         refresh_all(&mut self.views, &self.store, self.touched.as_slice());
         mem::replace(&mut self.staged, Vec::new(self.alloc))
     }
@@ -312,70 +301,25 @@ impl<const D: usize> Table<D> {
         ensures refused { OnErr result (self.new.lists ≡ self.old.lists) }
         ensures same_tree { OnErr result (self.new.tree ≡ self.old.tree) }
     {
-        // The contract of `len` says that there are three axes at most.
-        let _ = self.store.len();
+        self.store.facts();
         let steps = plan.into_steps();
         self.prepare(alloc, steps.as_slice())?;
         Ok(self.commit(steps))
     }
 
-    /// Deletes the rows that a condition picks, and answers what changed in the views. A refusal changes nothing.
+    /// Carries an edit out, and answers what it changed in the views. A refusal changes nothing.
     ///
     /// # Errors
     ///
-    /// `NoSuchColumn` where a test looks at a column that the table hasn't, and `OutOfMemory`.
-    pub fn delete(&mut self, alloc: Global, cond: Cond) -> Result<Vec<Change>, Refusal>
-        ensures ok { IfOk result (λ changes. edited self.old.lists (delete self.old.lists.columns self.old.lists.rows cond) ≡ Ok (map change_of changes.items, self.new.lists)) }
-        ensures tree { OnOk result (IfOk (delete self.old.lists.columns self.old.lists.rows cond) (λ steps. FollowsSteps self.old.lists.rows steps self.old.tree self.new.tree)) }
-        ensures err { IfErr result (Refuses (edited self.old.lists (delete self.old.lists.columns self.old.lists.rows cond))) }
+    /// Those of `plan`.
+    pub fn edit(&mut self, alloc: Global, edit: Edit) -> Result<Vec<Change>, Refusal>
+        ensures ok { IfOk result (λ changes. edited self.old.lists (steps_of edit self.old.lists.columns self.old.lists.rows) ≡ Ok (map change_of changes.items, self.new.lists)) }
+        ensures tree { OnOk result (IfOk (steps_of edit self.old.lists.columns self.old.lists.rows) (λ steps. FollowsSteps self.old.lists.rows steps self.old.tree self.new.tree)) }
+        ensures err { IfErr result (Refuses (edited self.old.lists (steps_of edit self.old.lists.columns self.old.lists.rows))) }
         ensures refused { OnErr result (self.new.lists ≡ self.old.lists) }
         ensures same_tree { OnErr result (self.new.tree ≡ self.old.tree) }
     {
-        let plan = self.plan_delete(alloc, cond)?;
-        Ok(self.carry_out(alloc, plan)?)
-    }
-
-    /// Inserts rows, each among those before it, and answers what changed in the views. A refusal changes nothing.
-    ///
-    /// # Errors
-    ///
-    /// What the plan of an INSERT is refused for, and `OutOfMemory`.
-    pub fn insert(
-        &mut self,
-        alloc: Global,
-        rule: Rule,
-        columns: &Option<Items<Name>>,
-        rows: &[Items<Value>],
-    ) -> Result<Vec<Change>, Refusal>
-        ensures ok { IfOk result (λ changes. edited self.old.lists (insert self.old.lists.columns self.old.lists.rows rule columns.now rows.now) ≡ Ok (map change_of changes.items, self.new.lists)) }
-        ensures tree { OnOk result (IfOk (insert self.old.lists.columns self.old.lists.rows rule columns.now rows.now) (λ steps. FollowsSteps self.old.lists.rows steps self.old.tree self.new.tree)) }
-        ensures err { IfErr result (Refuses (edited self.old.lists (insert self.old.lists.columns self.old.lists.rows rule columns.now rows.now))) }
-        ensures refused { OnErr result (self.new.lists ≡ self.old.lists) }
-        ensures same_tree { OnErr result (self.new.tree ≡ self.old.tree) }
-    {
-        let plan = self.plan_insert(alloc, rule, columns, rows)?;
-        Ok(self.carry_out(alloc, plan)?)
-    }
-
-    /// Sets columns of the rows that a condition picks, and answers what changed in the views. A refusal changes
-    /// nothing.
-    ///
-    /// # Errors
-    ///
-    /// What the plan of an UPDATE is refused for, and `OutOfMemory`.
-    pub fn update(
-        &mut self,
-        alloc: Global,
-        sets: &[(Name, Source)],
-        cond: Cond,
-    ) -> Result<Vec<Change>, Refusal>
-        ensures ok { IfOk result (λ changes. edited self.old.lists (update self.old.lists.columns self.old.lists.rows sets.now cond) ≡ Ok (map change_of changes.items, self.new.lists)) }
-        ensures tree { OnOk result (IfOk (update self.old.lists.columns self.old.lists.rows sets.now cond) (λ steps. FollowsSteps self.old.lists.rows steps self.old.tree self.new.tree)) }
-        ensures err { IfErr result (Refuses (edited self.old.lists (update self.old.lists.columns self.old.lists.rows sets.now cond))) }
-        ensures refused { OnErr result (self.new.lists ≡ self.old.lists) }
-        ensures same_tree { OnErr result (self.new.tree ≡ self.old.tree) }
-    {
-        let plan = self.plan_update(alloc, sets, cond)?;
+        let plan = self.plan(alloc, edit)?;
         Ok(self.carry_out(alloc, plan)?)
     }
 
@@ -387,8 +331,7 @@ impl<const D: usize> Table<D> {
     pub fn check(&self, alloc: Global) -> Result<Vec<Problem>, AllocError>
         ensures { IfOk result (λ problems. problems.items ≡ []) }
     {
-        // The contract of `len` says that the tree stands for the rows.
-        let _ = self.store.len();
+        self.store.facts();
         let shadow = self.nodes(alloc)?;
         check(alloc, &shadow)
     }

@@ -1,4 +1,7 @@
 //! Views, and the rows that a condition picks.
+//!
+//! A view keeps ids and no rows. They are the ids of exactly the rows that its condition picks (`IsKept` in
+//! `specs/Watching.antt`).
 
 ghost use Rattle.std.specs.Prelude.{◌≡◌, ◌≤◌, ◌<◌, ◌+◌, ℕ, ℤ, slice_index_or, AllPairs, ◌<ℤ◌, List, [], All, Some, filter, map, length, IfOk, IfErr, OnOk, OnErr, MatchResult};
 ghost use Rattle.std.specs.List.{list_any, filter_map};
@@ -74,8 +77,7 @@ fn no_rows<const D: usize>(
 ) -> Result<RowList, AllocError>
     ensures { IfOk result (λ lists. lists ≡ []) }
 {
-    // The contract of `len` says that there are three axes at most.
-    let _ = store.len();
+    store.facts();
     RowList::with_capacity(alloc, rows, rows.saturating_mul(1 + 2 * D), 0)
 }
 
@@ -87,11 +89,10 @@ fn rows_at<const D: usize>(
 ) -> Result<RowList, AllocError>
     ensures { IfOk result (λ lists. lists ≡ map values_of (filter_map (row_at store.now.rows) ids.now)) }
 {
-    // The contract of `len` says that there are three axes at most.
-    let _ = store.len();
+    store.facts();
     let mut rows = no_rows(alloc, store, ids.len())?;
     for id in ids {
-        let Some(row) = store.find(id) else {
+        let Some(row) = store.get(id) else {
             continue;
         };
         rows.push(alloc, &row)?;
@@ -108,8 +109,7 @@ fn rows_found<const D: usize>(
     requires { All (λ row. option_map leaf_row (row_at store.now.rows row.id) ≡ Some row) found.now }
     ensures { IfOk result (λ lists. lists ≡ map values_of (filter_map (λ row. row_at store.now.rows row.id) found.now)) }
 {
-    // The contract of `len` says that there are three axes at most.
-    let _ = store.len();
+    store.facts();
     let mut rows = no_rows(alloc, store, found.len())?;
     for row in found {
         rows.push(alloc, &store.view(row))?;
@@ -126,14 +126,27 @@ pub(crate) fn pick<const D: usize>(
     ensures rows { IfOk result (λ picked. picked.rows ≡ map values_of (filter (admits condition.now) store.now.rows)) }
     ensures visited { IfOk result (λ picked. (window : List Interval) × IsWindowAt D condition.now window × Visits store.now.tree window picked.visited) }
 {
-    // The contract of `len` says that the ids of the rows rise.
-    let _ = store.len();
+    store.facts();
     let found = store.select(alloc, condition)?;
     let rows = rows_found(alloc, store, found.rows.as_slice())?;
     Ok(Picked {
         rows,
         visited: found.visited,
     })
+}
+
+/// The rows of which the filter holds. Nodes aren't counted, so that an id that the filter fixes is looked up.
+pub(crate) fn rows_picked<const D: usize>(
+    alloc: Global,
+    store: &Store<D>,
+    condition: &Filter,
+) -> Result<RowList, AllocError>
+    ensures { IfOk result (λ lists. lists ≡ map values_of (filter (admits condition.now) store.now.rows)) }
+{
+    store.facts();
+    let found = store.picked_rows(alloc, condition)?;
+    let rows = rows_found(alloc, store, found.as_slice())?;
+    Ok(rows)
 }
 
 /// The same ids in an ordered set.
@@ -174,8 +187,7 @@ pub(crate) fn rows_of<const D: usize>(
     requires { KeepsIds (admits view.now.filter) store.now.rows view.now.ids.keys }
     ensures { IfOk result (λ lists. lists ≡ map values_of (filter (admits view.now.filter) store.now.rows)) }
 {
-    // The contract of `len` says that the ids of the rows rise.
-    let _ = store.len();
+    store.facts();
     let ids = rising(alloc, &view.ids)?;
     let rows = rows_at(alloc, store, ids.as_slice())?;
     Ok(rows)
@@ -194,8 +206,7 @@ pub(crate) fn watch<const D: usize>(
     ensures err { IfErr result (IsUnknown columns.now cond) }
 {
     let filter = Filter::new(alloc, columns, cond)?;
-    // The contract of `len` says that the ids rise.
-    let _ = store.len();
+    store.facts();
     let found = store.picked(alloc, &filter)?;
     let ids = id_set(alloc, keys, found.as_slice())?;
     Ok(Watched { name, filter, ids })

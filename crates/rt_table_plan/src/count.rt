@@ -1,4 +1,7 @@
 //! What a new row has to know of those that are there.
+//!
+//! While an INSERT is planned, two numbers stand for the rows: the largest id, and how many more rows there is
+//! room for (`specs/Counts.antt`).
 
 ghost use Rattle.std.specs.Prelude.{◌≡◌};
 ghost use Rattle.rt_table_row.specs.Entries.{step_of};

@@ -1,4 +1,6 @@
 //! What a DELETE does.
+//!
+//! A row can always leave, so a DELETE is refused only for a column of its condition, or for want of memory.
 
 ghost use Rattle.std.specs.Prelude.{◌≡◌, map, IfOk};
 ghost use Rattle.rt_table_row.specs.Edits.{Leaves, delete};
@@ -23,11 +25,7 @@ fn leaving<const D: usize>(alloc: Global, ids: &[i64]) -> Result<Vec<Step<D>>, A
 }
 
 /// The plan of a DELETE: the rows of which the condition holds go, by rising id.
-///
-/// # Errors
-///
-/// `NoSuchColumn` where the condition looks at a column that the table hasn't, and `OutOfMemory`.
-pub fn plan_delete<const D: usize>(
+pub(crate) fn plan_delete<const D: usize>(
     alloc: Global,
     schema: &Schema,
     store: &Store<D>,
@@ -35,9 +33,8 @@ pub fn plan_delete<const D: usize>(
 ) -> Result<Plan<D>, Refusal>
     ensures { Plans (delete schema.now store.now.rows cond) result }
 {
-    // The contract of `len` says that there are three axes at most.
-    let _ = store.len();
+    store.facts();
     let filter = Filter::new(alloc, schema, cond)?;
     let ids = store.picked(alloc, &filter)?;
-    Ok(Plan::new(leaving(alloc, ids.as_slice())?))
+    Ok(Plan::of(leaving(alloc, ids.as_slice())?))
 }

@@ -1,4 +1,7 @@
 //! A plan while it is made.
+//!
+//! The rows aren't copied. Of each id that the steps touched, a draft knows whether a row has it after them; of
+//! every other id the store knows (`specs/Drafts.antt`).
 
 ghost use Rattle.std.specs.Prelude.{◌≡◌, ◌≤◌, ◌∷◌, ◌++◌, ℤ, Bool, Option, [], None, map, IfOk, OnOk};
 ghost use Rattle.std.specs.Ordering.{int_eq};
@@ -61,11 +64,10 @@ fn known(touched: &Touched, latest: &Latest, id: &i64) -> Option<bool>
 fn is_there<const D: usize>(store: &Store<D>, draft: &Draft<D>, id: &i64) -> bool
     ensures { result ≡ is_there store.now.rows (known_of draft.now) id.now }
 {
-    // The contract of `len` says that there are three axes at most.
-    let _ = store.len();
+    store.facts();
     match known(&draft.touched, &draft.latest, id) {
         Some(there) => there,
-        None => store.find(id).is_some(),
+        None => store.get(id).is_some(),
     }
 }
 
@@ -132,6 +134,6 @@ pub(crate) fn entry_of<const D: usize>(id: &i64, candidate: Candidate<D>) -> Ent
     Entry {
         id: *id,
         rect: candidate.rect,
-        more: candidate.more,
+        auxiliary: candidate.auxiliary,
     }
 }

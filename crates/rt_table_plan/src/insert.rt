@@ -1,4 +1,7 @@
 //! What an INSERT does.
+//!
+//! Each list of values is planned among the rows as the lists before it leave them (`put_all` in
+//! `specs/Edits.antt` of `rt_table_row`).
 
 ghost use Rattle.std.specs.Prelude.{◌≡◌, ◌≤◌, ◌+◌, ◌*◌, length, map, List, MatchResult};
 ghost use Rattle.std.specs.Option.{option_copied};
@@ -126,6 +129,7 @@ fn all_steps<const D: usize>(
     requires long { 1 + 2 * D ≤ length arrangement.now.places }
     ensures { GivesAs (λ steps. map step_of steps.items) (put_all D rule store.now.rows (map (rearranged arrangement.now) lists.now)) result }
 {
+    store.facts();
     let mut draft = Draft::new(alloc, keys);
     let mut count = Count {
         largest: store.largest(),
@@ -159,14 +163,7 @@ fn arrangement_of(
 /// The plan of an INSERT: a row for each list of values, one after the other. A column that isn't listed gets NULL,
 /// and a NULL id one more than the largest. A row whose id is taken goes into the place of the old one under
 /// `Replace`; under `Ignore` it is passed over, as one whose minimum is above its maximum is.
-///
-/// # Errors
-///
-/// `BadColumnList` where a column is listed twice; else `NoSuchColumn`, and then `WrongNumberOfValues` where a list
-/// has more or fewer values than columns are listed. Then for the first row that can't be put there the first of
-/// `WrongType`, `IntegerOutOfRange`, `MinimumAboveMaximum`, `NoIdLeft`, `IdAlreadyTaken` and `TableFull`; or
-/// `OutOfMemory`.
-pub fn plan_insert<const D: usize>(
+pub(crate) fn plan_insert<const D: usize>(
     alloc: Global,
     keys: RandomState,
     schema: &Schema,
@@ -178,12 +175,13 @@ pub fn plan_insert<const D: usize>(
     requires { schema.now.axes ≡ D }
     ensures { Plans (insert schema.now store.now.rows rule listed.now lists.now) result }
 {
-    // What the contracts of these say: one to three axes, and columns enough for them.
-    let _ = (store.len(), schema.axes(), schema.len());
+    // The contracts of `axes` and `len` say that there are columns enough for one to three axes.
+    store.facts();
+    let _ = (schema.axes(), schema.len());
     let arrangement = arrangement_of(alloc, schema, listed)?;
     if !arrangement.fits(lists) {
         return Err(Refusal::WrongNumberOfValues);
     }
     let steps = all_steps(alloc, keys, store, rule, &arrangement, lists)?;
-    Ok(Plan::new(steps))
+    Ok(Plan::of(steps))
 }

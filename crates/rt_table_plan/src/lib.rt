@@ -1,8 +1,7 @@
 //! What a statement does to the rows of a table, planned before anything is changed.
 //!
-//! - `plan_insert`, `plan_update` and `plan_delete` give the steps that the statement takes, or the refusal of the
-//!   whole of it. The store is only looked at.
-//! - `Plan` is the list of those steps, in the order in which they are to be taken.
+//! - `Plan` is the list of the steps that an INSERT, UPDATE or DELETE takes, in the order in which they are to be taken.
+//!   `Plan::new` gives it, or the refusal of the whole statement. The store is only looked at.
 //!
 //! A plan is exactly the steps of the definition, or the refusal that is due, or want of memory.
 //!
@@ -17,7 +16,4 @@ mod insert;
 mod plan;
 mod update;
 
-pub use delete::plan_delete;
-pub use insert::plan_insert;
 pub use plan::Plan;
-pub use update::plan_update;

@@ -1,6 +1,15 @@
 //! The steps of a statement.
+//!
+//! A plan is made before anything changes, so a refused statement has nothing to undo (`specs/Plans.antt`).
 
-use rt_table_row::Step;
+use crate::delete::plan_delete;
+use crate::insert::plan_insert;
+use crate::update::plan_update;
+use rt_sql_statement::{Edit, Refusal};
+use rt_table_row::{Schema, Step};
+use rt_table_store::Store;
+use std::alloc::Global;
+use std::hash::RandomState;
 use std::marker::Model;
 
 /// The steps that a statement takes, one after the other.
@@ -21,22 +30,58 @@ impl<const D: usize> Model for Plan<D> {
 
 impl<const D: usize> Plan<D> {
     ghost use Rattle.std.specs.Prelude.{◌≡◌, map};
+    ghost use Rattle.rt_table_row.specs.Edits.{steps_of};
     ghost use Rattle.rt_table_row.specs.Entries.{step_of};
+    ghost use Rattle.rt_table_plan.specs.Plans.{Plans};
 
-    pub(crate) fn new(steps: Vec<Step<D>>) -> Plan<D>
+    /// The plan of an edit, or the refusal of the whole of it. The store is only looked at.
+    ///
+    /// # Errors
+    ///
+    /// - Of an INSERT: `BadColumnList` where a column is listed twice; else `NoSuchColumn`, and then
+    ///   `WrongNumberOfValues` where a list has more or fewer values than columns are listed. Then for the first row that
+    ///   can't be put there the first of `WrongType`, `IntegerOutOfRange`, `MinimumAboveMaximum`, `NoIdLeft`,
+    ///   `IdAlreadyTaken` and `TableFull`.
+    /// - Of an UPDATE: `BadColumnList` where a column is set twice; `NoSuchColumn` where a column is set, read or looked
+    ///   at that the table hasn't; then for the first row that can't be what it is to be the first of `WrongType`,
+    ///   `IntegerOutOfRange`, `MinimumAboveMaximum`, and `IdAlreadyTaken` where another row then has the new id.
+    /// - Of a DELETE: `NoSuchColumn` where the condition looks at a column that the table hasn't.
+    /// - Of any: `OutOfMemory`.
+    pub fn new(
+        alloc: Global,
+        keys: RandomState,
+        schema: &Schema,
+        store: &Store<D>,
+        edit: Edit,
+    ) -> Result<Plan<D>, Refusal>
+        requires { schema.now.axes ≡ D }
+        ensures { Plans (steps_of edit schema.now store.now.rows) result }
+    {
+        match edit {
+            Edit::Insert {
+                rule,
+                columns,
+                rows,
+            } => plan_insert(alloc, keys, schema, store, rule, &columns, rows.as_slice()),
+            Edit::Update { sets, cond } => plan_update(
+                alloc,
+                keys,
+                schema,
+                store,
+                sets.as_slice(),
+                cond,
+            ),
+            Edit::Delete { cond } => plan_delete(alloc, schema, store, cond),
+        }
+    }
+
+    pub(crate) fn of(steps: Vec<Step<D>>) -> Plan<D>
         ensures { result ≡ map step_of steps.entry.items }
     {
         Plan { steps }
     }
 
     /// The steps.
-    pub fn steps(&self) -> &[Step<D>]
-        ensures { map step_of result.now ≡ self.now }
-    {
-        self.steps.as_slice()
-    }
-
-    /// The steps themselves, without a copy.
     pub fn into_steps(self) -> Vec<Step<D>>
         ensures { map step_of result.items ≡ self.entry }
     {

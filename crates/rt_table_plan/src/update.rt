@@ -1,4 +1,7 @@
 //! What an UPDATE does.
+//!
+//! The rows are picked at the start, and then change one after the other. So an id is taken while a row has it,
+//! even if that row gets another id later.
 
 ghost use Rattle.std.specs.Prelude.{◌≡◌, ◌≤◌, ◌+◌, ◌*◌, All, length, map, List};
 ghost use Rattle.std.specs.List.{filter_map};
@@ -82,14 +85,7 @@ fn all_steps<const D: usize>(
 
 /// The plan of an UPDATE: the rows of which the condition holds at its start, by rising id, each among the rows as
 /// those before it left them.
-///
-/// # Errors
-///
-/// `BadColumnList` where a column is set twice; `NoSuchColumn` where a column is set, read or looked at that the
-/// table hasn't; then for the first row that can't be what it is to be the first of `WrongType`,
-/// `IntegerOutOfRange`, `MinimumAboveMaximum`, and `IdAlreadyTaken` where another row then has the new id; or
-/// `OutOfMemory`.
-pub fn plan_update<const D: usize>(
+pub(crate) fn plan_update<const D: usize>(
     alloc: Global,
     keys: RandomState,
     schema: &Schema,
@@ -100,10 +96,11 @@ pub fn plan_update<const D: usize>(
     requires { schema.now.axes ≡ D }
     ensures { Plans (update schema.now store.now.rows sets.now cond) result }
 {
-    // What the contracts of these say: one to three axes, and columns enough for them.
-    let _ = (store.len(), schema.axes(), schema.len());
+    // The contracts of `axes` and `len` say that there are columns enough for one to three axes.
+    store.facts();
+    let _ = (schema.axes(), schema.len());
     let settings = Settings::new(alloc, schema, sets)?;
     let filter = Filter::new(alloc, schema, cond)?;
     let rows = store.picked_rows(alloc, &filter)?;
-    Ok(Plan::new(all_steps(alloc, keys, store, &settings, rows.as_slice())?))
+    Ok(Plan::of(all_steps(alloc, keys, store, &settings, rows.as_slice())?))
 }

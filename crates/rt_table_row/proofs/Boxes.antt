@@ -148,7 +148,7 @@ candidate_long axes values id integers long = rw (id, integers, long)
 
 no_box : (axes : ℕ) (values : List Value) (t : Bool) →
     None ≡ cond t (Some (box_of (map number_in (coordinate_values axes values)))) None →
-    cond (not t) (Err MinimumAboveMaximum) (Ok (record { id = id_in (id_value values); box = box_of (map number_in (coordinate_values axes values)); more = drop (1 + 2 * axes) values }))
+    cond (not t) (Err MinimumAboveMaximum) (Ok (record { id = id_in (id_value values); box = box_of (map number_in (coordinate_values axes values)); auxiliary = drop (1 + 2 * axes) values }))
     ≡ let r : Result Candidate Refusal = Err MinimumAboveMaximum in r
 no_box axes values true e = cc
 no_box axes values false e = refl
@@ -161,8 +161,8 @@ candidate_reversed axes values id integers short reversed = rw (id, integers, sh
 
 candidate_box : (axes : ℕ) (values : List Value) (box : List Interval) (t : Bool) →
     Some box ≡ cond t (Some (box_of (map number_in (coordinate_values axes values)))) None →
-    cond (not t) (Err MinimumAboveMaximum) (Ok (record { id = id_in (id_value values); box = box_of (map number_in (coordinate_values axes values)); more = drop (1 + 2 * axes) values }))
-    ≡ let r : Result Candidate Refusal = Ok (record { id = id_in (id_value values); box = box; more = drop (1 + 2 * axes) values }) in r
+    cond (not t) (Err MinimumAboveMaximum) (Ok (record { id = id_in (id_value values); box = box_of (map number_in (coordinate_values axes values)); auxiliary = drop (1 + 2 * axes) values }))
+    ≡ let r : Result Candidate Refusal = Ok (record { id = id_in (id_value values); box = box; auxiliary = drop (1 + 2 * axes) values }) in r
 candidate_box axes values box true e =
     let same : box ≡ box_of (map number_in (coordinate_values axes values)) = cc in
     rw same
@@ -171,5 +171,5 @@ candidate_box axes values box false e = cc
 pub candidate_from : (axes : ℕ) (values : List Value) (box : List Interval) → is_id (id_value values) ≡ true → list_all is_integer (coordinate_values axes values) ≡ true →
     list_all (fits_bits 31) (map number_in (coordinate_values axes values)) ≡ true →
     Some box ≡ cond (is_ordered (box_of (map number_in (coordinate_values axes values)))) (Some (box_of (map number_in (coordinate_values axes values)))) None →
-    candidate_of axes values ≡ Ok (record { id = id_in (id_value values); box = box; more = drop (1 + 2 * axes) values })
+    candidate_of axes values ≡ Ok (record { id = id_in (id_value values); box = box; auxiliary = drop (1 + 2 * axes) values })
 candidate_from axes values box id integers short ordered = rw (id, integers, short) (candidate_box axes values box (is_ordered (box_of (map number_in (coordinate_values axes values)))) ordered)

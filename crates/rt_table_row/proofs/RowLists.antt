@@ -20,22 +20,22 @@ part_new items more s from to =
     ∙ take_all (s.end - s.start) more (omega (arith, from, to, length-append items more))
 
 abbrev AreWithin : List ℤ → List Value → List Place → Type 0
-AreWithin numbers values places = All (λ place. IsWithin numbers place.numbers × IsWithin values place.more) places
+AreWithin numbers values places = All (λ place. IsWithin numbers place.numbers × IsWithin values place.auxiliary) places
 
-row_kept : (numbers ns : List ℤ) (values vs : List Value) (p : Place) → IsWithin numbers p.numbers → IsWithin values p.more →
+row_kept : (numbers ns : List ℤ) (values vs : List Value) (p : Place) → IsWithin numbers p.numbers → IsWithin values p.auxiliary →
     row_in (numbers ++ ns) (values ++ vs) p ≡ row_in numbers values p
 row_kept numbers ns values vs p in_numbers in_values =
-    ap (λ (xs : List ℤ). map Int xs ++ part (values ++ vs) p.more) (part_kept numbers ns p.numbers in_numbers)
-    ∙ ap (λ (xs : List Value). map Int (part numbers p.numbers) ++ xs) (part_kept values vs p.more in_values)
+    ap (λ (xs : List ℤ). map Int xs ++ part (values ++ vs) p.auxiliary) (part_kept numbers ns p.numbers in_numbers)
+    ∙ ap (λ (xs : List Value). map Int (part numbers p.numbers) ++ xs) (part_kept values vs p.auxiliary in_values)
 
 rows_kept : (numbers ns : List ℤ) (values vs : List Value) (places : List Place) → AreWithin numbers values places →
     map (row_in (numbers ++ ns) (values ++ vs)) places ≡ map (row_in numbers values) places
 rows_kept numbers ns values vs [] within = refl
 rows_kept numbers ns values vs (p ∷ places) within =
-    let here = All-head (λ place. IsWithin numbers place.numbers × IsWithin values place.more) p places within in
+    let here = All-head (λ place. IsWithin numbers place.numbers × IsWithin values place.auxiliary) p places within in
     ap (λ (row : List Value). row ∷ map (row_in (numbers ++ ns) (values ++ vs)) places) (row_kept numbers ns values vs p here.0 here.1)
     ∙ ap (λ (rows : List (List Value)). row_in numbers values p ∷ rows)
-    (rows_kept numbers ns values vs places (All-tail (λ place. IsWithin numbers place.numbers × IsWithin values place.more) p places within))
+    (rows_kept numbers ns values vs places (All-tail (λ place. IsWithin numbers place.numbers × IsWithin values place.auxiliary) p places within))
 
 map_more_one : (f : Place → List Value) (places : List Place) (p : Place) → map f (places ++ p ∷ []) ≡ map f places ++ f p ∷ []
 map_more_one f [] p = refl
@@ -43,12 +43,12 @@ map_more_one f (q ∷ places) p = ap (λ (rows : List (List Value)). f q ∷ row
 
 -- one row more
 pub rows-push : (numbers ns : List ℤ) (values vs : List Value) (places : List Place) (p : Place) →
-    All (λ place. IsWithin numbers place.numbers × IsWithin values place.more) places →
-    p.numbers.start ≡ length numbers → p.numbers.end ≡ length (numbers ++ ns) → p.more.start ≡ length values → p.more.end ≡ length (values ++ vs) →
+    All (λ place. IsWithin numbers place.numbers × IsWithin values place.auxiliary) places →
+    p.numbers.start ≡ length numbers → p.numbers.end ≡ length (numbers ++ ns) → p.auxiliary.start ≡ length values → p.auxiliary.end ≡ length (values ++ vs) →
     map (row_in (numbers ++ ns) (values ++ vs)) (places ++ p ∷ []) ≡ map (row_in numbers values) places ++ (map Int ns ++ vs) ∷ []
 rows-push numbers ns values vs places p within from to start end =
     map_more_one (row_in (numbers ++ ns) (values ++ vs)) places p
     ∙ ap (λ (rows : List (List Value)). rows ++ row_in (numbers ++ ns) (values ++ vs) p ∷ []) (rows_kept numbers ns values vs places within)
     ∙ ap (λ (last : List Value). map (row_in numbers values) places ++ last ∷ [])
-    (ap (λ (xs : List ℤ). map Int xs ++ part (values ++ vs) p.more) (part_new numbers ns p.numbers from to)
-    ∙ ap (λ (xs : List Value). map Int ns ++ xs) (part_new values vs p.more start end))
+    (ap (λ (xs : List ℤ). map Int xs ++ part (values ++ vs) p.auxiliary) (part_new numbers ns p.numbers from to)
+    ∙ ap (λ (xs : List Value). map Int ns ++ xs) (part_new values vs p.auxiliary start end))

@@ -78,7 +78,7 @@ value_is : (row : TableRow) (k : ℕ) (d : Value) → k < length (coordinates ro
     get_or (values_of row) (suc k) d ≡ Int (get_or (coordinates row.box) k (pos 0))
 value_is row k d h =
     let long : k < length (map Int (coordinates row.box)) = rw length-map h in
-    get_or_append_left (map Int (coordinates row.box)) row.more d k long ∙ get_or-map Int (coordinates row.box) k (pos 0) d h
+    get_or_append_left (map Int (coordinates row.box)) row.auxiliary d k long ∙ get_or-map Int (coordinates row.box) k (pos 0) d h
 
 allowed_here : (row : TableRow) (test : Test) (place k : ℕ) → k < length (coordinates row.box) → passes_at row (test, place) ≡ true →
     AllowsAtPlace k (get_or (coordinates row.box) k (pos 0)) (test, place)

@@ -13,7 +13,7 @@ use Rattle.rt_sql_statement.specs.declared.refusal.Refusal.TheVariants.{WrongTyp
 pub record Candidate : Type 0 where
   pub id : Option ℤ
   pub box : List Interval
-  pub more : List Value
+  pub auxiliary : List Value
 
 -- an id is an integer, or NULL for a new one
 abbrev pub is_id : Value → Bool
@@ -67,4 +67,4 @@ candidate_of axes values =
     if not (is_id (id_value values) && list_all is_integer (coordinate_values axes values)) then Err WrongType
     else (if not (list_all (fits_bits 31) numbers) then Err IntegerOutOfRange
     else (if not (is_ordered (box_of numbers)) then Err MinimumAboveMaximum
-    else Ok (record { id = id_in (id_value values); box = box_of numbers; more = drop (1 + 2 * axes) values })))
+    else Ok (record { id = id_in (id_value values); box = box_of numbers; auxiliary = drop (1 + 2 * axes) values })))

@@ -13,6 +13,8 @@ use Rattle.rt_sql_statement.specs.declared.statement.Rule.TheVariants.{Abort, Re
 use Rattle.rt_sql_statement.specs.declared.statement.Source.{Source}
 use Rattle.rt_sql_statement.specs.declared.statement.Source.TheVariants.{Literal, Column, Plus, Minus}
 use Rattle.rt_sql_statement.specs.declared.statement.Test.{Test}
+use Rattle.rt_sql_statement.specs.declared.statement.Edit.{Edit}
+use Rattle.rt_sql_statement.specs.declared.statement.Edit.TheVariants.{Insert, Update, Delete}
 use Rattle.rt_sql_statement.specs.declared.refusal.Refusal.{Refusal}
 use Rattle.rt_sql_statement.specs.declared.refusal.Refusal.TheVariants.{BadColumnList, NoSuchColumn, WrongNumberOfValues, WrongType, IntegerOutOfRange, IdAlreadyTaken, MinimumAboveMaximum, TableFull, NoIdLeft}
 use Rattle.rt_table_row.specs.Columns.{Columns, has_name, are_distinct}
@@ -65,7 +67,7 @@ id_or_new rows None = new_id rows
 id_or_new rows (Some id) = Some id
 
 abbrev pub row_of : ℤ → Candidate → TableRow
-row_of id c = record { id = id; box = c.box; more = c.more }
+row_of id c = record { id = id; box = c.box; auxiliary = c.auxiliary }
 
 -- a row whose id is taken
 abbrev pub put_taken : Rule → ℤ → Candidate → Steps
@@ -199,3 +201,10 @@ update columns rows sets cond =
     if not (are_distinct names) then Err BadColumnList
     else (if not (list_all (has_name columns.names) names && list_all (λ set. list_all (has_name columns.names) (columns_read set.1)) sets && has_columns columns cond) then Err NoSuchColumn
     else update_all columns rows sets (picked columns cond rows))
+
+-- ---- all edits
+
+abbrev pub steps_of : Edit → Columns → List TableRow → Steps
+steps_of (Insert rule listed lists) columns rows = insert columns rows rule listed lists
+steps_of (Update sets cond) columns rows = update columns rows sets cond
+steps_of (Delete cond) columns rows = delete columns rows cond

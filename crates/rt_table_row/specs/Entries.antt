@@ -16,19 +16,19 @@ use Rattle.rt_table_row.specs.Edits.{Step, Leaves, Comes, Becomes}
 
 -- the row that an entry is
 abbrev pub row_of : {D : _} → Entry D → TableRow
-row_of entry = record { id = entry.id; box = entry.rect; more = entry.more }
+row_of entry = record { id = entry.id; box = entry.rect; auxiliary = entry.auxiliary }
 
 -- the row that is looked at
 abbrev pub view_row : {D : _} → RowView D → TableRow
-view_row view = record { id = view.id; box = view.rect; more = view.more.now }
+view_row view = record { id = view.id; box = view.rect; auxiliary = view.auxiliary.now }
 
 -- the values of a row in a list, column by column
 abbrev pub listed_values : ListedRow → List Value
-listed_values row = map Int row.numbers.now ++ row.more.now
+listed_values row = map Int row.numbers.now ++ row.auxiliary.now
 
 -- the candidate that a candidate with a box of axes is
 abbrev pub candidate_as : {D : _} → made.Candidate D → Candidate
-candidate_as candidate = record { id = candidate.id; box = candidate.rect; more = candidate.more }
+candidate_as candidate = record { id = candidate.id; box = candidate.rect; auxiliary = candidate.auxiliary }
 
 -- the step that a step of entries is
 abbrev pub step_of : {D : _} → declared.Step D → Step

@@ -3,8 +3,8 @@ use Rattle.std.specs.Prelude.{◌≡◌, ◌⊎◌, ℕ, ◌==◌, Bool, true, f
 use Rattle.std.specs.List.{list_all}
 use Rattle.rt_sql_statement.specs.declared.value.Value.{Value}
 use Rattle.rt_sql_statement.specs.declared.value.Value.TheVariants.{Null}
-use Rattle.rt_sql_statement.specs.declared.statement.Op6.{Op6}
-use Rattle.rt_sql_statement.specs.declared.statement.Op6.TheVariants.{Eq}
+use Rattle.rt_sql_statement.specs.declared.statement.Operator.{Operator}
+use Rattle.rt_sql_statement.specs.declared.statement.Operator.TheVariants.{Eq}
 use Rattle.rt_sql_statement.specs.declared.statement.Test.{Test}
 use Rattle.rt_sql_statement.specs.declared.statement.Test.TheVariants.{Compare, IsNull, IsNotNull}
 use Rattle.rt_sql_statement.specs.declared.refusal.Refusal.{Refusal}
@@ -47,7 +47,7 @@ pub record IsFilterOf (columns : Columns) (cond : List Test) (filter : Placed) :
 abbrev pub IsUnknown : Columns → List Test → Refusal → Type 0
 IsUnknown columns cond refusal = ((refusal ≡ NoSuchColumn) × (has_columns columns cond ≡ false)) ⊎ (refusal ≡ OutOfMemory)
 
-abbrev pub is_equality : Op6 → Bool
+abbrev pub is_equality : Operator → Bool
 is_equality Eq = true
 is_equality op = false
 

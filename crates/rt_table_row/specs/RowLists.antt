@@ -14,7 +14,7 @@ abbrev pub part : {A : Type 0} → List A → Span → List A
 part items span = slice_range items span.start span.end
 
 abbrev pub row_in : List ℤ → List Value → Place → List Value
-row_in numbers values place = map Int (part numbers place.numbers) ++ part values place.more
+row_in numbers values place = map Int (part numbers place.numbers) ++ part values place.auxiliary
 
 abbrev pub rows_in : Inside → Lists
 rows_in list = map (row_in list.numbers.items list.values.items) list.places.items
@@ -24,4 +24,4 @@ abbrev pub IsWithin : {A : Type 0} → List A → Span → Type 0
 IsWithin items span = (span.start ≤ span.end) × (span.end ≤ length items)
 
 abbrev pub AreWithin : Inside → Type 0
-AreWithin list = All (λ place. IsWithin list.numbers.items place.numbers × IsWithin list.values.items place.more) list.places.items
+AreWithin list = All (λ place. IsWithin list.numbers.items place.numbers × IsWithin list.values.items place.auxiliary) list.places.items

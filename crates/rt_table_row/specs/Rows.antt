@@ -12,11 +12,11 @@ use Rattle.rt_sql_statement.specs.declared.value.Value.TheVariants.{Int}
 pub record TableRow : Type 0 where
   pub id : ℤ
   pub box : List Interval
-  pub more : List Value
+  pub auxiliary : List Value
 
 -- a row's values, column by column
 abbrev pub values_of : TableRow → List Value
-values_of row = Int row.id ∷ map Int (coordinates row.box) ++ row.more
+values_of row = Int row.id ∷ map Int (coordinates row.box) ++ row.auxiliary
 
 -- each id is larger than those before it
 abbrev pub AreRising : List TableRow → Type 0

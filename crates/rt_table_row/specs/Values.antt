@@ -6,8 +6,8 @@ use Rattle.std.specs.Ordering.{is_eq, is_ne, is_lt, is_le, is_gt, is_ge, nat_cmp
 use Rattle.std.specs.Cmp.Lexicographic.{slice_cmp}
 use Rattle.rt_sql_statement.specs.declared.value.Value.{Value}
 use Rattle.rt_sql_statement.specs.declared.value.Value.TheVariants.{Null, Int, Text, Blob}
-use Rattle.rt_sql_statement.specs.declared.statement.Op6.{Op6}
-use Rattle.rt_sql_statement.specs.declared.statement.Op6.TheVariants.{Eq, Ne, Lt, Le, Gt, Ge}
+use Rattle.rt_sql_statement.specs.declared.statement.Operator.{Operator}
+use Rattle.rt_sql_statement.specs.declared.statement.Operator.TheVariants.{Eq, Ne, Lt, Le, Gt, Ge}
 
 abbrev pub is_null : Value → Bool
 is_null Null = true
@@ -39,7 +39,7 @@ value_cmp (Blob a) (Text b) = nat_cmp (rank (Blob a)) (rank (Text b))
 value_cmp (Blob a) (Blob b) = slice_cmp nat_cmp a b
 
 -- the operator holds of two values that stand so to one another
-abbrev pub keeps : Op6 → Ordering → Bool
+abbrev pub keeps : Operator → Ordering → Bool
 keeps Eq order = is_eq order
 keeps Ne order = is_ne order
 keeps Lt order = is_lt order
@@ -48,5 +48,5 @@ keeps Gt order = is_gt order
 keeps Ge order = is_ge order
 
 -- a comparison with NULL on either side doesn't hold
-abbrev pub compares : Op6 → Value → Value → Bool
+abbrev pub compares : Operator → Value → Value → Bool
 compares op a b = not (is_null a || is_null b) && keeps op (value_cmp a b)

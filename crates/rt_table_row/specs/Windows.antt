@@ -4,10 +4,10 @@ use Rattle.std.specs.Prelude.{◌≡◌, ◌≢◌, ℕ, suc, ◌*◌, ◌<◌, 
 use Rattle.std.specs.Int.{w32}
 use Rattle.rt_box.specs.declared.interval.Interval.{Interval}
 use Rattle.rt_box.specs.Window.{Allows, Admits}
-use Rattle.rt_box.specs.Op6.{Keeps}
-use Rattle.rt_box.specs.declared.op6.Op6.{Op6 as WindowOp6}
-use Rattle.rt_sql_statement.specs.declared.statement.Op6.{Op6}
-use Rattle.rt_sql_statement.specs.declared.statement.Op6.TheVariants.{Ne}
+use Rattle.rt_box.specs.Operators.{Keeps}
+use Rattle.rt_box.specs.declared.operator.Operator.{Operator as WindowOperator}
+use Rattle.rt_sql_statement.specs.declared.statement.Operator.{Operator}
+use Rattle.rt_sql_statement.specs.declared.statement.Operator.TheVariants.{Ne}
 use Rattle.rt_sql_statement.specs.declared.statement.Test.{Test}
 use Rattle.rt_sql_statement.specs.declared.statement.Test.TheVariants.{Compare, IsNull, IsNotNull}
 use Rattle.rt_sql_statement.specs.declared.value.Value.TheVariants.{Int}
@@ -17,7 +17,7 @@ use Rattle.rt_table_row.specs.Conditions.{column_of}
 use Rattle.rt_table_row.specs.Rows.{TableRow}
 use Rattle.rt_table_row.specs.Filters.{Placed, admits}
 
-abbrev pub is_unequal : Op6 → Bool
+abbrev pub is_unequal : Operator → Bool
 is_unequal Ne = true
 is_unequal op = false
 
@@ -71,5 +71,5 @@ pub record NarrowsAt (axes : ℕ) (old new : List Interval) (test : Test × ℕ)
   pub exact : (k : ℕ) (z : ℤ) → k < 2 * axes → (Allows new k z ↔ (Allows old k z × AllowsAtPlace k z test))
 
 -- a window's comparison keeps the numbers that pass the test's (own)
-abbrev pub IsSameComparison : Op6 → WindowOp6 → Type 0
+abbrev pub IsSameComparison : Operator → WindowOperator → Type 0
 IsSameComparison op same = (z value : ℤ) → Keeps same z value ↔ ((is_unequal op || compares op (Int z) (Int value)) ≡ true)

@@ -7,8 +7,8 @@ use Rattle.rt_sql_statement.specs.declared.value.Value.TheVariants.{Null, Int, T
 use Rattle.rt_sql_statement.specs.declared.statement.Rule.TheVariants.{Abort, Replace, Ignore}
 use Rattle.rt_sql_statement.specs.declared.statement.Source.{Source}
 use Rattle.rt_sql_statement.specs.declared.statement.Source.TheVariants.{Literal, Plus, Minus}
-use Rattle.rt_sql_statement.specs.declared.statement.Op6.{Op6}
-use Rattle.rt_sql_statement.specs.declared.statement.Op6.TheVariants.{Eq, Ne, Lt, Le, Gt, Ge}
+use Rattle.rt_sql_statement.specs.declared.statement.Operator.{Operator}
+use Rattle.rt_sql_statement.specs.declared.statement.Operator.TheVariants.{Eq, Ne, Lt, Le, Gt, Ge}
 use Rattle.rt_sql_statement.specs.declared.statement.Test.{Test}
 use Rattle.rt_sql_statement.specs.declared.statement.Test.TheVariants.{Compare, IsNull, IsNotNull}
 use Rattle.rt_sql_statement.specs.declared.statement.ColumnDef.{ColumnDef}
@@ -36,10 +36,10 @@ abbrev noted : Columns
 noted = record { axes = 1; names = codes "id" ∷ codes "minX" ∷ codes "maxX" ∷ codes "n" ∷ [] }
 
 abbrev row : ℤ → ℤ → ℤ → TableRow
-row id lo hi = record { id = id; box = interval lo hi ∷ []; more = [] }
+row id lo hi = record { id = id; box = interval lo hi ∷ []; auxiliary = [] }
 
 abbrev note : ℤ → ℤ → ℤ → Value → TableRow
-note id lo hi n = record { id = id; box = interval lo hi ∷ []; more = n ∷ [] }
+note id lo hi n = record { id = id; box = interval lo hi ∷ []; auxiliary = n ∷ [] }
 
 abbrev n : ℕ → Value
 n k = Int (pos k)
@@ -47,7 +47,7 @@ n k = Int (pos k)
 abbrev text : List ℕ → Value
 text t = Text t
 
-abbrev compare : List ℕ → Op6 → Value → Test
+abbrev compare : List ℕ → Operator → Value → Test
 compare column op value = Compare (record { column = column; op = op; value = value })
 
 abbrev set : List ℕ → Source → Setting
@@ -200,7 +200,7 @@ five = record (new_table noted) {
       ∷ note (pos 4) (pos 0) (pos 1) (text (codes "b")) ∷ note (pos 5) (pos 0) (pos 1) (Blob (0 ∷ [])) ∷ [];
 }
 
-abbrev of_n : Op6 → Value → List Test
+abbrev of_n : Operator → Value → List Test
 of_n op value = compare (codes "n") op value ∷ []
 
 abbrev those : List Test → Result (List ℤ) Refusal

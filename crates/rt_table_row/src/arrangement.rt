@@ -1,4 +1,7 @@
 //! The columns that an INSERT lists.
+//!
+//! For each column of the table an arrangement has the place of its value in a list. A column that isn't listed
+//! gets NULL (`specs/Arrangements.antt`).
 
 ghost use Rattle.std.specs.Prelude.{◌≡◌, ◌==◌, true, length, map, IfOk};
 ghost use Rattle.std.specs.List.{list_all};

@@ -1,4 +1,7 @@
 //! What the values of a new row have to be.
+//!
+//! INSERT and UPDATE both make their rows here, so types, ranges and the order of minimum and maximum are tested
+//! in one place. Nothing is converted (`specs/Candidates.antt`).
 
 ghost use Rattle.std.specs.Prelude.{◌≡◌, ◌*◌, ◌+◌, ◌≤◌, ◌<◌, pos, true, map, length, Some, None, if◌then◌else◌, slice_index_or};
 ghost use Rattle.std.specs.List.{list_all};
@@ -88,9 +91,12 @@ fn rect_of<const D: usize>(values: &[Value]) -> Option<Rect<D>>
 /// box, and the values of its auxiliary columns.
 #[derive(Debug, Drop)]
 pub struct Candidate<const D: usize> {
+    /// The id, or `None` where the value was NULL.
     pub id: Option<i64>,
+    /// The box.
     pub rect: Rect<D>,
-    pub more: Items<Value>,
+    /// The auxiliary values, in the order of their columns.
+    pub auxiliary: Items<Value>,
 }
 
 impl<const D: usize> Candidate<D> {
@@ -106,7 +112,7 @@ impl<const D: usize> Candidate<D> {
         requires long { 1 + 2 * D ≤ length values.items }
         ensures { GivesAs candidate_as (candidate_of D values.items) result }
     {
-        let more = values.split_off(1 + 2 * D)?;
+        let auxiliary = values.split_off(1 + 2 * D)?;
         if !is_id(&values[0]) || !are_integers(&values[1..]) {
             return Err(Refusal::WrongType);
         }
@@ -118,7 +124,7 @@ impl<const D: usize> Candidate<D> {
             Some(rect) => Ok(Candidate {
                 id: id_in(&values[0]),
                 rect,
-                more: Items::from_vec(more),
+                auxiliary: Items::from_vec(auxiliary),
             }),
         }
     }

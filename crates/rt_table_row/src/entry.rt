@@ -1,4 +1,7 @@
 //! A row as a table keeps it.
+//!
+//! The id and the box are numbers, and the auxiliary values stand apart. `RowView` and `ListedRow` borrow those
+//! values; `values` and `try_clone` copy them (`specs/Entries.antt`).
 
 ghost use Rattle.std.specs.Prelude.{◌≡◌, ◌+◌, ◌*◌, ◌<◌, ◌≤◌, ◌∷◌, ◌++◌, length, map, slice_index_or, IfOk, OnOk, vec_len, vec_capacity};
 ghost use Rattle.rt_sql_statement.specs.declared.value.Value.TheVariants.{Null, Int};
@@ -13,9 +16,12 @@ use std::alloc::{AllocError, Global};
 /// auxiliary columns.
 #[derive(Debug, Drop)]
 pub struct Entry<const D: usize> {
+    /// The id.
     pub id: i64,
+    /// The box.
     pub rect: Rect<D>,
-    pub more: Items<Value>,
+    /// The auxiliary values, in the order of their columns.
+    pub auxiliary: Items<Value>,
 }
 
 /// A value of a row, looked at where it stands.
@@ -51,13 +57,13 @@ fn coordinate<const D: usize>(rect: &Rect<D>, place: usize) -> i32
 }
 
 /// The auxiliary value at that place among them.
-fn kept(more: &[Value], place: usize) -> Field<'_>
-    ensures { field_value result ≡ slice_index_or more.now place Null }
+fn kept(auxiliary: &[Value], place: usize) -> Field<'_>
+    ensures { field_value result ≡ slice_index_or auxiliary.now place Null }
 {
-    if place >= more.len() {
+    if place >= auxiliary.len() {
         return Field::Missing;
     }
-    Field::Kept(&more[place])
+    Field::Kept(&auxiliary[place])
 }
 
 /// Appends the coordinates, for which there is room.
@@ -91,12 +97,12 @@ pub(crate) fn push_numbers<const D: usize>(
 pub(crate) fn push_copies(
     alloc: Global,
     values: &mut Vec<Value>,
-    more: &[Value],
+    auxiliary: &[Value],
 ) -> Result<(), AllocError>
-    ensures ok { OnOk result (values.new.items ≡ values.old.items ++ more.now) }
+    ensures ok { OnOk result (values.new.items ≡ values.old.items ++ auxiliary.now) }
     ensures longer { length values.old.items ≤ length values.new.items }
 {
-    for value in more {
+    for value in auxiliary {
         values.push(value.try_clone(alloc)?)?;
     }
     Ok(())
@@ -112,7 +118,7 @@ impl<const D: usize> Entry<D> {
         RowView {
             id: self.id,
             rect: self.rect,
-            more: self.more.as_slice(),
+            auxiliary: self.auxiliary.as_slice(),
         }
     }
 }
@@ -121,9 +127,12 @@ impl<const D: usize> Entry<D> {
 /// boxes and auxiliary values apart.
 #[derive(Clone, Copy)]
 pub struct RowView<'a, const D: usize> {
+    /// The id.
     pub id: i64,
+    /// The box.
     pub rect: Rect<D>,
-    pub more: &'a [Value],
+    /// The auxiliary values, in the order of their columns.
+    pub auxiliary: &'a [Value],
 }
 
 impl<'a, const D: usize> RowView<'a, D> {
@@ -141,7 +150,7 @@ impl<'a, const D: usize> RowView<'a, D> {
         if place <= 2 * axes {
             return Field::Number(i64::from(coordinate(&self.rect, place - 1)));
         }
-        kept(self.more, place - 1 - 2 * axes)
+        kept(self.auxiliary, place - 1 - 2 * axes)
     }
 
     /// A copy of the row's values, column by column.
@@ -152,7 +161,7 @@ impl<'a, const D: usize> RowView<'a, D> {
         push_numbers(&mut numbers, self.id, &self.rect)?;
         let row = ListedRow {
             numbers: &numbers,
-            more: self.more,
+            auxiliary: self.auxiliary,
         };
         row.values(alloc)
     }
@@ -161,8 +170,10 @@ impl<'a, const D: usize> RowView<'a, D> {
 /// A row looked at where it stands in a list: numbers first, and then further values.
 #[derive(Clone, Copy)]
 pub struct ListedRow<'a> {
+    /// The values of the first columns, which stand as numbers; there may be none.
     pub numbers: &'a [i64],
-    pub more: &'a [Value],
+    /// The values of the other columns.
+    pub auxiliary: &'a [Value],
 }
 
 impl<'a> ListedRow<'a> {
@@ -175,7 +186,7 @@ impl<'a> ListedRow<'a> {
         if place < self.numbers.len() {
             return Field::Number(self.numbers[place]);
         }
-        kept(self.more, place - self.numbers.len())
+        kept(self.auxiliary, place - self.numbers.len())
     }
 
     /// A copy of the row's values, column by column.
@@ -186,7 +197,7 @@ impl<'a> ListedRow<'a> {
         for number in self.numbers {
             values.push(Value::Int(*number))?;
         }
-        push_copies(alloc, &mut values, self.more)?;
+        push_copies(alloc, &mut values, self.auxiliary)?;
         Ok(Items::from_vec(values))
     }
 }

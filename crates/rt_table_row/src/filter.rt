@@ -1,4 +1,7 @@
 //! Which rows a condition picks.
+//!
+//! A test looks at the column at a place: the id stands at 0, then come the coordinates, and then the auxiliary
+//! values. Places are looked up once, so no name is compared for a row (`specs/Filters.antt`).
 
 ghost use Rattle.std.specs.Prelude.{◌≡◌, zip, true, false, IfSome, IfNone, MatchResult};
 ghost use Rattle.std.specs.List.{list_all, list_any};
@@ -14,7 +17,7 @@ use crate::schema::Schema;
 use crate::values::{compares, is_null, keeps};
 use crate::window::{is_said, window_of};
 use rt_box::Window;
-use rt_sql_statement::{Compare, Cond, Name, Op6, Refusal, Test, Value};
+use rt_sql_statement::{Compare, Cond, Name, Operator, Refusal, Test, Value};
 use std::alloc::Global;
 use std::marker::Model;
 
@@ -93,7 +96,7 @@ fn id_at(test: &Test, place: usize) -> Option<i64>
     match test {
         Test::Compare(
             Compare {
-                op: Op6::Eq,
+                op: Operator::Eq,
                 value: Value::Int(id),
                 ..
             },
@@ -141,10 +144,17 @@ fn places_of(alloc: Global, schema: &Schema, cond: &[Test]) -> Result<Vec<usize>
 }
 
 /// A condition whose columns were looked up once, so that no name is compared for a row.
-#[derive(Debug, Drop)]
+#[derive(Debug)]
 pub struct Filter {
     cond: Cond,
     places: Vec<usize>,
+}
+
+// By hand, since a derived drop is written out, field by field, wherever such a value ends.
+impl Drop for Filter {
+    fn drop(self) {
+        let Filter { cond: _, places: _ } = self;
+    }
 }
 
 impl Model for Filter {
@@ -170,13 +180,6 @@ impl Filter {
     {
         let places = places_of(alloc, schema, cond.as_slice())?;
         Ok(Filter { cond, places })
-    }
-
-    /// The condition.
-    pub fn cond(&self) -> &Cond
-        ensures { result.now ≡ self.now.cond }
-    {
-        &self.cond
     }
 
     /// Whether the condition holds of a row. Nothing is copied.

@@ -1,4 +1,7 @@
 //! Rows one behind the other.
+//!
+//! A row is two spans: one in the list of all numbers, one in the list of all further values. Contracts see a list
+//! of rows (`specs/RowLists.antt`).
 
 ghost use Rattle.rt_table_row.specs.Rows.{values_of};
 ghost use Rattle.rt_table_row.specs.Entries.{view_row, listed_values};
@@ -19,16 +22,27 @@ struct Span {
 #[derive(Clone, Copy, Debug)]
 struct Place {
     numbers: Span,
-    more: Span,
+    auxiliary: Span,
 }
 
 /// Rows: of each its values, column by column, numbers first. The numbers of all rows stand in one list, and the further
 /// values in another, so that no row takes memory by itself.
-#[derive(Debug, Drop)]
+#[derive(Debug)]
 pub struct RowList {
     numbers: Vec<i64>,
     values: Vec<Value>,
     places: Vec<Place>,
+}
+
+// By hand, since a derived drop is written out, field by field, wherever such a value ends.
+impl Drop for RowList {
+    fn drop(self) {
+        let RowList {
+            numbers: _,
+            values: _,
+            places: _,
+        } = self;
+    }
 }
 
 // Clauses see the list of the rows.
@@ -80,7 +94,7 @@ impl RowList {
         let place = self.places[at];
         ListedRow {
             numbers: &self.numbers[place.numbers.start..place.numbers.end],
-            more: &self.values[place.more.start..place.more.end],
+            auxiliary: &self.values[place.auxiliary.start..place.auxiliary.end],
         }
     }
 
@@ -98,16 +112,16 @@ impl RowList {
     {
         let (first, start) = (self.numbers.len(), self.values.len());
         push_numbers(&mut self.numbers, row.id, &row.rect)?;
-        push_copies(alloc, &mut self.values, row.more)?;
+        push_copies(alloc, &mut self.values, row.auxiliary)?;
         let numbers = Span {
             start: first,
             end: self.numbers.len(),
         };
-        let more = Span {
+        let auxiliary = Span {
             start,
             end: self.values.len(),
         };
-        self.places.push(Place { numbers, more })?;
+        self.places.push(Place { numbers, auxiliary })?;
         Ok(())
     }
 
@@ -126,11 +140,11 @@ impl RowList {
             start: first,
             end: first,
         };
-        let more = Span {
+        let auxiliary = Span {
             start,
             end: self.values.len(),
         };
-        self.places.push(Place { numbers, more })?;
+        self.places.push(Place { numbers, auxiliary })?;
         Ok(())
     }
 }

@@ -1,4 +1,7 @@
 //! The columns of a table.
+//!
+//! Columns have a fixed order: the id, a minimum and a maximum for each axis, and then the auxiliary columns. So
+//! the place of a column says what it holds (`specs/Columns.antt`).
 
 ghost use Rattle.std.specs.Prelude.{◌≡◌, ◌≤◌, ◌+◌, ◌*◌, ◌||◌, ℕ, List, true, not, length, map, IfOk, OnOk};
 ghost use Rattle.std.specs.List.{list_all};
@@ -118,10 +121,17 @@ fn names_of(alloc: Global, columns: &[ColumnDef]) -> Result<Vec<Name>, AllocErro
 
 /// The columns of a table: an id, a minimum and a maximum for each of one to three axes, and
 /// auxiliary columns. No two have one name.
-#[derive(Debug, Drop)]
+#[derive(Debug)]
 pub struct Schema {
     axes: usize,
     names: Vec<Name>,
+}
+
+// By hand, since a derived drop is written out, field by field, wherever such a value ends.
+impl Drop for Schema {
+    fn drop(self) {
+        let Schema { axes: _, names: _ } = self;
+    }
 }
 
 impl Model for Schema {

@@ -1,4 +1,7 @@
 //! What an UPDATE sets.
+//!
+//! A `Reading` is what one set gives, and a `Fill` says where a column's new value comes from. Each refusal is
+//! looked for over all columns before the next (`update_row` in `specs/Edits.antt`; `specs/Settings.antt`).
 
 ghost use Rattle.std.specs.Prelude.{◌≡◌, ◌⊎◌, ◌≤◌, ◌+◌, ◌*◌, true, false, length, map, position, IfOk, MatchResult};
 ghost use Rattle.std.specs.List.{list_all};

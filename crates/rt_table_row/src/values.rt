@@ -1,9 +1,12 @@
 //! How values stand to one another.
+//!
+//! This is the comparison of conditions: with NULL on either side none holds, not even `<>`. `==` on values is
+//! another one, by which NULL equals NULL (`specs/Values.antt`).
 
 ghost use Rattle.std.specs.Prelude.{◌≡◌};
 ghost use Rattle.rt_table_row.specs.Values.{is_null, rank, value_cmp, keeps, compares};
 
-use rt_sql_statement::{Op6, Value};
+use rt_sql_statement::{Operator, Value};
 use std::cmp::Ordering;
 
 pub(crate) fn is_null(value: &Value) -> bool
@@ -40,22 +43,22 @@ fn order(left: &Value, right: &Value) -> Ordering
     }
 }
 
-pub(crate) fn keeps(op: Op6, order: Ordering) -> bool
+pub(crate) fn keeps(op: Operator, order: Ordering) -> bool
     ensures { result ≡ keeps op order }
 {
     match op {
-        Op6::Eq => order.is_eq(),
-        Op6::Ne => order.is_ne(),
-        Op6::Lt => order.is_lt(),
-        Op6::Le => order.is_le(),
-        Op6::Gt => order.is_gt(),
-        Op6::Ge => order.is_ge(),
+        Operator::Eq => order.is_eq(),
+        Operator::Ne => order.is_ne(),
+        Operator::Lt => order.is_lt(),
+        Operator::Le => order.is_le(),
+        Operator::Gt => order.is_gt(),
+        Operator::Ge => order.is_ge(),
     }
 }
 
 /// Whether the comparison holds of two values, the left one first. Nothing is converted, and with
 /// NULL on either side it doesn't hold.
-pub fn compares(op: Op6, left: &Value, right: &Value) -> bool
+pub fn compares(op: Operator, left: &Value, right: &Value) -> bool
     ensures { result ≡ compares op left.now right.now }
 {
     !is_null(left) && !is_null(right) && keeps(op, order(left, right))

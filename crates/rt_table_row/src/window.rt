@@ -1,4 +1,8 @@
 //! What a condition asks of the coordinates of a row's box.
+//!
+//! A window admits the box of each row that the condition picks, and may admit more: a test by `<>`, of the id or
+//! of an auxiliary column asks nothing of it. `is_said` tells which tests need no second look
+//! (`specs/Windows.antt`).
 
 ghost use Rattle.std.specs.Prelude.{◌≡◌, ◌*◌, ◌<◌, ◌≤◌, ◌||◌, false};
 ghost use Rattle.rt_sql_statement.specs.declared.value.Value.TheVariants.{Int};
@@ -6,26 +10,26 @@ ghost use Rattle.rt_table_row.specs.Values.{compares};
 ghost use Rattle.rt_table_row.specs.Windows.{is_unequal, is_gap, is_said, allows, IsWindowAt, IsSameComparison, NarrowsTo, NarrowsAt};
 
 use crate::values::compares;
-use rt_box::{Op6 as WindowOp6, Window};
-use rt_sql_statement::{Op6, Test, Value};
+use rt_box::{Operator as WindowOperator, Window};
+use rt_sql_statement::{Operator, Test, Value};
 
-fn is_unequal(op: Op6) -> bool
+fn is_unequal(op: Operator) -> bool
     ensures { result ≡ is_unequal op }
 {
-    matches!(op, Op6::Ne)
+    matches!(op, Operator::Ne)
 }
 
 /// A window's word for the comparison.
-fn same_comparison(op: Op6) -> WindowOp6
+fn same_comparison(op: Operator) -> WindowOperator
     ensures { IsSameComparison op result }
 {
     match op {
-        Op6::Eq => WindowOp6::Eq,
-        Op6::Ne => WindowOp6::Ne,
-        Op6::Lt => WindowOp6::Lt,
-        Op6::Le => WindowOp6::Le,
-        Op6::Gt => WindowOp6::Gt,
-        Op6::Ge => WindowOp6::Ge,
+        Operator::Eq => WindowOperator::Eq,
+        Operator::Ne => WindowOperator::Ne,
+        Operator::Lt => WindowOperator::Lt,
+        Operator::Le => WindowOperator::Le,
+        Operator::Gt => WindowOperator::Gt,
+        Operator::Ge => WindowOperator::Ge,
     }
 }
 
@@ -35,8 +39,8 @@ fn take_all<const D: usize>(window: &mut Window<D>, coordinate: usize)
     requires within { coordinate < 2 * D }
     ensures { NarrowsTo window.old window.new coordinate (λ z. false) }
 {
-    window.narrow(coordinate, WindowOp6::Eq, 0);
-    window.narrow(coordinate, WindowOp6::Eq, 1);
+    window.narrow(coordinate, WindowOperator::Eq, 0);
+    window.narrow(coordinate, WindowOperator::Eq, 1);
 }
 
 /// Narrows a coordinate by a comparison with a value. What isn't an integer stands to each integer as it stands to 0:
@@ -44,7 +48,7 @@ fn take_all<const D: usize>(window: &mut Window<D>, coordinate: usize)
 fn narrow_by_value<const D: usize>(
     window: &mut Window<D>,
     coordinate: usize,
-    op: Op6,
+    op: Operator,
     value: &Value,
 )
     requires few { D ≤ 3 }

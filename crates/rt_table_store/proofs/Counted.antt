@@ -106,36 +106,36 @@ count-all : {X : Type 0} (xs : List X) → count_by (λ x. true) xs ≡ length x
 count-all [] = refl
 count-all (x ∷ xs) = omega (arith, count-cons (λ x. true) x xs, count-all xs)
 
-module _ {D : ℕ} (s : ShadowLists D) (shape : IsInShape s) {S : Type 0} (notes : IndexMap ℤ (List Value) S) where
-  leaf-at : (id : ℤ) → at_key (λ (r : Row D). r.id) (map leaf_row (rows_in s notes)) id ≡ option_map leaf_row (option_map (boxed s shape notes id) (box_of s id))
-  leaf-at id = find-map leaf_row (λ (r : Row D). int_eq id r.id) (rows_in s notes) ∙ ap (option_map leaf_row) (row-at s shape notes id)
+module _ {D : ℕ} (s : ShadowLists D) (shape : IsInShape s) {S : Type 0} (auxiliary : IndexMap ℤ (List Value) S) where
+  leaf-at : (id : ℤ) → at_key (λ (r : Row D). r.id) (map leaf_row (rows_in s auxiliary)) id ≡ option_map leaf_row (option_map (boxed s shape auxiliary id) (box_of s id))
+  leaf-at id = find-map leaf_row (λ (r : Row D). int_eq id r.id) (rows_in s auxiliary) ∙ ap (option_map leaf_row) (row-at s shape auxiliary id)
 
-  same-at : (id : ℤ) → at_key (λ (r : Row D). r.id) (rows_of s) id ≡ at_key (λ (r : Row D). r.id) (map leaf_row (rows_in s notes)) id
+  same-at : (id : ℤ) → at_key (λ (r : Row D). r.id) (rows_of s) id ≡ at_key (λ (r : Row D). r.id) (map leaf_row (rows_in s auxiliary)) id
   same-at id = by (entry_of s.rows id) refl ∙ sym (leaf-at id)
     where
-      by : (o : Option RowEntry) → entry_of s.rows id ≡ o → at_key (λ (r : Row D). r.id) (rows_of s) id ≡ option_map leaf_row (option_map (boxed s shape notes id) (box_of s id))
+      by : (o : Option RowEntry) → entry_of s.rows id ≡ o → at_key (λ (r : Row D). r.id) (rows_of s) id ≡ option_map leaf_row (option_map (boxed s shape auxiliary id) (box_of s id))
       by None e =
           let none = row-none s shape id e in
-          none ∙ sym (ap (λ (o : Option (Row D)). option_map leaf_row (option_map (boxed s shape notes id) (option_map (λ r. r.rect) o))) none)
+          none ∙ sym (ap (λ (o : Option (Row D)). option_map leaf_row (option_map (boxed s shape auxiliary id) (option_map (λ r. r.rect) o))) none)
       by (Some x) e =
           let h = row-some s shape id x e in
           let with_id : ℤ → Row D = λ z. record { id = z; rect = h.0.rect } in
           h.2 ∙ ap (λ (z : ℤ). Some (with_id z)) h.1
-          ∙ sym (ap (λ (o : Option (Row D)). option_map leaf_row (option_map (boxed s shape notes id) (option_map (λ r. r.rect) o))) h.2)
+          ∙ sym (ap (λ (o : Option (Row D)). option_map leaf_row (option_map (boxed s shape auxiliary id) (option_map (λ r. r.rect) o))) h.2)
 
-  pub is-tree : IsTreeOf (rows_in s notes) s
+  pub is-tree : IsTreeOf (rows_in s auxiliary) s
   is-tree = record {
     shape = shape;
-    each = λ test. same-counts (λ (r : Row D). r.id) test (rows_of s) (map leaf_row (rows_in s notes)) (distinct (λ (r : Row D). r.id) (rows_of s) (few-have s shape))
-        (rises-map (λ (r : Row D). r.id) leaf_row (rows_in s notes) (rows-rise s shape notes)) same-at;
+    each = λ test. same-counts (λ (r : Row D). r.id) test (rows_of s) (map leaf_row (rows_in s auxiliary)) (distinct (λ (r : Row D). r.id) (rows_of s) (few-have s shape))
+        (rises-map (λ (r : Row D). r.id) leaf_row (rows_in s auxiliary) (rows-rise s shape auxiliary)) same-at;
   }
 
   -- as many rows as entries
   pub entries-counted : length s.rows ≡ count_by (λ (r : Row D). true) (rows_of s)
   entries-counted =
       let same = is-tree.each (λ r. true) in
-      let long = count-all (map (leaf_row {D = D}) (rows_in s notes)) in
-      omega (arith, same, long, length-map (rows_in s notes) (leaf_row {D = D}), length-map s.rows (λ (e : RowEntry). joined s notes e.id))
+      let long = count-all (map (leaf_row {D = D}) (rows_in s auxiliary)) in
+      omega (arith, same, long, length-map (rows_in s auxiliary) (leaf_row {D = D}), length-map s.rows (λ (e : RowEntry). joined s auxiliary e.id))
 
 -- one row fewer
 key-alone : {X : Type 0} (key : X → ℤ) (xs : List X) → Rises key xs → Distinct key xs

@@ -169,26 +169,26 @@ module _ {D : ℕ} (s : ShadowLists D) where
         let h = counted-contained (λ (r : Row D). int_eq id r.id) (rows_of s) (omega (arith, counted id, (times-some id e some).1)) in
         (h.0, sym (eq_from id h.0.id h.2), find-one (λ (r : Row D). int_eq id r.id) (rows_of s) h.0 h.1 h.2 (few-have id))
 
-    module _ {S : Type 0} (notes : IndexMap ℤ (List Value) S) where
+    module _ {S : Type 0} (auxiliary : IndexMap ℤ (List Value) S) where
       -- the row of an id with that box
       abbrev pub boxed : ℤ → List Interval → TableRow
-      boxed id box = record { id = id; box = box; more = unwrap_or (get int_eq notes id) [] }
+      boxed id box = record { id = id; box = box; auxiliary = unwrap_or (get int_eq auxiliary id) [] }
 
       -- what stands at an id
-      pub row-at : (id : ℤ) → row_at (rows_in s notes) id ≡ option_map (boxed id) (box_of s id)
-      row-at id = find-map (λ (e : RowEntry). joined s notes e.id) (λ r. int_eq id r.id) s.rows ∙ by (entry_of s.rows id) refl
+      pub row-at : (id : ℤ) → row_at (rows_in s auxiliary) id ≡ option_map (boxed id) (box_of s id)
+      row-at id = find-map (λ (e : RowEntry). joined s auxiliary e.id) (λ r. int_eq id r.id) s.rows ∙ by (entry_of s.rows id) refl
         where
-          by : (o : Option RowEntry) → entry_of s.rows id ≡ o → option_map (λ (e : RowEntry). joined s notes e.id) o ≡ option_map (boxed id) (box_of s id)
+          by : (o : Option RowEntry) → entry_of s.rows id ≡ o → option_map (λ (e : RowEntry). joined s auxiliary e.id) o ≡ option_map (boxed id) (box_of s id)
           by None e = sym (ap (λ (o : Option (Row D)). option_map (boxed id) (option_map (λ r. r.rect) o)) (row-none id e))
           by (Some x) e =
               let h = row-some id x e in
               let box : box_of s id ≡ Some h.0.rect = ap (option_map (λ (r : Row D). r.rect)) h.2 in
-              ap (λ (z : ℤ). Some (joined s notes z)) (times-some id x e).0
+              ap (λ (z : ℤ). Some (joined s auxiliary z)) (times-some id x e).0
               ∙ ap (λ (o : Option (List Interval)). Some (boxed id (unwrap_or o []))) box
               ∙ sym (ap (option_map (boxed id)) box)
 
-      pub rows-rise : Rises (λ (r : TableRow). r.id) (rows_in s notes)
-      rows-rise = rises-map (λ (r : TableRow). r.id) (λ (e : RowEntry). joined s notes e.id) s.rows (rises (λ (e : RowEntry). e.id) s.rows shape.rising)
+      pub rows-rise : Rises (λ (r : TableRow). r.id) (rows_in s auxiliary)
+      rows-rise = rises-map (λ (r : TableRow). r.id) (λ (e : RowEntry). joined s auxiliary e.id) s.rows (rises (λ (e : RowEntry). e.id) s.rows shape.rising)
 
-      pub are-rising : AreRising (rows_in s notes)
-      are-rising = rising (λ (r : TableRow). r.id) (rows_in s notes) rows-rise
+      pub are-rising : AreRising (rows_in s auxiliary)
+      are-rising = rising (λ (r : TableRow). r.id) (rows_in s auxiliary) rows-rise

@@ -23,10 +23,10 @@ not-both P (Some x) none some = absurd (let stop : ⊥ = cc in stop)
 
 module _ {D : ℕ} (s t : ShadowLists D) (id : ℤ) (boxes : (other : ℤ) → other ≢ id → box_of t other ≡ box_of s other) where
   -- auxiliary values are kept of rows that are there
-  pub noted-kept : {S : Type 0} (notes more : IndexMap ℤ (List Value) S) → ((other : ℤ) → other ≢ id → get int_eq more other ≡ get int_eq notes other) →
-      (IsSome (get int_eq more id) → IsSome (box_of t id)) → ((other : ℤ) → IsSome (get int_eq notes other) → IsSome (box_of s other)) →
+  pub noted-kept : {S : Type 0} (auxiliary more : IndexMap ℤ (List Value) S) → ((other : ℤ) → other ≢ id → get int_eq more other ≡ get int_eq auxiliary other) →
+      (IsSome (get int_eq more id) → IsSome (box_of t id)) → ((other : ℤ) → IsSome (get int_eq auxiliary other) → IsSome (box_of s other)) →
       (other : ℤ) → IsSome (get int_eq more other) → IsSome (box_of t other)
-  noted-kept notes more values here old other some = by (int_eq other id) refl
+  noted-kept auxiliary more values here old other some = by (int_eq other id) refl
     where
       by : (b : Bool) → int_eq other id ≡ b → IsSome (box_of t other)
       by true is =
@@ -76,9 +76,9 @@ module _ {D : ℕ} (s t : ShadowLists D) (id : ℤ) (boxes : (other : ℤ) → o
             absurd stop
         by false is = old other (subst IsSome (boxes other (differs other id is)) some)
 
-module _ {D : ℕ} (s t : ShadowLists D) (old : IsInShape s) (new : IsInShape t) {S : Type 0} (notes : IndexMap ℤ (List Value) S) (id : ℤ) (rect : List Interval) where
+module _ {D : ℕ} (s t : ShadowLists D) (old : IsInShape s) (new : IsInShape t) {S : Type 0} (auxiliary : IndexMap ℤ (List Value) S) (id : ℤ) (rect : List Interval) where
   pub longer : GainsRow s t id rect → length t.rows ≡ length s.rows + 1
-  longer gains = omega (arith, gains.rows (λ r. true), entries-counted s old notes, entries-counted t new notes)
+  longer gains = omega (arith, gains.rows (λ r. true), entries-counted s old auxiliary, entries-counted t new auxiliary)
 
   pub one-fewer : LosesRow s t id rect → length t.rows + 1 ≡ length s.rows
-  one-fewer loses = omega (arith, loses.rows (λ r. true), entries-counted s old notes, entries-counted t new notes)
+  one-fewer loses = omega (arith, loses.rows (λ r. true), entries-counted s old auxiliary, entries-counted t new auxiliary)

@@ -52,85 +52,85 @@ turned a b other = elim (cases_Bool (int_eq b a)) [
   | inr e ↦ e
 ]
 
-module _ {D : ℕ} (s : ShadowLists D) (shape : IsInShape s) {S : Type 0} (notes : IndexMap ℤ (List Value) S) where
+module _ {D : ℕ} (s : ShadowLists D) (shape : IsInShape s) {S : Type 0} (auxiliary : IndexMap ℤ (List Value) S) where
   -- an id that no row has is in no box of the tree
-  pub no-box : (id : ℤ) → has_id (rows_in s notes) id ≡ false → box_of s id ≡ None
-  no-box id e = none-mapped (boxed s shape notes id) (box_of s id) (sym (row-at s shape notes id) ∙ none-found (rows_in s notes) id e)
+  pub no-box : (id : ℤ) → has_id (rows_in s auxiliary) id ≡ false → box_of s id ≡ None
+  no-box id e = none-mapped (boxed s shape auxiliary id) (box_of s id) (sym (row-at s shape auxiliary id) ∙ none-found (rows_in s auxiliary) id e)
 
-  pub a-box : (id : ℤ) → has_id (rows_in s notes) id ≡ true → IsSome (box_of s id)
-  a-box id e = some-mapped (boxed s shape notes id) (box_of s id) (subst IsSome (row-at s shape notes id) (any-found (rows_in s notes) id e))
+  pub a-box : (id : ℤ) → has_id (rows_in s auxiliary) id ≡ true → IsSome (box_of s id)
+  a-box id e = some-mapped (boxed s shape auxiliary id) (box_of s id) (subst IsSome (row-at s shape auxiliary id) (any-found (rows_in s auxiliary) id e))
 
   -- a row whose box was found
-  pub viewed : (row : Row D) → option_map leaf_row (row_at (rows_in s notes) row.id) ≡ Some row → Some (boxed s shape notes row.id row.rect) ≡ row_at (rows_in s notes) row.id
-  viewed row e = by (box_of s row.id) (sym (ap (option_map leaf_row) (row-at s shape notes row.id)) ∙ e) ∙ sym (row-at s shape notes row.id)
+  pub viewed : (row : Row D) → option_map leaf_row (row_at (rows_in s auxiliary) row.id) ≡ Some row → Some (boxed s shape auxiliary row.id row.rect) ≡ row_at (rows_in s auxiliary) row.id
+  viewed row e = by (box_of s row.id) (sym (ap (option_map leaf_row) (row-at s shape auxiliary row.id)) ∙ e) ∙ sym (row-at s shape auxiliary row.id)
     where
-      by : (o : Option (List Interval)) → option_map leaf_row (option_map (boxed s shape notes row.id) o) ≡ Some row → Some (boxed s shape notes row.id row.rect) ≡ option_map (boxed s shape notes row.id) o
+      by : (o : Option (List Interval)) → option_map leaf_row (option_map (boxed s shape auxiliary row.id) o) ≡ Some row → Some (boxed s shape auxiliary row.id row.rect) ≡ option_map (boxed s shape auxiliary row.id) o
       by None h = absurd (let none : ⊥ = cc in none)
       by (Some b) h =
-          let same : b ≡ row.rect = ap (λ (r : Row D). r.rect) (same_Some (leaf_row (boxed s shape notes row.id b)) row h) in
-          ap (λ (c : List Interval). Some (boxed s shape notes row.id c)) (sym same)
+          let same : b ≡ row.rect = ap (λ (r : Row D). r.rect) (same_Some (leaf_row (boxed s shape auxiliary row.id b)) row h) in
+          ap (λ (c : List Interval). Some (boxed s shape auxiliary row.id c)) (sym same)
 
   -- the box of a row is that of the tree
-  box-back : (id : ℤ) (box : List Interval) (o : Option (List Interval)) → option_map (λ (r : TableRow). r.box) (option_map (boxed s shape notes id) o) ≡ Some box → o ≡ Some box
+  box-back : (id : ℤ) (box : List Interval) (o : Option (List Interval)) → option_map (λ (r : TableRow). r.box) (option_map (boxed s shape auxiliary id) o) ≡ Some box → o ≡ Some box
   box-back id box None e = absurd (let none : ⊥ = cc in none)
   box-back id box (Some b) e = e
 
-  pub its-box : (id : ℤ) (box : List Interval) → option_map (λ (r : TableRow). r.box) (row_at (rows_in s notes) id) ≡ Some box → box_of s id ≡ Some box
-  its-box id box e = box-back id box (box_of s id) (sym (ap (option_map (λ (r : TableRow). r.box)) (row-at s shape notes id)) ∙ e)
+  pub its-box : (id : ℤ) (box : List Interval) → option_map (λ (r : TableRow). r.box) (row_at (rows_in s auxiliary) id) ≡ Some box → box_of s id ≡ Some box
+  its-box id box e = box-back id box (box_of s id) (sym (ap (option_map (λ (r : TableRow). r.box)) (row-at s shape auxiliary id)) ∙ e)
 
 -- from one tree and its auxiliary values to another
-module _ {D : ℕ} (s t : ShadowLists D) (old : IsInShape s) (new : IsInShape t) {S : Type 0} (notes more : IndexMap ℤ (List Value) S) where
+module _ {D : ℕ} (s t : ShadowLists D) (old : IsInShape s) (new : IsInShape t) {S : Type 0} (auxiliary more : IndexMap ℤ (List Value) S) where
   -- the rows of other ids stay
   abbrev pub KeepOthers : ℤ → Type 0
-  KeepOthers id = ((other : ℤ) → other ≢ id → box_of t other ≡ box_of s other) × ((other : ℤ) → other ≢ id → get int_eq more other ≡ get int_eq notes other)
+  KeepOthers id = ((other : ℤ) → other ≢ id → box_of t other ≡ box_of s other) × ((other : ℤ) → other ≢ id → get int_eq more other ≡ get int_eq auxiliary other)
 
-  other-row : (id : ℤ) → KeepOthers id → (other : ℤ) → other ≢ id → row_at (rows_in t more) other ≡ row_at (rows_in s notes) other
+  other-row : (id : ℤ) → KeepOthers id → (other : ℤ) → other ≢ id → row_at (rows_in t more) other ≡ row_at (rows_in s auxiliary) other
   other-row id keep other ne =
-      let with_more : Option (List Value) → List Interval → TableRow = λ o box. record { id = other; box = box; more = unwrap_or o [] } in
+      let with_more : Option (List Value) → List Interval → TableRow = λ o box. record { id = other; box = box; auxiliary = unwrap_or o [] } in
       row-at t new more other
       ∙ ap (option_map (boxed t new more other)) (keep.0 other ne)
       ∙ ap (λ (o : Option (List Value)). option_map (with_more o) (box_of s other)) (keep.1 other ne)
-      ∙ sym (row-at s old notes other)
+      ∙ sym (row-at s old auxiliary other)
 
-  row-here : (row : TableRow) → box_of t row.id ≡ Some row.box → unwrap_or (get int_eq more row.id) [] ≡ row.more → row_at (rows_in t more) row.id ≡ Some row
+  row-here : (row : TableRow) → box_of t row.id ≡ Some row.box → unwrap_or (get int_eq more row.id) [] ≡ row.auxiliary → row_at (rows_in t more) row.id ≡ Some row
   row-here row box values =
-      let with_more : List Value → TableRow = λ vs. record { id = row.id; box = row.box; more = vs } in
+      let with_more : List Value → TableRow = λ vs. record { id = row.id; box = row.box; auxiliary = vs } in
       row-at t new more row.id ∙ ap (option_map (boxed t new more row.id)) box ∙ ap (λ (vs : List Value). Some (with_more vs)) values
 
   -- a row came
-  pub rows-placed : (row : TableRow) → KeepOthers row.id → box_of t row.id ≡ Some row.box → unwrap_or (get int_eq more row.id) [] ≡ row.more → rows_in t more ≡ with_row (rows_in s notes) row
+  pub rows-placed : (row : TableRow) → KeepOthers row.id → box_of t row.id ≡ Some row.box → unwrap_or (get int_eq more row.id) [] ≡ row.auxiliary → rows_in t more ≡ with_row (rows_in s auxiliary) row
   rows-placed row keep box values =
-      same_lists (λ (r : TableRow). r.id) (rows_in t more) (with_row (rows_in s notes) row) (rows-rise t new more)
-      (rises-placed (λ (r : TableRow). r.id) (rows_in s notes) row (rows-rise s old notes))
-      (λ q. by q (int_eq q row.id) refl ∙ sym (at_key-placed (λ (r : TableRow). r.id) (rows_in s notes) row q))
+      same_lists (λ (r : TableRow). r.id) (rows_in t more) (with_row (rows_in s auxiliary) row) (rows-rise t new more)
+      (rises-placed (λ (r : TableRow). r.id) (rows_in s auxiliary) row (rows-rise s old auxiliary))
+      (λ q. by q (int_eq q row.id) refl ∙ sym (at_key-placed (λ (r : TableRow). r.id) (rows_in s auxiliary) row q))
     where
-      by : (q : ℤ) (b : Bool) → int_eq q row.id ≡ b → row_at (rows_in t more) q ≡ cond b (Some row) (row_at (rows_in s notes) q)
+      by : (q : ℤ) (b : Bool) → int_eq q row.id ≡ b → row_at (rows_in t more) q ≡ cond b (Some row) (row_at (rows_in s auxiliary) q)
       by q true is = ap (row_at (rows_in t more)) (eq_from q row.id is) ∙ row-here row box values
       by q false is = other-row row.id keep q (differs q row.id is)
 
   -- the row of an id left
-  pub rows-taken : (id : ℤ) → KeepOthers id → box_of t id ≡ None → rows_in t more ≡ without_id (rows_in s notes) id
+  pub rows-taken : (id : ℤ) → KeepOthers id → box_of t id ≡ None → rows_in t more ≡ without_id (rows_in s auxiliary) id
   rows-taken id keep gone =
-      same_lists (λ (r : TableRow). r.id) (rows_in t more) (without_id (rows_in s notes) id) (rows-rise t new more)
-      (rises-taken (λ (r : TableRow). r.id) (rows_in s notes) id (rows-rise s old notes))
-      (λ q. by q (int_eq id q) refl ∙ sym (at_key-taken (λ (r : TableRow). r.id) (rows_in s notes) id q))
+      same_lists (λ (r : TableRow). r.id) (rows_in t more) (without_id (rows_in s auxiliary) id) (rows-rise t new more)
+      (rises-taken (λ (r : TableRow). r.id) (rows_in s auxiliary) id (rows-rise s old auxiliary))
+      (λ q. by q (int_eq id q) refl ∙ sym (at_key-taken (λ (r : TableRow). r.id) (rows_in s auxiliary) id q))
     where
-      by : (q : ℤ) (b : Bool) → int_eq id q ≡ b → row_at (rows_in t more) q ≡ cond (not b) (row_at (rows_in s notes) q) None
+      by : (q : ℤ) (b : Bool) → int_eq id q ≡ b → row_at (rows_in t more) q ≡ cond (not b) (row_at (rows_in s auxiliary) q) None
       by q true is = ap (row_at (rows_in t more)) (sym (eq_from id q is)) ∙ row-at t new more id ∙ ap (option_map (boxed t new more id)) gone
       by q false is = other-row id keep q (differs q id (turned id q is))
 
   -- a row stands in the place of that of its id
-  pub rows-exchanged : (row : TableRow) → KeepOthers row.id → box_of t row.id ≡ Some row.box → unwrap_or (get int_eq more row.id) [] ≡ row.more →
-      rows_in t more ≡ with_row (without_id (rows_in s notes) row.id) row
+  pub rows-exchanged : (row : TableRow) → KeepOthers row.id → box_of t row.id ≡ Some row.box → unwrap_or (get int_eq more row.id) [] ≡ row.auxiliary →
+      rows_in t more ≡ with_row (without_id (rows_in s auxiliary) row.id) row
   rows-exchanged row keep box values =
-      same_lists (λ (r : TableRow). r.id) (rows_in t more) (with_row (without_id (rows_in s notes) row.id) row) (rows-rise t new more)
-      (rises-placed (λ (r : TableRow). r.id) (without_id (rows_in s notes) row.id) row (rises-taken (λ (r : TableRow). r.id) (rows_in s notes) row.id (rows-rise s old notes)))
-      (λ q. by q (int_eq q row.id) refl ∙ sym (at_key-placed (λ (r : TableRow). r.id) (without_id (rows_in s notes) row.id) row q))
+      same_lists (λ (r : TableRow). r.id) (rows_in t more) (with_row (without_id (rows_in s auxiliary) row.id) row) (rows-rise t new more)
+      (rises-placed (λ (r : TableRow). r.id) (without_id (rows_in s auxiliary) row.id) row (rises-taken (λ (r : TableRow). r.id) (rows_in s auxiliary) row.id (rows-rise s old auxiliary)))
+      (λ q. by q (int_eq q row.id) refl ∙ sym (at_key-placed (λ (r : TableRow). r.id) (without_id (rows_in s auxiliary) row.id) row q))
     where
-      kept-row : (q : ℤ) → int_eq q row.id ≡ false → row_at (rows_in s notes) q ≡ row_at (without_id (rows_in s notes) row.id) q
+      kept-row : (q : ℤ) → int_eq q row.id ≡ false → row_at (rows_in s auxiliary) q ≡ row_at (without_id (rows_in s auxiliary) row.id) q
       kept-row q is =
-          sym (at_key-taken (λ (r : TableRow). r.id) (rows_in s notes) row.id q ∙ ap (λ (b : Bool). cond (not b) (row_at (rows_in s notes) q) None) (turned q row.id is))
+          sym (at_key-taken (λ (r : TableRow). r.id) (rows_in s auxiliary) row.id q ∙ ap (λ (b : Bool). cond (not b) (row_at (rows_in s auxiliary) q) None) (turned q row.id is))
 
-      by : (q : ℤ) (b : Bool) → int_eq q row.id ≡ b → row_at (rows_in t more) q ≡ cond b (Some row) (row_at (without_id (rows_in s notes) row.id) q)
+      by : (q : ℤ) (b : Bool) → int_eq q row.id ≡ b → row_at (rows_in t more) q ≡ cond b (Some row) (row_at (without_id (rows_in s auxiliary) row.id) q)
       by q true is = ap (row_at (rows_in t more)) (eq_from q row.id is) ∙ row-here row box values
       by q false is = other-row row.id keep q (differs q row.id is) ∙ kept-row q is

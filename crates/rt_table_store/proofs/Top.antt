@@ -97,10 +97,10 @@ some-back : {X Y : Type 0} (f : X → Y) (o : Option X) → IsSome (option_map f
 some-back f None some = some
 some-back f (Some x) some = refl
 
-module _ {D : _} (s : ShadowLists D) (shape : IsInShape s) {S : Type 0} (notes : IndexMap ℤ (List Value) S) (ids : List ℤ) where
+module _ {D : _} (s : ShadowLists D) (shape : IsInShape s) {S : Type 0} (auxiliary : IndexMap ℤ (List Value) S) (ids : List ℤ) where
   pub largest-is : ((id : ℤ) → IsSome (box_of s id) → list_any (int_eq id) ids ≡ true) → ((id : ℤ) → IsTop ids (Some id) → IsSome (box_of s id)) →
-      (o : Option ℤ) → IsTop ids o → o ≡ largest_id (rows_in s notes)
-  largest-is ranked top o is = top-is (rows_in s notes) (rows-rise s shape notes) ids
-      (λ id some. ranked id (some-back (boxed s shape notes id) (box_of s id) (subst IsSome (row-at s shape notes id) some)))
-      (λ id is_top. subst IsSome (sym (row-at s shape notes id)) (some-map (boxed s shape notes id) (box_of s id) (top id is_top)))
+      (o : Option ℤ) → IsTop ids o → o ≡ largest_id (rows_in s auxiliary)
+  largest-is ranked top o is = top-is (rows_in s auxiliary) (rows-rise s shape auxiliary) ids
+      (λ id some. ranked id (some-back (boxed s shape auxiliary id) (box_of s id) (subst IsSome (row-at s shape auxiliary id) some)))
+      (λ id is_top. subst IsSome (sym (row-at s shape auxiliary id)) (some-map (boxed s shape auxiliary id) (box_of s id) (top id is_top)))
       o is

@@ -15,17 +15,17 @@ use Rattle.rt_table_store.specs.declared.store.Store.TheInside.{Inside}
 
 -- the row of an id: its box from the tree, its auxiliary values from the map, which has none of most rows
 abbrev pub joined : {D : _} {S : Type 0} → ShadowLists D → IndexMap ℤ (List Value) S → ℤ → TableRow
-joined tree notes id = record { id = id; box = unwrap_or (box_of tree id) []; more = unwrap_or (get int_eq notes id) [] }
+joined tree auxiliary id = record { id = id; box = unwrap_or (box_of tree id) []; auxiliary = unwrap_or (get int_eq auxiliary id) [] }
 
 abbrev pub rows_in : {D : _} {S : Type 0} → ShadowLists D → IndexMap ℤ (List Value) S → List TableRow
-rows_in tree notes = map (λ entry. joined tree notes entry.id) tree.rows
+rows_in tree auxiliary = map (λ entry. joined tree auxiliary entry.id) tree.rows
 
 abbrev pub stored : {D : _} → Inside D → Stored D
 stored s = record {
-  rows = rows_in s.tree.lists s.notes;
+  rows = rows_in s.tree.lists s.auxiliary;
   tree = s.tree.lists;
   room = s.tree.spare;
-  note_room = spare s.notes;
+  auxiliary_room = spare s.auxiliary;
 }
 
 -- one to three axes; auxiliary values are kept of rows that are there, and room for an id with each row; the largest of
@@ -34,7 +34,7 @@ pub record IsJoined (D : ℕ) (s : Inside D) : Type 0 where
   pub some : 1 ≤ D
   pub few : D ≤ 3
   pub most : length s.tree.lists.rows ≤ most_rows
-  pub noted : (id : ℤ) → IsSome (get int_eq s.notes id) → IsSome (box_of s.tree.lists id)
+  pub noted : (id : ℤ) → IsSome (get int_eq s.auxiliary id) → IsSome (box_of s.tree.lists id)
   pub room : s.tree.spare ≤ s.largest.room
   pub ranked : (id : ℤ) → IsSome (box_of s.tree.lists id) → list_any (int_eq id) s.largest.ids ≡ true
   pub top : (id : ℤ) → IsTop s.largest.ids (Some id) → IsSome (box_of s.tree.lists id)

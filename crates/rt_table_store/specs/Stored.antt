@@ -9,4 +9,4 @@ pub record Stored (D : ℕ) : Type 0 where
   pub rows : List TableRow
   pub tree : ShadowLists D
   pub room : ℕ
-  pub note_room : ℕ
+  pub auxiliary_room : ℕ

@@ -1,4 +1,8 @@
 //! The rows that a condition picks.
+//!
+//! An id that the condition fixes is looked up. Otherwise the tree is searched by the condition's window, and what
+//! the window doesn't say is tested row by row. `select` also counts nodes, so it looks an id up only where the
+//! window has no limits.
 
 ghost use Rattle.std.specs.Prelude.{◌≡◌, ◌≤◌, List, All, true, filter, map, IfOk};
 ghost use Rattle.std.specs.Option.{option_to_list};
@@ -92,7 +96,7 @@ impl<const D: usize> Store<D> {
         ensures visited { IfOk result (λ selected. Visits self.now.tree window.now selected.visited) }
     {
         // The rows rise by id and are those of the tree, whose cells have boxes.
-        let _ = self.len();
+        self.facts();
         self.tree.has_boxes();
         let Found {
             rows: found,
@@ -108,9 +112,8 @@ impl<const D: usize> Store<D> {
         requires { (row : TableRow) → admits condition.now row ≡ true → row.id ≡ id.now }
         ensures { option_to_list result ≡ map leaf_row (filter (admits condition.now) self.now.rows) }
     {
-        // The rows rise by id.
-        let _ = self.len();
-        let Some(view) = self.find(id) else {
+        self.facts();
+        let Some(view) = self.get(id) else {
             return None;
         };
         if !condition.holds(&view) {
@@ -130,8 +133,7 @@ impl<const D: usize> Store<D> {
     pub fn picked_rows(&self, alloc: Global, condition: &Filter) -> Result<Vec<Row<D>>, AllocError>
         ensures { IfOk result (λ rows. rows.items ≡ map leaf_row (filter (admits condition.now) self.now.rows)) }
     {
-        // The table has three axes at most.
-        let _ = self.len();
+        self.facts();
         if let Some(id) = condition.id() {
             return Ok(self.select_by_id(alloc, condition, &id)?.rows);
         }
@@ -147,8 +149,7 @@ impl<const D: usize> Store<D> {
     pub fn picked(&self, alloc: Global, condition: &Filter) -> Result<Vec<i64>, AllocError>
         ensures { IfOk result (λ ids. ids.items ≡ map (λ r. r.id) (filter (admits condition.now) self.now.rows)) }
     {
-        // The table has three axes at most.
-        let _ = self.len();
+        self.facts();
         let rows = self.picked_rows(alloc, condition)?;
         ids_of(alloc, &rows)
     }
@@ -166,7 +167,7 @@ impl<const D: usize> Store<D> {
         ensures visited { IfOk result (λ selected. (window : List Interval) → IsUnlimited D window → Visits self.now.tree window selected.visited) }
     {
         // The tree is in shape, and its cells have boxes.
-        let _ = self.len();
+        self.facts();
         self.tree.has_boxes();
         let mut rows = Vec::new(alloc);
         if let Some(row) = self.passing_row(condition, id) {
@@ -188,8 +189,7 @@ impl<const D: usize> Store<D> {
         ensures rows { IfOk result (λ selected. selected.rows.items ≡ map leaf_row (filter (admits condition.now) self.now.rows)) }
         ensures visited { IfOk result (λ selected. (window : List Interval) × IsWindowAt D condition.now window × Visits self.now.tree window selected.visited) }
     {
-        // The table has three axes at most.
-        let _ = self.len();
+        self.facts();
         let window = condition.window();
         match condition.id() {
             Some(id) if window == Window::all() => self.select_by_id(alloc, condition, &id),

@@ -1,4 +1,7 @@
 //! The largest id.
+//!
+//! The ids stand in a heap, the greatest on top. An id whose row has left stays in it until it comes to the top,
+//! or until the heap is built anew (`specs/Ranked.antt`).
 
 ghost use Rattle.std.specs.Prelude.{◌≡◌, ◌≤◌, ◌<◌, ◌+◌, ◌&&◌, ◌||◌, ℤ, [], true, length, is_some, vec_len, IfOk, OnOk, IsSome};
 ghost use Rattle.std.specs.BinaryHeap.{IsHeap, heap_items, heap_len, heap_capacity};
@@ -160,7 +163,7 @@ impl Largest {
     }
 
     /// Notes the id of a row that came. It takes no memory.
-    pub(crate) fn note(&mut self, id: &i64)
+    pub(crate) fn push(&mut self, id: &i64)
         requires { 1 ≤ self.old.room }
         ensures ids { (other : ℤ) → list_any (int_eq other) self.new.ids ≡ (int_eq other id.now || list_any (int_eq other) self.old.ids) }
         ensures room { self.old.room ≤ self.new.room + 1 }

@@ -1,4 +1,7 @@
 //! Rows in a tree.
+//!
+//! No list of the rows is kept: the tree has ids and boxes, and a map by id has the auxiliary values. Contracts
+//! put both together as the list of rows (`specs/StoreInside.antt`).
 
 ghost use Rattle.std.specs.Prelude.{◌≡◌, ◌≢◌, ◌⊎◌, ◌≤◌, ◌<◌, ◌+◌, ℤ, [], None, Some, true, false, length, IfOk, OnOk};
 ghost use Rattle.std.specs.Option.{option_map, unwrap_or};
@@ -8,10 +11,10 @@ ghost use Rattle.rt_tree_node.specs.declared.arena.Work.{Work};
 ghost use Rattle.rt_tree.specs.Lists.{empty_lists};
 ghost use Rattle.rt_tree.specs.Changes.{IsInsertion, IsRemoval};
 ghost use Rattle.rt_table_row.specs.Rows.{TableRow, AreRising, row_at, has_id, with_row, without_id, largest_id};
-ghost use Rattle.rt_table_row.specs.Edits.{most_rows};
+ghost use Rattle.rt_table_row.specs.Edits.{Becomes, most_rows};
 ghost use Rattle.rt_table_row.specs.Entries.{row_of, view_row};
 ghost use Rattle.rt_table_store.specs.Trees.{leaf_row, IsTreeOf};
-ghost use Rattle.rt_table_store.specs.Moves.{stays};
+ghost use Rattle.rt_table_store.specs.Moves.{stays, Exchanges, TakesStep};
 
 use crate::largest::Largest;
 use indexmap::IndexMap;
@@ -26,10 +29,9 @@ use std::marker::Model;
 
 /// The rows of a table with `D` axes, from one to three, by rising id: their boxes in an R*-tree, their auxiliary values
 /// in a map by id.
-#[derive(Drop)]
 pub struct Store<const D: usize> {
     pub(crate) tree: Tree<D>,
-    notes: IndexMap<i64, Items<Value>, RandomState>,
+    auxiliary: IndexMap<i64, Items<Value>, RandomState>,
     largest: Largest,
     // No auxiliary values.
     nothing: Items<Value>,
@@ -37,59 +39,76 @@ pub struct Store<const D: usize> {
     alloc: Global,
 }
 
+// By hand, since a derived drop is written out, field by field, wherever such a value ends.
+impl<const D: usize> Drop for Store<D> {
+    fn drop(self) {
+        let Store {
+            tree: _,
+            auxiliary: _,
+            largest: _,
+            nothing: _,
+            alloc: _,
+        } = self;
+    }
+}
+
 /// The auxiliary values of the row of that id.
-fn kept<'a>(
-    notes: &'a IndexMap<i64, Items<Value>, RandomState>,
+fn auxiliary_of<'a>(
+    auxiliary: &'a IndexMap<i64, Items<Value>, RandomState>,
     nothing: &'a Items<Value>,
     id: &i64,
 ) -> &'a [Value]
     requires { nothing.now ≡ [] }
-    ensures { result.now ≡ unwrap_or (get int_eq notes.now id.now) [] }
+    ensures { result.now ≡ unwrap_or (get int_eq auxiliary.now id.now) [] }
 {
     // Most tables keep none, and no id is hashed for nothing.
-    if notes.is_empty() {
+    if auxiliary.is_empty() {
         return nothing.as_slice();
     }
-    match notes.get(id) {
-        Some(more) => more.as_slice(),
+    match auxiliary.get(id) {
+        Some(auxiliary) => auxiliary.as_slice(),
         None => nothing.as_slice(),
     }
 }
 
 /// The auxiliary values of the row of that id are these from now on. It takes no memory.
-fn keep(notes: &mut IndexMap<i64, Items<Value>, RandomState>, id: &i64, more: Items<Value>)
-    requires { (more ≡ []) ⊎ (1 ≤ spare notes.old) }
-    ensures here { unwrap_or (get int_eq notes.new id.now) [] ≡ more }
-    ensures others { (other : ℤ) → other ≢ id.now → get int_eq notes.new other ≡ get int_eq notes.old other }
-    ensures room { spare notes.old ≤ spare notes.new + 1 }
-    ensures no_note { more ≡ [] → spare notes.old ≤ spare notes.new }
+fn set_auxiliary(
+    auxiliary: &mut IndexMap<i64, Items<Value>, RandomState>,
+    id: &i64,
+    values: Items<Value>,
+)
+    requires { (values ≡ []) ⊎ (1 ≤ spare auxiliary.old) }
+    ensures here { unwrap_or (get int_eq auxiliary.new id.now) [] ≡ values }
+    ensures others { (other : ℤ) → other ≢ id.now → get int_eq auxiliary.new other ≡ get int_eq auxiliary.old other }
+    ensures room { spare auxiliary.old ≤ spare auxiliary.new + 1 }
+    ensures no_auxiliary { values ≡ [] → spare auxiliary.old ≤ spare auxiliary.new }
 {
-    if more.is_empty() {
-        if !notes.is_empty() {
-            let _ = notes.swap_remove(id);
+    if values.is_empty() {
+        if !auxiliary.is_empty() {
+            let _ = auxiliary.swap_remove(id);
         }
         return;
     }
     // There is room, so the map takes them.
-    let _ = notes.insert(*id, more);
+    let _ = auxiliary.insert(*id, values);
 }
 
 /// The auxiliary values of the row of that id, which leave the map.
-fn take(
-    notes: &mut IndexMap<i64, Items<Value>, RandomState>,
+fn take_auxiliary(
+    auxiliary: &mut IndexMap<i64, Items<Value>, RandomState>,
     alloc: Global,
     id: &i64,
 ) -> Items<Value>
-    ensures value { result ≡ unwrap_or (get int_eq notes.old id.now) [] }
-    ensures gone { get int_eq notes.new id.now ≡ None }
-    ensures others { (other : ℤ) → other ≢ id.now → get int_eq notes.new other ≡ get int_eq notes.old other }
-    ensures room { spare notes.old ≤ spare notes.new }
+    ensures value { result ≡ unwrap_or (get int_eq auxiliary.old id.now) [] }
+    ensures gone { get int_eq auxiliary.new id.now ≡ None }
+    ensures others { (other : ℤ) → other ≢ id.now → get int_eq auxiliary.new other ≡ get int_eq auxiliary.old other }
+    ensures room { spare auxiliary.old ≤ spare auxiliary.new }
 {
-    if notes.is_empty() {
+    if auxiliary.is_empty() {
         return Items::new(alloc);
     }
-    match notes.swap_remove(id) {
-        Some(more) => more,
+    match auxiliary.swap_remove(id) {
+        Some(auxiliary) => auxiliary,
         None => Items::new(alloc),
     }
 }
@@ -122,7 +141,7 @@ impl<const D: usize> Store<D> {
         let tree = Tree::new(alloc, keys, capacity)?;
         Ok(Store {
             tree,
-            notes: IndexMap::with_hasher(alloc, keys),
+            auxiliary: IndexMap::with_hasher(alloc, keys),
             largest: Largest::new(alloc),
             nothing: Items::new(alloc),
             alloc,
@@ -131,7 +150,15 @@ impl<const D: usize> Store<D> {
 
     /// How many rows there are.
     pub fn len(&self) -> usize
-        ensures value { result ≡ length self.now.rows }
+        ensures { result ≡ length self.now.rows }
+    {
+        self.tree.is_in_shape();
+        self.tree.len()
+    }
+
+    /// A law: what holds of every store. The ids of the rows rise, the tree has their boxes, there are at most as many as a
+    /// table may have, and one to three axes. The call does nothing.
+    pub fn facts(&self)
         ensures rising { AreRising self.now.rows }
         ensures stands { IsTreeOf self.now.rows self.now.tree }
         ensures most { length self.now.rows ≤ most_rows }
@@ -139,11 +166,11 @@ impl<const D: usize> Store<D> {
         ensures few { D ≤ 3 }
     {
         self.tree.is_in_shape();
-        self.tree.len()
+        let _ = self.tree.len();
     }
 
     /// The row of that id, where it stands.
-    pub fn find(&self, id: &i64) -> Option<RowView<'_, D>>
+    pub fn get(&self, id: &i64) -> Option<RowView<'_, D>>
         ensures { option_map view_row result ≡ row_at self.now.rows id.now }
     {
         // The row of an id has the box that the tree has.
@@ -152,7 +179,7 @@ impl<const D: usize> Store<D> {
         Some(RowView {
             id: *id,
             rect,
-            more: kept(&self.notes, &self.nothing, id),
+            auxiliary: auxiliary_of(&self.auxiliary, &self.nothing, id),
         })
     }
 
@@ -165,7 +192,7 @@ impl<const D: usize> Store<D> {
         RowView {
             id: row.id,
             rect: row.rect,
-            more: kept(&self.notes, &self.nothing, &row.id),
+            auxiliary: auxiliary_of(&self.auxiliary, &self.nothing, &row.id),
         }
     }
 
@@ -193,7 +220,7 @@ impl<const D: usize> Store<D> {
         ensures rows { self.new.rows ≡ self.old.rows }
         ensures tree { self.new.tree ≡ self.old.tree }
         ensures room { self.old.room ≤ self.new.room }
-        ensures note_room { self.new.note_room ≡ self.old.note_room }
+        ensures auxiliary_room { self.new.auxiliary_room ≡ self.old.auxiliary_room }
         ensures ok { OnOk result (rows ≤ self.new.room) }
     {
         if rows <= self.tree.spare() {
@@ -213,64 +240,73 @@ impl<const D: usize> Store<D> {
     /// # Errors
     ///
     /// `AllocError` where no memory is left.
-    pub fn reserve(&mut self, alloc: Global, rows: usize, notes: usize) -> Result<(), AllocError>
+    pub fn reserve(
+        &mut self,
+        alloc: Global,
+        rows: usize,
+        auxiliary: usize,
+    ) -> Result<(), AllocError>
         ensures rows { self.new.rows ≡ self.old.rows }
         ensures tree { self.new.tree ≡ self.old.tree }
         ensures room { self.old.room ≤ self.new.room }
-        ensures note_room { self.old.note_room ≤ self.new.note_room }
+        ensures auxiliary_room { self.old.auxiliary_room ≤ self.new.auxiliary_room }
         ensures ok { OnOk result (rows ≤ self.new.room) }
-        ensures notes { OnOk result (notes ≤ self.new.note_room) }
+        ensures auxiliary { OnOk result (auxiliary ≤ self.new.auxiliary_room) }
     {
         self.make_room(alloc, rows)?;
-        if notes == 0 {
+        if auxiliary == 0 {
             return Ok(());
         }
-        self.notes.reserve(notes)?;
+        self.auxiliary.reserve(auxiliary)?;
         Ok(())
     }
 
     /// Places a row. It takes no memory.
-    pub fn place(&mut self, row: Entry<D>)
+    pub fn insert(&mut self, row: Entry<D>)
         requires absent { has_id self.old.rows row.id ≡ false }
         requires few { length self.old.rows < most_rows }
         requires room { 1 ≤ self.old.room }
-        requires note_room { (row.more ≡ []) ⊎ (1 ≤ self.old.note_room) }
+        requires auxiliary_room { (row.auxiliary ≡ []) ⊎ (1 ≤ self.old.auxiliary_room) }
         ensures rows { self.new.rows ≡ with_row self.old.rows (row_of row.entry) }
         ensures tree { (work : Work) × IsInsertion self.old.tree self.new.tree row.entry.id row.entry.rect work }
         ensures capacity { self.new.tree.capacity ≡ self.old.tree.capacity }
         ensures room { self.old.room ≤ self.new.room + 1 }
-        ensures note_room { self.old.note_room ≤ self.new.note_room + 1 }
-        ensures no_note { row.entry.more ≡ [] → self.old.note_room ≤ self.new.note_room }
+        ensures auxiliary_room { self.old.auxiliary_room ≤ self.new.auxiliary_room + 1 }
+        ensures no_auxiliary { row.entry.auxiliary ≡ [] → self.old.auxiliary_room ≤ self.new.auxiliary_room }
     {
         // The law says before and after which ids the tree has.
         self.tree.is_in_shape();
-        let Entry { id, rect, more } = row;
+        let Entry {
+            id,
+            rect,
+            auxiliary,
+        } = row;
         let _ = self.tree.insert(&id, &rect);
         self.tree.is_in_shape();
-        self.largest.note(&id);
-        keep(&mut self.notes, &id, more);
+        self.largest.push(&id);
+        set_auxiliary(&mut self.auxiliary, &id, auxiliary);
     }
 
     /// Takes out the row of that id. It takes no memory.
-    pub fn take_out(&mut self, id: &i64) -> Entry<D>
+    pub fn remove(&mut self, id: &i64) -> Entry<D>
         requires { has_id self.old.rows id.now ≡ true }
         ensures row { Some (row_of result) ≡ row_at self.old.rows id.now }
         ensures rows { self.new.rows ≡ without_id self.old.rows id.now }
         ensures tree { IsRemoval self.old.tree self.new.tree id.now result.rect }
         ensures capacity { self.new.tree.capacity ≡ self.old.tree.capacity }
         ensures room { self.old.room ≤ self.new.room }
-        ensures note_room { self.old.note_room ≤ self.new.note_room }
+        ensures auxiliary_room { self.old.auxiliary_room ≤ self.new.auxiliary_room }
     {
         // The law says before and after which ids the tree has.
         self.tree.is_in_shape();
         let rect = self.tree.remove(id);
         self.tree.is_in_shape();
         self.largest.settle(&self.tree);
-        let more = take(&mut self.notes, self.alloc, id);
+        let auxiliary = take_auxiliary(&mut self.auxiliary, self.alloc, id);
         Entry {
             id: *id,
             rect,
-            more,
+            auxiliary,
         }
     }
 
@@ -289,30 +325,31 @@ impl<const D: usize> Store<D> {
     }
 
     /// The row of that id has these auxiliary values from now on. It takes no memory.
-    fn exchange_notes(&mut self, id: &i64, more: Items<Value>)
+    fn replace_auxiliary(&mut self, id: &i64, auxiliary: Items<Value>)
         requires there { has_id self.old.rows id.now ≡ true }
-        requires note_room { (more ≡ []) ⊎ (1 ≤ self.old.note_room) }
-        ensures rows { (row : TableRow) → option_map (λ old. old.box) (row_at self.old.rows id.now) ≡ Some row.box → row.id ≡ id.now → row.more ≡ more → self.new.rows ≡ with_row (without_id self.old.rows id.now) row }
+        requires auxiliary_room { (auxiliary ≡ []) ⊎ (1 ≤ self.old.auxiliary_room) }
+        ensures rows { (row : TableRow) → option_map (λ old. old.box) (row_at self.old.rows id.now) ≡ Some row.box → row.id ≡ id.now → row.auxiliary ≡ auxiliary → self.new.rows ≡ with_row (without_id self.old.rows id.now) row }
         ensures tree { self.new.tree ≡ self.old.tree }
         ensures room { self.old.room ≤ self.new.room }
-        ensures note_room { self.old.note_room ≤ self.new.note_room + 1 }
-        ensures no_note { more ≡ [] → self.old.note_room ≤ self.new.note_room }
+        ensures auxiliary_room { self.old.auxiliary_room ≤ self.new.auxiliary_room + 1 }
+        ensures no_auxiliary { auxiliary ≡ [] → self.old.auxiliary_room ≤ self.new.auxiliary_room }
     {
         self.tree.is_in_shape();
-        keep(&mut self.notes, id, more);
+        set_auxiliary(&mut self.auxiliary, id, auxiliary);
     }
 
     /// The row of that id has this box and these auxiliary values from now on: its box is removed, and the new one inserted.
     /// The ids stay, and the largest of them. It takes no memory.
-    fn move_row(&mut self, id: &i64, rect: &Rect<D>, more: Items<Value>)
+    fn move_row(&mut self, id: &i64, rect: &Rect<D>, auxiliary: Items<Value>)
         requires there { has_id self.old.rows id.now ≡ true }
         requires room { 1 ≤ self.old.room }
-        requires note_room { (more ≡ []) ⊎ (1 ≤ self.old.note_room) }
-        ensures rows { (row : TableRow) → row.id ≡ id.now → row.box ≡ rect.now → row.more ≡ more → self.new.rows ≡ with_row (without_id self.old.rows id.now) row }
+        requires auxiliary_room { (auxiliary ≡ []) ⊎ (1 ≤ self.old.auxiliary_room) }
+        ensures rows { (row : TableRow) → row.id ≡ id.now → row.box ≡ rect.now → row.auxiliary ≡ auxiliary → self.new.rows ≡ with_row (without_id self.old.rows id.now) row }
+        ensures tree { (row : TableRow) → row.id ≡ id.now → row.box ≡ rect.now → Exchanges self.old.rows id.now row self.old.tree self.new.tree }
         ensures capacity { self.new.tree.capacity ≡ self.old.tree.capacity }
         ensures room { self.old.room ≤ self.new.room + 1 }
-        ensures note_room { self.old.note_room ≤ self.new.note_room + 1 }
-        ensures no_note { more ≡ [] → self.old.note_room ≤ self.new.note_room }
+        ensures auxiliary_room { self.old.auxiliary_room ≤ self.new.auxiliary_room + 1 }
+        ensures no_auxiliary { auxiliary ≡ [] → self.old.auxiliary_room ≤ self.new.auxiliary_room }
     {
         // The law says before, between and after which ids the tree has.
         self.tree.is_in_shape();
@@ -320,35 +357,36 @@ impl<const D: usize> Store<D> {
         self.tree.is_in_shape();
         let _ = self.tree.insert(id, rect);
         self.tree.is_in_shape();
-        keep(&mut self.notes, id, more);
+        set_auxiliary(&mut self.auxiliary, id, auxiliary);
     }
 
     /// Puts a row in the place of the one of that id. Where id and box stay, the tree is left alone, and where the id stays,
     /// so does what is known of the largest. It takes no memory.
-    pub fn exchange(&mut self, id: &i64, row: Entry<D>)
+    pub fn replace(&mut self, id: &i64, row: Entry<D>)
         requires there { has_id self.old.rows id.now ≡ true }
         requires absent { has_id (without_id self.old.rows id.now) row.id ≡ false }
         requires room { 1 ≤ self.old.room }
-        requires note_room { (row.more ≡ []) ⊎ (1 ≤ self.old.note_room) }
+        requires auxiliary_room { (row.auxiliary ≡ []) ⊎ (1 ≤ self.old.auxiliary_room) }
         ensures rows { self.new.rows ≡ with_row (without_id self.old.rows id.now) (row_of row.entry) }
-        ensures tree { stays self.old.rows id.now (row_of row.entry) ≡ true → self.new.tree ≡ self.old.tree }
+        ensures tree { TakesStep self.old.rows (Becomes id.now (row_of row.entry)) self.old.tree self.new.tree }
         ensures capacity { self.new.tree.capacity ≡ self.old.tree.capacity }
         ensures room { self.old.room ≤ self.new.room + 1 }
-        ensures note_room { self.old.note_room ≤ self.new.note_room + 1 }
-        ensures no_note { row.entry.more ≡ [] → self.old.note_room ≤ self.new.note_room }
+        ensures auxiliary_room { self.old.auxiliary_room ≤ self.new.auxiliary_room + 1 }
+        ensures no_auxiliary { row.entry.auxiliary ≡ [] → self.old.auxiliary_room ≤ self.new.auxiliary_room }
     {
         // There are few enough rows, and fewer once the old one is out.
-        let _ = self.len();
+        self.facts();
         if self.stays(id, &row) {
-            self.exchange_notes(id, row.more);
+            self.replace_auxiliary(id, row.auxiliary);
             return;
         }
         if *id == row.id {
             let rect = row.rect;
-            self.move_row(id, &rect, row.more);
+            self.move_row(id, &rect, row.auxiliary);
             return;
         }
-        let _ = self.take_out(id);
-        self.place(row);
+        let _ = self.remove(id);
+        self.facts();
+        self.insert(row);
     }
 }

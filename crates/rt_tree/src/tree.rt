@@ -1,4 +1,7 @@
-//! A tree.
+//! A tree: an arena of nodes, and how many more rows it has room for.
+//!
+//! Rows come and go without taking memory: `reserve` makes room for the nodes of any tree with so many rows.
+//! Between two calls no cell waits and no node is out of shape (`IsKept` in `specs/TreeInside.antt`).
 
 ghost use Rattle.std.specs.Prelude.{◌≡◌, ◌<◌, ◌≤◌, ◌+◌, ◌-◌, ◌*◌, ◌/◌, ◌^◌, max, length, Some, None, IsSome, IfOk, OnOk};
 ghost use Rattle.rt_box.specs.Capacity.{least_fill};
@@ -28,7 +31,7 @@ const NODES_AHEAD: usize = 33;
 const MOST_NODES: usize = 1 << 62;
 
 /// The most rows that room is asked for. No machine holds more.
-const MOST_ROWS: usize = 1 << 42;
+const MOST_ROOM: usize = 1 << 42;
 
 /// The most rows that a tree may have.
 const FULL: usize = 1 << 20;
@@ -45,10 +48,16 @@ fn point<const D: usize>() -> Rect<D>
 }
 
 /// An R*-tree of rows, each an id and a box of `D` axes. No id is there twice.
-#[derive(Drop)]
 pub struct Tree<const D: usize> {
     arena: Arena<D>,
     spare: usize,
+}
+
+// By hand, since a derived drop is written out, field by field, wherever such a value ends.
+impl<const D: usize> Drop for Tree<D> {
+    fn drop(self) {
+        let Tree { arena: _, spare: _ } = self;
+    }
 }
 
 // Clauses see the tree from outside.
@@ -257,7 +266,7 @@ impl<const D: usize> Tree<D> {
         if more <= self.spare {
             return Ok(());
         }
-        if more > MOST_ROWS {
+        if more > MOST_ROOM {
             return Err(AllocError);
         }
         let rows = self.arena.leaves.len();

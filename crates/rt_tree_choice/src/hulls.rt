@@ -1,3 +1,8 @@
+//! The least box around some boxes, and around the groups that each cut makes of them.
+//!
+//! The groups of all cuts of an order take two passes, one from the front and one from the back
+//! (`specs/Hull.antt`).
+
 ghost use Rattle.std.specs.Prelude.{◌≡◌, ◌<◌, ◌≤◌, length, All};
 ghost use Rattle.rt_tree_choice.specs.Hull.{hull, AreFronts, AreBacks};
 
@@ -5,7 +10,7 @@ use super::MOST_CELLS;
 use rt_box::Rect;
 
 /// The least box that holds all of them.
-pub(super) fn hull_of<const D: usize>(boxes: &[Rect<D>]) -> Rect<D>
+pub fn hull_of<const D: usize>(boxes: &[Rect<D>]) -> Rect<D>
     requires { 0 < length boxes.now }
     ensures { result ≡ hull boxes.now }
 {

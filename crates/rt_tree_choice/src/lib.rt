@@ -6,6 +6,7 @@
 //! - `choose_split`: the `Cut` of an overfull node's cells (section 4.2); `sorted_positions` gives the
 //!   order along an axis that the cut speaks of.
 //! - `farthest`: the positions of the cells that are taken out to be inserted again (section 4.3).
+//! - `hull_of`: the least box around some boxes.
 //! - `laws` says that the hull of some boxes is the least box around them, and that the orders which the
 //!   choices cite are sorted, and the only ones that are.
 //!
@@ -23,6 +24,7 @@ mod sorting;
 mod split;
 mod subtree;
 
+pub use hulls::hull_of;
 pub use reinsertion::farthest;
 pub use sorting::sorted_positions;
 pub use split::{Cut, choose_split};

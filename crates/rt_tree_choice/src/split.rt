@@ -1,3 +1,8 @@
+//! How the cells of an overfull node are cut into two groups.
+//!
+//! The axis is chosen first, by the sum of the margins over all of its cuts. Of its cuts the one whose boxes have
+//! the least area in common wins, and of those the one of least area in all (`specs/Split.antt`).
+
 ghost use Rattle.std.specs.Prelude.{◌≡◌, ◌+◌, ◌*◌, ◌^◌, ◌<◌, ◌≤◌, ◌↔◌, length, IsTrue};
 ghost use Rattle.rt_box.specs.Capacity.{least_fill};
 ghost use Rattle.rt_box.specs.Rect.{area, margin, overlap};

@@ -1,3 +1,8 @@
+//! The cell of a node that a new box goes into.
+//!
+//! Where the children are leaves, overlap counts first. The search begins with a likely cell and gives each other
+//! one up as soon as it costs more; the choice is that of the costs in full (`specs/Subtree.antt`).
+
 ghost use Rattle.std.specs.Prelude.{◌≡◌, ◌+◌, ◌*◌, ◌^◌, ◌<◌, ◌≤◌, ◌≢◌, ◌↔◌, length, sum_by, IsTrue, IfSome, MatchOption, true};
 ghost use Rattle.rt_box.specs.Rect.{area, overlap, union_box, Holds};
 ghost use Rattle.rt_tree_choice.specs.Hull.{box_at};

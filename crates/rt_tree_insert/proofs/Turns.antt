@@ -48,7 +48,7 @@ module _ {D : ℕ} where
     pub ids : KeepsIds old.leaves now.leaves
     pub capacity : now.capacity ≡ old.capacity
     pub room : now.nodes.capacity ≡ old.nodes.capacity
-    pub waiting_room : vec_capacity old.waiting ≤ vec_capacity now.waiting
+    pub waiting_room : vec_capacity now.waiting ≡ vec_capacity old.waiting
     pub branched : IsBranched old → IsBranched now
     pub placements : vec_len now.waiting + work.placements ≡ vec_len old.waiting + reinsertion_share old.capacity * work.reinsertions
     pub few : work.reinsertions ≤ marks

@@ -36,7 +36,7 @@ module _ {D : ℕ} where
     pub ids : GainsId old.leaves new.leaves id
     pub capacity : new.capacity ≡ old.capacity
     pub room : new.nodes.capacity ≡ old.nodes.capacity
-    pub waiting_room : vec_capacity old.waiting ≤ vec_capacity new.waiting
+    pub waiting_room : vec_capacity new.waiting ≡ vec_capacity old.waiting
     pub leaf : ℕ
     pub path : List ℕ
     pub leads : LeadsTo old.nodes old.level old.root rect leaf path

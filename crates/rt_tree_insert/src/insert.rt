@@ -1,4 +1,7 @@
 //! The insertion of a row.
+//!
+//! The row waits as a cell of level 0 and is placed like any other. Its id is in the map before that, so placing
+//! it takes no memory (`specs/Insertion.antt`).
 
 ghost use Rattle.std.specs.Prelude.{◌≡◌, ◌+◌, ◌^◌, ◌<◌, ◌≤◌, [], None, vec_len, vec_capacity};
 ghost use Rattle.std.specs.Ordering.{int_eq};
@@ -13,7 +16,7 @@ use rt_box::Rect;
 use rt_tree_node::{Arena, Cell, Waiting, Work};
 use std::hash::RandomState;
 
-/// AwaitsLeaf an id that isn't in the map.
+/// Gives an id that isn't in the map a leaf.
 fn learn(leaves: &mut IndexMap<i64, usize, RandomState>, id: &i64, leaf: usize)
     requires absent { leaf_of int_eq leaves.old id.now ≡ None }
     requires room { 1 ≤ spare leaves.old }

@@ -1,4 +1,6 @@
 //! What holds of each whole tree. Each function does nothing: its contract is the law.
+//!
+//! Callers show by these laws that nodes, levels and waiting cells stay within the room that was made for them.
 
 ghost use Rattle.std.specs.Prelude.{ℕ, ◌+◌, ◌-◌, ◌/◌, ◌^◌, ◌≤◌, vec_len};
 ghost use Rattle.slab.specs.Slab.{slab_len, HasRoomFor};

@@ -1,4 +1,7 @@
 //! The placing of all waiting cells.
+//!
+//! Cells of all levels wait in one list, and the last is placed first. Cells that an overfull node gives up
+//! meanwhile join its end, so they are placed before the others (`specs/Settling.antt`).
 
 ghost use Rattle.std.specs.Prelude.{◌≡◌, ◌+◌, ◌^◌, ◌<◌, ◌≤◌, [], ◌∷◌, vec_len, vec_capacity};
 ghost use Rattle.rt_tree_node.specs.declared.cell.Cell.{Cell};

@@ -16,5 +16,5 @@ module _ {D : ℕ} where
     pub ids : KeepsIds old.leaves new.leaves
     pub capacity : new.capacity ≡ old.capacity
     pub room : new.nodes.capacity ≡ old.nodes.capacity
-    pub waiting_room : vec_capacity old.waiting ≤ vec_capacity new.waiting
+    pub waiting_room : vec_capacity new.waiting ≡ vec_capacity old.waiting
     pub branched : IsBranched old → IsBranched new

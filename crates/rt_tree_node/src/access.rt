@@ -1,9 +1,10 @@
 //! Reading and writing one node of a slab.
+//!
+//! A call that writes changes the node at its key and no other (`Changes` in `specs/Changes.antt`).
 
 ghost use Rattle.std.specs.Prelude.{◌≡◌, ◌+◌, ◌<◌, ◌≤◌, All, Some, IsSome, [], ◌∷◌, ◌++◌, length, slice_set, remove};
 ghost use Rattle.slab.specs.Slab.{get, ContainsKey};
 ghost use Rattle.rt_box.specs.Rect.{IsBox};
-ghost use Rattle.rt_tree_choice.specs.Hull.{hull};
 ghost use Rattle.rt_tree_node.specs.Places.{cells_at, hull_at, picked};
 ghost use Rattle.rt_tree_node.specs.Changes.{Changes};
 ghost use Rattle.std.specs.Ordering.{int_eq};
@@ -14,6 +15,7 @@ use crate::cell::Cell;
 use crate::node::Node;
 use indexmap::IndexMap;
 use rt_box::Rect;
+use rt_tree_choice::hull_of;
 use slab::Slab;
 use std::hash::RandomState;
 use std::mem;
@@ -66,15 +68,6 @@ pub fn remove_cell<const D: usize>(nodes: &mut Slab<Node<D>>, key: usize, at: us
     node.remove(at);
 }
 
-/// Takes out all cells.
-pub fn clear_cells<const D: usize>(nodes: &mut Slab<Node<D>>, key: usize)
-    requires { ContainsKey nodes.old key }
-    ensures { Changes (λ n. record n { cells = [] }) nodes.old nodes.new key }
-{
-    let node = &mut nodes[key];
-    node.clear();
-}
-
 /// Notes the leaf that a row lies in now.
 pub fn set_leaf(leaves: &mut IndexMap<i64, usize, RandomState>, id: &i64, leaf: usize)
     requires { IsSome (leaf_of int_eq leaves.old id.now) }
@@ -124,17 +117,5 @@ pub fn hull_at<const D: usize>(nodes: &Slab<Node<D>>, key: usize) -> Rect<D>
 {
     let hull = hull_of(node_at(nodes, key).boxes());
     let _ = hull.axes();
-    hull
-}
-
-/// The least box that holds all of them.
-fn hull_of<const D: usize>(boxes: &[Rect<D>]) -> Rect<D>
-    requires { 1 ≤ length boxes.now }
-    ensures { result ≡ hull boxes.now }
-{
-    let mut hull = boxes[0];
-    for place in 1..boxes.len() {
-        hull = hull.union(&boxes[place]);
-    }
     hull
 }

@@ -1,3 +1,8 @@
+//! The arena of a tree: its nodes by key, and what goes with them.
+//!
+//! The type has no invariant, since a node may be out of shape in the middle of a change. Contracts say what
+//! holds: `IsWhole` in `specs/Whole.antt` between two placements.
+
 use crate::cell::Waiting;
 use crate::node::Node;
 use indexmap::IndexMap;

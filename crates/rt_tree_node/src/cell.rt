@@ -1,4 +1,6 @@
 //! What stands in a node, and what waits to be placed.
+//!
+//! The number of a cell is a row's id in a leaf, and a child's key above the leaves.
 
 ghost use Rattle.std.specs.Prelude.{◌≡◌, ◌^◌, ◌<◌, pos, unsigned_abs};
 ghost use Rattle.rt_tree_node.specs.Places.{key_of as key_in};

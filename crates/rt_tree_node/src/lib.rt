@@ -15,8 +15,7 @@ mod cell;
 mod node;
 
 pub use access::{
-    add_cell, add_cells, clear_cells, hull_at, node_at, remove_cell, set_cell, set_leaf,
-    set_parent, take_cells,
+    add_cell, add_cells, hull_at, node_at, remove_cell, set_cell, set_leaf, set_parent, take_cells,
 };
 pub use arena::{Arena, Work};
 pub use cell::{Cell, Waiting, key_of, number_of};

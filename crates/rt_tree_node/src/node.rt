@@ -1,3 +1,8 @@
+//! A node: its level, its parent's key, and its cells.
+//!
+//! Numbers and boxes stand in two arrays, so a search reads boxes alone. Contracts see one list of cells
+//! (`specs/NodeInside.antt`).
+
 ghost use Rattle.std.specs.Prelude.{◌≡◌, ◌≢◌, ℕ, pos, All, ◌+◌, ◌<◌, ◌≤◌, [], ◌∷◌, ◌++◌, map, length, slice_index_or, slice_set, remove};
 ghost use Rattle.rt_tree_node.specs.declared.cell.Cell.{Cell};
 ghost use Rattle.rt_tree_node.specs.Places.{picked};
@@ -187,14 +192,6 @@ impl<const D: usize> Node<D> {
     {
         self.numbers.remove(at);
         self.boxes.remove(at);
-    }
-
-    /// Takes out all cells.
-    pub fn clear(&mut self)
-        ensures { self.new ≡ record self.old { cells = [] } }
-    {
-        self.numbers.clear();
-        self.boxes.clear();
     }
 
     /// A node of the same level and parent that has no cells.

@@ -85,7 +85,7 @@ module _ {D : ℕ} where
     pub ids : KeepsIds old.leaves new.leaves
     pub capacity : new.capacity ≡ old.capacity
     pub room : new.nodes.capacity ≡ old.nodes.capacity
-    pub waiting_room : vec_capacity old.waiting ≤ vec_capacity new.waiting
+    pub waiting_room : vec_capacity new.waiting ≡ vec_capacity old.waiting
     pub branched : IsBranched old → IsBranched new
     pub height : (new.level ≡ old.level) ⊎ (new.level ≡ suc old.level)
     pub waits : InsertsAgain old new left marks marks1 work work1 ⊎ InsertsNone new left marks marks1 work work1

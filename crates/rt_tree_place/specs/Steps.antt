@@ -57,7 +57,7 @@ module _ {D : ℕ} where
     pub share : length far ≡ reinsertion_share old.capacity
     pub nodes : Puts old.nodes new.nodes key (record n { cells = near })
     pub waiting : new.waiting.items ≡ old.waiting.items ++ waiting_at n.level far
-    pub waiting_room : vec_capacity old.waiting ≤ vec_capacity new.waiting
+    pub waiting_room : vec_capacity new.waiting ≡ vec_capacity old.waiting
     pub rest : new ≡ record old { nodes = new.nodes; waiting = new.waiting }
 
   -- the cell at the position names the node at the key
@@ -179,7 +179,7 @@ module _ {D : ℕ} where
     pub level : new.level ≡ old.level
     pub capacity : new.capacity ≡ old.capacity
     pub room : new.nodes.capacity ≡ old.nodes.capacity
-    pub waiting_room : vec_capacity old.waiting ≤ vec_capacity new.waiting
+    pub waiting_room : vec_capacity new.waiting ≡ vec_capacity old.waiting
     pub names : (z : ℕ) → times_named z (cells_at old.nodes parent) ≤ times_named z (cells_at new.nodes parent)
     pub still : length (cells_at old.nodes key) ≤ old.capacity → new ≡ old
 
@@ -256,7 +256,7 @@ module _ {D : ℕ} where
     pub level : new.level ≡ old.level
     pub capacity : new.capacity ≡ old.capacity
     pub room : new.nodes.capacity ≡ old.nodes.capacity
-    pub waiting_room : vec_capacity old.waiting ≤ vec_capacity new.waiting
+    pub waiting_room : vec_capacity new.waiting ≡ vec_capacity old.waiting
     pub top : length (cells_at old.nodes old.root) ≤ length (cells_at new.nodes new.root)
 
   -- a step up: the node is in shape, and its parent may now be out of shape; where the node wasn't overfull, only the

@@ -1,3 +1,8 @@
+//! A cell that comes into a node of its level.
+//!
+//! What the cell names then leads back to the node: a row by its entry in the map, a child by its parent
+//! (`Attaches` in `specs/Steps.antt`).
+
 ghost use Rattle.std.specs.Prelude.{◌≡◌, ◌≢◌, ◌<◌, ◌≤◌, IsSome, length};
 ghost use Rattle.std.specs.Ordering.{int_eq};
 ghost use Rattle.indexmap.specs.IndexMap.{get as leaf_of};

@@ -1,4 +1,7 @@
 //! The root at the end of a placement.
+//!
+//! A split needs a parent for the new node. So an overfull root first becomes the child of a new root, and is then
+//! split like any other node (`specs/Rise.antt`).
 
 ghost use Rattle.std.specs.Prelude.{◌+◌, ◌^◌, ◌<◌, ◌≤◌, length};
 ghost use Rattle.slab.specs.Slab.{HasRoomFor};

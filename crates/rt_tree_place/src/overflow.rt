@@ -1,3 +1,8 @@
+//! What becomes of an overfull node below the root.
+//!
+//! It gives up cells if its level isn't marked yet, which marks it, and is split otherwise. So no level gives up
+//! cells twice while the marks last (`Treats` in `specs/Steps.antt`).
+
 ghost use Rattle.std.specs.Prelude.{◌≡◌, ◌+◌, ◌^◌, ◌<◌, ◌≤◌, length, vec_len, vec_capacity};
 ghost use Rattle.slab.specs.Slab.{HasRoomFor};
 ghost use Rattle.rt_box.specs.Capacity.{least_fill};

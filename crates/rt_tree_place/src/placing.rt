@@ -1,4 +1,7 @@
 //! The placing of one waiting cell.
+//!
+//! The cell goes down to its node, the way up puts the nodes above in shape again, and an overfull root is split
+//! last (`specs/Placing.antt`).
 
 ghost use Rattle.std.specs.Prelude.{◌+◌, ◌^◌, ◌≤◌, vec_len, vec_capacity};
 ghost use Rattle.slab.specs.Slab.{HasRoomFor};

@@ -1,3 +1,7 @@
+//! The box of the cell that names a node, in the node's parent.
+//!
+//! It is to be the least box around the node's cells (`HasLeastBox` and `Refits` in `specs/Steps.antt`).
+
 ghost use Rattle.std.specs.Prelude.{◌≡◌, ℕ, ◌^◌, ◌<◌, ◌≤◌, ◌↔◌, Some, IsTrue, pos, length};
 ghost use Rattle.slab.specs.Slab.{get, ContainsKey};
 ghost use Rattle.rt_tree_node.specs.Node.{NodeCells};

@@ -1,3 +1,8 @@
+//! The cells that leave an overfull node and wait to be inserted again.
+//!
+//! Waiting cells are taken from the end of their list. So the cells are appended in reverse, and the nearest one
+//! is placed first (`GivesUp` in `specs/Steps.antt`).
+
 ghost use Rattle.std.specs.Prelude.{◌≡◌, ℕ, ◌+◌, ◌<◌, ◌≤◌, All, length, count_by, nat_eq, ◌++◌, ◌≢◌, slice_index_or, reverse, vec_len, vec_capacity, Some};
 ghost use Rattle.std.specs.List.{range_with_len};
 ghost use Rattle.std.specs.List.Sorted.{IsPermutation};
@@ -59,13 +64,13 @@ pub(crate) fn wait_for<const D: usize>(
     requires within { All (λ p. p < length from.now.cells) positions.now }
     requires room { vec_len waiting.old + length positions.now ≤ vec_capacity waiting.old }
     ensures items { waiting.new.items ≡ waiting.old.items ++ waiting_at from.now.level (picked from.now.cells (reverse positions.now)) }
-    ensures room { vec_capacity waiting.old ≤ vec_capacity waiting.new }
+    ensures room { vec_capacity waiting.new ≡ vec_capacity waiting.old }
 {
     let level = from.level();
     for back in 0..positions.len() {
         let at = positions[positions.len() - 1 - back];
         let cell = from.cell(at);
-        let _ = waiting.push(Waiting { level, cell });
+        waiting.push_reserved(Waiting { level, cell });
     }
 }
 

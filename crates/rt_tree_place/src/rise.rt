@@ -1,4 +1,7 @@
 //! The way up from a node that a cell was placed in.
+//!
+//! Only the node at hand may be out of shape (`IsRising` in `specs/Steps.antt`). The way up stops early where that
+//! node isn't overfull and the cell above it has the least box already.
 
 ghost use Rattle.std.specs.Prelude.{◌≡◌, ◌+◌, ◌^◌, ◌<◌, ◌≤◌, Some, true, length, vec_len, vec_capacity};
 ghost use Rattle.slab.specs.Slab.{HasRoomFor};
@@ -35,7 +38,7 @@ fn lift<const D: usize>(
 }
 
 /// Whether nothing is left to be done on the way up: the node isn't overfull, and the cell above it has the least box.
-fn is_at_rest<const D: usize>(tree: &Arena<D>, key: usize, parent: usize) -> bool
+fn is_relieved<const D: usize>(tree: &Arena<D>, key: usize, parent: usize) -> bool
     requires few { D ≤ 3 }
     requires rising { IsRising tree.now key }
     requires up { parent_at tree.now.nodes key ≡ Some parent }
@@ -68,7 +71,7 @@ pub(crate) fn rise<const D: usize>(
     let mut key = from;
     while let Some(parent) = node_at(&tree.nodes, key).parent() {
         // Most rows come into a leaf whose box holds them already.
-        if is_at_rest(tree, key, parent) {
+        if is_relieved(tree, key, parent) {
             return;
         }
         lift(tree, key, parent, marks, work);

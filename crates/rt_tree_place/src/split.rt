@@ -1,3 +1,8 @@
+//! An overfull node whose cells are parted between it and a new node.
+//!
+//! The first group stays. The second one moves, so the entries of its rows, or the parents of its children, change
+//! too (`Splits` in `specs/Steps.antt`).
+
 ghost use Rattle.std.specs.Prelude.{◌≡◌, ◌≢◌, ℕ, suc, ◌+◌, ◌^◌, ◌<◌, ◌≤◌, All, Some, IsSome, length, take, drop};
 ghost use Rattle.std.specs.Ordering.{int_eq};
 ghost use Rattle.indexmap.specs.IndexMap.{get as leaf_of};

@@ -43,7 +43,7 @@ module _ {D : ℕ} where
     pub ids : LosesId old.leaves new.leaves id
     pub capacity : new.capacity ≡ old.capacity
     pub room : new.nodes.capacity ≡ old.nodes.capacity
-    pub waiting_room : vec_capacity old.waiting ≤ vec_capacity new.waiting
+    pub waiting_room : vec_capacity new.waiting ≡ vec_capacity old.waiting
     pub exact : (leaf : ℕ) → leaf_of int_eq old.leaves id ≡ Some leaf →
         (leaf ≢ old.root → suc (least_fill old.capacity) ≤ length (cells_at old.nodes leaf)) →
         (at : ℕ) × LeavesLeaf old new leaf at record { number = id; rect = rect }

@@ -165,7 +165,7 @@ module _ {D : ℕ} where
     pub ids : KeepsIds old.leaves new.leaves
     pub capacity : new.capacity ≡ old.capacity
     pub room : new.nodes.capacity ≡ old.nodes.capacity
-    pub waiting_room : vec_capacity old.waiting ≤ vec_capacity new.waiting
+    pub waiting_room : vec_capacity new.waiting ≡ vec_capacity old.waiting
     pub fewer : vec_len new.waiting ≤ vec_len old.waiting
     pub branched : IsBranched old → IsBranched new
     pub still : vec_len old.waiting ≡ 0 → new ≡ old

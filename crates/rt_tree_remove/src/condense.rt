@@ -1,4 +1,7 @@
 //! The way up from a leaf that lost a row.
+//!
+//! Only the node at hand may be out of shape (`IsSoundBut` in `specs/Steps.antt`). The way up stops early where
+//! that node has enough cells and the cell above it has the least box already.
 
 ghost use Rattle.std.specs.Prelude.{◌≡◌, ◌-◌, ◌*◌, ◌^◌, ◌≤◌, Some, true, vec_capacity};
 ghost use Rattle.rt_box.specs.Capacity.{least_fill};
@@ -10,7 +13,7 @@ use rt_tree_node::{Arena, node_at};
 use rt_tree_place::has_least_box;
 
 /// Whether nothing is left to be done on the way up: the node has enough cells, and the cell above it has the least box.
-fn is_at_rest<const D: usize>(tree: &Arena<D>, key: usize, parent: usize) -> bool
+fn is_condensed<const D: usize>(tree: &Arena<D>, key: usize, parent: usize) -> bool
     requires but { IsSoundBut tree.now key }
     requires up { parent_at tree.now.nodes key ≡ Some parent }
     requires keys { tree.now.nodes.capacity ≤ 2 ^ 62 }
@@ -33,7 +36,7 @@ pub(crate) fn condense<const D: usize>(tree: &mut Arena<D>, leaf: usize)
     let mut key = leaf;
     while let Some(parent) = node_at(&tree.nodes, key).parent() {
         // Most rows lie inside their leaf's box.
-        if is_at_rest(tree, key, parent) {
+        if is_condensed(tree, key, parent) {
             return;
         }
         climb(tree, key, parent);

@@ -1,4 +1,6 @@
 //! The place of the cell that names a node.
+//!
+//! The caller shows that there is such a cell, so the call returns a place and no `Option`.
 
 ghost use Rattle.std.specs.Prelude.{◌≡◌, ◌<◌, ℤ, nat_eq, unsigned_abs, count_by, length, slice_index_or};
 

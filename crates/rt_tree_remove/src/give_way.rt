@@ -1,4 +1,7 @@
 //! The root at the end of a removal.
+//!
+//! An inner root with one cell gives way to its child, once no cell waits. One turn is enough, since the child is
+//! filled (`GivesWay` in `specs/Steps.antt`).
 
 ghost use Rattle.std.specs.Prelude.{◌≡◌, ◌<◌, ℤ, [], length, unsigned_abs, slice_index_or};
 ghost use Rattle.rt_tree_node.specs.Whole.{IsWhole};

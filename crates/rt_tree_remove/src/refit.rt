@@ -1,4 +1,7 @@
 //! One step up from a node that lost a cell.
+//!
+//! Either the node has enough cells and the box above it is fitted, or the node leaves the tree and its cells wait
+//! (`Climbs` in `specs/Steps.antt`).
 
 ghost use Rattle.std.specs.Prelude.{◌≡◌, ◌≢◌, ℕ, ◌+◌, ◌-◌, ◌*◌, ◌<◌, ◌≤◌, ◌++◌, length, vec_len, vec_capacity};
 ghost use Rattle.slab.specs.Slab.{get, ContainsKey};

@@ -1,4 +1,7 @@
 //! The removal of a row.
+//!
+//! Its steps have modules of their own, in this order: `take`, `condense`, `settle`, `give_way`.
+//! `specs/Removal.antt` says what they come to.
 
 ghost use Rattle.std.specs.Prelude.{◌≡◌, ◌+◌, ◌-◌, ◌*◌, ◌^◌, ◌++◌, ◌≤◌, [], IsSome, reverse, vec_capacity};
 ghost use Rattle.std.specs.Ordering.{int_eq};

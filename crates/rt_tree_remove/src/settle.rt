@@ -1,4 +1,7 @@
 //! The cells that wait at the end of a removal.
+//!
+//! Each cell is settled by itself, with no level marked before. So a level may give up cells again for each of
+//! them.
 
 ghost use Rattle.std.specs.Prelude.{◌≡◌, ◌+◌, ◌^◌, ◌<◌, ◌≤◌, vec_len, vec_capacity};
 ghost use Rattle.rt_tree_node.specs.Whole.{IsWhole, HasRoom, row_count};

@@ -1,4 +1,7 @@
 //! A row that leaves its leaf.
+//!
+//! The id leaves the map of leaves, and the cell its leaf. The leaf may then have one cell too few (`Takes` in
+//! `specs/Steps.antt`).
 
 ghost use Rattle.std.specs.Prelude.{◌≡◌, ℕ, [], Some, IsSome};
 ghost use Rattle.std.specs.Ordering.{int_eq};

@@ -1,4 +1,6 @@
 //! What holds of a tree from outside. Each function does nothing: its contract is the law.
+//!
+//! A sound tree is defined node by node. These laws say what follows for the list of all nodes.
 
 ghost use Rattle.std.specs.Prelude.{◌≡◌, []};
 ghost use Rattle.rt_check.specs.Conditions.{IsSound};

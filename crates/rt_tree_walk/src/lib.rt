@@ -12,6 +12,7 @@
 //! `Outside.antt`, `Preorder.antt`, `InOrder.antt`.
 #![tactic(auto)]
 
+mod ahead;
 pub mod laws;
 mod listing;
 mod outside;

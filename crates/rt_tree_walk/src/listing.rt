@@ -1,4 +1,7 @@
 //! The nodes of a tree in preorder, and their numbers.
+//!
+//! A stack of keys takes the place of recursion. Children are pushed in reverse, so that of the first cell is
+//! listed first. A node's number is its place in the list, from 1 on (`specs/Preorder.antt`).
 
 ghost use Rattle.std.specs.Prelude.{◌≡◌, ℕ, ◌<◌, ◌≤◌, ◌^◌, ◌++◌, [], ◌∷◌, All, Contains, length, map, reverse, IfOk, OnOk};
 ghost use Rattle.slab.specs.Slab.{ContainsKey};

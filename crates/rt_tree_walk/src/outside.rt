@@ -1,4 +1,7 @@
 //! A tree from outside: its nodes with numbers in the place of keys.
+//!
+//! A key is a place in the slab, which depends on what came and went before. A number is a place in preorder,
+//! which doesn't (`specs/Outside.antt`).
 
 ghost use Rattle.std.specs.Prelude.{◌≡◌, ℕ, ◌<◌, ◌≤◌, ◌^◌, ◌++◌, [], ◌∷◌, ℤ, All, Some, length, map, IfOk, OnOk};
 ghost use Rattle.std.specs.Option.{ForSome, IsSomeAnd, option_map};

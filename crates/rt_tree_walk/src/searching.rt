@@ -1,4 +1,7 @@
 //! Searches: the rows whose boxes a window admits.
+//!
+//! A stack of keys takes the place of recursion. Rows are tested by the window, and children by its reach. Tests
+//! without branches are there for speed alone, and so is `ahead` (`specs/Search.antt`).
 
 ghost use Rattle.std.specs.Prelude.{◌≡◌, ◌≤◌, ◌<◌, ◌++◌, [], All, length, take, IfOk, OnOk};
 ghost use Rattle.slab.specs.Slab.{ContainsKey};
@@ -8,19 +11,13 @@ ghost use Rattle.rt_tree_node.specs.Places.{key_of};
 ghost use Rattle.rt_tree_walk.specs.Search.{row_of, Finds};
 ghost use Rattle.rt_tree_walk.specs.Visits.{rows_at, TakesRows, TakesChildren, Visits};
 
+use crate::ahead::look_ahead;
 use rt_box::{Rect, Window};
 use rt_tree_node::{Arena, Cell, MOST_CELLS, Node, key_of, node_at};
 use std::alloc::{AllocError, Global};
 
 /// How many rows a search has room for before it finds the first one.
 const FIRST_ROOM: usize = 32;
-
-/// Of how many boxes of a leaf one is looked at ahead: as many as lie on one line of the processor's cache in two
-/// dimensions.
-const BOXES_OF_A_LINE: usize = 4;
-
-/// Of how many numbers of a leaf one is looked at ahead: as many as lie on one line of the processor's cache.
-const NUMBERS_OF_A_LINE: usize = 8;
 
 /// A row that a search found.
 #[derive(Clone, Copy, Debug)]
@@ -144,74 +141,16 @@ fn take_children<const D: usize>(
     Ok(())
 }
 
-/// How many cells the nodes at these keys have. What a node's loops end by lies on lines of its own, so it is read of all
-/// nodes before the first of those loops: else each would wait for its end before the next begins.
-fn count_cells<const D: usize>(tree: &Arena<D>, keys: &[usize]) -> usize
-    requires { D ≤ 3 }
-{
-    let mut cells: usize = 0;
-    for key in keys {
-        if let Some(node) = tree.nodes.get(*key) {
-            cells = cells.wrapping_add(node.numbers().len().min(node.boxes().len()));
-        }
-    }
-    cells
-}
-
-/// How often the least coordinate that there is stands at the beginning of a line of the node's boxes.
-fn least_boxes<const D: usize>(node: &Node<D>) -> usize {
-    let mut least: usize = 0;
-    for boxes in node.boxes().chunks(BOXES_OF_A_LINE) {
-        if let Some(rect) = boxes.first() {
-            // The contract of `axes` says that there is a first one.
-            let _ = rect.axes();
-            least = least.wrapping_add(usize::from(rect.range(0).lo == i32::MIN));
-        }
-    }
-    least
-}
-
-/// How often the least number that there is stands at the beginning of a line of the node's numbers.
-fn least_numbers<const D: usize>(node: &Node<D>) -> usize {
-    let mut least: usize = 0;
-    for numbers in node.numbers().chunks(NUMBERS_OF_A_LINE) {
-        if let Some(number) = numbers.first() {
-            least = least.wrapping_add(usize::from(*number == i64::MIN));
-        }
-    }
-    least
-}
-
-/// Looks at all leaves at these keys before the search goes into the first one, so that the waits for their memory
-/// overlap. What it asks says next to nothing of the rows to come, and makes room for hardly one: it takes one step for
-/// each line that it brings, since the fewer steps lie between two lines, the more of them are waited for at once.
-fn look_ahead<const D: usize>(
-    rows: &mut Vec<Row<D>>,
-    tree: &Arena<D>,
-    keys: &[usize],
-) -> Result<(), AllocError>
-    requires { D ≤ 3 }
-    ensures { rows.new.items ≡ rows.old.items }
-{
-    let cells = count_cells(tree, keys);
-    let mut least: usize = 0;
-    for key in keys {
-        if let Some(leaf) = tree.nodes.get(*key) {
-            least = least.wrapping_add(least_boxes(leaf));
-            least = least.wrapping_add(least_numbers(leaf));
-        }
-    }
-    rows.reserve(least.min(cells))
-}
-
 // By itself, so that the numbers of a window are read as vectors from where they stand: those of two windows don't fit
 // into the registers of the search's loop.
 
-/// Goes into the node at the key: takes a leaf's rows, or another node's children.
+/// Goes into the node at the key: takes a leaf's rows, or another node's children, and looks ahead at those that are
+/// leaves.
 #[inline(never)]
 fn visit<const D: usize>(
     rows: &mut Vec<Row<D>>,
     keys: &mut Vec<usize>,
+    seen: &mut usize,
     tree: &Arena<D>,
     key: usize,
     asked: &Asked<D>,
@@ -228,7 +167,7 @@ fn visit<const D: usize>(
     let before = keys.len();
     take_children(keys, node, asked)?;
     if node.level() == 1 {
-        look_ahead(rows, tree, &keys[before..])?;
+        look_ahead(seen, tree, &keys[before..]);
     }
     Ok(())
 }
@@ -261,8 +200,9 @@ pub fn search<const D: usize>(
         window: *window,
         reach: window.reach(),
     };
+    let mut seen = 0;
     while let Some(key) = keys.pop() {
-        visit(&mut found.rows, &mut keys, tree, key, &asked)?;
+        visit(&mut found.rows, &mut keys, &mut seen, tree, key, &asked)?;
         found.visited += 1;
     }
     Ok(found)

@@ -1,4 +1,7 @@
 //! The command line.
+//!
+//! `program` has the words, options and help texts that `clap` parses by. `asked_by` makes an `Asked` of what it
+//! found.
 
 use clap::{Arg, ArgAction, ArgMatches, Command, Error, value_parser};
 use rt_box::Capacity;
@@ -8,7 +11,9 @@ use std::alloc::{AllocError, Global};
 /// What the command line asks for, and of which file; none is the standard input.
 #[derive(Drop)]
 pub enum Asked<'a> {
+    /// `rtsh run`: the script is run with these options.
     Run(Options, Option<&'a str>),
+    /// `rtsh check`: the dump is checked.
     Check(Option<&'a str>),
 }
 

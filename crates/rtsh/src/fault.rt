@@ -1,4 +1,6 @@
 //! Why the program came to no end, and the readers and writers that remember it.
+//!
+//! A `RunFault` doesn't have the system's reason, so `Noting` keeps the last one beside it.
 
 use rt_bytes::RunFault;
 use std::alloc::AllocError;
@@ -9,10 +11,13 @@ use thiserror::Error;
 /// Why the program came to no end.
 #[derive(Clone, Copy, Debug, Error)]
 pub enum Fault<'a> {
+    /// A file couldn't be opened.
     #[error("cannot open file: {0}")]
     OpenFile(Cause<'a>),
+    /// A read, a write or a flush failed, and the system said why.
     #[error("{0}: {1}")]
     Device(RunFault, Cause<'a>),
+    /// The run came to no end, without a reason of the system.
     #[error(transparent)]
     Run(#[from] RunFault),
 }
@@ -53,7 +58,9 @@ impl<'a> From<AllocError> for Fault<'a> {
 /// What failed, a path or a device's name, and the system's reason.
 #[derive(Clone, Copy, Debug)]
 pub struct Cause<'a> {
+    /// The path, or the device's name.
     pub name: &'a str,
+    /// The system's reason.
     pub reason: io::Error,
 }
 

@@ -1,4 +1,6 @@
 //! The cases of a list.
+//!
+//! A case is a line of `data/cases.txt`. Its name is that of two files: the input, and what it must print.
 
 use rt_box::Capacity;
 use rt_bytes::Status;

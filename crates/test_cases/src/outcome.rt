@@ -1,4 +1,6 @@
 //! What a script or a dump gives, run over memory.
+//!
+//! `Parts` says how the reader gives the bytes. What is printed must not depend on it.
 
 use crate::case::Command;
 use rt_bytes::{ByteReader, OverRead, RunFault, Sink, SliceReader, Status};
@@ -30,7 +32,9 @@ impl fmt::Display for Parts {
 /// What was printed, and the status.
 #[derive(PartialEq, Drop)]
 pub struct Outcome {
+    /// All bytes that were printed.
     pub printed: Vec<u8>,
+    /// `Refused` where any of the runs refused something.
     pub status: Status,
 }
 

@@ -1,4 +1,6 @@
 //! Boxes and their measures, and the capacities of nodes.
+//!
+//! The greatest boxes of each number of axes show that no measure wraps.
 
 use rt_box::{Capacity, Interval, Rect};
 use std::test::Fail;

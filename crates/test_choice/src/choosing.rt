@@ -1,4 +1,7 @@
 //! The choices on small nodes, and the short cuts beside the costs in full.
+//!
+//! The last test draws nodes whose boxes are often flat or equal, where ties decide, and compares each choice with
+//! the first cell of least cost.
 
 ghost use Rattle.std.specs.Prelude.{◌<◌, ◌≤◌, length};
 

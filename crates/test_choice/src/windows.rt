@@ -1,12 +1,14 @@
 //! What windows admit, and their reach.
+//!
+//! A reach may admit a box that its window doesn't: then the window admits some box within it.
 
 ghost use Rattle.std.specs.Prelude.{◌<◌};
 
-use rt_box::{Op6, Rect, Window};
+use rt_box::{Operator, Rect, Window};
 use std::test::Fail;
 
 /// Whether the window of one comparison admits the box from 0 to 5, and its reach does.
-fn answers(coordinate: usize, op: Op6, value: i64) -> Option<(bool, bool)>
+fn answers(coordinate: usize, op: Operator, value: i64) -> Option<(bool, bool)>
     requires { coordinate < 2 }
 {
     let rect = Rect::new([0], [5])?;
@@ -17,25 +19,25 @@ fn answers(coordinate: usize, op: Op6, value: i64) -> Option<(bool, bool)>
 
 #[test]
 fn compares_each_way(rt: HostRuntime) {
-    assert_eq!(rt; answers(1, Op6::Ge, 5), Some((true, true)));
-    assert_eq!(rt; answers(1, Op6::Gt, 5), Some((false, false)));
-    assert_eq!(rt; answers(0, Op6::Le, 0), Some((true, true)));
-    assert_eq!(rt; answers(0, Op6::Lt, 0), Some((false, false)));
-    assert_eq!(rt; answers(0, Op6::Eq, 3), Some((false, true)));
-    assert_eq!(rt; answers(0, Op6::Ne, 0), Some((true, true)));
-    assert_eq!(rt; answers(1, Op6::Le, 4), Some((false, true)));
-    assert_eq!(rt; answers(1, Op6::Lt, 0), Some((false, false)));
+    assert_eq!(rt; answers(1, Operator::Ge, 5), Some((true, true)));
+    assert_eq!(rt; answers(1, Operator::Gt, 5), Some((false, false)));
+    assert_eq!(rt; answers(0, Operator::Le, 0), Some((true, true)));
+    assert_eq!(rt; answers(0, Operator::Lt, 0), Some((false, false)));
+    assert_eq!(rt; answers(0, Operator::Eq, 3), Some((false, true)));
+    assert_eq!(rt; answers(0, Operator::Ne, 0), Some((true, true)));
+    assert_eq!(rt; answers(1, Operator::Le, 4), Some((false, true)));
+    assert_eq!(rt; answers(1, Operator::Lt, 0), Some((false, false)));
 }
 
 #[test]
 fn compares_with_the_ends_of_64_bits(rt: HostRuntime) {
-    assert_eq!(rt; answers(0, Op6::Gt, i64::MIN), Some((true, true)));
-    assert_eq!(rt; answers(0, Op6::Lt, i64::MIN), Some((false, false)));
-    assert_eq!(rt; answers(1, Op6::Lt, i64::MAX), Some((true, true)));
-    assert_eq!(rt; answers(1, Op6::Gt, i64::MAX), Some((false, false)));
-    assert_eq!(rt; answers(0, Op6::Eq, i64::MAX), Some((false, false)));
+    assert_eq!(rt; answers(0, Operator::Gt, i64::MIN), Some((true, true)));
+    assert_eq!(rt; answers(0, Operator::Lt, i64::MIN), Some((false, false)));
+    assert_eq!(rt; answers(1, Operator::Lt, i64::MAX), Some((true, true)));
+    assert_eq!(rt; answers(1, Operator::Gt, i64::MAX), Some((false, false)));
+    assert_eq!(rt; answers(0, Operator::Eq, i64::MAX), Some((false, false)));
     assert_eq!(rt;
-        answers(0, Op6::Ge, i64::from(i32::MIN)),
+        answers(0, Operator::Ge, i64::from(i32::MIN)),
         Some((true, true))
     );
 }
@@ -45,11 +47,11 @@ fn needs_every_axis(rt: HostRuntime) -> Result<(), Fail> {
     let rect = Rect::new([0, 10, i32::MIN], [9, 12, i32::MAX]).ok_or("no box")?;
     let mut window = Window::<3>::all();
     assert!(rt; window.admits(&rect));
-    window.narrow(5, Op6::Ge, i64::from(i32::MAX));
+    window.narrow(5, Operator::Ge, i64::from(i32::MAX));
     assert!(rt; window.admits(&rect));
-    window.narrow(2, Op6::Gt, 10);
+    window.narrow(2, Operator::Gt, 10);
     assert!(rt; !window.admits(&rect) && window.reach().admits(&rect));
-    window.narrow(3, Op6::Lt, 11);
+    window.narrow(3, Operator::Lt, 11);
     assert!(rt; !window.reach().admits(&rect));
     Ok(())
 }

@@ -1,4 +1,6 @@
 //! The problems of small shadows.
+//!
+//! `two_leaves` makes a sound shadow of a root over two leaves, or one in which a cell is wrong.
 
 use rt_box::Capacity;
 use rt_check::{Condition, Items, NodeRow, Problem, RawCell, RowEntry, Shadow, ShadowFault, check};

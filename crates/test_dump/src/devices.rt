@@ -1,4 +1,6 @@
 //! Readers and writers, and the faults that some of them have.
+//!
+//! After each call the test compares the bytes and the counts, of which the contracts speak.
 
 use rt_bytes::{
     ByteReader, ByteWriter, FailingReader, FailingWriter, OneByteWriter, OverRead, OverWrite,

@@ -1,4 +1,6 @@
 //! Dumps that are read and written again, and the first fault of others.
+//!
+//! `TWO_LEAVES` is changed line by line, cut off after each byte, and tried with each value of each byte.
 
 use rt_bytes::Sink;
 use rt_check::{Problem, check};

@@ -1,4 +1,6 @@
 //! What a run, or a dump's check, has written when a read, a write or the flush fails.
+//!
+//! Each script stands beside what it prints, and beside how many bytes are read and written where an answer ends.
 
 use rt_box::Capacity;
 use rt_bytes::{

@@ -1,4 +1,7 @@
 //! Pieces of scripts, wherever a read ends.
+//!
+//! A read may end inside a quote or a comment, so `cuts` feeds each script in two parts, cut after each byte in
+//! turn.
 
 use rt_sql_cut::{Cutter, Ending};
 use std::alloc::AllocError;

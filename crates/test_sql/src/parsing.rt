@@ -1,6 +1,8 @@
 //! What is taken and what is refused, and with which number.
+//!
+//! A text stands beside the number of its refusal, which is 0 where it is a statement.
 
-use rt_sql::{Refusal, Rule, Stmt, Value, parse};
+use rt_sql::{Edit, Refusal, Rule, Stmt, Value, parse};
 use rt_sql_cut::{Ending, Piece};
 use std::alloc::Global;
 
@@ -101,11 +103,13 @@ fn an_insert_has_its_values(rt: HostRuntime) {
     let text = "REPLACE INTO T(\"a\"\"b\",c) VALUES(-5,'it''s'),(NULL,x'00fF');";
     match &answer(rt.alloc(), text) {
         Ok(
-            Stmt::Insert {
-                rule,
+            Stmt::Edit {
                 table,
-                columns,
-                rows,
+                edit: Edit::Insert {
+                    rule,
+                    columns,
+                    rows,
+                },
             },
         ) => {
             assert_eq!(&rt; *rule, Rule::Replace);

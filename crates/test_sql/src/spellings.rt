@@ -1,4 +1,7 @@
 //! Each form of the grammar in several spellings, with the statement that it is.
+//!
+//! Statements are compared by what `Debug` prints of them. The lists have them in a shorter spelling, which
+//! `in_full` expands.
 
 use rt_sql::{Refusal, parse};
 use rt_sql_cut::{Ending, Piece};
@@ -88,36 +91,36 @@ const CHANGES: [Form; 9] = [
         &[
             "insert", "into", "t", "values", "(", "null", ",", "+", "5", ",", "-", "7", ")", ";",
         ],
-        "Insert { rule: Abort, table: <t>, columns: None, rows: [[Null, Int(5), Int(-7)]] }",
+        "Edit { table: <t>, edit: Insert { rule: Abort, columns: None, rows: [[Null, Int(5), Int(-7)]] } }",
     ),
     (
         &[
             "insert", "into", "t", "(", "a", ",", "b", ")", "values", "(", "1", ")", ",", "(",
             "'it''s'", ",", "x'00fF'", ")", ";",
         ],
-        "Insert { rule: Abort, table: <t>, columns: Some([<a>, <b>]), rows: [[Int(1)], [Text(Text { text: \"it's\" }), Blob(Blob { bytes: ⟨0, 255⟩ })]] }",
+        "Edit { table: <t>, edit: Insert { rule: Abort, columns: Some([<a>, <b>]), rows: [[Int(1)], [Text(Text { text: \"it's\" }), Blob(Blob { bytes: ⟨0, 255⟩ })]] } }",
     ),
     (
         &["replace", "into", "t", "values", "(", "1", ")", ";"],
-        "Insert { rule: Replace, table: <t>, columns: None, rows: [[Int(1)]] }",
+        "Edit { table: <t>, edit: Insert { rule: Replace, columns: None, rows: [[Int(1)]] } }",
     ),
     (
         &[
             "insert", "or", "abort", "into", "t", "values", "(", "1", ")", ";",
         ],
-        "Insert { rule: Abort, table: <t>, columns: None, rows: [[Int(1)]] }",
+        "Edit { table: <t>, edit: Insert { rule: Abort, columns: None, rows: [[Int(1)]] } }",
     ),
     (
         &[
             "insert", "or", "ignore", "into", "t", "values", "(", "1", ")", ";",
         ],
-        "Insert { rule: Ignore, table: <t>, columns: None, rows: [[Int(1)]] }",
+        "Edit { table: <t>, edit: Insert { rule: Ignore, columns: None, rows: [[Int(1)]] } }",
     ),
     (
         &[
             "insert", "or", "replace", "into", "t", "values", "(", "1", ")", ";",
         ],
-        "Insert { rule: Replace, table: <t>, columns: None, rows: [[Int(1)]] }",
+        "Edit { table: <t>, edit: Insert { rule: Replace, columns: None, rows: [[Int(1)]] } }",
     ),
     (
         &[
@@ -125,18 +128,18 @@ const CHANGES: [Form; 9] = [
             "c", "-", "3", ",", "d", "=", "e", "where", "a", "is", "null", "and", "b", "is", "not",
             "null", ";",
         ],
-        "Update { table: <t>, sets: [(<a>, Literal(Int(-1))), (<b>, Plus(<b>, 2)), (<c>, Minus(<c>, 3)), (<d>, Column(<e>))], cond: [IsNull(<a>), IsNotNull(<b>)] }",
+        "Edit { table: <t>, edit: Update { sets: [(<a>, Literal(Int(-1))), (<b>, Plus(<b>, 2)), (<c>, Minus(<c>, 3)), (<d>, Column(<e>))], cond: [IsNull(<a>), IsNotNull(<b>)] } }",
     ),
     (
         &["delete", "from", "t", ";"],
-        "Delete { table: <t>, cond: [] }",
+        "Edit { table: <t>, edit: Delete { cond: [] } }",
     ),
     (
         &[
             "delete", "from", "t", "where", "a", "<", "1", "and", "a", "<=", "2", "and", "a", ">",
             "'x'", "and", "a", ">=", "x''", ";",
         ],
-        "Delete { table: <t>, cond: [Compare(Compare { column: <a>, op: Lt, value: Int(1) }), Compare(Compare { column: <a>, op: Le, value: Int(2) }), Compare(Compare { column: <a>, op: Gt, value: Text(Text { text: \"x\" }) }), Compare(Compare { column: <a>, op: Ge, value: Blob(Blob { bytes: ⟨⟩ }) })] }",
+        "Edit { table: <t>, edit: Delete { cond: [Compare(Compare { column: <a>, op: Lt, value: Int(1) }), Compare(Compare { column: <a>, op: Le, value: Int(2) }), Compare(Compare { column: <a>, op: Gt, value: Text(Text { text: \"x\" }) }), Compare(Compare { column: <a>, op: Ge, value: Blob(Blob { bytes: ⟨⟩ }) })] } }",
     ),
 ];
 

@@ -1,4 +1,6 @@
 //! Values: what equals what, and what texts and blobs give back.
+//!
+//! Each value equals itself alone: NULL equals NULL, and the integer 1 isn't the text `1`.
 
 use rt_sql::{Blob, Text, Value};
 use std::alloc::{AllocError, Global};

@@ -51,14 +51,7 @@ fn plan(alloc: Global, table: &Table<1>, statement: Stmt) -> Result<Plan<1>, Ref
     ensures { IfOk result (ApplyInTurn table.now.lists.rows) }
 {
     match statement {
-        Stmt::Insert {
-            rule,
-            columns,
-            rows,
-            ..
-        } => table.plan_insert(alloc, rule, &columns, rows.as_slice()),
-        Stmt::Update { sets, cond, .. } => table.plan_update(alloc, sets.as_slice(), cond),
-        Stmt::Delete { cond, .. } => table.plan_delete(alloc, cond),
+        Stmt::Edit { edit, .. } => table.plan(alloc, edit),
         _ => Err(Refusal::SyntaxError),
     }
 }

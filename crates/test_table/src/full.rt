@@ -1,7 +1,9 @@
 //! A table with as many rows as it may have.
+//!
+//! It refuses a new row, but takes one in the place of a row of its own.
 
 use rt_box::Capacity;
-use rt_sql::{Items, Refusal, Rule, Stmt, Value, parse};
+use rt_sql::{Edit, Items, Refusal, Rule, Stmt, Value, parse};
 use rt_sql_cut::{Ending, Piece};
 use rt_table::AnyTable;
 use rt_table_row::Schema;
@@ -25,14 +27,14 @@ fn table(alloc: Global, keys: RandomState) -> Result<AnyTable, Fail> {
 }
 
 /// Rows of these ids, each at the point 0.
-fn rows(alloc: Global, first: i64, count: i64) -> Result<Vec<Items<Value>>, AllocError> {
+fn rows(alloc: Global, first: i64, count: i64) -> Result<Items<Items<Value>>, AllocError> {
     let mut rows = Vec::new(alloc);
     for step in 0..count {
         let id = first.wrapping_add(step);
         let row = vec![in alloc; Value::Int(id), Value::Int(0), Value::Int(0)]?;
         rows.push(Items::from_vec(row))?;
     }
-    Ok(rows)
+    Ok(Items::from_vec(rows))
 }
 
 /// Whether the rows of these ids are taken; what refuses them is a full table.
@@ -43,8 +45,12 @@ fn takes(
     first: i64,
     count: i64,
 ) -> Result<bool, Fail> {
-    let rows = rows(alloc, first, count)?;
-    match table.insert(alloc, rule, &None, rows.as_slice()) {
+    let edit = Edit::Insert {
+        rule,
+        columns: None,
+        rows: rows(alloc, first, count)?,
+    };
+    match table.edit(alloc, edit) {
         Ok(_) => Ok(true),
         Err(Refusal::TableFull) => Ok(false),
         Err(_) => Err(Fail::from("refused for something else")),

@@ -1,4 +1,6 @@
 //! What a SELECT finds, and how many nodes of the table's tree its window reaches.
+//!
+//! The rows are those of `worked` in `test_tree`, whose dumps show the nodes.
 
 use rt_box::Capacity;
 use rt_sql::{Stmt, parse};
@@ -29,16 +31,10 @@ fn table(alloc: Global, keys: RandomState) -> Result<AnyTable, Fail> {
 }
 
 fn insert(alloc: Global, table: &mut AnyTable, text: &[u8]) -> Result<(), Fail> {
-    let Stmt::Insert {
-        rule,
-        columns,
-        rows,
-        ..
-    } = statement(alloc, text)?
-    else {
+    let Stmt::Edit { edit, .. } = statement(alloc, text)? else {
         return Err(Fail::from("no INSERT"));
     };
-    match table.insert(alloc, rule, &columns, rows.as_slice()) {
+    match table.edit(alloc, edit) {
         Ok(_) => Ok(()),
         Err(_) => Err(Fail::from("refused")),
     }

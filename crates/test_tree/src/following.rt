@@ -1,4 +1,6 @@
 //! A tree and its model side by side, call by call.
+//!
+//! After each insertion and removal both are compared whole, so a difference shows at the call that makes it.
 
 ghost use Rattle.std.specs.Prelude.{◌≤◌};
 
@@ -150,7 +152,7 @@ fn remove_both<const D: usize>(
     expect_same(rt, pair)
 }
 
-/// 300 rows come and go in another order, and then rows come and go by turns.
+/// 180 rows come and go in another order, and then rows come and go by turns.
 fn follows<const D: usize>(
     rt: &(impl Abort + AllocGlobal),
     keys: RandomState,
@@ -160,19 +162,19 @@ fn follows<const D: usize>(
     requires few { D ≤ 3 }
 {
     let mut pair = empty_pair::<D>(rt.alloc(), keys, most)?;
-    for id in 1..=300 {
+    for id in 1..=180 {
         insert_both(rt, &mut pair, id)?;
     }
-    for k in 1i64..=300 {
-        remove_both(rt, &mut pair, k.wrapping_mul(7) % 300 + 1)?;
+    for k in 1i64..=180 {
+        remove_both(rt, &mut pair, k.wrapping_mul(7) % 180 + 1)?;
     }
-    for id in 1i64..=150 {
+    for id in 1i64..=90 {
         insert_both(rt, &mut pair, id)?;
         if id % 3 == 0 {
             remove_both(rt, &mut pair, id / 3)?;
         }
     }
-    assert_eq!(rt; pair.tree.len(), 100);
+    assert_eq!(rt; pair.tree.len(), 60);
     Ok(())
 }
 

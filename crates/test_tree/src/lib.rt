@@ -1,4 +1,6 @@
 //! Tests of the R*-tree: dumps after worked calls, and a plain model of its rules beside it, call by call.
+//!
+//! The model in `plain` shares no code with the tree.
 #![tactic(auto)]
 
 #[cfg(test)]

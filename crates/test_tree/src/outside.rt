@@ -1,4 +1,7 @@
-//! A tree and its model from outside, each as one list of numbers: node by node in preorder, and then the rows' leaves.
+//! A tree and its model from outside, each as one list of numbers: node by node in preorder, and then the rows'
+//! leaves.
+//!
+//! Nodes are numbered by their places in preorder, since the tree's keys and the model's places differ.
 
 ghost use Rattle.std.specs.Prelude.{◌≤◌};
 

@@ -1,7 +1,9 @@
 //! Worked calls, with the dumps that the tree then has.
+//!
+//! The trees have one axis and nodes of at most 5 cells, so each can be followed by hand.
 
 use crate::following::{insert, remove};
-use rt_box::{Capacity, Op6, Rect, Window};
+use rt_box::{Capacity, Operator, Rect, Window};
 use rt_bytes::Sink;
 use rt_check_dump::{AnyShadow, write_dump};
 use rt_tree::{Tree, Work};
@@ -75,7 +77,7 @@ fn found_from(
     least: i64,
 ) -> Result<Vec<i64>, Fail> {
     let mut window = Window::<1>::all();
-    window.narrow(0, Op6::Ge, least);
+    window.narrow(0, Operator::Ge, least);
     let found = tree.search(rt.alloc(), &window)?;
     assert_eq!(rt; found.visited, 2);
     let mut ids = Vec::new(rt.alloc());

@@ -8,14 +8,14 @@ use Rattle.rt_shell.proofs.reply.write_listed.Goals as goal
 
 pub returns : goal.returns
 returns g c =
-    let more = c.args.row.now.more.now in
+    let more = c.args.row.now.auxiliary.now in
     let behind = flat_map (λ value. codes "|" ++ value_text value) (map Int c.in-Some.rest.now ++ more) in
     Writes-both _ _ _ _ _ _ _ (signed_decimal c.in-Some.first.now) behind _
     (ap (λ (ns : List ℤ). join_by value_text (codes "|") (map Int ns ++ more)) (sym c.in-Some.ensures.cases.0)) c.in_ok-write_integer.ensures c.write_more_listed.ensures
 
 pub returns-in_err-write_integer : goal.returns-in_err-write_integer
 returns-in_err-write_integer g c =
-    let more = c.args.row.now.more.now in
+    let more = c.args.row.now.auxiliary.now in
     let behind = flat_map (λ value. codes "|" ++ value_text value) (map Int c.in-Some.rest.now ++ more) in
     Writes-first _ _ _ _ _ (signed_decimal c.in-Some.first.now) behind _
     (ap (λ (ns : List ℤ). join_by value_text (codes "|") (map Int ns ++ more)) (sym c.in-Some.ensures.cases.0)) c.from_residual.ensures.0 c.in_err-write_integer.ensures

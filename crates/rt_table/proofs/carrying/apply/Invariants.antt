@@ -1,9 +1,9 @@
 use Rattle.std.proofs.Common.{◌≡◌, ◌≤◌, List, ◌++◌, map}
 use Rattle.std.specs.Vec.Iter.{into_iter_items, into_iter_len}
-use Rattle.rt_table_row.specs.Edits.{outcome}
+use Rattle.rt_table_row.specs.Edits.{Step, outcome}
 use Rattle.rt_table_row.specs.Entries.{step_of}
-use Rattle.rt_table_store.specs.Moves.{Move, moves, MayFollow}
-use Rattle.rt_table.specs.Preparing.{ApplyInTurn, places_all, notes_all}
+use Rattle.rt_table_store.specs.Moves.{TakesEach}
+use Rattle.rt_table.specs.Preparing.{ApplyInTurn, places_all, auxiliary_rows_all}
 use Rattle.rt_table.proofs.carrying.apply.Given as goal
 
 abbrev pub invariant-loop-step : goal.invariant-loop-step
@@ -11,11 +11,12 @@ invariant-loop-step g l = record {
   ends : outcome l.store.rows (map step_of (into_iter_items l.steps)) ≡ outcome l.fn.store.rows (map step_of l.fn.plan.items);
   apply : ApplyInTurn l.store.rows (map step_of (into_iter_items l.steps));
   room : places_all (map step_of (into_iter_items l.steps)) ≤ l.store.room;
-  note_room : notes_all (map step_of (into_iter_items l.steps)) ≤ l.store.note_room;
+  auxiliary_room : auxiliary_rows_all (map step_of (into_iter_items l.steps)) ≤ l.store.auxiliary_room;
   capacity : l.store.tree.capacity ≡ l.fn.store.tree.capacity;
-  done : List Move;
-  split : done ++ moves l.store.rows (map step_of (into_iter_items l.steps)) ≡ moves l.fn.store.rows (map step_of l.fn.plan.items);
-  follows : MayFollow done l.fn.store.tree l.store.tree;
+  done : List Step;
+  split : done ++ map step_of (into_iter_items l.steps) ≡ map step_of l.fn.plan.items;
+  so_far : l.store.rows ≡ outcome l.fn.store.rows done;
+  takes : TakesEach l.fn.store.rows done l.fn.store.tree l.store.tree;
 }
 
 abbrev pub decreases-loop-step : goal.decreases-loop-step

@@ -29,4 +29,4 @@ returns-clause-changes g c = λ columns kept.
     c.in_ok-changes.ensures
     ∙ rw c.as_slice.ensures.value
     (deltas_staged columns c.args.store.now.rows (outcome c.args.store.now.rows (map step_of c.args.plan.now)) c.in_ok-ids.ids.items (rows_after c.args.store.now.rows c.in_ok-fates.fates)
-    c.len.ensures.rising (rising_outcome c.args.store.now.rows (map step_of c.args.plan.now) c.len.ensures.rising) c.in_ok-ids.ensures.rising differ (c.in_ok-fates.ensures c.args.store.now.rows) c.args.views.now kept)
+    c.facts.ensures.rising (rising_outcome c.args.store.now.rows (map step_of c.args.plan.now) c.facts.ensures.rising) c.in_ok-ids.ensures.rising differ (c.in_ok-fates.ensures c.args.store.now.rows) c.args.views.now kept)

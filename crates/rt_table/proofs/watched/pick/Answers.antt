@@ -9,11 +9,11 @@ rows_found-requires g c = (
   lit< tt,
   (
     omega arith,
-    all_found g.row.D (admits c.args.condition.now) c.args.store.now.rows c.as_slice.result.now c.len.ensures.rising (c.as_slice.ensures.value ∙ c.in_ok-found.ensures.rows),
+    all_found g.row.D (admits c.args.condition.now) c.args.store.now.rows c.as_slice.result.now c.facts.ensures.rising (c.as_slice.ensures.value ∙ c.in_ok-found.ensures.rows),
   ),
 )
 
 pub returns-clause-rows : goal.returns-clause-rows
 returns-clause-rows g c =
     c.in_ok-rows.ensures
-    ∙ ap (map values_of) (found_up g.row.D (admits c.args.condition.now) c.args.store.now.rows c.as_slice.result.now c.len.ensures.rising (c.as_slice.ensures.value ∙ c.in_ok-found.ensures.rows))
+    ∙ ap (map values_of) (found_up g.row.D (admits c.args.condition.now) c.args.store.now.rows c.as_slice.result.now c.facts.ensures.rising (c.as_slice.ensures.value ∙ c.in_ok-found.ensures.rows))

@@ -8,4 +8,4 @@ pub returns : goal.returns
 returns g c =
     c.in_ok-rows.ensures
     ∙ rw c.as_slice.ensures.value
-    (ap (map values_of) (kept_looked (admits c.args.view.now.filter) c.args.store.now.rows c.in_ok-ids.ids.items c.len.ensures.rising c.in_ok-ids.ensures.rising (λ q. c.in_ok-ids.ensures.all q ∙ c.requires q)))
+    (ap (map values_of) (kept_looked (admits c.args.view.now.filter) c.args.store.now.rows c.in_ok-ids.ids.items c.facts.ensures.rising c.in_ok-ids.ensures.rising (λ q. c.in_ok-ids.ensures.all q ∙ c.requires q)))

@@ -17,6 +17,6 @@ returns-clause-ok g c =
         filter_is = subst (λ (cond : List Test). IsFilterOf c.args.columns.now cond c.in_ok-filter.filter) (sym known.cond_is) known;
         ids_are = λ q.
             c.in_ok-ids.ensures q ∙ ap (list_any (int_eq q)) (c.as_slice.ensures.value ∙ c.in_ok-found.ensures)
-            ∙ kept_ids (admits c.in_ok-filter.filter) c.args.store.now.rows c.len.ensures.rising q;
+            ∙ kept_ids (admits c.in_ok-filter.filter) c.args.store.now.rows c.facts.ensures.rising q;
       },
     )

@@ -5,5 +5,5 @@ use Rattle.rt_table_plan.proofs.delete.plan_delete.Goals as goal
 
 pub returns : goal.returns
 returns g c =
-    deletes c.args.schema.now c.args.store.now.rows c.args.cond c.in_ok-filter.filter c.in_ok-ids.ids.items c.new-2.result c.in_ok-filter.ensures c.in_ok-ids.ensures
-    (c.new-2.ensures ∙ c.in_ok-leaving.ensures ∙ ap (map (λ (id : ℤ). Leaves id)) c.as_slice.ensures.value)
+    deletes c.args.schema.now c.args.store.now.rows c.args.cond c.in_ok-filter.filter c.in_ok-ids.ids.items c.of.result c.in_ok-filter.ensures c.in_ok-ids.ensures
+    (c.of.ensures ∙ c.in_ok-leaving.ensures ∙ ap (map (λ (id : ℤ). Leaves id)) c.as_slice.ensures.value)

@@ -8,4 +8,4 @@ pub returns-in-None : goal.returns-in-None
 returns-in-None g c =
     let none : known_of c.args.draft.now c.args.id.now ≡ None = sym c.in-None.ensures in
     untouched c.args.store.now.rows (known_of c.args.draft.now) c.args.id.now c.is_some.result none
-    (c.is_some.ensures ∙ sym (found _ c.find.result) ∙ ap is_some c.find.ensures ∙ sym (has_row c.args.store.now.rows c.args.id.now))
+    (c.is_some.ensures ∙ sym (found _ c.get.result) ∙ ap is_some c.get.ensures ∙ sym (has_row c.args.store.now.rows c.args.id.now))

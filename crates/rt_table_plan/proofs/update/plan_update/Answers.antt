@@ -22,7 +22,7 @@ all_steps-requires g c = (
           search rules,
           (
             search rules,
-            all_found g.row.D (admits c.in_ok-filter.filter) c.args.store.now.rows c.as_slice.result.now c.len.ensures.rising (c.as_slice.ensures.value ∙ c.in_ok-rows.ensures),
+            all_found g.row.D (admits c.in_ok-filter.filter) c.args.store.now.rows c.as_slice.result.now c.facts.ensures.rising (c.as_slice.ensures.value ∙ c.in_ok-rows.ensures),
           ),
         ),
       ),
@@ -36,13 +36,13 @@ returns-in_err-all_steps g c =
     let rows = c.args.store.now.rows in
     let other = all_set g.row.D c.in_ok-settings.settings rows (filter_map (row_of rows) c.as_slice.result.now) in
     plans_refused (update c.args.schema.now rows c.args.sets.now c.args.cond) other c.in_err-all_steps.field-0.0 p.0 c.from_residual-in_err-all_steps.result p.1 p.2
-    (updates_on g.row.D c.args.schema.now rows c.args.sets.now c.in_ok-settings.settings c.args.cond c.in_ok-filter.filter c.as_slice.result.now c.requires c.len.ensures.rising
+    (updates_on g.row.D c.args.schema.now rows c.args.sets.now c.in_ok-settings.settings c.args.cond c.in_ok-filter.filter c.as_slice.result.now c.requires c.facts.ensures.rising
     c.in_ok-settings.ensures c.in_ok-filter.ensures (c.as_slice.ensures.value ∙ c.in_ok-rows.ensures)) c.in_err-all_steps.ensures
 
 pub returns : goal.returns
 returns g c =
     let rows = c.args.store.now.rows in
     let other = all_set g.row.D c.in_ok-settings.settings rows (filter_map (row_of rows) c.as_slice.result.now) in
-    plans_made (update c.args.schema.now rows c.args.sets.now c.args.cond) other (map step_of c.in_ok-all_steps.field-0.items) c.new-3.result
-    (updates_on g.row.D c.args.schema.now rows c.args.sets.now c.in_ok-settings.settings c.args.cond c.in_ok-filter.filter c.as_slice.result.now c.requires c.len.ensures.rising
-    c.in_ok-settings.ensures c.in_ok-filter.ensures (c.as_slice.ensures.value ∙ c.in_ok-rows.ensures)) c.in_ok-all_steps.ensures c.new-3.ensures
+    plans_made (update c.args.schema.now rows c.args.sets.now c.args.cond) other (map step_of c.in_ok-all_steps.field-0.items) c.of.result
+    (updates_on g.row.D c.args.schema.now rows c.args.sets.now c.in_ok-settings.settings c.args.cond c.in_ok-filter.filter c.as_slice.result.now c.requires c.facts.ensures.rising
+    c.in_ok-settings.ensures c.in_ok-filter.ensures (c.as_slice.ensures.value ∙ c.in_ok-rows.ensures)) c.in_ok-all_steps.ensures c.of.ensures

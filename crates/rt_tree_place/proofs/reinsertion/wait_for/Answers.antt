@@ -1,4 +1,4 @@
-use Rattle.std.proofs.Common.{ℕ, [], ◌∷◌, ◌++◌, append_assoc, arith, ap, ◌∙◌, sym}
+use Rattle.std.proofs.Common.{ℕ, [], ◌∷◌, ◌++◌, append_assoc, length, arith, ap, ◌∙◌, sym}
 use Rattle.rt_tree_node.specs.declared.cell.Waiting.{Waiting}
 use Rattle.rt_tree_place.proofs.Positions.{waits-more}
 use Rattle.rt_tree_place.proofs.reinsertion.wait_for.Goals as goal
@@ -6,14 +6,12 @@ use Rattle.rt_tree_place.proofs.reinsertion.wait_for.Goals as goal
 pub loop-back-preserved : goal.loop-back-preserved
 loop-back-preserved g c =
     let inv = c.loop-back.invariant in
-    let ok = c.push.ensures.succeeds (omega (arith, inv.room, c.loop-back-test.true)) in
-    let items = rw ok at c.push.ensures.items in
-    let len = rw ok at c.push.ensures.len in
+    let items = c.push_reserved.ensures.items in
     let at : ℕ → Waiting g.row.D = λ l. record { level = l; cell = c.cell-cell.result } in
     let more = waits-more c.args.from.now.cells c.args.positions.now c.args.from.now.level c.loop-back.back c.cell-cell.result c.loop-back-test.true c.requires.within c.cell-cell.ensures in
     record {
       items = items ∙ ap (λ l. c.loop-back.waiting.items ++ at l ∷ []) c.level-level.ensures ∙ ap (λ ws. ws ++ at c.args.from.now.level ∷ []) inv.items
           ∙ append_assoc c.args.waiting.now.items _ (at c.args.from.now.level ∷ []) ∙ ap (λ ws. c.args.waiting.now.items ++ ws) (sym more);
-      room = omega (arith, inv.room, c.push.ensures.capacity, len, c.loop-back-test.true);
-      grows = omega (arith, inv.grows, c.push.ensures.capacity);
+      room = omega (arith, inv.room, c.push_reserved.ensures.capacity, ap length items, c.loop-back-test.true);
+      stays = c.push_reserved.ensures.capacity ∙ inv.stays;
     }

@@ -7,5 +7,5 @@ abbrev pub invariant-loop-back : goal.invariant-loop-back
 invariant-loop-back g l = record {
   items : l.waiting.items ≡ l.initial.waiting.items ++ waiting_at l.from.level (picked l.from.cells (take l.back (reverse l.positions)));
   room : vec_len l.waiting + (length l.positions - l.back) ≤ vec_capacity l.waiting;
-  grows : vec_capacity l.initial.waiting ≤ vec_capacity l.waiting;
+  stays : vec_capacity l.waiting ≡ vec_capacity l.initial.waiting;
 }

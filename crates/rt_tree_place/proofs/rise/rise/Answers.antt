@@ -36,10 +36,10 @@ loop-parent-preserved g c =
     risen-more c.args.tree.now c.loop-parent.tree c.lift.new.tree c.args.from c.loop-parent.key c.in-Some.parent c.args.marks.now c.loop-parent.marks c.lift.new.marks
     c.args.work.now c.loop-parent.work c.lift.new.work c.loop-parent.invariant (ap parent_of c.node_at.ensures ∙ sym c.parent.ensures ∙ c.in-Some.is) c.lift.ensures
 
-pub returns-then-is_at_rest : goal.returns-then-is_at_rest
-returns-then-is_at_rest g c =
+pub returns-then-is_relieved : goal.returns-then-is_relieved
+returns-then-is_relieved g c =
     risen-rests c.args.tree.now c.loop-parent.tree c.args.from c.loop-parent.key c.in-Some.parent c.args.marks.now c.loop-parent.marks c.args.work.now c.loop-parent.work
-    c.loop-parent.invariant (ap parent_of c.node_at.ensures ∙ sym c.parent.ensures ∙ c.in-Some.is) (c.is_at_rest.ensures c.if-is_at_rest.true)
+    c.loop-parent.invariant (ap parent_of c.node_at.ensures ∙ sym c.parent.ensures ∙ c.in-Some.is) (c.is_relieved.ensures c.if-is_relieved.true)
 
 pub returns : goal.returns
 returns g c =

@@ -20,8 +20,8 @@ node_at-requires g c =
 pub parent-requires : goal.parent-requires
 parent-requires g c = let few : g.row.D ≤ 3 = c.loop-parent.invariant.but.axes in search rules
 
-pub is_at_rest-requires : goal.is_at_rest-requires
-is_at_rest-requires g c =
+pub is_condensed-requires : goal.is_condensed-requires
+is_condensed-requires g c =
     let t = c.loop-parent.tree in
     let keeps = c.loop-parent.invariant.keeps in
     let but : IsSoundBut t c.loop-parent.key = c.loop-parent.invariant.but in
@@ -29,10 +29,10 @@ is_at_rest-requires g c =
     let keys : t.nodes.capacity ≤ 2 ^ 62 = omega (arith, keeps.room, c.requires.keys) in
     search rules
 
-pub returns-then-is_at_rest : goal.returns-then-is_at_rest
-returns-then-is_at_rest g c =
+pub returns-then-is_condensed : goal.returns-then-is_condensed
+returns-then-is_condensed g c =
     climbing-rests c.args.tree.now c.loop-parent.tree c.args.leaf c.loop-parent.key c.in-Some.parent c.loop-parent.invariant
-    (ap parent_of c.node_at.ensures ∙ sym c.parent.ensures ∙ c.in-Some.is) (c.is_at_rest.ensures c.if-is_at_rest.true)
+    (ap parent_of c.node_at.ensures ∙ sym c.parent.ensures ∙ c.in-Some.is) (c.is_condensed.ensures c.if-is_condensed.true)
 
 pub climb-requires : goal.climb-requires
 climb-requires g c =

@@ -1,9 +1,7 @@
 use Rattle.std.proofs.Common.{refl}
-use Rattle.rt_sql_statement.specs.declared.statement.Stmt.TheVariants.{Create, Drop, Insert, Update, Delete, Select, Check, Watch, Unwatch, View, Nodes}
-use Rattle.rt_session.specs.declared.edits.Edit.{Edit}
-use Rattle.rt_session.specs.declared.edits.Edit.TheVariants.{Insert as Inserting, Update as Updating, Delete as Deleting}
+use Rattle.rt_sql_statement.specs.declared.statement.Stmt.TheVariants.{Create, Drop, Edit, Select, Check, Watch, Unwatch, View, Nodes}
+use Rattle.rt_table_row.specs.Edits.{steps_of}
 use Rattle.rt_session.specs.Session.{MayChooseFor, created, dropped, carried_out, on_table, table_of, now_watched, on_watched, watched_by, now_unwatched, viewed, selected, checked, dumped}
-use Rattle.rt_session.specs.Steps.{steps_of}
 use Rattle.rt_session.proofs.Carrying.{with_any, with_chosen}
 use Rattle.rt_session.proofs.session.Session.step.Goals as goal
 
@@ -31,20 +29,7 @@ returns-in-View c = rw c.in-View.is (with_any (on_watched (watched_by c.args.sel
 pub returns-in-Nodes : goal.returns-in-Nodes
 returns-in-Nodes c = rw c.in-Nodes.is (with_any (dumped c.args.self.now (table_of c.args.self.now c.in-Nodes.table)) _ (Nodes c.in-Nodes.table) _ _ (λ tree. refl) (λ tree. tt) c.nodes.ensures)
 
-pub returns-in-Insert : goal.returns-in-Insert
-returns-in-Insert c =
-    let found = table_of c.args.self.now c.in-Insert.table in
-    let edit : Edit = Inserting c.in-Insert.rule c.in-Insert.columns c.in-Insert.rows in
-    rw c.in-Insert.is (with_chosen (λ tree. on_table found (λ t. carried_out tree c.args.self.now c.in-Insert.table t (steps_of edit t))) (MayChooseFor found (steps_of edit)) _ (Insert c.in-Insert.rule c.in-Insert.table c.in-Insert.columns c.in-Insert.rows) _ _ (λ tree. refl) (λ tree chosen. chosen) c.edit.ensures)
-
-pub returns-in-Update : goal.returns-in-Update
-returns-in-Update c =
-    let found = table_of c.args.self.now c.in-Update.table in
-    let edit : Edit = Updating c.in-Update.sets c.in-Update.cond in
-    rw c.in-Update.is (with_chosen (λ tree. on_table found (λ t. carried_out tree c.args.self.now c.in-Update.table t (steps_of edit t))) (MayChooseFor found (steps_of edit)) _ (Update c.in-Update.table c.in-Update.sets c.in-Update.cond) _ _ (λ tree. refl) (λ tree chosen. chosen) c.edit-in-Update.ensures)
-
-pub returns-in-Delete : goal.returns-in-Delete
-returns-in-Delete c =
-    let found = table_of c.args.self.now c.in-Delete.table in
-    let edit : Edit = Deleting c.in-Delete.cond in
-    rw c.in-Delete.is (with_chosen (λ tree. on_table found (λ t. carried_out tree c.args.self.now c.in-Delete.table t (steps_of edit t))) (MayChooseFor found (steps_of edit)) _ (Delete c.in-Delete.table c.in-Delete.cond) _ _ (λ tree. refl) (λ tree chosen. chosen) c.edit-in-Delete.ensures)
+pub returns-in-Edit : goal.returns-in-Edit
+returns-in-Edit c =
+    let found = table_of c.args.self.now c.in-Edit.table in
+    rw c.in-Edit.is (with_chosen (λ tree. on_table found (λ t. carried_out tree c.args.self.now c.in-Edit.table t (steps_of c.in-Edit.edit t.columns t.rows))) (MayChooseFor found c.in-Edit.edit) _ (Edit c.in-Edit.table c.in-Edit.edit) _ _ (λ tree. refl) (λ tree chosen. chosen) c.edit.ensures)

@@ -10,7 +10,7 @@ pub returns : goal.returns
 returns c =
     let first = c.in-Some.first.now in
     let rest = c.in-Some.rest.now in
-    let more = c.args.row.now.more.now in
+    let more = c.args.row.now.auxiliary.now in
     let fits : FitsSigned w64 first = search rules in
     let last : c.put_integer.new.self ≡ signed_decimal first ++ c.put_more_numbers.new.self = rw (to_z-of_z fits) at c.in_ok-put_integer.ensures in
     last

@@ -26,14 +26,14 @@ invariant_of-self g c =
       some = c.self.invariant.some;
       few = c.self.invariant.few;
       axes_are = c.self.invariant.axes_are;
-      rising = c.len.ensures.rising;
+      rising = c.facts.ensures.rising;
       kept = kept_where_any c.self.inside.columns c.self.inside.store.rows _ _ c.self.inside.views.items _ c.refresh_all.ensures.views
           (λ some. rw (c.as_slice.ensures.value, c.apply.ensures.rows) (differ some)) (c.refresh_all.ensures.kept c.self.inside.columns c.self.inside.store.rows) c.self.invariant.kept;
     }
 
 pub returns-clause-tree : goal.returns-clause-tree
 returns-clause-tree g c =
-    let stands : IsTreeOf (outcome c.self.inside.store.rows (map step_of c.args.plan.items)) c.apply.new.store.tree = rw (← c.apply.ensures.rows) c.len.ensures.stands in
+    let stands : IsTreeOf (outcome c.self.inside.store.rows (map step_of c.args.plan.items)) c.apply.new.store.tree = rw (← c.apply.ensures.rows) c.facts.ensures.stands in
     let follows : FollowsSteps c.self.inside.store.rows (map step_of c.args.plan.items) c.self.inside.store.tree c.apply.new.store.tree =
-    record { stands = stands; follows = c.apply.ensures.tree; capacity = c.apply.ensures.capacity } in
+    record { stands = stands; takes = c.apply.ensures.tree; capacity = c.apply.ensures.capacity } in
     rw (← c.self.view_is) follows

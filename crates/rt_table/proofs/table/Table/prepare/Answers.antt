@@ -32,7 +32,7 @@ returns-clause-ok g c =
     let apply : ApplyInTurn c.self.inside.store.rows (map step_of c.args.plan.now) = subst (λ (h : Held g.row.D). ApplyInTurn h.lists.rows (map step_of c.args.plan.now)) (sym c.self.view_is) c.requires in
     let roomy : All (λ (w : Watched). length c.in_ok-touched.touched.ids.items ≤ spare w.ids) c.reserve_ids.new.views.items =
     All-weaker (λ (w : Watched). c.len.result ≤ spare w.ids) (λ (w : Watched). length c.in_ok-touched.touched.ids.items ≤ spare w.ids) (λ w le. omega arith) c.reserve_ids.new.views.items c.in_ok-reserve_ids.ensures.ok in
-    ready c.self.inside.columns c.self.inside.store.rows c.reserve.new.self.rows c.reserve.new.self.tree c.self.inside.views.items c.reserve_ids.new.views.items c.reserve.new.self.room c.reserve.new.self.note_room
+    ready c.self.inside.columns c.self.inside.store.rows c.reserve.new.self.rows c.reserve.new.self.tree c.self.inside.views.items c.reserve_ids.new.views.items c.reserve.new.self.room c.reserve.new.self.auxiliary_room
     c.in_ok-touched.touched.ids.items c.in_ok-touched.touched.changes.items (map step_of c.args.plan.now) c.in_ok-reserve.ensures.rows c.in_ok-reserve_ids.ensures.views apply
-    (omega (arith, c.in_ok-reserve.ensures.ok, c.places_all.ensures)) (omega (arith, c.in_ok-reserve.ensures.notes, c.notes_all.ensures))
+    (omega (arith, c.in_ok-reserve.ensures.ok, c.places_all.ensures)) (omega (arith, c.in_ok-reserve.ensures.auxiliary, c.auxiliary_rows_all.ensures))
     (rw c.as_slice.ensures.value at c.in_ok-touched.ensures.ids) roomy (rw c.as_slice.ensures.value at (c.in_ok-touched.ensures.changes c.self.inside.columns (rw c.as_slice.ensures.value c.self.invariant.kept)))

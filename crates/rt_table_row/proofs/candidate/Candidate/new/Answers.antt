@@ -9,7 +9,7 @@ use Rattle.rt_table_row.proofs.candidate.Candidate.new.Goals as goal
 pub returns-then-not-are_short : goal.returns-then-not-are_short
 returns-then-not-are_short g c =
     let items = c.args.values.items in
-    let first = c.in_ok-more.ensures.items in
+    let first = c.in_ok-auxiliary.ensures.items in
     let id : get_or items 0 Null ≡ c.index.result.now = id_is g.row.D items c.index.result.now Null c.requires.long (rw first at c.index.ensures) in
     let behind = coordinates_are g.row.D items c.split_off.new.self.items first in
     let integers : list_all is_integer (coordinate_values g.row.D items) ≡ true = rw (← behind, ← c.deref.ensures.value) (search rules) in
@@ -19,7 +19,7 @@ returns-then-not-are_short g c =
 pub returns-in-None : goal.returns-in-None
 returns-in-None g c =
     let items = c.args.values.items in
-    let first = c.in_ok-more.ensures.items in
+    let first = c.in_ok-auxiliary.ensures.items in
     let id : get_or items 0 Null ≡ c.index.result.now = id_is g.row.D items c.index.result.now Null c.requires.long (rw first at c.index.ensures) in
     let behind = coordinates_are g.row.D items c.split_off.new.self.items first in
     let integers : list_all is_integer (coordinate_values g.row.D items) ≡ true = rw (← behind, ← c.deref.ensures.value) (search rules) in
@@ -30,12 +30,12 @@ returns-in-None g c =
 pub returns : goal.returns
 returns g c =
     let items = c.args.values.items in
-    let first = c.in_ok-more.ensures.items in
+    let first = c.in_ok-auxiliary.ensures.items in
     let id : get_or items 0 Null ≡ c.index.result.now = id_is g.row.D items c.index.result.now Null c.requires.long (rw first at c.index.ensures) in
     let again : get_or items 0 Null ≡ c.index-in-Some.result.now = id_is g.row.D items c.index-in-Some.result.now Null c.requires.long (rw first at c.index-in-Some.ensures) in
     let behind = coordinates_are g.row.D items c.split_off.new.self.items first in
     let integers : list_all is_integer (coordinate_values g.row.D items) ≡ true = rw (← behind, ← c.deref.ensures.value) (search rules) in
     let short : list_all (fits_bits 31) (map number_in (coordinate_values g.row.D items)) ≡ true = rw (← behind, ← c.deref-2.ensures.value, list_all-map) (search rules) in
     let box = rw (c.deref-3.ensures.value, behind) at c.in-Some.ensures in
-    rw (c.from_vec.ensures, c.in_ok-more.ensures.tail, c.id_in.ensures, ← again)
+    rw (c.from_vec.ensures, c.in_ok-auxiliary.ensures.tail, c.id_in.ensures, ← again)
     (candidate_from g.row.D items c.in-Some.rect (rw id (search rules)) integers short box)

@@ -8,10 +8,10 @@ returns-then-place-axes g c =
     let fits : FitsSigned w64 c.from.result = search rules in
     let narrow : FitsSigned w32 c.coordinate.result = search rules in
     rw (to_z-of_z fits, c.from.ensures, to_z-of_z narrow)
-    (coordinate_at c.args.self.now.id c.args.self.now.rect c.args.self.now.more.now c.args.place (c.args.place - 1) c.coordinate.result Null
+    (coordinate_at c.args.self.now.id c.args.self.now.rect c.args.self.now.auxiliary.now c.args.place (c.args.place - 1) c.coordinate.result Null
     (omega arith) (omega (arith, c.axes-axes.ensures.is_box.axes_are)) c.coordinate.ensures)
 
 pub returns : goal.returns
 returns g c =
     c.kept.ensures
-    ∙ kept_at c.args.self.now.id c.args.self.now.rect c.args.self.now.more.now c.args.place (c.args.place - 1 - 2 * c.axes-axes.result) Null (omega (arith, c.axes-axes.ensures.is_box.axes_are))
+    ∙ kept_at c.args.self.now.id c.args.self.now.rect c.args.self.now.auxiliary.now c.args.place (c.args.place - 1 - 2 * c.axes-axes.result) Null (omega (arith, c.axes-axes.ensures.is_box.axes_are))

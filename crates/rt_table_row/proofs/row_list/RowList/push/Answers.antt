@@ -13,8 +13,8 @@ returns g c =
     let values = c.self.inside.values.items in
     let places = c.self.inside.places.items in
     let ns = c.args.row.now.id ∷ coordinates c.args.row.now.rect in
-    let vs = c.args.row.now.more.now in
-    let place : Place = record { numbers = record { start = c.len-first.result; end = c.len.result }; more = record { start = c.len-start.result; end = c.len-2.result } } in
+    let vs = c.args.row.now.auxiliary.now in
+    let place : Place = record { numbers = record { start = c.len-first.result; end = c.len.result }; auxiliary = record { start = c.len-start.result; end = c.len-2.result } } in
     let fits : FitsSigned w64 c.args.row.now.id = search rules in
     let all_numbers : c.push_numbers.new.numbers.items ≡ numbers ++ ns = rw (to_z-of_z fits) at c.in_ok-push_numbers.ensures.ok in
     let all_values : c.push_copies.new.values.items ≡ values ++ vs = c.in_ok-push_copies.ensures.ok in

@@ -11,7 +11,7 @@ returns c =
     let values = c.self.inside.values.items in
     let places = c.self.inside.places.items in
     let vs = c.args.row.items in
-    let place : Place = record { numbers = record { start = c.len-first.result; end = c.len-first.result }; more = record { start = c.len-start.result; end = c.len.result } } in
+    let place : Place = record { numbers = record { start = c.len-first.result; end = c.len-first.result }; auxiliary = record { start = c.len-start.result; end = c.len.result } } in
     let none : numbers ++ [] ≡ numbers = append-nil numbers in
     let all_values : c.append.new.self.items ≡ values ++ vs = search rules in
     let all_places : c.push.new.self.items ≡ places ++ place ∷ [] = c.in_ok-push.ensures.items in

@@ -17,7 +17,7 @@ returns-then-not-holds g c =
     let found : row_at c.args.self.now.rows c.args.id.now ≡ Some (view_row c.in-Some.view) = search rules in
     let fails : admits c.args.condition.now (view_row c.in-Some.view) ≡ false = search rules in
     sym (ap (map leaf_row)
-    (one_left (λ r. r.id) (admits c.args.condition.now) c.args.id.now c.requires c.args.self.now.rows (view_row c.in-Some.view) (rises (λ r. r.id) c.args.self.now.rows c.len.ensures.rising) found
+    (one_left (λ r. r.id) (admits c.args.condition.now) c.args.id.now c.requires c.args.self.now.rows (view_row c.in-Some.view) (rises (λ r. r.id) c.args.self.now.rows c.facts.ensures.rising) found
     ∙ ap (λ (b : Bool). cond b (view_row c.in-Some.view ∷ []) []) fails))
 
 pub returns : goal.returns
@@ -27,5 +27,5 @@ returns g c =
     let fits : FitsSigned w64 c.in-Some.view.id = search rules in
     rw (to_z-of_z fits)
     (sym (ap (map leaf_row)
-    (one_left (λ r. r.id) (admits c.args.condition.now) c.args.id.now c.requires c.args.self.now.rows (view_row c.in-Some.view) (rises (λ r. r.id) c.args.self.now.rows c.len.ensures.rising) found
+    (one_left (λ r. r.id) (admits c.args.condition.now) c.args.id.now c.requires c.args.self.now.rows (view_row c.in-Some.view) (rises (λ r. r.id) c.args.self.now.rows c.facts.ensures.rising) found
     ∙ ap (λ (b : Bool). cond b (view_row c.in-Some.view ∷ []) []) passes)))

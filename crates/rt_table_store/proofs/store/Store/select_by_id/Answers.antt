@@ -11,4 +11,4 @@ returns-clause-visited g c = λ window free.
     let tree : c.self.inside.tree.lists ≡ c.args.self.now.tree = ap (λ (v : Stored g.row.D). v.tree) c.self.view_is in
     let boxes : HasBoxes c.args.self.now.tree = subst (λ (t : ShadowLists g.row.D). HasBoxes t) tree c.has_boxes.ensures in
     let count : c.node_count.result ≡ length c.args.self.now.tree.nodes = c.node_count.ensures ∙ ap (λ (t : ShadowLists g.row.D). length t.nodes) tree in
-    subst (λ (n : ℕ). Visits c.args.self.now.tree window n) (sym count) (visits_all c.args.self.now.tree c.len.ensures.stands.shape boxes window free)
+    subst (λ (n : ℕ). Visits c.args.self.now.tree window n) (sym count) (visits_all c.args.self.now.tree c.facts.ensures.stands.shape boxes window free)

@@ -22,11 +22,11 @@ tested_rows-requires g c =
         (
           search rules,
           (
-            c.len.ensures.few,
+            c.facts.ensures.few,
             (
               c.requires,
               (
-                all_stand c.args.self.now.rows c.args.self.now.tree c.len.ensures.rising c.len.ensures.stands c.args.window.now c.in_ok-found.field-0.rows.items c.in_ok-found.field-0.visited finds,
+                all_stand c.args.self.now.rows c.args.self.now.tree c.facts.ensures.rising c.facts.ensures.stands c.args.window.now c.in_ok-found.field-0.rows.items c.in_ok-found.field-0.visited finds,
                 finds.admitted,
               ),
             ),
@@ -43,9 +43,9 @@ returns-clause-rows g c =
     subst (λ (t : ShadowLists g.row.D). FindsIn t c.args.window.now c.in_ok-found.field-0.rows.items c.in_ok-found.field-0.visited) tree c.in_ok-found.ensures in
     let moved : IsPermutation c.in_ok-rows.rows.items c.sort_by_id.new.rows = subst (λ (rows : List (Row g.row.D)). IsPermutation rows c.sort_by_id.new.rows) c.deref_mut.ensures.value c.sort_by_id.ensures.permutation in
     let kept = with_items_is c.in_ok-rows.rows c.sort_by_id.new.rows (length_permutation c.deref_mut.result.now c.sort_by_id.new.rows c.sort_by_id.ensures.permutation ∙ c.deref_mut.ensures.len) in
-    kept ∙ sorted_are c.args.self.now.rows c.args.self.now.tree c.len.ensures.rising c.len.ensures.stands c.args.window.now c.in_ok-found.field-0.rows.items c.in_ok-found.field-0.visited finds
+    kept ∙ sorted_are c.args.self.now.rows c.args.self.now.tree c.facts.ensures.rising c.facts.ensures.stands c.args.window.now c.in_ok-found.field-0.rows.items c.in_ok-found.field-0.visited finds
     (admits c.args.condition.now)
-    (window_loses_none c.args.self.now.rows c.args.self.now.tree c.len.ensures.rising c.len.ensures.stands boxes c.args.condition.now c.args.window.now c.requires)
+    (window_loses_none c.args.self.now.rows c.args.self.now.tree c.facts.ensures.rising c.facts.ensures.stands boxes c.args.condition.now c.args.window.now c.requires)
     c.in_ok-rows.rows.items c.sort_by_id.new.rows
     c.in_ok-rows.ensures
     moved

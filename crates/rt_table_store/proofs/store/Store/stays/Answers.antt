@@ -17,10 +17,10 @@ returns-in-Some g c =
     let id = c.args.id.now in
     let row = row_of c.args.row.now in
     let same : id ≡ row.id = search rules in
-    let at = ap (λ (v : Stored g.row.D). row_at v.rows id) (sym c.self.view_is) ∙ row-at i.tree.lists c.is_in_shape.ensures i.notes id in
+    let at = ap (λ (v : Stored g.row.D). row_at v.rows id) (sym c.self.view_is) ∙ row-at i.tree.lists c.is_in_shape.ensures i.auxiliary id in
     c.eq.ensures ∙ by-coordinates c.in-Some.rect row.box
     ∙ ap (λ (o : Option (List Interval)). option_map_or (λ box. same_box box row.box) o false) c.in-Some.ensures
-    ∙ stays-by c.args.self.now.rows id row (boxed i.tree.lists c.is_in_shape.ensures i.notes id) (λ b. refl) _ (ap (int_eq id) (sym same) ∙ eq_same id) at
+    ∙ stays-by c.args.self.now.rows id row (boxed i.tree.lists c.is_in_shape.ensures i.auxiliary id) (λ b. refl) _ (ap (int_eq id) (sym same) ∙ eq_same id) at
 
 pub returns-in-None : goal.returns-in-None
 returns-in-None g c =
@@ -28,6 +28,6 @@ returns-in-None g c =
     let id = c.args.id.now in
     let row = row_of c.args.row.now in
     let same : id ≡ row.id = search rules in
-    let at = ap (λ (v : Stored g.row.D). row_at v.rows id) (sym c.self.view_is) ∙ row-at i.tree.lists c.is_in_shape.ensures i.notes id in
+    let at = ap (λ (v : Stored g.row.D). row_at v.rows id) (sym c.self.view_is) ∙ row-at i.tree.lists c.is_in_shape.ensures i.auxiliary id in
     ap (λ (o : Option (List Interval)). option_map_or (λ box. same_box box row.box) o false) c.in-None.ensures
-    ∙ stays-by c.args.self.now.rows id row (boxed i.tree.lists c.is_in_shape.ensures i.notes id) (λ b. refl) _ (ap (int_eq id) (sym same) ∙ eq_same id) at
+    ∙ stays-by c.args.self.now.rows id row (boxed i.tree.lists c.is_in_shape.ensures i.auxiliary id) (λ b. refl) _ (ap (int_eq id) (sym same) ∙ eq_same id) at

@@ -13,10 +13,10 @@ returns g c =
     let i = c.self.inside in
     let row = c.args.row.now in
     let fits : FitsSigned w64 row.id = search rules in
-    let with_values : List Value → TableRow = λ values. record { id = row.id; box = row.rect; more = values } in
+    let with_values : List Value → TableRow = λ values. record { id = row.id; box = row.rect; auxiliary = values } in
     let old = subst (λ (v : Stored g.row.D). option_map leaf_row (row_at v.rows row.id) ≡ Some row) (sym c.self.view_is) c.requires in
     rw (to_z-of_z w64 row.id fits) (
-    ap (λ values. Some (with_values values)) c.kept.ensures
-    ∙ viewed i.tree.lists c.is_in_shape.ensures i.notes row old
+    ap (λ values. Some (with_values values)) c.auxiliary_of.ensures
+    ∙ viewed i.tree.lists c.is_in_shape.ensures i.auxiliary row old
     ∙ ap (λ (v : Stored g.row.D). row_at v.rows row.id) c.self.view_is
     )

@@ -1,0 +1,102 @@
+//! The condition of a statement: tests of single columns with `AND` between.
+//!
+//! There is no `OR`, no parenthesis and no column on the right of an operator.
+
+ghost use Rattle.std.specs.Prelude.{codes};
+ghost use Rattle.rt_sql.specs.Number.{number_by};
+ghost use Rattle.rt_sql.specs.Reading as reading;
+ghost use Rattle.rt_sql.specs.Reading.{Reads};
+
+use crate::grammar::literals::{name, value};
+use crate::number::Numbers;
+use crate::token::{Sign, Token};
+use crate::tokens::Tokens;
+use rt_sql_statement::{Compare, Cond, Items, Name, Operator, Refusal, Test};
+use std::alloc::Global;
+
+/// An operator of a comparison.
+#[tactic(auto, unfolding(crate::specs::Reading::operator, crate::specs::Reading::operator_in))]
+fn operator(tokens: &mut Tokens<'_>) -> Result<Operator, Refusal>
+    ensures { Reads (reading.operator tokens.old) result tokens.new }
+{
+    match tokens.take() {
+        Some(Token::Sign(Sign::Equal | Sign::DoubleEqual)) => Ok(Operator::Eq),
+        Some(Token::Sign(Sign::LessGreater | Sign::BangEqual)) => Ok(Operator::Ne),
+        Some(Token::Sign(Sign::Less)) => Ok(Operator::Lt),
+        Some(Token::Sign(Sign::LessOrEqual)) => Ok(Operator::Le),
+        Some(Token::Sign(Sign::Greater)) => Ok(Operator::Gt),
+        Some(Token::Sign(Sign::GreaterOrEqual)) => Ok(Operator::Ge),
+        _ => Err(Refusal::SyntaxError),
+    }
+}
+
+/// A test for NULL from what follows `IS` on.
+#[tactic(auto, unfolding(crate::specs::Reading::null_test))]
+fn null_test(tokens: &mut Tokens<'_>, column: Name) -> Result<Test, Refusal>
+    ensures { Reads (reading.null_test column tokens.old) result tokens.new }
+{
+    let is_not = tokens.eat_word("NOT");
+    tokens.expect_word("NULL")?;
+    Ok(if is_not {
+        Test::IsNotNull(column)
+    } else {
+        Test::IsNull(column)
+    })
+}
+
+/// A comparison from its operator on.
+#[tactic(auto, unfolding(crate::specs::Reading::comparison))]
+fn comparison(
+    alloc: Global,
+    tokens: &mut Tokens<'_>,
+    numbers: Numbers,
+    column: Name,
+) -> Result<Test, Refusal>
+    ensures { Reads (reading.comparison (number_by numbers) column tokens.old) result tokens.new }
+{
+    let op = operator(tokens)?;
+    let value = value(alloc, tokens, numbers)?;
+    Ok(Test::Compare(Compare { column, op, value }))
+}
+
+/// A test of one column.
+#[tactic(auto, unfolding(crate::specs::Reading::a_test))]
+fn test(alloc: Global, tokens: &mut Tokens<'_>, numbers: Numbers) -> Result<Test, Refusal>
+    ensures { Reads (reading.a_test (number_by numbers) tokens.old) result tokens.new }
+{
+    let column = name(alloc, tokens)?;
+    if tokens.eat_word("IS") {
+        null_test(tokens, column)
+    } else {
+        comparison(alloc, tokens, numbers, column)
+    }
+}
+
+/// Tests with `AND` between.
+fn tests(alloc: Global, tokens: &mut Tokens<'_>, numbers: Numbers) -> Result<Items<Test>, Refusal>
+    ensures { Reads (reading.separated (reading.sees_word (codes "AND")) (reading.a_test (number_by numbers)) tokens.old) result tokens.new }
+{
+    let mut tests = Items::new(alloc);
+    'tests: loop {
+        tests.push(test(alloc, tokens, numbers)?)?;
+        if !tokens.eat_word("AND") {
+            return Ok(tests);
+        }
+    }
+}
+
+/// A condition: `WHERE` and its tests, or nothing.
+#[tactic(auto, unfolding(crate::specs::Reading::condition))]
+pub(crate) fn condition(
+    alloc: Global,
+    tokens: &mut Tokens<'_>,
+    numbers: Numbers,
+) -> Result<Cond, Refusal>
+    ensures { Reads (reading.condition (number_by numbers) tokens.old) result tokens.new }
+{
+    if tokens.eat_word("WHERE") {
+        tests(alloc, tokens, numbers)
+    } else {
+        Ok(Items::new(alloc))
+    }
+}

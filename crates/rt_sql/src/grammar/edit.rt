@@ -1,0 +1,188 @@
+//! INSERT, REPLACE, UPDATE and DELETE.
+//!
+//! Each is read from the word after its verb on; `grammar` looks at the verb.
+
+ghost use Rattle.std.specs.Prelude.{◌≡◌};
+ghost use Rattle.rt_sql.specs.Number.{number_by};
+ghost use Rattle.rt_sql.specs.Reading as reading;
+ghost use Rattle.rt_sql.specs.Reading.{Reads};
+
+use crate::grammar::condition::condition;
+use crate::grammar::literals::{digits, list, name, names, value};
+use crate::number::Numbers;
+use crate::token::{Sign, Token};
+use crate::tokens::Tokens;
+use rt_sql_statement::{Edit, Items, Name, Refusal, Rule, Source, Stmt, Value};
+use std::alloc::Global;
+
+/// What an INSERT does with a row whose id is taken: `OR` and a rule, or nothing.
+#[tactic(auto, unfolding(crate::specs::Reading::rule, crate::specs::Reading::chosen_rule, crate::specs::Reading::other_rule))]
+pub(crate) fn rule(tokens: &mut Tokens<'_>) -> Result<Rule, Refusal>
+    ensures { Reads (reading.rule tokens.old) result tokens.new }
+{
+    if !tokens.eat_word("OR") {
+        return Ok(Rule::Abort);
+    }
+    if tokens.eat_word("REPLACE") {
+        return Ok(Rule::Replace);
+    }
+    if tokens.eat_word("IGNORE") {
+        return Ok(Rule::Ignore);
+    }
+    tokens.expect_word("ABORT")?;
+    Ok(Rule::Abort)
+}
+
+/// The columns that an INSERT lists, where a parenthesis comes next.
+#[tactic(auto, unfolding(crate::specs::Reading::named_columns, crate::specs::Reading::name_list))]
+fn named_columns(alloc: Global, tokens: &mut Tokens<'_>) -> Result<Option<Items<Name>>, Refusal>
+    ensures { Reads (reading.named_columns tokens.old) result tokens.new }
+{
+    if !tokens.eat_sign(Sign::LeftParenthesis) {
+        return Ok(None);
+    }
+    let names = names(alloc, tokens)?;
+    tokens.expect_sign(Sign::RightParenthesis)?;
+    Ok(Some(names))
+}
+
+/// The rows of an INSERT, with commas between.
+fn lists(
+    alloc: Global,
+    tokens: &mut Tokens<'_>,
+    numbers: Numbers,
+) -> Result<Items<Items<Value>>, Refusal>
+    ensures { Reads (reading.by_commas (reading.list (number_by numbers)) tokens.old) result tokens.new }
+{
+    let mut lists = Items::new(alloc);
+    'lists: loop {
+        lists.push(list(alloc, tokens, numbers)?)?;
+        if !tokens.eat_sign(Sign::Comma) {
+            return Ok(lists);
+        }
+    }
+}
+
+/// An INSERT from `INTO` on.
+#[tactic(auto, unfolding(crate::specs::Reading::insert))]
+pub(crate) fn insert(
+    alloc: Global,
+    tokens: &mut Tokens<'_>,
+    numbers: Numbers,
+    rule: Rule,
+) -> Result<Stmt, Refusal>
+    ensures { Reads (reading.insert (number_by numbers) rule tokens.old) result tokens.new }
+{
+    tokens.expect_word("INTO")?;
+    let table = name(alloc, tokens)?;
+    let columns = named_columns(alloc, tokens)?;
+    tokens.expect_word("VALUES")?;
+    let rows = lists(alloc, tokens, numbers)?;
+    let edit = Edit::Insert {
+        rule,
+        columns,
+        rows,
+    };
+    Ok(Stmt::Edit { table, edit })
+}
+
+/// Whether a value comes next, and no column.
+#[tactic(auto, unfolding(crate::specs::Reading::sees_value, crate::specs::Reading::begins_value))]
+fn sees_value(tokens: &Tokens<'_>) -> bool
+    ensures { result ≡ reading.sees_value tokens.now }
+{
+    match tokens.peek() {
+        Some(Token::Word(word)) => word.as_str().eq_ignore_ascii_case("NULL"),
+        Some(Token::Digits(_) | Token::Text(_) | Token::Blob(_)) => true,
+        Some(Token::Sign(Sign::Plus | Sign::Minus)) => true,
+        _ => false,
+    }
+}
+
+/// A source that reads a column: the column, or the column plus or minus a number.
+#[tactic(auto, unfolding(crate::specs::Reading::from_column, crate::specs::Reading::less_or_same))]
+fn from_column(alloc: Global, tokens: &mut Tokens<'_>, numbers: Numbers) -> Result<Source, Refusal>
+    ensures { Reads (reading.from_column (number_by numbers) tokens.old) result tokens.new }
+{
+    let column = name(alloc, tokens)?;
+    if tokens.eat_sign(Sign::Plus) {
+        return Ok(Source::Plus(column, digits(tokens, numbers, false)?));
+    }
+    if tokens.eat_sign(Sign::Minus) {
+        return Ok(Source::Minus(column, digits(tokens, numbers, false)?));
+    }
+    Ok(Source::Column(column))
+}
+
+/// What an UPDATE gives a column.
+#[tactic(auto, unfolding(crate::specs::Reading::a_source))]
+fn source(alloc: Global, tokens: &mut Tokens<'_>, numbers: Numbers) -> Result<Source, Refusal>
+    ensures { Reads (reading.a_source (number_by numbers) tokens.old) result tokens.new }
+{
+    if sees_value(tokens) {
+        Ok(Source::Literal(value(alloc, tokens, numbers)?))
+    } else {
+        from_column(alloc, tokens, numbers)
+    }
+}
+
+/// A column, `=` and what it is given.
+#[tactic(auto, unfolding(crate::specs::Reading::set))]
+fn set(alloc: Global, tokens: &mut Tokens<'_>, numbers: Numbers) -> Result<(Name, Source), Refusal>
+    ensures { Reads (reading.set (number_by numbers) tokens.old) result tokens.new }
+{
+    let column = name(alloc, tokens)?;
+    tokens.expect_sign(Sign::Equal)?;
+    let source = source(alloc, tokens, numbers)?;
+    Ok((column, source))
+}
+
+/// The columns that an UPDATE sets, with commas between.
+fn sets(
+    alloc: Global,
+    tokens: &mut Tokens<'_>,
+    numbers: Numbers,
+) -> Result<Items<(Name, Source)>, Refusal>
+    ensures { Reads (reading.by_commas (reading.set (number_by numbers)) tokens.old) result tokens.new }
+{
+    let mut sets = Items::new(alloc);
+    'sets: loop {
+        sets.push(set(alloc, tokens, numbers)?)?;
+        if !tokens.eat_sign(Sign::Comma) {
+            return Ok(sets);
+        }
+    }
+}
+
+/// An UPDATE from its table on.
+#[tactic(auto, unfolding(crate::specs::Reading::update))]
+pub(crate) fn update(
+    alloc: Global,
+    tokens: &mut Tokens<'_>,
+    numbers: Numbers,
+) -> Result<Stmt, Refusal>
+    ensures { Reads (reading.update (number_by numbers) tokens.old) result tokens.new }
+{
+    let table = name(alloc, tokens)?;
+    tokens.expect_word("SET")?;
+    let sets = sets(alloc, tokens, numbers)?;
+    let cond = condition(alloc, tokens, numbers)?;
+    let edit = Edit::Update { sets, cond };
+    Ok(Stmt::Edit { table, edit })
+}
+
+/// A DELETE from `FROM` on.
+#[tactic(auto, unfolding(crate::specs::Reading::delete))]
+pub(crate) fn delete(
+    alloc: Global,
+    tokens: &mut Tokens<'_>,
+    numbers: Numbers,
+) -> Result<Stmt, Refusal>
+    ensures { Reads (reading.delete (number_by numbers) tokens.old) result tokens.new }
+{
+    tokens.expect_word("FROM")?;
+    let table = name(alloc, tokens)?;
+    let cond = condition(alloc, tokens, numbers)?;
+    let edit = Edit::Delete { cond };
+    Ok(Stmt::Edit { table, edit })
+}

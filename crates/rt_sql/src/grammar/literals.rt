@@ -1,0 +1,171 @@
+//! Names and values, and lists of them.
+//!
+//! A value is read by a rule of its own for numbers: the first reading takes 64 bits, a second one any size, which tells a
+//! number that is too large from tokens that spell nothing.
+
+ghost use Rattle.std.specs.Prelude.{◌≡◌};
+ghost use Rattle.rt_sql.specs.Number.{number_by};
+ghost use Rattle.rt_sql.specs.Reading as reading;
+ghost use Rattle.rt_sql.specs.Reading.{Reads};
+
+use crate::literals::{hex_bytes, undoubled};
+use crate::number::{Numbers, number};
+use crate::token::{Sign, Token};
+use crate::tokens::Tokens;
+use crate::word::is_reserved;
+use rt_sql_statement::{Blob, Items, Name, Refusal, Text, Value};
+use std::alloc::Global;
+
+/// A name: a word that isn't reserved, or any text in double quotes.
+#[tactic(auto, unfolding(crate::specs::Reading::name, crate::specs::Reading::name_in))]
+pub(crate) fn name(alloc: Global, tokens: &mut Tokens<'_>) -> Result<Name, Refusal>
+    ensures { Reads (reading.name tokens.old) result tokens.new }
+{
+    match tokens.take() {
+        Some(Token::Word(word)) if !is_reserved(word.as_str()) => {
+            Ok(Name::new(alloc, word.as_str())?)
+        }
+        Some(Token::Quoted(quoted)) => {
+            Ok(Name::from_string(undoubled(alloc, b'"', quoted.as_str())?))
+        }
+        _ => Err(Refusal::SyntaxError),
+    }
+}
+
+/// The number that digits write, with the sign that stood before them.
+#[tactic(auto, unfolding(crate::specs::Reading::number, crate::specs::Reading::number_in))]
+pub(crate) fn digits(
+    tokens: &mut Tokens<'_>,
+    numbers: Numbers,
+    is_negative: bool,
+) -> Result<i64, Refusal>
+    ensures { Reads (reading.number (number_by numbers) is_negative tokens.old) result tokens.new }
+{
+    match tokens.take() {
+        Some(Token::Digits(digits)) => match number(numbers, is_negative, digits.as_str()) {
+            Some(number) => Ok(number),
+            None => Err(Refusal::IntegerOutOfRange),
+        },
+        _ => Err(Refusal::SyntaxError),
+    }
+}
+
+/// An integer: digits with `+`, `-` or no sign.
+#[tactic(auto, unfolding(crate::specs::Reading::integer))]
+fn integer(tokens: &mut Tokens<'_>, numbers: Numbers) -> Result<i64, Refusal>
+    ensures { Reads (reading.integer (number_by numbers) tokens.old) result tokens.new }
+{
+    let is_negative = tokens.eat_sign(Sign::Minus);
+    if !is_negative {
+        tokens.eat_sign(Sign::Plus);
+    }
+    digits(tokens, numbers, is_negative)
+}
+
+/// A text or a blob.
+#[tactic(auto, unfolding(crate::specs::Reading::literal, crate::specs::Reading::literal_in))]
+fn literal(alloc: Global, tokens: &mut Tokens<'_>) -> Result<Value, Refusal>
+    ensures { Reads (reading.literal tokens.old) result tokens.new }
+{
+    match tokens.take() {
+        Some(Token::Text(text)) => {
+            let text = undoubled(alloc, b'\'', text.as_str())?;
+            Ok(Value::Text(Text::from_string(text)))
+        }
+        Some(Token::Blob(digits)) => {
+            let bytes = hex_bytes(alloc, digits.as_str())?;
+            Ok(Value::Blob(Blob::from_vec(bytes)))
+        }
+        _ => Err(Refusal::SyntaxError),
+    }
+}
+
+/// Whether a text or a blob comes next.
+#[tactic(auto, unfolding(crate::specs::Reading::sees_literal, crate::specs::Reading::is_literal))]
+fn sees_literal(tokens: &Tokens<'_>) -> bool
+    ensures { result ≡ reading.sees_literal tokens.now }
+{
+    matches!(tokens.peek(), Some(Token::Text(_) | Token::Blob(_)))
+}
+
+/// A text, a blob or an integer.
+#[tactic(auto, unfolding(crate::specs::Reading::not_null))]
+fn not_null(alloc: Global, tokens: &mut Tokens<'_>, numbers: Numbers) -> Result<Value, Refusal>
+    ensures { Reads (reading.not_null (number_by numbers) tokens.old) result tokens.new }
+{
+    if sees_literal(tokens) {
+        literal(alloc, tokens)
+    } else {
+        Ok(Value::Int(integer(tokens, numbers)?))
+    }
+}
+
+/// A value: `NULL`, a text, a blob or an integer.
+#[tactic(auto, unfolding(crate::specs::Reading::a_value))]
+pub(crate) fn value(
+    alloc: Global,
+    tokens: &mut Tokens<'_>,
+    numbers: Numbers,
+) -> Result<Value, Refusal>
+    ensures { Reads (reading.a_value (number_by numbers) tokens.old) result tokens.new }
+{
+    if tokens.eat_word("NULL") {
+        Ok(Value::Null)
+    } else {
+        not_null(alloc, tokens, numbers)
+    }
+}
+
+/// Names with commas between.
+pub(crate) fn names(alloc: Global, tokens: &mut Tokens<'_>) -> Result<Items<Name>, Refusal>
+    ensures { Reads (reading.by_commas reading.name tokens.old) result tokens.new }
+{
+    let mut names = Items::new(alloc);
+    'names: loop {
+        names.push(name(alloc, tokens)?)?;
+        if !tokens.eat_sign(Sign::Comma) {
+            return Ok(names);
+        }
+    }
+}
+
+/// Values with commas between.
+fn values(alloc: Global, tokens: &mut Tokens<'_>, numbers: Numbers) -> Result<Items<Value>, Refusal>
+    ensures { Reads (reading.by_commas (reading.a_value (number_by numbers)) tokens.old) result tokens.new }
+{
+    let mut values = Items::new(alloc);
+    'values: loop {
+        values.push(value(alloc, tokens, numbers)?)?;
+        if !tokens.eat_sign(Sign::Comma) {
+            return Ok(values);
+        }
+    }
+}
+
+/// Values in parentheses.
+#[tactic(auto, unfolding(crate::specs::Reading::list))]
+pub(crate) fn list(
+    alloc: Global,
+    tokens: &mut Tokens<'_>,
+    numbers: Numbers,
+) -> Result<Items<Value>, Refusal>
+    ensures { Reads (reading.list (number_by numbers) tokens.old) result tokens.new }
+{
+    tokens.expect_sign(Sign::LeftParenthesis)?;
+    let values = values(alloc, tokens, numbers)?;
+    tokens.expect_sign(Sign::RightParenthesis)?;
+    Ok(values)
+}
+
+/// The name of a table that a text in single quotes spells.
+#[tactic(auto, unfolding(crate::specs::Reading::text, crate::specs::Reading::text_in))]
+pub(crate) fn text(alloc: Global, tokens: &mut Tokens<'_>) -> Result<Name, Refusal>
+    ensures { Reads (reading.text tokens.old) result tokens.new }
+{
+    match tokens.take() {
+        Some(Token::Text(text)) => {
+            Ok(Name::from_string(undoubled(alloc, b'\'', text.as_str())?))
+        }
+        _ => Err(Refusal::SyntaxError),
+    }
+}

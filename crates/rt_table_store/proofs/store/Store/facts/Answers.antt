@@ -1,0 +1,15 @@
+use Rattle.std.proofs.Common.{subst}
+use Rattle.rt_table_row.specs.Rows.{AreRising}
+use Rattle.rt_table_store.specs.Stored.{Stored}
+use Rattle.rt_table_store.specs.Trees.{IsTreeOf}
+use Rattle.rt_table_store.proofs.Joined.{are-rising}
+use Rattle.rt_table_store.proofs.Counted.{is-tree}
+use Rattle.rt_table_store.proofs.store.Store.facts.Goals as goal
+
+pub returns-clause-rising : goal.returns-clause-rising
+returns-clause-rising g c =
+    subst (λ (v : Stored g.row.D). AreRising v.rows) c.self.view_is (are-rising c.self.inside.tree.lists c.is_in_shape.ensures c.self.inside.auxiliary)
+
+pub returns-clause-stands : goal.returns-clause-stands
+returns-clause-stands g c =
+    subst (λ (v : Stored g.row.D). IsTreeOf v.rows v.tree) c.self.view_is (is-tree c.self.inside.tree.lists c.is_in_shape.ensures c.self.inside.auxiliary)
