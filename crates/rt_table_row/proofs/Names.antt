@@ -45,7 +45,7 @@ both false true true d = refl
 both false true false d = refl
 both false false a d = refl
 
-pub new_step : (seen after : List ℕ → Bool) (name : List ℕ) (names : List (List ℕ)) → ((q : List ℕ) → after q ≡ (same_name name q || seen q)) →
+new_step : (seen after : List ℕ → Bool) (name : List ℕ) (names : List (List ℕ)) → ((q : List ℕ) → after q ≡ (same_name name q || seen q)) →
     are_new seen (name ∷ names) ≡ (not (seen name) && are_new after names)
 new_step seen after name names e =
     rw (unseen_all seen after name names e) (both (seen name) (has_name names name) (list_all (λ q. not (seen q)) names) (are_distinct names))

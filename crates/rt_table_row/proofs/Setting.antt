@@ -1,6 +1,6 @@
 -- What a row becomes by its looked-up sets.
-use Rattle.std.proofs.Common.{◌≡◌, ℕ, suc, ◌+◌, ◌*◌, ◌≤◌, ◌+ℤ◌, ◌-ℤ◌, Bool, true, false, not, ◌&&◌, ◌||◌, nat_lt, List, [], ◌∷◌, ◌++◌, append_assoc, get_or, map, length, take, cond, position, Option, Some, None, is_some, Err, arith, refl, sym, ap, subst, ◌∙◌}
-use Rattle.std.specs.List.{list_any, list_all, position_or_len, find}
+use Rattle.std.proofs.Common.{◌≡◌, ℕ, suc, ◌+◌, ◌*◌, ◌≤◌, ◌+ℤ◌, ◌-ℤ◌, Bool, true, false, not, ◌&&◌, ◌||◌, nat_lt, List, [], ◌∷◌, ◌++◌, append_assoc, get_or, map, length, take, cond, position, Option, Some, None, Err, arith, refl, sym, ap, subst, ◌∙◌}
+use Rattle.std.specs.List.{list_all, position_or_len, find}
 use Rattle.std.specs.Option.{option_map, option_map_or}
 use Rattle.std.proofs.lemmas.List.{take-map}
 use Rattle.std.proofs.lemmas.List.Folds.{list_all-map}
@@ -20,8 +20,8 @@ use Rattle.rt_table_row.specs.Candidates.{is_integer, number_in, fits_bits, id_v
 use Rattle.rt_table_row.specs.Columns.{place_of, has_name}
 use Rattle.rt_table_row.specs.Conditions.{value_in}
 use Rattle.rt_table_row.specs.Edits.{Setting, columns_read, given, is_summable, sum_fits, new_value}
-use Rattle.rt_table_row.specs.Settings.{LookedUp, read, reads_integer, reading_fits, filled, values_set, candidate_set, set_names, reading_of, AreReadings, fill_of, reads_columns}
-use Rattle.rt_table_row.proofs.Filters.{any_position, absent, present, value_there, less, first}
+use Rattle.rt_table_row.specs.Settings.{LookedUp, read, reads_integer, reading_fits, filled, values_set, candidate_set, reading_of, AreReadings, fill_of, reads_columns}
+use Rattle.rt_table_row.proofs.Filters.{absent, present, value_there, less, first}
 use Rattle.rt_table_row.proofs.Boxes.{head, tail}
 
 -- the id and the coordinates are the first values
@@ -49,21 +49,6 @@ pub set_all : (axes : ℕ) (sets : LookedUp) (old : List Value) → list_all (re
 set_all axes sets old summable types fits = rw (summable, types, fits)
 
 -- ---- how they are looked up
-
-some_of : (b : Bool) (n : ℕ) → is_some (cond b (Some n) None) ≡ b
-some_of true n = refl
-some_of false n = refl
-
-any-map : {X Y : Type 0} (p : Y → Bool) (f : X → Y) (xs : List X) → list_any p (map f xs) ≡ list_any (λ (x : X). p (f x)) xs
-any-map p f [] = refl
-any-map p f (x ∷ xs) = rw (any-map p f xs)
-
--- a column is set where some set is of it
-pub set_there : (sets : List Setting) (name : List ℕ) → is_some (position (λ (set : Setting). same_name name set.0) sets) ≡ has_name (set_names sets) name
-set_there sets name =
-    some_of _ (position_or_len (λ (set : Setting). same_name name set.0) sets)
-    ∙ sym (any_position (λ (set : Setting). same_name name set.0) sets)
-    ∙ sym (any-map (same_name name) (λ (set : Setting). set.0) sets)
 
 unmapped : (o : Option ℕ) (f : ℕ → Reading) → option_map f o ≡ None → o ≡ None
 unmapped None f e = refl

@@ -20,7 +20,7 @@ use std::marker::Model;
 const MOST_COLUMNS: usize = 100;
 
 /// Up to so many names are compared each with each, which needs no memory.
-pub(crate) const FEW_NAMES: usize = 16;
+const FEW_NAMES: usize = 16;
 
 pub(crate) fn place_of(names: &[Name], name: &Name) -> Option<usize>
     ensures { result ≡ place_of names.now name.now }
@@ -35,7 +35,7 @@ pub(crate) fn has_name(names: &[Name], name: &Name) -> bool
 }
 
 /// Whether no name stands twice. Each is compared with each, so this is for short lists.
-pub(crate) fn are_distinct(names: &[Name]) -> bool
+fn are_distinct(names: &[Name]) -> bool
     ensures { result ≡ are_distinct names.now }
 {
     let mut rest = names;
@@ -49,11 +49,7 @@ pub(crate) fn are_distinct(names: &[Name]) -> bool
 }
 
 /// Adds a name to the texts of those before it, which are in lower case. Says whether it is new among them.
-pub(crate) fn add_name(
-    alloc: Global,
-    texts: &mut BTreeSet<String>,
-    name: &Name,
-) -> Result<bool, AllocError>
+fn add_name(alloc: Global, texts: &mut BTreeSet<String>, name: &Name) -> Result<bool, AllocError>
     ensures new { IfOk result (λ new. new ≡ not (contains_text texts.old (str_to_ascii_lowercase name.now))) }
     ensures added { OnOk result ((q : List ℕ) → contains_text texts.new (str_to_ascii_lowercase q) ≡ (same_name name.now q || contains_text texts.old (str_to_ascii_lowercase q))) }
 {

@@ -11,15 +11,14 @@ ghost use Rattle.rt_table_row.specs.Entries.{view_row, field_value, candidate_as
 ghost use Rattle.rt_table_row.specs.Candidates.{is_integer, number_in, id_value, coordinate_values};
 ghost use Rattle.rt_table_row.specs.Settings.{read, reads_integer, reading_fits, filled, candidate_set, set_names, reading_of, AreReadings, fill_of, reads_columns};
 ghost use Rattle.rt_sql_statement.specs.Name.{same_name};
-ghost use Rattle.rt_table_row.specs.Columns.{has_name, are_distinct};
 ghost use Rattle.rt_table_row.specs.Answers.{GivesAs};
 
+use crate::arrangement::are_known;
 use crate::candidate::{Candidate, is_integer, number_in};
 use crate::entry::{Field, RowView};
-use crate::schema::{FEW_NAMES, Schema, add_name, has_name, place_of};
+use crate::schema::{Schema, are_listed_once, place_of};
 use rt_sql_statement::{Name, Refusal, Source, Value};
 use std::alloc::{AllocError, Global};
-use std::collections::BTreeSet;
 use std::marker::Model;
 
 /// What a set gives its column; the column that it reads is looked up.
@@ -47,58 +46,15 @@ fn set_of(sets: &[(Name, Source)], name: &Name) -> Option<usize>
     sets.iter().position(|set| name.is_same(&set.0))
 }
 
-fn is_set(sets: &[(Name, Source)], name: &Name) -> bool
-    ensures { result ≡ has_name (set_names sets.now) name.now }
+/// The columns that are set, in their order.
+fn names_of(alloc: Global, sets: &[(Name, Source)]) -> Result<Vec<Name>, AllocError>
+    ensures { IfOk result (λ names. names.items ≡ set_names sets.now) }
 {
-    set_of(sets, name).is_some()
-}
-
-/// Whether no column is set twice. Each is compared with each, so this is for short lists.
-fn are_distinct(sets: &[(Name, Source)]) -> bool
-    ensures { result ≡ are_distinct (set_names sets.now) }
-{
-    let mut rest = sets;
-    while let Some((set, later)) = rest.split_first() {
-        if is_set(later, &set.0) {
-            return false;
-        }
-        rest = later;
-    }
-    true
-}
-
-/// The same for a long list, where it doesn't compare each column with each.
-fn are_many_distinct(alloc: Global, sets: &[(Name, Source)]) -> Result<bool, AllocError>
-    ensures { IfOk result (λ distinct. distinct ≡ are_distinct (set_names sets.now)) }
-{
-    let mut texts = BTreeSet::new(alloc);
+    let mut names = Vec::with_capacity(alloc, sets.len())?;
     for set in sets {
-        if !add_name(alloc, &mut texts, &set.0)? {
-            return Ok(false);
-        }
+        names.push(set.0.try_clone(alloc)?)?;
     }
-    Ok(true)
-}
-
-/// Whether no column is set twice, in a list of any length.
-fn are_set_once(alloc: Global, sets: &[(Name, Source)]) -> Result<bool, AllocError>
-    ensures { IfOk result (λ distinct. distinct ≡ are_distinct (set_names sets.now)) }
-{
-    if sets.len() <= FEW_NAMES {
-        return Ok(are_distinct(sets));
-    }
-    are_many_distinct(alloc, sets)
-}
-
-/// Whether each set is of a column of the table.
-fn are_known(columns: &[Name], sets: &[(Name, Source)]) -> bool
-    ensures { result ≡ list_all (λ set. has_name columns.now set.0) sets.now }
-{
-    sets.iter().all(
-        |set: &(Name, Source)| -> bool
-            ensures { result ≡ has_name columns.entry.now set.now.0 }
-        { has_name(columns, &set.0) },
-    )
+    Ok(names)
 }
 
 /// What a set gives; none where it reads no column of the table.
@@ -376,10 +332,11 @@ impl Settings {
     pub fn new(alloc: Global, schema: &Schema, sets: &[(Name, Source)]) -> Result<Settings, Refusal>
         ensures { MatchResult result (IsSettingsOf schema.now sets.now) (IsBadSettings schema.now sets.now) }
     {
-        if !are_set_once(alloc, sets)? {
+        let names = names_of(alloc, sets)?;
+        if !are_listed_once(alloc, names.as_slice())? {
             return Err(Refusal::BadColumnList);
         }
-        if !are_known(schema.names(), sets) {
+        if !are_known(schema.names(), names.as_slice()) {
             return Err(Refusal::NoSuchColumn);
         }
         let readings = readings_of(alloc, schema.names(), sets)?;

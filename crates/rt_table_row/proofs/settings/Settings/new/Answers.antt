@@ -1,10 +1,9 @@
 use Rattle.std.proofs.Common.{rules, refl, ◌≡◌, true, false, map, inl, inr, ⊎_elim}
 use Rattle.std.specs.List.{list_all}
 use Rattle.std.proofs.lemmas.List.{length-map}
-use Rattle.std.proofs.lemmas.List.Folds.{list_all-map}
 use Rattle.std.proofs.lemmas.Result.{err_from_is_err_and}
 use Rattle.rt_table_row.specs.Columns.{has_name, are_distinct}
-use Rattle.rt_table_row.specs.Edits.{Setting, is_summable, sum_fits}
+use Rattle.rt_table_row.specs.Edits.{is_summable, sum_fits}
 use Rattle.rt_table_row.specs.Settings.{set_names, fill_of, AreReadings, reads_integer, reading_fits, IsBadSettings}
 use Rattle.rt_table_row.proofs.Setting.{tests_same, sums_same, fits_same, reads_known, settings_same}
 use Rattle.rt_table_row.proofs.settings.Settings.new.Goals as goal
@@ -13,34 +12,31 @@ pub returns-then-not-are_known : goal.returns-then-not-are_known
 returns-then-not-are_known c =
     let sets = c.args.sets.now in
     let distinct : are_distinct (set_names sets) ≡ true = search rules in
-    let unknown : list_all (λ (set : Setting). has_name c.args.schema.now.names set.0) sets ≡ false = search rules in
-    let named : list_all (has_name c.args.schema.now.names) (set_names sets) ≡ false = rw list_all-map unknown in
-    inr (inl (refl, distinct, rw named refl))
+    let unknown : list_all (has_name c.args.schema.now.names) (set_names sets) ≡ false = search rules in
+    inr (inl (refl, distinct, rw unknown refl))
 
 pub returns-in_err-readings : goal.returns-in_err-readings
 returns-in_err-readings c =
     let sets = c.args.sets.now in
     let names = c.args.schema.now.names in
     let distinct : are_distinct (set_names sets) ≡ true = search rules in
-    let known : list_all (λ (set : Setting). has_name names set.0) sets ≡ true = search rules in
-    let named : list_all (has_name names) (set_names sets) ≡ true = rw list_all-map known in
+    let known : list_all (has_name names) (set_names sets) ≡ true = search rules in
     let p = err_from_is_err_and c.from_residual-in_err-readings.result c.from_residual-in_err-readings.ensures.1 in
     let why = rw c.names-2.ensures at c.in_err-readings.ensures in
     let bad : IsBadSettings c.args.schema.now sets c.in_err-readings.field-0.0 =
-    ⊎_elim (λ h. inr (inl (h.0, distinct, rw named h.1))) (λ h. inr (inr h)) why in
+    ⊎_elim (λ h. inr (inl (h.0, distinct, rw known h.1))) (λ h. inr (inr h)) why in
     rw (p.1, p.2) bad
 
 pub returns : goal.returns
 returns c =
     let sets = c.args.sets.now in
     let names = c.args.schema.now.names in
-    let known : list_all (λ (set : Setting). has_name names set.0) sets ≡ true = search rules in
-    let named : list_all (has_name names) (set_names sets) ≡ true = rw list_all-map known in
+    let known : list_all (has_name names) (set_names sets) ≡ true = search rules in
     let readings : AreReadings names sets c.in_ok-readings.readings.items = rw c.names-2.ensures at c.in_ok-readings.ensures in
     let fills : c.in_ok-fills.fills.items ≡ map (fill_of names sets) names = rw c.names-3.ensures at c.in_ok-fills.ensures in
     record {
       distinct = search rules;
-      known = rw named (reads_known names sets c.in_ok-readings.readings.items readings);
+      known = rw known (reads_known names sets c.in_ok-readings.readings.items readings);
       each = rw fills (length-map names (fill_of names sets));
       summable = λ values. tests_same names (reads_integer values) (is_summable names values) (sums_same names values) sets c.in_ok-readings.readings.items readings;
       fits = λ values. tests_same names (reading_fits values) (sum_fits names values) (fits_same names values) sets c.in_ok-readings.readings.items readings;
