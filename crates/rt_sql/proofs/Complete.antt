@@ -15,14 +15,14 @@ use Rattle.rt_sql.specs.Token.{Text}
 use Rattle.rt_sql.specs.Number.{Writes}
 use Rattle.rt_sql.specs.Word.{same_word, is_reserved}
 use Rattle.rt_sql.specs.Grammar as G
-use Rattle.rt_sql.specs.Reading.{Parser, Read}
+use Rattle.rt_sql.specs.Reading.{Parser, Read, TakesTokens}
 use Rattle.rt_sql.specs.Reading as R
 use Rattle.rt_sql.proofs.Basics.{test}
 use Rattle.std.proofs.lemmas.Slice.Eq.{bytes_eq-Decides}
 use Rattle.std.specs.List.{list_any}
 use Rattle.std.specs.Str.{bytes_eq, str_to_ascii_lowercase}
 use Rattle.rt_sql_statement.specs.declared.statement.Operator.TheVariants.{Eq, Ne, Lt, Le, Gt, Ge}
-use Rattle.rt_sql.proofs.Separated.{TakesTokens, turn_last, turn_more}
+use Rattle.rt_sql.proofs.Separated.{turn_last, turn_more}
 use Rattle.rt_sql.proofs.Shorter.{sign_shorter, word_shorter, value_takes}
 use Rattle.rt_sql.proofs.Sound.{TakesEach}
 

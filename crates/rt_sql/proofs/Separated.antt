@@ -1,7 +1,7 @@
 -- Items with commas between: one turn, and that the number of tokens bounds the turns.
 use Rattle.std.proofs.Common.{◌≡◌, ℕ, zero, suc, ◌-◌, ◌<◌, ◌≤◌, ◌⊎◌, inl, inr, ⊎_elim, Bool, true, false, List, [], ◌∷◌, ◌++◌, length, Option, Some, None, if◌then◌else◌, refl, ap, ◌∙◌, sym, arith}
 use Rattle.rt_sql.specs.declared.token.Token.{Token}
-use Rattle.rt_sql.specs.Reading.{Outcome, Parser, rest, separated_from}
+use Rattle.rt_sql.specs.Reading.{Outcome, Parser, TakesTokens, rest, separated_from}
 
 pub option_cases : {X : Type 0} (o : Option X) → (o ≡ None) ⊎ ((x : X) × (o ≡ Some x))
 option_cases None = inl refl
@@ -10,10 +10,6 @@ option_cases (Some x) = inr (x, refl)
 pub bool_cases : (b : Bool) → (b ≡ true) ⊎ (b ≡ false)
 bool_cases true = inl refl
 bool_cases false = inr refl
-
--- what reads an item takes a token
-abbrev pub TakesTokens : {A : Type 0} → Parser A → Type 0
-TakesTokens {A} p = (ts : List Token) (a : A) (left : List Token) → p ts ≡ Some (a, left) → length left < length ts
 
 pub rest_shorter : (ts : List Token) → length (rest ts) ≤ length ts
 unfolding rest

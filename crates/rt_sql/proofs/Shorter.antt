@@ -17,9 +17,8 @@ use Rattle.rt_sql_statement.specs.declared.value.Value.TheVariants as values
 use Rattle.rt_sql.specs.Token.{Text}
 use Rattle.rt_sql.specs.Number.{Writes}
 use Rattle.rt_sql.specs.Grammar as G
-use Rattle.rt_sql.specs.Reading.{Parser, Read}
+use Rattle.rt_sql.specs.Reading.{Parser, Read, TakesTokens}
 use Rattle.rt_sql.specs.Reading as R
-use Rattle.rt_sql.proofs.Separated.{TakesTokens}
 use Rattle.rt_sql.proofs.Sound.{sound_name, sound_value, sound_list, sound_column}
 use Rattle.rt_sql.proofs.SoundForms.{sound_test, sound_set}
 

@@ -1,9 +1,11 @@
 -- Statements read from the front of a list of tokens, as functions: the value and the tokens after it, or none where the tokens spell no such thing.
-use Rattle.std.specs.Prelude.{◌≡◌, ◌≢◌, ℕ, zero, suc, Bool, true, false, not, List, [], ◌∷◌, ◌++◌, length, Option, Some, None, Result, Ok, Err, if◌then◌else◌, codes, ◌&&◌, ◌||◌}
+use Rattle.std.specs.Prelude.{◌≡◌, ◌≢◌, ◌<◌, ℕ, zero, suc, Bool, true, false, not, List, [], ◌∷◌, ◌++◌, length, Option, Some, None, Result, Ok, Err, if◌then◌else◌, codes, ◌&&◌, ◌||◌}
 use lib.IntN.{ℤ}
 use Rattle.std.specs.Option.{is_some}
 use denote.Enum.Bare.{sameb}
 use Rattle.rt_sql.specs.contracts.token.Sign.{the_type}
+use Rattle.rt_sql.specs.declared.grammar.items.Separator.{Separator}
+use Rattle.rt_sql.specs.declared.grammar.items.Separator.TheVariants as separators
 use Rattle.rt_sql.specs.declared.token.Sign.{Sign}
 use Rattle.rt_sql.specs.declared.token.Sign.TheVariants.{LeftParenthesis, RightParenthesis, Comma, Semicolon, Plus, Minus, Star, Equal, DoubleEqual, LessGreater, BangEqual, Less, LessOrEqual, Greater, GreaterOrEqual}
 use Rattle.rt_sql.specs.declared.token.Token.{Token}
@@ -170,6 +172,15 @@ separated sees item = λ ts. separated_from sees item (length ts) [] ts
 
 abbrev pub by_commas : {A : Type 0} → Parser A → Parser (List A)
 by_commas item = separated (sees_sign Comma) item
+
+-- what is seen where a separator comes next
+abbrev pub sees : Separator → List Token → Bool
+sees separators.Comma = sees_sign Comma
+sees separators.And = sees_word (codes "AND")
+
+-- what reads an item takes a token
+abbrev pub TakesTokens : {A : Type 0} → Parser A → Type 0
+TakesTokens {A} item = (ts : List Token) (a : A) (left : List Token) → item ts ≡ Some (a, left) → length left < length ts
 
 unfoldable pub list : Read → Parser (List Value)
 list read = do

@@ -13,6 +13,7 @@ mod command;
 mod condition;
 mod create;
 mod edit;
+mod items;
 mod literals;
 mod select;
 

@@ -2,16 +2,16 @@
 //!
 //! There is no `OR`, no parenthesis and no column on the right of an operator.
 
-ghost use Rattle.std.specs.Prelude.{codes};
 ghost use Rattle.rt_sql.specs.Number.{number_by};
 ghost use Rattle.rt_sql.specs.Reading as reading;
 ghost use Rattle.rt_sql.specs.Reading.{Reads};
 
-use crate::grammar::literals::{name, value};
+use crate::grammar::items::{Item, Separator, separated};
+use crate::grammar::literals::name;
 use crate::number::Numbers;
 use crate::token::{Sign, Token};
 use crate::tokens::Tokens;
-use rt_sql_statement::{Compare, Cond, Items, Name, Operator, Refusal, Test};
+use rt_sql_statement::{Compare, Cond, Items, Name, Operator, Refusal, Test, Value};
 use std::alloc::Global;
 
 /// An operator of a comparison.
@@ -55,38 +55,29 @@ fn comparison(
     ensures { Reads (reading.comparison (number_by numbers) column tokens.old) result tokens.new }
 {
     let op = operator(tokens)?;
-    let value = value(alloc, tokens, numbers)?;
+    let value = Value::read(alloc, tokens, numbers)?;
     Ok(Test::Compare(Compare { column, op, value }))
 }
 
 /// A test of one column.
-#[tactic(auto, unfolding(crate::specs::Reading::a_test))]
-fn test(alloc: Global, tokens: &mut Tokens<'_>, numbers: Numbers) -> Result<Test, Refusal>
-    ensures { Reads (reading.a_test (number_by numbers) tokens.old) result tokens.new }
-{
-    let column = name(alloc, tokens)?;
-    if tokens.eat_word("IS") {
-        null_test(tokens, column)
-    } else {
-        comparison(alloc, tokens, numbers, column)
-    }
-}
+impl Item for Test {
+    ghost use Rattle.rt_sql.specs.Reading.{a_test};
 
-/// Tests with `AND` between.
-fn tests(alloc: Global, tokens: &mut Tokens<'_>, numbers: Numbers) -> Result<Items<Test>, Refusal>
-    ensures { Reads (reading.separated (reading.sees_word (codes "AND")) (reading.a_test (number_by numbers)) tokens.old) result tokens.new }
-{
-    let mut tests = Items::new(alloc);
-    'tests: loop {
-        tests.push(test(alloc, tokens, numbers)?)?;
-        if !tokens.eat_word("AND") {
-            return Ok(tests);
+    ghost rule = { a_test };
+
+    #[tactic(auto, unfolding(crate::specs::Reading::a_test))]
+    fn read(alloc: Global, tokens: &mut Tokens<'_>, numbers: Numbers) -> Result<Test, Refusal> {
+        let column = name(alloc, tokens)?;
+        if tokens.eat_word("IS") {
+            null_test(tokens, column)
+        } else {
+            comparison(alloc, tokens, numbers, column)
         }
     }
 }
 
 /// A condition: `WHERE` and its tests, or nothing.
-#[tactic(auto, unfolding(crate::specs::Reading::condition))]
+#[tactic(auto, using(crate::proofs::Shorter::test_takes), unfolding(crate::specs::Reading::condition))]
 pub(crate) fn condition(
     alloc: Global,
     tokens: &mut Tokens<'_>,
@@ -95,7 +86,7 @@ pub(crate) fn condition(
     ensures { Reads (reading.condition (number_by numbers) tokens.old) result tokens.new }
 {
     if tokens.eat_word("WHERE") {
-        tests(alloc, tokens, numbers)
+        separated::<Test>(alloc, tokens, numbers, Separator::And)
     } else {
         Ok(Items::new(alloc))
     }

@@ -7,11 +7,12 @@ ghost use Rattle.rt_sql.specs.Number.{number_by};
 ghost use Rattle.rt_sql.specs.Reading as reading;
 ghost use Rattle.rt_sql.specs.Reading.{Reads};
 
+use crate::grammar::items::{Item, Separator, separated};
 use crate::grammar::literals::{digits, name};
 use crate::number::Numbers;
 use crate::token::{Sign, Token};
 use crate::tokens::Tokens;
-use rt_sql_statement::{ColumnDef, Items, Name, Refusal, Stmt};
+use rt_sql_statement::{ColumnDef, Name, Refusal, Stmt};
 use std::alloc::Global;
 
 /// Whether a word comes next.
@@ -68,31 +69,22 @@ fn size(tokens: &mut Tokens<'_>, numbers: Numbers) -> Result<(), Refusal>
 }
 
 /// A column: `+` where it is auxiliary, its name, and a type that means nothing.
-#[tactic(auto, unfolding(crate::specs::Reading::column))]
-fn column(alloc: Global, tokens: &mut Tokens<'_>, numbers: Numbers) -> Result<ColumnDef, Refusal>
-    ensures { Reads (reading.column (number_by numbers) tokens.old) result tokens.new }
-{
-    let auxiliary = tokens.eat_sign(Sign::Plus);
-    let name = name(alloc, tokens)?;
-    skip_words(tokens);
-    size(tokens, numbers)?;
-    Ok(ColumnDef { name, auxiliary })
-}
+impl Item for ColumnDef {
+    ghost use Rattle.rt_sql.specs.Reading.{column};
 
-/// Columns with commas between.
-fn columns(
-    alloc: Global,
-    tokens: &mut Tokens<'_>,
-    numbers: Numbers,
-) -> Result<Items<ColumnDef>, Refusal>
-    ensures { Reads (reading.by_commas (reading.column (number_by numbers)) tokens.old) result tokens.new }
-{
-    let mut columns = Items::new(alloc);
-    'columns: loop {
-        columns.push(column(alloc, tokens, numbers)?)?;
-        if !tokens.eat_sign(Sign::Comma) {
-            return Ok(columns);
-        }
+    ghost rule = { column };
+
+    #[tactic(auto, unfolding(crate::specs::Reading::column))]
+    fn read(
+        alloc: Global,
+        tokens: &mut Tokens<'_>,
+        numbers: Numbers,
+    ) -> Result<ColumnDef, Refusal> {
+        let auxiliary = tokens.eat_sign(Sign::Plus);
+        let name = name(alloc, tokens)?;
+        skip_words(tokens);
+        size(tokens, numbers)?;
+        Ok(ColumnDef { name, auxiliary })
     }
 }
 
@@ -143,7 +135,7 @@ fn if_exists(alloc: Global, tokens: &mut Tokens<'_>) -> Result<(bool, Name), Ref
 }
 
 /// A CREATE from `VIRTUAL` on.
-#[tactic(auto, unfolding(crate::specs::Reading::create))]
+#[tactic(auto, using(crate::proofs::Shorter::column_takes), unfolding(crate::specs::Reading::create))]
 fn create(alloc: Global, tokens: &mut Tokens<'_>, numbers: Numbers) -> Result<Stmt, Refusal>
     ensures { Reads (reading.create (number_by numbers) tokens.old) result tokens.new }
 {
@@ -153,7 +145,7 @@ fn create(alloc: Global, tokens: &mut Tokens<'_>, numbers: Numbers) -> Result<St
     tokens.expect_word("USING")?;
     tokens.expect_word("RTREE_I32")?;
     tokens.expect_sign(Sign::LeftParenthesis)?;
-    let columns = columns(alloc, tokens, numbers)?;
+    let columns = separated::<ColumnDef>(alloc, tokens, numbers, Separator::Comma)?;
     tokens.expect_sign(Sign::RightParenthesis)?;
     Ok(Stmt::Create {
         table,

@@ -8,7 +8,8 @@ ghost use Rattle.rt_sql.specs.Reading as reading;
 ghost use Rattle.rt_sql.specs.Reading.{Reads};
 
 use crate::grammar::condition::condition;
-use crate::grammar::literals::{digits, list, name, names, value};
+use crate::grammar::items::{Item, Separator, separated};
+use crate::grammar::literals::{digits, name};
 use crate::number::Numbers;
 use crate::token::{Sign, Token};
 use crate::tokens::Tokens;
@@ -34,37 +35,24 @@ pub(crate) fn rule(tokens: &mut Tokens<'_>) -> Result<Rule, Refusal>
 }
 
 /// The columns that an INSERT lists, where a parenthesis comes next.
-#[tactic(auto, unfolding(crate::specs::Reading::named_columns, crate::specs::Reading::name_list))]
-fn named_columns(alloc: Global, tokens: &mut Tokens<'_>) -> Result<Option<Items<Name>>, Refusal>
+#[tactic(auto, using(crate::proofs::Shorter::name_takes), unfolding(crate::specs::Reading::named_columns, crate::specs::Reading::name_list))]
+fn named_columns(
+    alloc: Global,
+    tokens: &mut Tokens<'_>,
+    numbers: Numbers,
+) -> Result<Option<Items<Name>>, Refusal>
     ensures { Reads (reading.named_columns tokens.old) result tokens.new }
 {
     if !tokens.eat_sign(Sign::LeftParenthesis) {
         return Ok(None);
     }
-    let names = names(alloc, tokens)?;
+    let names = separated::<Name>(alloc, tokens, numbers, Separator::Comma)?;
     tokens.expect_sign(Sign::RightParenthesis)?;
     Ok(Some(names))
 }
 
-/// The rows of an INSERT, with commas between.
-fn lists(
-    alloc: Global,
-    tokens: &mut Tokens<'_>,
-    numbers: Numbers,
-) -> Result<Items<Items<Value>>, Refusal>
-    ensures { Reads (reading.by_commas (reading.list (number_by numbers)) tokens.old) result tokens.new }
-{
-    let mut lists = Items::new(alloc);
-    'lists: loop {
-        lists.push(list(alloc, tokens, numbers)?)?;
-        if !tokens.eat_sign(Sign::Comma) {
-            return Ok(lists);
-        }
-    }
-}
-
 /// An INSERT from `INTO` on.
-#[tactic(auto, unfolding(crate::specs::Reading::insert))]
+#[tactic(auto, using(crate::proofs::Shorter::list_takes), unfolding(crate::specs::Reading::insert))]
 pub(crate) fn insert(
     alloc: Global,
     tokens: &mut Tokens<'_>,
@@ -75,9 +63,9 @@ pub(crate) fn insert(
 {
     tokens.expect_word("INTO")?;
     let table = name(alloc, tokens)?;
-    let columns = named_columns(alloc, tokens)?;
+    let columns = named_columns(alloc, tokens, numbers)?;
     tokens.expect_word("VALUES")?;
-    let rows = lists(alloc, tokens, numbers)?;
+    let rows = separated::<Items<Value>>(alloc, tokens, numbers, Separator::Comma)?;
     let edit = Edit::Insert {
         rule,
         columns,
@@ -120,42 +108,33 @@ fn source(alloc: Global, tokens: &mut Tokens<'_>, numbers: Numbers) -> Result<So
     ensures { Reads (reading.a_source (number_by numbers) tokens.old) result tokens.new }
 {
     if sees_value(tokens) {
-        Ok(Source::Literal(value(alloc, tokens, numbers)?))
+        Ok(Source::Literal(Value::read(alloc, tokens, numbers)?))
     } else {
         from_column(alloc, tokens, numbers)
     }
 }
 
 /// A column, `=` and what it is given.
-#[tactic(auto, unfolding(crate::specs::Reading::set))]
-fn set(alloc: Global, tokens: &mut Tokens<'_>, numbers: Numbers) -> Result<(Name, Source), Refusal>
-    ensures { Reads (reading.set (number_by numbers) tokens.old) result tokens.new }
-{
-    let column = name(alloc, tokens)?;
-    tokens.expect_sign(Sign::Equal)?;
-    let source = source(alloc, tokens, numbers)?;
-    Ok((column, source))
-}
+impl Item for (Name, Source) {
+    ghost use Rattle.rt_sql.specs.Reading.{set};
 
-/// The columns that an UPDATE sets, with commas between.
-fn sets(
-    alloc: Global,
-    tokens: &mut Tokens<'_>,
-    numbers: Numbers,
-) -> Result<Items<(Name, Source)>, Refusal>
-    ensures { Reads (reading.by_commas (reading.set (number_by numbers)) tokens.old) result tokens.new }
-{
-    let mut sets = Items::new(alloc);
-    'sets: loop {
-        sets.push(set(alloc, tokens, numbers)?)?;
-        if !tokens.eat_sign(Sign::Comma) {
-            return Ok(sets);
-        }
+    ghost rule = { set };
+
+    #[tactic(auto, unfolding(crate::specs::Reading::set))]
+    fn read(
+        alloc: Global,
+        tokens: &mut Tokens<'_>,
+        numbers: Numbers,
+    ) -> Result<(Name, Source), Refusal> {
+        let column = name(alloc, tokens)?;
+        tokens.expect_sign(Sign::Equal)?;
+        let source = source(alloc, tokens, numbers)?;
+        Ok((column, source))
     }
 }
 
 /// An UPDATE from its table on.
-#[tactic(auto, unfolding(crate::specs::Reading::update))]
+#[tactic(auto, using(crate::proofs::Shorter::set_takes), unfolding(crate::specs::Reading::update))]
 pub(crate) fn update(
     alloc: Global,
     tokens: &mut Tokens<'_>,
@@ -165,7 +144,7 @@ pub(crate) fn update(
 {
     let table = name(alloc, tokens)?;
     tokens.expect_word("SET")?;
-    let sets = sets(alloc, tokens, numbers)?;
+    let sets = separated::<(Name, Source)>(alloc, tokens, numbers, Separator::Comma)?;
     let cond = condition(alloc, tokens, numbers)?;
     let edit = Edit::Update { sets, cond };
     Ok(Stmt::Edit { table, edit })

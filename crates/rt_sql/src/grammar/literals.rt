@@ -8,6 +8,7 @@ ghost use Rattle.rt_sql.specs.Number.{number_by};
 ghost use Rattle.rt_sql.specs.Reading as reading;
 ghost use Rattle.rt_sql.specs.Reading.{Reads};
 
+use crate::grammar::items::{Item, Separator, separated};
 use crate::literals::{hex_bytes, undoubled};
 use crate::number::{Numbers, number};
 use crate::token::{Sign, Token};
@@ -29,6 +30,16 @@ pub(crate) fn name(alloc: Global, tokens: &mut Tokens<'_>) -> Result<Name, Refus
             Ok(Name::from_string(undoubled(alloc, b'"', quoted.as_str())?))
         }
         _ => Err(Refusal::SyntaxError),
+    }
+}
+
+impl Item for Name {
+    ghost use Rattle.rt_sql.specs.Reading as reading;
+
+    ghost rule = { λ _. reading.name };
+
+    fn read(alloc: Global, tokens: &mut Tokens<'_>, _numbers: Numbers) -> Result<Name, Refusal> {
+        name(alloc, tokens)
     }
 }
 
@@ -101,60 +112,38 @@ fn not_null(alloc: Global, tokens: &mut Tokens<'_>, numbers: Numbers) -> Result<
 }
 
 /// A value: `NULL`, a text, a blob or an integer.
-#[tactic(auto, unfolding(crate::specs::Reading::a_value))]
-pub(crate) fn value(
-    alloc: Global,
-    tokens: &mut Tokens<'_>,
-    numbers: Numbers,
-) -> Result<Value, Refusal>
-    ensures { Reads (reading.a_value (number_by numbers) tokens.old) result tokens.new }
-{
-    if tokens.eat_word("NULL") {
-        Ok(Value::Null)
-    } else {
-        not_null(alloc, tokens, numbers)
-    }
-}
+impl Item for Value {
+    ghost use Rattle.rt_sql.specs.Reading.{a_value};
 
-/// Names with commas between.
-pub(crate) fn names(alloc: Global, tokens: &mut Tokens<'_>) -> Result<Items<Name>, Refusal>
-    ensures { Reads (reading.by_commas reading.name tokens.old) result tokens.new }
-{
-    let mut names = Items::new(alloc);
-    'names: loop {
-        names.push(name(alloc, tokens)?)?;
-        if !tokens.eat_sign(Sign::Comma) {
-            return Ok(names);
+    ghost rule = { a_value };
+
+    #[tactic(auto, unfolding(crate::specs::Reading::a_value))]
+    fn read(alloc: Global, tokens: &mut Tokens<'_>, numbers: Numbers) -> Result<Value, Refusal> {
+        if tokens.eat_word("NULL") {
+            Ok(Value::Null)
+        } else {
+            not_null(alloc, tokens, numbers)
         }
     }
 }
 
-/// Values with commas between.
-fn values(alloc: Global, tokens: &mut Tokens<'_>, numbers: Numbers) -> Result<Items<Value>, Refusal>
-    ensures { Reads (reading.by_commas (reading.a_value (number_by numbers)) tokens.old) result tokens.new }
-{
-    let mut values = Items::new(alloc);
-    'values: loop {
-        values.push(value(alloc, tokens, numbers)?)?;
-        if !tokens.eat_sign(Sign::Comma) {
-            return Ok(values);
-        }
-    }
-}
+/// Values in parentheses: a row.
+impl Item for Items<Value> {
+    ghost use Rattle.rt_sql.specs.Reading.{list};
 
-/// Values in parentheses.
-#[tactic(auto, unfolding(crate::specs::Reading::list))]
-pub(crate) fn list(
-    alloc: Global,
-    tokens: &mut Tokens<'_>,
-    numbers: Numbers,
-) -> Result<Items<Value>, Refusal>
-    ensures { Reads (reading.list (number_by numbers) tokens.old) result tokens.new }
-{
-    tokens.expect_sign(Sign::LeftParenthesis)?;
-    let values = values(alloc, tokens, numbers)?;
-    tokens.expect_sign(Sign::RightParenthesis)?;
-    Ok(values)
+    ghost rule = { list };
+
+    #[tactic(auto, using(crate::proofs::Shorter::value_takes), unfolding(crate::specs::Reading::list))]
+    fn read(
+        alloc: Global,
+        tokens: &mut Tokens<'_>,
+        numbers: Numbers,
+    ) -> Result<Items<Value>, Refusal> {
+        tokens.expect_sign(Sign::LeftParenthesis)?;
+        let values = separated::<Value>(alloc, tokens, numbers, Separator::Comma)?;
+        tokens.expect_sign(Sign::RightParenthesis)?;
+        Ok(values)
+    }
 }
 
 /// The name of a table that a text in single quotes spells.

@@ -8,7 +8,8 @@ ghost use Rattle.rt_sql.specs.Reading as reading;
 ghost use Rattle.rt_sql.specs.Reading.{Reads};
 
 use crate::grammar::condition::condition;
-use crate::grammar::literals::{name, names, text};
+use crate::grammar::items::{Separator, separated};
+use crate::grammar::literals::{name, text};
 use crate::number::Numbers;
 use crate::token::Sign;
 use crate::tokens::Tokens;
@@ -30,14 +31,19 @@ fn order(alloc: Global, tokens: &mut Tokens<'_>) -> Result<Option<Name>, Refusal
 }
 
 /// The columns that a SELECT shows: all of them at `*`.
-#[tactic(auto, unfolding(crate::specs::Reading::shown))]
-fn shown(alloc: Global, tokens: &mut Tokens<'_>) -> Result<Option<Items<Name>>, Refusal>
+#[tactic(auto, using(crate::proofs::Shorter::name_takes), unfolding(crate::specs::Reading::shown))]
+fn shown(
+    alloc: Global,
+    tokens: &mut Tokens<'_>,
+    numbers: Numbers,
+) -> Result<Option<Items<Name>>, Refusal>
     ensures { Reads (reading.shown tokens.old) result tokens.new }
 {
     if tokens.eat_sign(Sign::Star) {
         Ok(None)
     } else {
-        Ok(Some(names(alloc, tokens)?))
+        let names = separated::<Name>(alloc, tokens, numbers, Separator::Comma)?;
+        Ok(Some(names))
     }
 }
 
@@ -46,7 +52,7 @@ fn shown(alloc: Global, tokens: &mut Tokens<'_>) -> Result<Option<Items<Name>>, 
 fn select_rows(alloc: Global, tokens: &mut Tokens<'_>, numbers: Numbers) -> Result<Stmt, Refusal>
     ensures { Reads (reading.select_rows (number_by numbers) tokens.old) result tokens.new }
 {
-    let columns = shown(alloc, tokens)?;
+    let columns = shown(alloc, tokens, numbers)?;
     tokens.expect_word("FROM")?;
     let table = name(alloc, tokens)?;
     let cond = condition(alloc, tokens, numbers)?;
