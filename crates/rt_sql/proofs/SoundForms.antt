@@ -4,7 +4,6 @@ use Rattle.std.specs.Option.{is_some}
 use Rattle.rt_sql_statement.specs.declared.statement.Rule.{Rule}
 use Rattle.rt_sql_statement.specs.declared.statement.Rule.TheVariants.{Replace}
 use Rattle.rt_sql_statement.specs.declared.statement.Stmt.{Stmt}
-use Rattle.rt_sql_statement.specs.declared.statement.Edit.TheVariants as edit
 use Rattle.rt_sql_statement.specs.declared.statement.Stmt.TheVariants as stmt
 use Rattle.rt_sql_statement.specs.declared.statement.Test.{Test}
 use Rattle.rt_sql.specs.declared.token.Sign.TheVariants.{LeftParenthesis, RightParenthesis, Semicolon, Plus, Minus, Star, Equal}

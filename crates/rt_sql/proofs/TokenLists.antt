@@ -13,7 +13,7 @@ use Rattle.rt_sql.specs.declared.token.Token.TheVariants as token
 use Rattle.rt_sql_cut.specs.Text.{is_white}
 use Rattle.rt_sql.specs.Token.{Text, begins_word, is_in_word, is_in_line, begins, doubled}
 use Rattle.rt_sql.specs.Tokens.{spelling, is_byte, IsToken, IsLongest, TokenAt, GapAt, GapsAt, Gap, IsTokens}
-use Rattle.rt_sql.specs.Lex.{Lexeme, bad, lexeme, spelled, gap, is_gap, word, digits, text, quoted, blob, closing, closed_text, closed_name, line_len, block_len, long_sign, short_sign, sign, signed, put, tokens_of}
+use Rattle.rt_sql.specs.Lex.{Lexeme, bad, lexeme, spelled, gap, is_gap, word, digits, in_quotes, blob, closing, closed, line_len, block_len, long_sign, short_sign, sign, signed, put, tokens_of}
 use Rattle.rt_sql.proofs.Basics.{test, cases}
 use Rattle.rt_sql.proofs.Comments.{line_passes, passes_line, line_stops, stops_line, is_open, and_both, begins_slash, block_end, open_lacks, lacks_open}
 use Rattle.rt_sql.proofs.Cuts.{word_goes_on}
@@ -113,8 +113,8 @@ unfolding begins_word
 letter_begins b (inl e) = rw e (refl, refl)
 letter_begins b (inr e) = rw e (refl, refl)
 
-text_is : (t s after : Text) → t ≡ doubled 39 s → begins (is_byte 39) after ≡ false → text (t ++ 39 ∷ after) ≡ (Some (token.Text t), length t + 2)
-unfolding text
+text_is : (t s after : Text) → t ≡ doubled 39 s → begins (is_byte 39) after ≡ false → in_quotes 39 (t ++ 39 ∷ after) ≡ (Some (token.Text t), length t + 2)
+unfolding in_quotes
 text_is t s after d stops =
     let end : closing 39 0 (t ++ 39 ∷ after) ≡ Some (length t) = rw d (closing_doubled 39 0 s after stops ∙ ap Some (zero-add (length (doubled 39 s)))) in
     rw (end, take_front t (39 ∷ after)) refl
@@ -124,12 +124,15 @@ doubled_some q [] h = absurd (h refl)
 doubled_some q (b ∷ n) h =
     test (b == q) (λ e. rw e (λ k. cc)) (λ e. rw e (λ k. cc))
 
-name_is : (t after : Text) → t ≢ [] → closed_name (t ++ 34 ∷ after) (Some (length t)) ≡ (Some (token.Quoted t), length t + 2)
-name_is [] after h = absurd (h refl)
-name_is (b ∷ t) after h = ap (λ x. (Some (token.Quoted (b ∷ x)), suc (length t) + 2)) (take_front t (34 ∷ after))
+not_zero : (n : ℕ) → (suc n == 0) ≡ false
+not_zero n = grind (arith, nat_tests)
 
-quoted_is : (t n after : Text) → t ≡ doubled 34 n → n ≢ [] → begins (is_byte 34) after ≡ false → quoted (t ++ 34 ∷ after) ≡ (Some (token.Quoted t), length t + 2)
-unfolding quoted
+name_is : (t after : Text) → t ≢ [] → closed 34 (t ++ 34 ∷ after) (Some (length t)) ≡ (Some (token.Quoted t), length t + 2)
+name_is [] after h = absurd (h refl)
+name_is (b ∷ t) after h = rw (not_zero (length t)) (ap (λ x. (Some (token.Quoted (b ∷ x)), suc (length t) + 2)) (take_front t (34 ∷ after)))
+
+quoted_is : (t n after : Text) → t ≡ doubled 34 n → n ≢ [] → begins (is_byte 34) after ≡ false → in_quotes 34 (t ++ 34 ∷ after) ≡ (Some (token.Quoted t), length t + 2)
+unfolding in_quotes
 quoted_is t n after d some stops =
     let end : closing 34 0 (t ++ 34 ∷ after) ≡ Some (length t) = rw d (closing_doubled 34 0 n after stops ∙ ap Some (zero-add (length (doubled 34 n)))) in
     rw end (name_is t after (rw d (doubled_some 34 n some)))
@@ -336,7 +339,7 @@ inside_is : (q n m : ℕ) (z inside after : Text) → z ≡ inside ++ q ∷ afte
 inside_is q n m z inside after e f =
     (rw (f, e) (take_front inside (q ∷ after)), rw (f, e) (one_quote q inside after))
 
-found_text : (z : Text) (o : Option ℕ) → closing 39 0 z ≡ o → Found (39 ∷ z) (closed_text z o).0 (closed_text z o).1
+found_text : (z : Text) (o : Option ℕ) → closing 39 0 z ≡ o → Found (39 ∷ z) (closed 39 z o).0 (closed 39 z o).1
 found_text z None e = refl
 found_text z (Some m) e =
     let k = closed_by 39 0 z m e in
@@ -348,14 +351,14 @@ some_inside : (m : ℕ) (n : Text) → suc m ≡ length (doubled 34 n) → n ≢
 some_inside m [] e = λ h. absurd (omega (arith, e))
 some_inside m (b ∷ n) e = λ h. cc
 
-found_quoted : (z : Text) (o : Option ℕ) → closing 34 0 z ≡ o → Found (34 ∷ z) (closed_name z o).0 (closed_name z o).1
+found_quoted : (z : Text) (o : Option ℕ) → closing 34 0 z ≡ o → Found (34 ∷ z) (closed 34 z o).0 (closed 34 z o).1
 found_quoted z None e = refl
 found_quoted z (Some zero) e = refl
 found_quoted z (Some (suc m)) e =
     let k = closed_by 34 0 z (suc m) e in
     let len : suc m ≡ length (doubled 34 k.0) = omega (arith, k.4) in
     let i = inside_is 34 0 (suc m) z (doubled 34 k.0) k.1 k.2 len in
-    ((k.0, i.0, some_inside m k.0 len, (rw (i.0, i.1) (ap (λ x. 34 ∷ x) k.2), rw i.1 k.3)), omega arith)
+    rw (not_zero m) ((k.0, i.0, some_inside m k.0 len, (rw (i.0, i.1) (ap (λ x. 34 ∷ x) k.2), rw i.1 k.3)), omega arith)
 
 short_is : (b : ℕ) (s : Sign) → short_sign b ≡ Some s → b ∷ [] ≡ spelling s
 unfolding short_sign
@@ -416,7 +419,7 @@ found_letter x (c ∷ z) e =
     rw quote (found_blob x z e.0 (letter_begins x (is_letter x e.0)).1)
 
 found : (b : ℕ) (z : Text) → Found (b ∷ z) (at_start (b ∷ z)).0 (at_start (b ∷ z)).1
-unfolding spelled text quoted
+unfolding spelled in_quotes
 found b z =
     test ((b == 88 || b == 120) && slice_index z 0 == 39)
     (λ e. rw e (found_letter b z (and_both (b == 88 || b == 120) (slice_index z 0 == 39) e)))

@@ -31,21 +31,16 @@ closing quote at (b ∷ []) = if b == quote then Some at else None
 closing quote at (b ∷ c ∷ z) =
     if b == quote then (if c == quote then closing quote (at + 2) z else Some at) else closing quote (at + 1) (c ∷ z)
 
-abbrev pub closed_text : Text → Option ℕ → Lexeme
-closed_text z None = bad
-closed_text z (Some end) = (Some (token.Text (take end z)), end + 2)
-
-abbrev pub closed_name : Text → Option ℕ → Lexeme
-closed_name z None = bad
-closed_name z (Some zero) = bad
-closed_name z (Some (suc n)) = (Some (token.Quoted (take (suc n) z)), suc n + 2)
+-- a text in single quotes, or a name in double ones, which isn't empty
+abbrev pub closed : ℕ → Text → Option ℕ → Lexeme
+closed quote z None = bad
+closed quote z (Some end) =
+    if quote == 39 then (Some (token.Text (take end z)), end + 2)
+    else (if end == 0 then bad else (Some (token.Quoted (take end z)), end + 2))
 
 -- for z without its first byte, the quote
-unfoldable pub text : Text → Lexeme
-text z = closed_text z (closing 39 0 z)
-
-unfoldable pub quoted : Text → Lexeme
-quoted z = closed_name z (closing 34 0 z)
+unfoldable pub in_quotes : ℕ → Text → Lexeme
+in_quotes quote z = closed quote z (closing quote 0 z)
 
 -- for z without its first two bytes; where it is no blob, the letter begins a word
 unfoldable pub blob : Text → Lexeme → Lexeme
@@ -94,9 +89,8 @@ spelled b c z =
     if (b == 88 || b == 120) && c == 39 then blob (drop 2 z) (word z)
     else (if begins_word b then word z
     else (if is_ascii_digit b then digits z
-    else (if b == 39 then text (drop 1 z)
-    else (if b == 34 then quoted (drop 1 z)
-    else sign b c))))
+    else (if b == 39 || b == 34 then in_quotes b (drop 1 z)
+    else sign b c)))
 
 unfoldable pub lexeme : ℕ → Text → Lexeme
 lexeme b z = if is_gap b (slice_index z 1) then gap b z else spelled b (slice_index z 1) z

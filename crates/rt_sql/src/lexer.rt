@@ -165,33 +165,19 @@ fn sign(b: u8, next: u8) -> (Option<Token<'static>>, usize)
     }
 }
 
-/// A text in quotes.
-#[tactic(auto, using(crate::proofs::Cuts::cut_past_quote, crate::proofs::Cuts::cut_after_first, crate::proofs::Cuts::cut_before), unfolding(crate::specs::Lex::text))]
-fn literal(text: &str) -> Lexeme<'_>
+/// A text in single quotes, or a name in double ones, which isn't empty.
+#[tactic(auto, using(crate::proofs::Cuts::cut_past_quote, crate::proofs::Cuts::cut_after_first, crate::proofs::Cuts::cut_before), unfolding(crate::specs::Lex::in_quotes))]
+fn in_quotes(quote: u8, text: &str) -> Lexeme<'_>
     requires some { 0 < length text.now }
-    requires first { slice_index text.now 0 ≡ 39 }
-    ensures value { result ≡ lexing.text (drop 1 text.now) }
+    requires first { slice_index text.now 0 ≡ quote }
+    requires ascii { quote < 128 }
+    ensures value { result ≡ lexing.in_quotes quote (drop 1 text.now) }
     ensures cut { IsCharBoundary text.now result.1 }
     ensures moves { 0 < result.1 }
 {
     let rest = &text[1..];
-    match closing(b'\'', rest.as_bytes()) {
-        Some(end) => (Some(Token::Text(Spelling::new(&rest[..end]))), end + 2),
-        None => (Some(Token::Bad), 1),
-    }
-}
-
-/// A name in quotes.
-#[tactic(auto, using(crate::proofs::Cuts::cut_past_quote, crate::proofs::Cuts::cut_after_first, crate::proofs::Cuts::cut_before), unfolding(crate::specs::Lex::quoted))]
-fn quoted(text: &str) -> Lexeme<'_>
-    requires some { 0 < length text.now }
-    requires first { slice_index text.now 0 ≡ 34 }
-    ensures value { result ≡ lexing.quoted (drop 1 text.now) }
-    ensures cut { IsCharBoundary text.now result.1 }
-    ensures moves { 0 < result.1 }
-{
-    let rest = &text[1..];
-    match closing(b'"', rest.as_bytes()) {
+    match closing(quote, rest.as_bytes()) {
+        Some(end) if quote == b'\'' => (Some(Token::Text(Spelling::new(&rest[..end]))), end + 2),
         Some(end) if end > 0 => (Some(Token::Quoted(Spelling::new(&rest[..end]))), end + 2),
         _ => (Some(Token::Bad), 1),
     }
@@ -269,10 +255,8 @@ fn spelled(first: u8, text: &str) -> Lexeme<'_>
         word(text)
     } else if first.is_ascii_digit() {
         digits(text)
-    } else if first == b'\'' {
-        literal(text)
-    } else if first == b'"' {
-        quoted(text)
+    } else if first == b'\'' || first == b'"' {
+        in_quotes(first, text)
     } else {
         sign(first, next)
     }
