@@ -1,4 +1,5 @@
 pub mod Order
+pub mod Borders
 pub mod Sorted
 pub mod Standing
 pub mod Picked
