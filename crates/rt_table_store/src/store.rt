@@ -166,7 +166,6 @@ impl<const D: usize> Store<D> {
         ensures few { D ≤ 3 }
     {
         self.tree.is_in_shape();
-        let _ = self.tree.len();
     }
 
     /// The row of that id, where it stands.

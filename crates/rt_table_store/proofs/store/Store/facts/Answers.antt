@@ -1,6 +1,9 @@
-use Rattle.std.proofs.Common.{subst}
+use Rattle.std.proofs.Common.{◌≤◌, length, subst}
+use Rattle.std.proofs.lemmas.List.{length-map}
 use Rattle.rt_table_row.specs.Rows.{AreRising}
+use Rattle.rt_table_row.specs.Edits.{most_rows}
 use Rattle.rt_table_store.specs.Stored.{Stored}
+use Rattle.rt_table_store.specs.StoreInside.{rows_in}
 use Rattle.rt_table_store.specs.Trees.{IsTreeOf}
 use Rattle.rt_table_store.proofs.Joined.{are-rising}
 use Rattle.rt_table_store.proofs.Counted.{is-tree}
@@ -13,3 +16,8 @@ returns-clause-rising g c =
 pub returns-clause-stands : goal.returns-clause-stands
 returns-clause-stands g c =
     subst (λ (v : Stored g.row.D). IsTreeOf v.rows v.tree) c.self.view_is (is-tree c.self.inside.tree.lists c.is_in_shape.ensures c.self.inside.auxiliary)
+
+pub returns-clause-most : goal.returns-clause-most
+returns-clause-most g c =
+    let most : length (rows_in c.self.inside.tree.lists c.self.inside.auxiliary) ≤ most_rows = simp length-map c.self.invariant.most in
+    subst (λ (v : Stored g.row.D). length v.rows ≤ most_rows) c.self.view_is most
