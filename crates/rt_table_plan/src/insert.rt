@@ -17,7 +17,7 @@ ghost use Rattle.rt_table_plan.specs.Plans.{Plans};
 
 use crate::count::Count;
 use crate::draft::{Draft, entry_of};
-use crate::plan::Plan;
+use crate::plan::{Plan, columns_suffice};
 use rt_sql_statement::{Items, Name, Refusal, Rule, Value};
 use rt_table_row::{Arrangement, Candidate, Schema, Step};
 use rt_table_store::Store;
@@ -175,9 +175,9 @@ pub(crate) fn plan_insert<const D: usize>(
     requires { schema.now.axes ≡ D }
     ensures { Plans (insert schema.now store.now.rows rule listed.now lists.now) result }
 {
-    // The contracts of `axes` and `len` say that there are columns enough for one to three axes.
+    // There are one to three axes, and columns enough for them.
     store.facts();
-    let _ = (schema.axes(), schema.len());
+    columns_suffice(schema);
     let arrangement = arrangement_of(alloc, schema, listed)?;
     if !arrangement.fits(lists) {
         return Err(Refusal::WrongNumberOfValues);

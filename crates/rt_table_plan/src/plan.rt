@@ -2,6 +2,8 @@
 //!
 //! A plan is made before anything changes, so a refused statement has nothing to undo (`specs/Plans.antt`).
 
+ghost use Rattle.std.specs.Prelude.{◌≤◌, ◌+◌, ◌*◌, length};
+
 use crate::delete::plan_delete;
 use crate::insert::plan_insert;
 use crate::update::plan_update;
@@ -88,4 +90,12 @@ impl<const D: usize> Plan<D> {
         let Plan { steps } = self;
         steps
     }
+}
+
+/// A law: a table has a column for its ids, and two for each axis. The call does nothing.
+pub(crate) fn columns_suffice(schema: &Schema)
+    ensures { 1 + 2 * schema.now.axes ≤ length schema.now.names }
+{
+    // The contract of `len` says so.
+    let _ = schema.len();
 }

@@ -14,7 +14,7 @@ ghost use Rattle.rt_table_plan.specs.Drafts.{Knows, known_of, one_step, row_of, 
 ghost use Rattle.rt_table_plan.specs.Plans.{Plans};
 
 use crate::draft::{Draft, entry_of};
-use crate::plan::Plan;
+use crate::plan::{Plan, columns_suffice};
 use rt_sql_statement::{Cond, Name, Refusal, Source};
 use rt_table_row::{Candidate, Filter, RowView, Schema, Settings, Step};
 use rt_table_store::Store;
@@ -96,9 +96,9 @@ pub(crate) fn plan_update<const D: usize>(
     requires { schema.now.axes ≡ D }
     ensures { Plans (update schema.now store.now.rows sets.now cond) result }
 {
-    // The contracts of `axes` and `len` say that there are columns enough for one to three axes.
+    // There are one to three axes, and columns enough for them.
     store.facts();
-    let _ = (schema.axes(), schema.len());
+    columns_suffice(schema);
     let settings = Settings::new(alloc, schema, sets)?;
     let filter = Filter::new(alloc, schema, cond)?;
     let rows = store.picked_rows(alloc, &filter)?;
