@@ -87,6 +87,7 @@ pub fn take_cells<const D: usize>(nodes: &mut Slab<Node<D>>, key: usize) -> Node
     ensures few { length result.cells ≤ 52 }
 {
     let node = &mut nodes[key];
+    // The contract of `len` says that a node has 52 cells at most.
     let _ = node.len();
     let empty = node.without_cells();
     mem::replace(node, empty)
