@@ -22,7 +22,7 @@ module _ {X : Type 0} (change : X → X) where
   onto_kept x put (Some v) xs = refl
 
   -- the first of several elements isn't the last
-  with_last-next : (x y : X) (ys : List X) → with_last change (x ∷ y ∷ ys) ≡ x ∷ with_last change (y ∷ ys)
+  pub with_last-next : (x y : X) (ys : List X) → with_last change (x ∷ y ∷ ys) ≡ x ∷ with_last change (y ∷ ys)
   with_last-next x y ys =
       let all = x ∷ y ∷ ys in
       let next : length all - 1 ≡ suc (length (y ∷ ys) - 1) = omega arith in

@@ -16,8 +16,8 @@ use Rattle.rt_check_dump.specs.declared.reading.Heading.{Heading}
 use Rattle.rt_check_dump.specs.declared.reading.Progress.{Progress}
 use Rattle.rt_check.specs.Shadow.{ShadowLists, numbers_of, ids_of, with_cell}
 use Rattle.rt_check_dump.specs.Pieces.{pieces}
-use Rattle.rt_check_dump.specs.Lines.{words, kind_of, node_head, row_entry, raw_cell, is_plain, is_node, is_cell}
-use Rattle.rt_check_dump.specs.Reading.{due, with_head, after_head, after_cell, after_row, after_kind, after_spelling, after_line, at_line, is_nothing, is_end, read_rest, start, header_of, any_shadow, read_body, read_heading, read_kind, read_lines, read_text}
+use Rattle.rt_check_dump.specs.Lines.{words, kind_of, node_head, row_entry, raw_cell, is_plain, is_node, is_cell, header_of}
+use Rattle.rt_check_dump.specs.Reading.{due, with_head, after_head, after_cell, after_row, after_kind, after_spelling, after_line, at_line, is_nothing, is_end, read_rest, start, any_shadow, read_body, read_heading, read_kind, read_lines, read_text}
 use Rattle.rt_check_dump.specs.Dump.{line, end_line, shadow_text, any_text}
 use Rattle.rt_check_dump.proofs.AcceptedWords.{ended, ended-words, joined, joined-pieces, both}
 use Rattle.rt_check_dump.proofs.AcceptedLines.{spelled, kind_spelled, node-text, row-text, end-text, cell-text, header-text}

@@ -4,8 +4,8 @@ use Rattle.std.specs.Prelude.{◌==◌}
 use Rattle.std.specs.Borrow.{Bor}
 use Rattle.std.specs.List.{position_or_len}
 use Rattle.rt_check_dump.specs.Pieces.{pieces, pieces_left, onto_first}
-use Rattle.rt_check_dump.specs.Lines.{words, kind_of}
-use Rattle.rt_check_dump.specs.Reading.{read_lines, read_kind, header_of}
+use Rattle.rt_check_dump.specs.Lines.{words, kind_of, header_of}
+use Rattle.rt_check_dump.specs.Reading.{read_lines, read_kind}
 
 -- a text has a piece
 onto_first-some : (b : ℕ) (ps : List (List ℕ)) → onto_first b ps ≡ [] → ⊥

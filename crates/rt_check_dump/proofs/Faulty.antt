@@ -38,17 +38,18 @@ pub fault-parts : {S : Type 0} (n : ℕ) (c : LineFault) (k : ℕ) (d : LineFaul
 fault-parts {S} n c k d e = (ap (λ (r : Result S (ℕ × LineFault)). (fault_of r).0) e, ap (λ (r : Result S (ℕ × LineFault)). (fault_of r).1) e)
 
 module _ {D : ℕ} where
-  -- a line before the end's is read, and then what follows it
+  -- a line before the end's is read, and then the lines that follow it
+  pub taken-onto : (p q : Progress D) (l : List ℕ) (ls : List (List ℕ)) (n : ℕ) → (ls ≡ [] → ⊥) → after_line p l ≡ Ok q → is_end (due p) ≡ false
+      → read_rest (l ∷ ls) p n ≡ read_rest ls q (n + 1)
+  taken-onto p q l [] n some after more = absurd (some refl)
+  taken-onto p q l (m ∷ ms) n some after more =
+      ap (λ (r : Result (Progress D) LineFault). at_line n r (λ q. cond (is_end (due p)) (cond {A = Result (ShadowLists D) (ℕ × LineFault)} (is_nothing (m ∷ ms)) (Ok q.shadow) (Err (n + 1, BadLine))) (read_rest (m ∷ ms) q (n + 1)))) after
+      ∙ ap (λ b. cond b (cond {A = Result (ShadowLists D) (ℕ × LineFault)} (is_nothing (m ∷ ms)) (Ok q.shadow) (Err (n + 1, BadLine))) (read_rest (m ∷ ms) q (n + 1))) more
+
   line-onto : (p q : Progress D) (l rest : List ℕ) (n : ℕ) → lacks 10 l ≡ true → after_line p l ≡ Ok q → is_end (due p) ≡ false
       → read_rest (pieces 10 (l ++ 10 ∷ rest)) p n ≡ read_rest (pieces 10 rest) q (n + 1)
   line-onto p q l rest n whole after more =
-      ap (λ ls. read_rest ls p n) (pieces-front 10 l rest whole) ∙ onto (pieces 10 rest) (pieces-some 10 rest)
-    where
-      onto : (ls : List (List ℕ)) → (ls ≡ [] → ⊥) → read_rest (l ∷ ls) p n ≡ read_rest ls q (n + 1)
-      onto [] some = absurd (some refl)
-      onto (m ∷ ms) some =
-          ap (λ (r : Result (Progress D) LineFault). at_line n r (λ q. cond (is_end (due p)) (cond {A = Result (ShadowLists D) (ℕ × LineFault)} (is_nothing (m ∷ ms)) (Ok q.shadow) (Err (n + 1, BadLine))) (read_rest (m ∷ ms) q (n + 1)))) after
-          ∙ ap (λ b. cond b (cond {A = Result (ShadowLists D) (ℕ × LineFault)} (is_nothing (m ∷ ms)) (Ok q.shadow) (Err (n + 1, BadLine))) (read_rest (m ∷ ms) q (n + 1))) more
+      ap (λ ls. read_rest ls p n) (pieces-front 10 l rest whole) ∙ taken-onto p q l (pieces 10 rest) n (pieces-some 10 rest) after more
 
   -- a line that isn't taken
   line-fails : (p : Progress D) (l rest : List ℕ) (n : ℕ) (code : LineFault) → lacks 10 l ≡ true → after_line p l ≡ Err code
@@ -62,16 +63,17 @@ module _ {D : ℕ} where
           ap (λ (r : Result (Progress D) LineFault). at_line n r (λ q. cond (is_end (due p)) (cond {A = Result (ShadowLists D) (ℕ × LineFault)} (is_nothing (m ∷ ms)) (Ok q.shadow) (Err (n + 1, BadLine))) (read_rest (m ∷ ms) q (n + 1)))) fails
 
   -- the end's line, and what follows it
+  pub ended-onto : (p q : Progress D) (l : List ℕ) (ls : List (List ℕ)) (n : ℕ) → (ls ≡ [] → ⊥) → after_line p l ≡ Ok q → is_end (due p) ≡ true
+      → read_rest (l ∷ ls) p n ≡ cond (is_nothing ls) (Ok q.shadow) (Err (n + 1, BadLine))
+  ended-onto p q l [] n some after more = absurd (some refl)
+  ended-onto p q l (m ∷ ms) n some after more =
+      ap (λ (r : Result (Progress D) LineFault). at_line n r (λ q. cond (is_end (due p)) (cond {A = Result (ShadowLists D) (ℕ × LineFault)} (is_nothing (m ∷ ms)) (Ok q.shadow) (Err (n + 1, BadLine))) (read_rest (m ∷ ms) q (n + 1)))) after
+      ∙ ap (λ b. cond b (cond {A = Result (ShadowLists D) (ℕ × LineFault)} (is_nothing (m ∷ ms)) (Ok q.shadow) (Err (n + 1, BadLine))) (read_rest (m ∷ ms) q (n + 1))) more
+
   end-onto : (p q : Progress D) (l rest : List ℕ) (n : ℕ) → lacks 10 l ≡ true → after_line p l ≡ Ok q → is_end (due p) ≡ true
       → read_rest (pieces 10 (l ++ 10 ∷ rest)) p n ≡ cond (is_nothing (pieces 10 rest)) (Ok q.shadow) (Err (n + 1, BadLine))
   end-onto p q l rest n whole after more =
-      ap (λ ls. read_rest ls p n) (pieces-front 10 l rest whole) ∙ onto (pieces 10 rest) (pieces-some 10 rest)
-    where
-      onto : (ls : List (List ℕ)) → (ls ≡ [] → ⊥) → read_rest (l ∷ ls) p n ≡ cond (is_nothing ls) (Ok q.shadow) (Err (n + 1, BadLine))
-      onto [] some = absurd (some refl)
-      onto (m ∷ ms) some =
-          ap (λ (r : Result (Progress D) LineFault). at_line n r (λ q. cond (is_end (due p)) (cond {A = Result (ShadowLists D) (ℕ × LineFault)} (is_nothing (m ∷ ms)) (Ok q.shadow) (Err (n + 1, BadLine))) (read_rest (m ∷ ms) q (n + 1)))) after
-          ∙ ap (λ b. cond b (cond {A = Result (ShadowLists D) (ℕ × LineFault)} (is_nothing (m ∷ ms)) (Ok q.shadow) (Err (n + 1, BadLine))) (read_rest (m ∷ ms) q (n + 1))) more
+      ap (λ ls. read_rest ls p n) (pieces-front 10 l rest whole) ∙ ended-onto p q l (pieces 10 rest) n (pieces-some 10 rest) after more
 
   -- a line that is there isn't truncated
   kind-code : (p : Progress D) (ws : List (List ℕ)) (wanted kind : LineKind) (code : LineFault) → after_kind p ws wanted kind ≡ Err code → code ≡ Truncated → ⊥

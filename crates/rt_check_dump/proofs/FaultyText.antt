@@ -1,6 +1,6 @@
 -- The laws of dumps and of faulty texts.
 use Rattle.std.proofs.Common.{◌≡◌, ◌⊎◌, inl, inr, ℕ, zero, suc, ◌+◌, ◌-◌, ◌≤◌, List, [], ◌∷◌, ◌++◌, Bool, true, false, cond, Option, Some, None, Result, Ok, Err, refl, sym, subst, ◌∙◌, ap, arith, codes, append_assoc}
-use Rattle.std.specs.Prelude.{◌==◌, pos, IfOk}
+use Rattle.std.specs.Prelude.{◌↔◌, ◌==◌, pos, IfOk}
 use Rattle.std.specs.List.{flat_map}
 use Rattle.rt_check.specs.Shadow.{ShadowLists}
 use Rattle.rt_check_dump.specs.declared.lines.LineKind.{LineKind}
@@ -9,11 +9,11 @@ use Rattle.rt_check_dump.specs.declared.dump.AnyShadow.{AnyShadow}
 use Rattle.rt_check_dump.specs.declared.dump.AnyShadow.TheVariants.{One, Two, Three}
 use Rattle.rt_check_dump.specs.declared.reading.Heading.{Heading}
 use Rattle.rt_check_dump.specs.Pieces.{pieces}
-use Rattle.rt_check_dump.specs.Lines.{words, kind_of}
+use Rattle.rt_check_dump.specs.Lines.{words, kind_of, header_of}
 use Rattle.rt_check_dump.specs.Dump.{node_text, row_line, header_line, shadow_text, any_text}
 use Rattle.rt_check_dump.specs.InRange.{IsInRange, IsNumbered, IsAnyInRange, IsAnyNumbered}
-use Rattle.rt_check_dump.specs.Reading.{read_rest, start, header_of, any_shadow, read_body, read_heading, read_kind, read_lines, read_text, Reads as IsReading}
-use Rattle.rt_check_dump.specs.Faults.{IsTextOf, IsDump, BeginsDump, first_lines, line_ends, IsBadLine, IsTruncated, IsFirstFault, DumpsAreRead, TruncatedTextsAreFound, BadLinesAreFound, IsDumpOrFaulty, OneAnswer}
+use Rattle.rt_check_dump.specs.Reading.{read_rest, start, any_shadow, read_body, read_heading, read_kind, read_lines, read_text, Reads as IsReading}
+use Rattle.rt_check_dump.specs.Faults.{IsTextOf, IsDump, BeginsDump, first_lines, line_ends, IsMisfit, IsTruncated, DumpsAreRead, MisfitsAreFound}
 use Rattle.rt_check_dump.proofs.Cuts.{pieces-some, read_lines-first}
 use Rattle.rt_check_dump.proofs.AcceptedWords.{joined, joined-pieces}
 use Rattle.rt_check_dump.proofs.AcceptedText.{text-accepted}
@@ -34,7 +34,7 @@ pub record Body (h : Heading) : Type 0 where
   pub reads : (ls : List (List ℕ)) → read_body h ls ≡ any_shadow make (read_rest ls (start D h) 2)
   pub fits : (s : ShadowLists D) → IsInRange s × IsNumbered s → IsAnyInRange (make s) × IsAnyNumbered (make s)
 
-body-of : (h : Heading) → IsHeading h → Body h
+pub body-of : (h : Heading) → IsHeading h → Body h
 body-of h head =
     let range = head.axes in
     let by_two : (b : Bool) → (h.axes == 1) ≡ false → (h.axes == 2) ≡ b → Body h = elim [
@@ -71,12 +71,12 @@ body-of h head =
     by_one (h.axes == 1) refl
 
 -- a shadow that comes of the lines after a header
-made : {S : Type 0} (make : S → AnyShadow) (r : Result S (ℕ × LineFault)) (a : AnyShadow) → any_shadow make r ≡ Ok a → (s : S) × (r ≡ Ok s) × (make s ≡ a)
+pub made : {S : Type 0} (make : S → AnyShadow) (r : Result S (ℕ × LineFault)) (a : AnyShadow) → any_shadow make r ≡ Ok a → (s : S) × (r ≡ Ok s) × (make s ≡ a)
 made make (Ok s) a e = let same : make s ≡ a = cc in (s, refl, same)
 made make (Err fault) a e = let no : ⊥ = cc in absurd no
 
 -- a fault in them
-failed : {S : Type 0} (make : S → AnyShadow) (r : Result S (ℕ × LineFault)) (k : ℕ) (code : LineFault) → any_shadow make r ≡ Err (k, code) → r ≡ Err (k, code)
+pub failed : {S : Type 0} (make : S → AnyShadow) (r : Result S (ℕ × LineFault)) (k : ℕ) (code : LineFault) → any_shadow make r ≡ Err (k, code) → r ≡ Err (k, code)
 failed make (Ok s) k code e = let no : ⊥ = cc in absurd no
 failed {S} make (Err fault) k code e =
     let parts = fault-parts {S = AnyShadow} fault.0 fault.1 k code e in
@@ -105,17 +105,17 @@ text-fits text a e = by_lines (pieces 10 text) e
     by_lines (l ∷ []) e = let no : ⊥ = cc in absurd no
     by_lines (l ∷ m ∷ ms) e = kind-fits (words l) (m ∷ ms) a (kind_of None (words l)) e
 
-abbrev Reads : List ℕ → Type 0
+abbrev pub Reads : List ℕ → Type 0
 Reads text = (a : AnyShadow) × (read_text text ≡ Ok a)
 
 -- a dump of nothing, which shows that there is a dump
-abbrev least_text : List ℕ
+abbrev pub least_text : List ℕ
 least_text = codes "rtree 1 5 1 0 0\nend\n"
 
-some-dump : Begins Reads []
+pub some-dump : Begins Reads []
 some-dump = (least_text, (One (record { capacity = 5; root = pos 1; nodes = []; rows = [] }), refl))
 
-nothing-unread : Reads [] → ⊥
+pub nothing-unread : Reads [] → ⊥
 nothing-unread r = let e : failure AnyShadow 1 Truncated ≡ Ok r.0 = r.1 in let no : ⊥ = cc in no
 
 cut-at-once : (l : List ℕ) → lacks 10 l ≡ true → IsFaultAfter Reads l 0 Truncated
@@ -252,10 +252,10 @@ pub told : (text : List ℕ) (result : Result AnyShadow DumpFault) → IsReading
 told text (Ok a) e = (dumps-read text a).0 e
 told text (Err fault) e = tt
 
-dump-of : (text : List ℕ) → Reads text → IsDump text
+pub dump-of : (text : List ℕ) → Reads text → IsDump text
 dump-of text r = (r.0, (dumps-read text r.0).0 r.1)
 
-read-of : (text : List ℕ) → IsDump text → Reads text
+pub read-of : (text : List ℕ) → IsDump text → Reads text
 read-of text d = (d.0, (dumps-read text d.0).1 d.1)
 
 begins-dump : (front : List ℕ) → Begins Reads front → BeginsDump front
@@ -264,8 +264,8 @@ begins-dump front b = (b.0, dump-of (front ++ b.0) b.1)
 begins-read : (front : List ℕ) → BeginsDump front → Begins Reads front
 begins-read front b = (b.0, read-of (front ++ b.0) b.1)
 
-bad-line : (text : List ℕ) (n m : ℕ) → n ≡ 1 + m → IsBadAfter Reads text m → IsBadLine text n
-bad-line text n m line bad =
+misfit : (text : List ℕ) (n m : ℕ) → n ≡ 1 + m → IsBadAfter Reads text m → IsMisfit text n
+misfit text n m line bad =
     let one : m ≡ n - 1 = omega (arith, line) in
     let next : n ≡ suc m = omega (arith, line) in
     record {
@@ -277,11 +277,11 @@ bad-line text n m line bad =
       ];
     }
 
-line-bad : (text : List ℕ) (n : ℕ) → IsBadLine text n → (m : ℕ) × (n ≡ 1 + m) × IsBadAfter Reads text m
-line-bad text zero bad =
+misfit-of : (text : List ℕ) (n : ℕ) → IsMisfit text n → (m : ℕ) × (n ≡ 1 + m) × IsBadAfter Reads text m
+misfit-of text zero bad =
     let none : zero - 1 ≡ 0 = omega arith in
     absurd (bad.with_it (subst (λ k. BeginsDump (first_lines k text)) none bad.before))
-line-bad text (suc m) bad =
+misfit-of text (suc m) bad =
     let one : suc m - 1 ≡ m = omega arith in (
       m,
       omega arith,
@@ -318,7 +318,7 @@ cut-of text n short =
     )
 
 -- whether a fault is that of a text that is cut
-is-cut : (fault : LineFault) → (fault ≡ Truncated) ⊎ (fault ≡ Truncated → ⊥)
+pub is-cut : (fault : LineFault) → (fault ≡ Truncated) ⊎ (fault ≡ Truncated → ⊥)
 is-cut Truncated = inl refl
 is-cut BadLine = inr (λ e. let no : ⊥ = cc in no)
 is-cut CountWrong = inr (λ e. let no : ⊥ = cc in no)
@@ -326,7 +326,7 @@ is-cut OutOfRange = inr (λ e. let no : ⊥ = cc in no)
 is-cut ListedTwice = inr (λ e. let no : ⊥ = cc in no)
 
 -- the law of truncated texts
-pub truncated-found : TruncatedTextsAreFound
+pub truncated-found : (text : List ℕ) (n : ℕ) → (read_text text ≡ Err (n, Truncated)) ↔ IsTruncated text n
 truncated-found text n = (
   λ e. let f = text-fault text n Truncated e in truncated text n f.0 f.1 ((f.2).short refl),
   λ short. let c = cut-of text n short in by_read c.0 c.1 c.2 (read_text text) refl,
@@ -345,11 +345,11 @@ truncated-found text n = (
           | inr other ↦ absurd (bad-cut Reads text f.0 m ((f.2).bad other) short)
         ]
 
--- the law of bad lines
-pub bad-found : BadLinesAreFound
-bad-found text n = (
-  λ found. let f = text-fault text n found.0 found.2 in bad-line text n f.0 f.1 ((f.2).bad found.1),
-  λ bad. let b = line-bad text n bad in by_read b.0 b.1 b.2 (read_text text) refl,
+-- the law of lines that fit no dump
+pub misfits-found : MisfitsAreFound
+misfits-found text n = (
+  λ found. let f = text-fault text n found.0 found.2 in misfit text n f.0 f.1 ((f.2).bad found.1),
+  λ bad. let b = misfit-of text n bad in by_read b.0 b.1 b.2 (read_text text) refl,
 )
   where
     by_read : (m : ℕ) → n ≡ 1 + m → IsBadAfter Reads text m → (r : Result AnyShadow (ℕ × LineFault)) → read_text text ≡ r
@@ -365,30 +365,3 @@ bad-found text n = (
               let same : fault.0 ≡ n = omega (arith, at, line, once) in
               (fault.1, other, ap (λ k. Err (k, fault.1)) same)
         ]
-
--- a text is a dump or has a fault
-pub dump-or-faulty : IsDumpOrFaulty
-dump-or-faulty text = by_read (read_text text) refl
-  where
-    by_read : (r : Result AnyShadow (ℕ × LineFault)) → read_text text ≡ r → IsDump text ⊎ ((n : ℕ) × IsFirstFault text n)
-    by_read (Ok a) is = inl (dump-of text (a, is))
-    by_read (Err fault) is =
-        inr (
-          fault.0,
-          elim (is-cut fault.1) as (λ s. IsFirstFault text fault.0) [
-            | inl cut ↦ inr ((truncated-found text fault.0).0 (is ∙ ap (λ c. Err (fault.0, c)) cut))
-            | inr other ↦ inl ((bad-found text fault.0).0 (fault.1, other, is))
-          ],
-        )
-
--- what is read where a text has a fault
-fault-read : (text : List ℕ) (n : ℕ) → IsFirstFault text n → (code : LineFault) × (read_text text ≡ Err (n, code))
-fault-read text n (inl bad) = let f = (bad-found text n).1 bad in (f.0, f.2)
-fault-read text n (inr short) = (Truncated, (truncated-found text n).1 short)
-
-pub one-answer : OneAnswer
-one-answer text n fault =
-    let f = fault-read text n fault in (
-      λ d. let e = (read-of text d).1 in let g = f.1 in let no : ⊥ = cc in no,
-      λ m other. let g = fault-read text m other in (fault-parts {S = AnyShadow} m g.0 n f.0 (sym g.1 ∙ f.1)).0,
-    )

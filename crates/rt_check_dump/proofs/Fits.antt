@@ -18,8 +18,8 @@ use Rattle.rt_check_dump.specs.declared.lines.NodeHead.{NodeHead}
 use Rattle.rt_check_dump.specs.declared.reading.Heading.{Heading}
 use Rattle.rt_check_dump.specs.declared.reading.Progress.{Progress}
 use Rattle.rt_check_dump.specs.Numbers.{number_of, number_after, positive_of, count_of, byte_of, coordinate_of, parent_of}
-use Rattle.rt_check_dump.specs.Lines.{words, kind_of, node_head, row_entry, ranges_of, raw_cell}
-use Rattle.rt_check_dump.specs.Reading.{due, empty_node, with_head, after_head, after_cell, after_row, after_kind, after_spelling, after_line, axes_of, capacity_of, header_of, start}
+use Rattle.rt_check_dump.specs.Lines.{words, kind_of, node_head, row_entry, ranges_of, raw_cell, axes_of, capacity_of, header_of}
+use Rattle.rt_check_dump.specs.Reading.{due, empty_node, with_head, after_head, after_cell, after_row, after_kind, after_spelling, after_line, start}
 use Rattle.rt_check_dump.specs.InRange.{IsLong, IsInt, IsPositive, IsCellInRange, IsRowInRange, IsNodeInRange, IsNodeNumbered, IsInRange, IsNumbered}
 use Rattle.rt_check_dump.proofs.AcceptedWords.{both, passed, counted}
 use Rattle.rt_check_dump.proofs.AcceptedLines.{head-parts, row-parts, range-parts, cell-parts, heading-parts, axes-range}

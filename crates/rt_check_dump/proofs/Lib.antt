@@ -19,3 +19,5 @@ pub mod Fits
 pub mod Completing
 pub mod Faulty
 pub mod FaultyText
+pub mod Reasons
+pub mod ReasonsText

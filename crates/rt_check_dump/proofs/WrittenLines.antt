@@ -15,8 +15,7 @@ use Rattle.rt_check_dump.specs.declared.lines.NodeHead.{NodeHead}
 use Rattle.rt_check_dump.specs.declared.lines.Range.{Range}
 use Rattle.rt_check_dump.specs.declared.reading.Heading.{Heading}
 use Rattle.rt_check_dump.specs.Numbers.{is_number, positive_of, count_of, byte_of, coordinate_of, parent_of}
-use Rattle.rt_check_dump.specs.Lines.{are_numbers, is_plain, is_parent, is_node, is_cell, kind_of, node_head, row_entry, ranges_of, raw_cell}
-use Rattle.rt_check_dump.specs.Reading.{axes_of, capacity_of, header_of}
+use Rattle.rt_check_dump.specs.Lines.{are_numbers, is_plain, is_parent, is_node, is_cell, kind_of, node_head, row_entry, ranges_of, raw_cell, axes_of, capacity_of, header_of}
 use Rattle.rt_check_dump.specs.Dump.{range_words, parent_word}
 use Rattle.rt_check_dump.specs.InRange.{IsLong, IsInt, IsPositive, IsCellInRange, IsRowInRange, IsNodeInRange, IsNodeNumbered}
 use Rattle.rt_check.specs.Shadow.{ShadowLists}

@@ -8,9 +8,9 @@ use Rattle.rt_check_dump.specs.declared.dump.AnyShadow.{AnyShadow}
 use Rattle.rt_check_dump.specs.declared.dump.AnyShadow.TheVariants.{One, Two, Three}
 use Rattle.rt_check.specs.Shadow.{ShadowLists}
 use Rattle.rt_check_dump.specs.Pieces.{pieces}
-use Rattle.rt_check_dump.specs.Lines.{kind_of}
+use Rattle.rt_check_dump.specs.Lines.{kind_of, header_of}
 use Rattle.rt_check_dump.specs.Dump.{node_text, row_line, end_line, shadow_text, any_text}
-use Rattle.rt_check_dump.specs.Reading.{read_rest, read_kind, read_heading, read_body, read_lines, read_text, header_of, start, any_shadow}
+use Rattle.rt_check_dump.specs.Reading.{read_rest, read_kind, read_heading, read_body, read_lines, read_text, start, any_shadow}
 use Rattle.rt_check_dump.specs.InRange.{IsInRange, IsNumbered, IsAnyInRange, IsAnyNumbered}
 use Rattle.rt_check_dump.proofs.Cuts.{pieces-some, read_lines-first}
 use Rattle.rt_check_dump.proofs.WrittenPieces.{IsWord, spaced, words-spaced, pieces-line}

@@ -1,12 +1,16 @@
 -- Dumps, texts that begin one, and where a text that isn't one goes wrong (own). Nothing here speaks of how
 -- a text is read.
-use Rattle.std.specs.Prelude.{◌≡◌, ◌⊎◌, ◌↔◌, ℕ, zero, suc, ◌+◌, ◌-◌, ◌≤◌, List, [], ◌∷◌, ◌++◌, Ok, Err, ◌==◌, if◌then◌else◌}
+use Rattle.std.specs.Prelude.{◌≡◌, ◌⊎◌, ◌↔◌, ℕ, zero, suc, ◌+◌, ◌-◌, ◌<◌, ◌≤◌, nat_le, List, [], ◌∷◌, ◌++◌, get_or, Option, None, Some, Ok, Err, ◌==◌, if◌then◌else◌}
 use Rattle.rt_check_dump.specs.declared.dump.AnyShadow.{AnyShadow}
+use Rattle.rt_check_dump.specs.declared.lines.LineKind.{LineKind}
+use Rattle.rt_check_dump.specs.declared.lines.LineKind.TheVariants.{Header, Node, Cell, Row, End}
+use Rattle.rt_check_dump.specs.Pieces.{pieces}
+use Rattle.rt_check_dump.specs.Lines.{words, kind_of, node_head, row_entry, raw_cell, axes_of, header_of}
 use Rattle.rt_check_dump.specs.Dump.{any_text}
 use Rattle.rt_check_dump.specs.InRange.{IsAnyInRange, IsAnyNumbered}
 use Rattle.rt_check_dump.specs.Reading.{read_text}
 use Rattle.rt_check_dump.specs.declared.fault.LineFault.{LineFault}
-use Rattle.rt_check_dump.specs.declared.fault.LineFault.TheVariants.{Truncated}
+use Rattle.rt_check_dump.specs.declared.fault.LineFault.TheVariants.{Truncated, BadLine, CountWrong, OutOfRange, ListedTwice}
 
 -- the text of a shadow whose numbers fit their types and count from 1
 pub record IsTextOf (shadow : AnyShadow) (text : List ℕ) : Type 0 where
@@ -32,35 +36,107 @@ abbrev pub line_ends : List ℕ → ℕ
 line_ends [] = 0
 line_ends (b ∷ bs) = if b == 10 then suc (line_ends bs) else line_ends bs
 
+-- the lines before line n
+abbrev pub lines_before : List ℕ → ℕ → List ℕ
+lines_before text n = first_lines (n - 1) text
+
 -- line n is the first that fits no dump: the lines before it begin some dump, with it they begin none, and its
 -- byte 10 is there, or a whole dump stands before it
-pub record IsBadLine (text : List ℕ) (n : ℕ) : Type 0 where
-  pub before : BeginsDump (first_lines (n - 1) text)
+pub record IsMisfit (text : List ℕ) (n : ℕ) : Type 0 where
+  pub before : BeginsDump (lines_before text n)
   pub with_it : BeginsDump (first_lines n text) → ⊥
-  pub seen : (n ≤ line_ends text) ⊎ IsDump (first_lines (n - 1) text)
+  pub seen : (n ≤ line_ends text) ⊎ IsDump (lines_before text n)
 
 -- the text ends within line n: the lines before it begin some dump, and are none
 pub record IsTruncated (text : List ℕ) (n : ℕ) : Type 0 where
   pub last : n ≡ line_ends text + 1
-  pub before : BeginsDump (first_lines (n - 1) text)
-  pub unended : IsDump (first_lines (n - 1) text) → ⊥
+  pub before : BeginsDump (lines_before text n)
+  pub unended : IsDump (lines_before text n) → ⊥
 
-abbrev pub IsFirstFault : List ℕ → ℕ → Type 0
-IsFirstFault text n = IsBadLine text n ⊎ IsTruncated text n
+-- the words of line n, without its byte 10
+abbrev pub words_at : List ℕ → ℕ → List (List ℕ)
+words_at text n = words (get_or (pieces 10 text) (n - 1) [])
 
--- reading finds exactly the dumps, the lines where a text is cut off, and the bad lines
+-- the number of axes, which the second word of line 1 tells to the lines after it
+abbrev pub axes_at : List ℕ → ℕ → Option ℕ
+axes_at text n = if nat_le n 1 then None else axes_of (get_or (words_at text 1) 1 [])
+
+-- the kind of line n, by its spelling alone
+abbrev pub kind_at : List ℕ → ℕ → Option LineKind
+kind_at text n = kind_of (axes_at text n) (words_at text n)
+
+-- a line n of this kind can follow these lines: some dump begins with them and has one
+abbrev pub CanFollow : List ℕ → ℕ → LineKind → Type 0
+CanFollow front n kind = (rest : List ℕ) × IsDump (front ++ rest) × (kind_at (front ++ rest) n ≡ Some kind)
+
+-- a line of this kind says nothing, since one of its numbers is outside its range
+abbrev pub SaysNothing : LineKind → Option ℕ → List (List ℕ) → Type 0
+SaysNothing Header axes ws = header_of ws ≡ None
+SaysNothing Node axes ws = node_head ws ≡ None
+SaysNothing Cell (Some axes) ws = raw_cell axes ws ≡ None
+SaysNothing Cell None ws = ⊥
+SaysNothing Row axes ws = row_entry ws ≡ None
+SaysNothing End axes ws = ⊥
+
+-- the line that fits is spelled as none of the five kinds, or stands after a whole dump
+pub record IsBadLine (text : List ℕ) (n : ℕ) : Type 0 where
+  pub misfit : IsMisfit text n
+  pub no_line : (kind_at text n ≡ None) ⊎ IsDump (lines_before text n)
+
+-- faulty line n is spelled as this kind, and no whole dump stands before it
+pub record IsSpelled (kind : LineKind) (text : List ℕ) (n : ℕ) : Type 0 where
+  pub misfit : IsMisfit text n
+  pub spelled : kind_at text n ≡ Some kind
+  pub unended : IsDump (lines_before text n) → ⊥
+
+-- no line of its kind can stand there
+pub record IsCountWrong (text : List ℕ) (n : ℕ) : Type 0 where
+  pub kind : LineKind
+  pub line : IsSpelled kind text n
+  pub not_due : CanFollow (lines_before text n) n kind → ⊥
+
+-- a line of its kind can stand there, and a number of it is outside its range
+pub record IsOutOfRange (text : List ℕ) (n : ℕ) : Type 0 where
+  pub kind : LineKind
+  pub line : IsSpelled kind text n
+  pub due : CanFollow (lines_before text n) n kind
+  pub outside : SaysNothing kind (axes_at text n) (words_at text n)
+
+-- a node's or a row's line can stand there, its numbers are in range, and its second word, the node's number or
+-- the row's id, is that of a line of its kind before it
+pub record IsListedTwice (text : List ℕ) (n : ℕ) : Type 0 where
+  pub kind : LineKind
+  pub line : IsSpelled kind text n
+  pub due : CanFollow (lines_before text n) n kind
+  pub listing : (kind ≡ Node) ⊎ (kind ≡ Row)
+  pub in_range : SaysNothing kind (axes_at text n) (words_at text n) → ⊥
+  pub first : ℕ
+  pub earlier : (1 ≤ first) × (first < n)
+  pub same_kind : kind_at text first ≡ Some kind
+  pub same_name : get_or (words_at text first) 1 [] ≡ get_or (words_at text n) 1 []
+
+-- what each fault says of line n
+abbrev pub HasFault : LineFault → List ℕ → ℕ → Type 0
+HasFault Truncated text n = IsTruncated text n
+HasFault BadLine text n = IsBadLine text n
+HasFault CountWrong text n = IsCountWrong text n
+HasFault OutOfRange text n = IsOutOfRange text n
+HasFault ListedTwice text n = IsListedTwice text n
+
+-- reading finds exactly the dumps, the faulty lines, and which fault a line has
 abbrev pub DumpsAreRead : Type 0
 DumpsAreRead = (text : List ℕ) (shadow : AnyShadow) → (read_text text ≡ Ok shadow) ↔ IsTextOf shadow text
 
-abbrev pub TruncatedTextsAreFound : Type 0
-TruncatedTextsAreFound = (text : List ℕ) (n : ℕ) → (read_text text ≡ Err (n, Truncated)) ↔ IsTruncated text n
+abbrev pub MisfitsAreFound : Type 0
+MisfitsAreFound = (text : List ℕ) (n : ℕ) → ((fault : LineFault) × (fault ≡ Truncated → ⊥) × (read_text text ≡ Err (n, fault))) ↔ IsMisfit text n
 
-abbrev pub BadLinesAreFound : Type 0
-BadLinesAreFound = (text : List ℕ) (n : ℕ) → ((fault : LineFault) × (fault ≡ Truncated → ⊥) × (read_text text ≡ Err (n, fault))) ↔ IsBadLine text n
+abbrev pub FaultsAreFound : Type 0
+FaultsAreFound = (text : List ℕ) (n : ℕ) (fault : LineFault) → (read_text text ≡ Err (n, fault)) ↔ HasFault fault text n
 
--- a text is a dump or has a first fault, and not both, nor two
+-- a text is a dump or has a fault, and not both, nor two
 abbrev pub IsDumpOrFaulty : Type 0
-IsDumpOrFaulty = (text : List ℕ) → IsDump text ⊎ ((n : ℕ) × IsFirstFault text n)
+IsDumpOrFaulty = (text : List ℕ) → IsDump text ⊎ ((n : ℕ) × (fault : LineFault) × HasFault fault text n)
 
 abbrev pub OneAnswer : Type 0
-OneAnswer = (text : List ℕ) (n : ℕ) → IsFirstFault text n → (IsDump text → ⊥) × ((m : ℕ) → IsFirstFault text m → m ≡ n)
+OneAnswer = (text : List ℕ) (n : ℕ) (fault : LineFault) → HasFault fault text n
+    → (IsDump text → ⊥) × ((m : ℕ) (other : LineFault) → HasFault other text m → (m ≡ n) × (other ≡ fault))

@@ -1,5 +1,5 @@
 -- The lines of a dump, by their spelling and by what they say (own).
-use Rattle.std.specs.Prelude.{ℕ, zero, suc, ◌+◌, ◌*◌, ℤ, Bool, true, false, ◌&&◌, ◌||◌, List, [], ◌∷◌, Option, None, Some, drop, bytes_eq, codes, if◌then◌else◌}
+use Rattle.std.specs.Prelude.{ℕ, zero, suc, ◌+◌, ◌*◌, ℤ, Bool, true, false, ◌&&◌, ◌||◌, List, [], ◌∷◌, Option, None, Some, drop, nat_le, bytes_eq, codes, if◌then◌else◌}
 use Rattle.std.specs.Option.{option_and_then, option_map}
 use Rattle.rt_check.specs.declared.node.RawCell.{RawCell}
 use Rattle.rt_check.specs.declared.node.RowEntry.{RowEntry}
@@ -7,6 +7,7 @@ use Rattle.rt_check_dump.specs.declared.lines.LineKind.{LineKind}
 use Rattle.rt_check_dump.specs.declared.lines.LineKind.TheVariants.{Header, Node, Cell, Row, End}
 use Rattle.rt_check_dump.specs.declared.lines.NodeHead.{NodeHead}
 use Rattle.rt_check_dump.specs.declared.lines.Range.{Range}
+use Rattle.rt_check_dump.specs.declared.reading.Heading.{Heading}
 use Rattle.rt_check_dump.specs.Pieces.{pieces}
 use Rattle.rt_check_dump.specs.Numbers.{is_number, number_of, positive_of, count_of, byte_of, coordinate_of, parent_of}
 
@@ -48,6 +49,22 @@ kind_of axes ws =
     else if is_plain (codes "row") 2 ws then Some Row
     else if is_plain (codes "end") 0 ws then Some End
     else None
+
+-- a header's first number: one to three axes
+abbrev pub axes_of : List ℕ → Option ℕ
+axes_of w = option_and_then (λ n. if nat_le 1 n && nat_le n 3 then Some n else None) (byte_of w)
+
+-- a capacity from 5 to 51
+abbrev pub capacity_of : List ℕ → Option ℕ
+capacity_of w = option_and_then (λ n. if nat_le 5 n && nat_le n 51 then Some n else None) (byte_of w)
+
+-- what a header says
+abbrev pub header_of : List (List ℕ) → Option Heading
+header_of (k ∷ a ∷ m ∷ r ∷ n ∷ t ∷ ws) =
+    option_and_then (λ axes. option_and_then (λ capacity. option_and_then (λ root. option_and_then (λ nodes. option_and_then
+    (λ rows. Some record { axes = axes; capacity = capacity; root = root; nodes = nodes; rows = rows })
+    (count_of t)) (count_of n)) (positive_of r)) (capacity_of m)) (axes_of a)
+header_of ws = None
 
 -- what a node's line says
 abbrev pub node_head : List (List ℕ) → Option NodeHead

@@ -1,7 +1,6 @@
 -- A dump read line by line (own): the shadow that it is the text of, or its first faulty line and
 -- the first fault that applies to it.
-use Rattle.std.specs.Prelude.{◌≡◌, ℕ, ◌+◌, ◌-◌, Bool, true, false, ◌&&◌, List, [], ◌∷◌, ◌++◌, Option, None, Some, Result, Ok, Err, MatchResult, length, nat_le, nat_lt, ◌==◌, if◌then◌else◌}
-use Rattle.std.specs.Option.{option_and_then}
+use Rattle.std.specs.Prelude.{◌≡◌, ℕ, ◌+◌, ◌-◌, Bool, true, false, ◌&&◌, List, [], ◌∷◌, ◌++◌, Option, None, Some, Result, Ok, Err, MatchResult, length, nat_lt, ◌==◌, if◌then◌else◌}
 use Rattle.std.specs.List.{list_any}
 use Rattle.std.specs.Ordering.{int_eq}
 use Rattle.rt_check.specs.declared.node.NodeRow.{NodeRow}
@@ -14,14 +13,13 @@ use Rattle.rt_check_dump.specs.declared.dump.AnyShadow.{AnyShadow}
 use Rattle.rt_check_dump.specs.declared.dump.AnyShadow.TheVariants.{One, Two, Three}
 use Rattle.rt_check_dump.specs.declared.reading.Heading.{Heading}
 use Rattle.rt_check_dump.specs.Pieces.{pieces}
-use Rattle.rt_check_dump.specs.Numbers.{byte_of, positive_of, count_of}
 use Rattle.rt_check_dump.specs.declared.reading.Progress.{Progress}
 use Rattle.rt_check_dump.specs.declared.reading.StepFault.{StepFault}
 use Rattle.rt_check_dump.specs.declared.reading.StepFault.TheVariants.{Line, Memory as NoMemory}
 use Rattle.rt_check_dump.specs.declared.fault.DumpFault.{DumpFault}
 use Rattle.rt_check_dump.specs.declared.fault.DumpFault.TheVariants.{At, Memory}
 use Rattle.rt_check.specs.Shadow.{ShadowLists, numbers_of, ids_of, with_cell}
-use Rattle.rt_check_dump.specs.Lines.{words, kind_of, node_head, row_entry, raw_cell}
+use Rattle.rt_check_dump.specs.Lines.{words, kind_of, header_of, node_head, row_entry, raw_cell}
 use Rattle.rt_check_dump.specs.declared.fault.LineFault.{LineFault}
 use Rattle.rt_check_dump.specs.declared.fault.LineFault.TheVariants.{Truncated, BadLine, CountWrong, OutOfRange, ListedTwice}
 
@@ -116,22 +114,6 @@ IsDumpFaultOf wanted Memory = Unit {0}
 
 abbrev pub Reads : {S : Type 0} → Result S (ℕ × LineFault) → Result S DumpFault → Type 0
 Reads wanted result = MatchResult result (λ s. wanted ≡ Ok s) (λ fault. IsDumpFaultOf wanted fault)
-
--- a header's first number: one to three axes
-abbrev pub axes_of : List ℕ → Option ℕ
-axes_of w = option_and_then (λ n. if nat_le 1 n && nat_le n 3 then Some n else None) (byte_of w)
-
--- a capacity from 5 to 51
-abbrev pub capacity_of : List ℕ → Option ℕ
-capacity_of w = option_and_then (λ n. if nat_le 5 n && nat_le n 51 then Some n else None) (byte_of w)
-
--- what a header says
-abbrev pub header_of : List (List ℕ) → Option Heading
-header_of (k ∷ a ∷ m ∷ r ∷ n ∷ t ∷ ws) =
-    option_and_then (λ axes. option_and_then (λ capacity. option_and_then (λ root. option_and_then (λ nodes. option_and_then
-    (λ rows. Some record { axes = axes; capacity = capacity; root = root; nodes = nodes; rows = rows })
-    (count_of t)) (count_of n)) (positive_of r)) (capacity_of m)) (axes_of a)
-header_of ws = None
 
 -- nothing is read after the header
 abbrev pub start : (D : ℕ) → Heading → Progress D

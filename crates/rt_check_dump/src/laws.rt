@@ -7,7 +7,7 @@ ghost use Rattle.rt_check_dump.specs.declared.dump.AnyShadow.{AnyShadow};
 ghost use Rattle.rt_check_dump.specs.Dump.{any_text};
 ghost use Rattle.rt_check_dump.specs.Reading.{read_text};
 ghost use Rattle.rt_check_dump.specs.InRange.{IsAnyNumbered};
-ghost use Rattle.rt_check_dump.specs.Faults.{DumpsAreRead, TruncatedTextsAreFound, BadLinesAreFound, IsDumpOrFaulty, OneAnswer};
+ghost use Rattle.rt_check_dump.specs.Faults.{DumpsAreRead, MisfitsAreFound, FaultsAreFound, IsDumpOrFaulty, OneAnswer};
 
 use crate::dump::AnyShadow;
 use crate::looks::look_at;
@@ -42,19 +42,19 @@ pub fn dumps_are_read()
     ensures { DumpsAreRead }
 {}
 
-/// A text is read as truncated in a line exactly where it ends within that line: the whole lines before it
-/// begin some dump, and are none.
-pub fn truncated_texts_are_found()
-    ensures { TruncatedTextsAreFound }
+/// A line is read as faulty, by any code but `Truncated`, exactly where the lines before it begin some dump, and
+/// with it they begin none.
+pub fn misfits_are_found()
+    ensures { MisfitsAreFound }
 {}
 
-/// A line is read as faulty, by any other code, exactly where the lines before it begin some dump, and with it
-/// they begin none.
-pub fn bad_lines_are_found()
-    ensures { BadLinesAreFound }
+/// A text is read with a fault in a line exactly where that line has that fault, by the definition that each
+/// fault has of its own.
+pub fn faults_are_found()
+    ensures { FaultsAreFound }
 {}
 
-/// A text is a dump or has a first faulty line; not both, and no text has two.
+/// A text is a dump or has a faulty line with a fault; not both, and no text has two such lines or two faults.
 pub fn texts_have_one_answer()
     ensures some { IsDumpOrFaulty }
     ensures one { OneAnswer }

@@ -4,8 +4,8 @@
 //! step, and `specs/Faults.antt` what a dump is and which line of a text is its first faulty one.
 
 ghost use Rattle.std.specs.Prelude.{◌≡◌, ◌≤◌, ◌<◌, ◌-◌, ◌^◌, IfOk, length};
-ghost use Rattle.rt_check_dump.specs.Lines.{words, kind_of, node_head, row_entry, raw_cell};
-ghost use Rattle.rt_check_dump.specs.Reading.{due, empty_node, after_head, after_cell, after_row, after_kind, after_line, Gives, is_nothing, is_end, read_rest, Reads, axes_of, capacity_of, header_of, start, read_body, read_kind, read_text};
+ghost use Rattle.rt_check_dump.specs.Lines.{words, kind_of, node_head, row_entry, raw_cell, axes_of, capacity_of, header_of};
+ghost use Rattle.rt_check_dump.specs.Reading.{due, empty_node, after_head, after_cell, after_row, after_kind, after_line, Gives, is_nothing, is_end, read_rest, Reads, start, read_body, read_kind, read_text};
 ghost use Rattle.rt_check_dump.specs.Faults.{IsTextOf};
 
 use crate::dump::AnyShadow;

@@ -1,4 +1,4 @@
-use Rattle.rt_check_dump.proofs.FaultyText.{dump-or-faulty, one-answer}
+use Rattle.rt_check_dump.proofs.ReasonsText.{dump-or-faulty, one-answer}
 use Rattle.rt_check_dump.proofs.laws.texts_have_one_answer.Goals as goal
 
 pub returns : goal.returns

@@ -1,7 +1,7 @@
 use Rattle.std.proofs.Common.{◌≡◌, sym, ap, ◌∙◌, subst, Result, None, ℕ, []}
 use Rattle.rt_check_dump.specs.declared.dump.AnyShadow.{AnyShadow}
-use Rattle.rt_check_dump.specs.Lines.{words, kind_of}
-use Rattle.rt_check_dump.specs.Reading.{Reads, read_lines, read_kind, read_text, header_of}
+use Rattle.rt_check_dump.specs.Lines.{words, kind_of, header_of}
+use Rattle.rt_check_dump.specs.Reading.{Reads, read_lines, read_kind, read_text}
 use Rattle.rt_check_dump.proofs.Cuts.{read_lines-first}
 use Rattle.rt_check_dump.proofs.FaultyText.{told}
 use Rattle.rt_check_dump.proofs.reading.read_dump.Goals as goal
