@@ -1,5 +1,5 @@
 -- The laws of faults: each fault is read exactly where the definition of its own says that it is.
-use Rattle.std.proofs.Common.{◌≡◌, ◌⊎◌, inl, inr, ℕ, suc, ◌+◌, ◌-◌, ◌<◌, ◌≤◌, ℤ, List, [], ◌∷◌, ◌++◌, Bool, true, false, cond, Option, Some, None, Result, Ok, Err, refl, sym, subst, ◌∙◌, ap, length, get_or, drop, arith, append_assoc, append-nil, length-append}
+use Rattle.std.proofs.Common.{◌≡◌, ◌⊎◌, inl, inr, ℕ, suc, ◌+◌, ◌-◌, ◌<◌, ◌≤◌, ℤ, List, [], ◌∷◌, ◌++◌, true, false, cond, Option, Some, None, Result, Ok, Err, refl, sym, subst, ◌∙◌, ap, length, get_or, drop, arith, append_assoc, append-nil, length-append}
 use Rattle.std.specs.Prelude.{nat_le}
 use Rattle.std.specs.List.{list_any}
 use Rattle.std.specs.Ordering.{int_eq}
@@ -13,18 +13,18 @@ use Rattle.rt_check_dump.specs.declared.reading.Progress.{Progress}
 use Rattle.rt_check_dump.specs.Pieces.{pieces}
 use Rattle.rt_check_dump.specs.Numbers.{positive_of, count_of}
 use Rattle.rt_check_dump.specs.Lines.{words, kind_of, axes_of, capacity_of, header_of}
-use Rattle.rt_check_dump.specs.Reading.{due, after_line, is_end, is_nothing, read_rest, start, any_shadow, read_heading, read_kind, read_lines, read_text}
-use Rattle.rt_check_dump.specs.Faults.{IsDump, first_lines, lines_before, words_at, axes_at, kind_at, CanFollow, SaysNothing, IsMisfit, IsBadLine, IsSpelled, IsCountWrong, IsOutOfRange, IsListedTwice, HasFault, FaultsAreFound, IsDumpOrFaulty, OneAnswer}
+use Rattle.rt_check_dump.specs.Reading.{due, after_line, is_end, read_rest, start, any_shadow, read_heading, read_kind, read_lines, read_text}
+use Rattle.rt_check_dump.specs.Faults.{IsDump, first_lines, lines_before, words_at, axes_at, kind_at, CanFollow, SaysNothing, IsMisfit, IsBadLine, IsMisfitOf, IsCountWrong, IsOutOfRange, IsListedTwice, HasFault, FaultsAreFound, IsDumpOrFaulty, OneAnswer}
 use Rattle.rt_check_dump.proofs.Cuts.{pieces-some, read_lines-first}
 use Rattle.rt_check_dump.proofs.AcceptedWords.{joined, joined-pieces}
 use Rattle.rt_check_dump.proofs.AcceptedLines.{heading-parts}
-use Rattle.rt_check_dump.proofs.WrittenPieces.{lacks, pieces-front}
+use Rattle.rt_check_dump.proofs.WrittenPieces.{pieces-front}
 use Rattle.rt_check_dump.proofs.FrontLines.{AreUnbroken, pieces-unbroken, first_lines-line}
-use Rattle.rt_check_dump.proofs.Fits.{Fits, IsHeading, header-fits, start-fits}
+use Rattle.rt_check_dump.proofs.Fits.{Fits, header-fits, start-fits}
 use Rattle.rt_check_dump.proofs.Completing.{completes}
 use Rattle.rt_check_dump.proofs.Faulty.{failure, fault-parts, ended-onto}
 use Rattle.rt_check_dump.proofs.FaultyText.{Body, body-of, made, failed, Reads, some-dump, nothing-unread, dump-of, read-of, is-cut, truncated-found, misfits-found}
-use Rattle.rt_check_dump.proofs.Reasons.{name_of, listed, Reason, line-reason, first-due, Leads, leads-fit, leads-read, leads-list, some-more, IsStopped, IsOver, IsHalted, halts}
+use Rattle.rt_check_dump.proofs.Reasons.{name_of, listed, Reason, line-reason, first-due, Leads, leads-fit, leads-read, leads-list, some-more, IsStopped, IsOver, halts}
 use Rattle.rt_check_dump.specs.declared.fault.LineFault.{LineFault}
 use Rattle.rt_check_dump.specs.declared.fault.LineFault.TheVariants.{Truncated, BadLine, CountWrong, OutOfRange, ListedTwice}
 
@@ -199,7 +199,7 @@ module _ (header : List ℕ) (h : Heading) (kind : kind_of None (words header) �
 
 -- a line that fits no dump where one kind can follow
 module _ (text : List ℕ) (n : ℕ) (wanted : LineKind) (misfit : IsMisfit text n) (place : IsPlace (lines_before text n) n wanted) where
-  spelled-here : (kind : LineKind) → kind_at text n ≡ Some kind → IsSpelled kind text n
+  spelled-here : (kind : LineKind) → kind_at text n ≡ Some kind → IsMisfitOf kind text n
   spelled-here kind is = record { misfit = misfit; spelled = is; unended = place.unended }
 
   not-due : (kind : LineKind) → kind_at text n ≡ Some kind → (kind ≡ wanted → ⊥) → IsCountWrong text n
@@ -361,17 +361,17 @@ found text n code other e = by-lines text n code other ((misfits-found text n).0
 
 -- no line has two faults
 module _ (text : List ℕ) (n : ℕ) where
-  spelled-not : (kind : LineKind) → IsBadLine text n → IsSpelled kind text n → ⊥
+  spelled-not : (kind : LineKind) → IsBadLine text n → IsMisfitOf kind text n → ⊥
   spelled-not kind bad line =
       elim bad.no_line as (λ s. ⊥) [
         | inl none ↦ let e : None ≡ Some kind = sym none ∙ line.spelled in let no : ⊥ = cc in no
         | inr dump ↦ line.unended dump
       ]
 
-  one-kind : (j k : LineKind) → IsSpelled j text n → IsSpelled k text n → j ≡ k
+  one-kind : (j k : LineKind) → IsMisfitOf j text n → IsMisfitOf k text n → j ≡ k
   one-kind j k a b = let e : Some j ≡ Some k = sym a.spelled ∙ b.spelled in let same : j ≡ k = cc in same
 
-  due-not : (kind : LineKind) → IsCountWrong text n → IsSpelled kind text n → CanFollow (lines_before text n) n kind → ⊥
+  due-not : (kind : LineKind) → IsCountWrong text n → IsMisfitOf kind text n → CanFollow (lines_before text n) n kind → ⊥
   due-not kind wrong line due = wrong.not_due (subst (CanFollow (lines_before text n) n) (one-kind kind wrong.kind line wrong.line) due)
 
   outside-not : IsOutOfRange text n → IsListedTwice text n → ⊥

@@ -1,5 +1,5 @@
--- Dumps, texts that begin one, and where a text that isn't one goes wrong (own). Nothing here speaks of how
--- a text is read.
+-- Dumps, texts that begin one, and what is wrong with a text that isn't one (own). Only the laws at the end
+-- speak of how a text is read.
 use Rattle.std.specs.Prelude.{◌≡◌, ◌⊎◌, ◌↔◌, ℕ, zero, suc, ◌+◌, ◌-◌, ◌<◌, ◌≤◌, nat_le, List, [], ◌∷◌, ◌++◌, get_or, Option, None, Some, Ok, Err, ◌==◌, if◌then◌else◌}
 use Rattle.rt_check_dump.specs.declared.dump.AnyShadow.{AnyShadow}
 use Rattle.rt_check_dump.specs.declared.lines.LineKind.{LineKind}
@@ -57,19 +57,19 @@ pub record IsTruncated (text : List ℕ) (n : ℕ) : Type 0 where
 abbrev pub words_at : List ℕ → ℕ → List (List ℕ)
 words_at text n = words (get_or (pieces 10 text) (n - 1) [])
 
--- the number of axes, which the second word of line 1 tells to the lines after it
+-- the number of axes, which the header's second word tells to the lines after it
 abbrev pub axes_at : List ℕ → ℕ → Option ℕ
 axes_at text n = if nat_le n 1 then None else axes_of (get_or (words_at text 1) 1 [])
 
--- the kind of line n, by its spelling alone
+-- the kind of line n by its spelling
 abbrev pub kind_at : List ℕ → ℕ → Option LineKind
 kind_at text n = kind_of (axes_at text n) (words_at text n)
 
--- a line n of this kind can follow these lines: some dump begins with them and has one
+-- some dump begins with these lines, and its line n, the next one, is of this kind
 abbrev pub CanFollow : List ℕ → ℕ → LineKind → Type 0
 CanFollow front n kind = (rest : List ℕ) × IsDump (front ++ rest) × (kind_at (front ++ rest) n ≡ Some kind)
 
--- a line of this kind says nothing, since one of its numbers is outside its range
+-- a line of this kind that says nothing: one of its numbers is outside its range
 abbrev pub SaysNothing : LineKind → Option ℕ → List (List ℕ) → Type 0
 SaysNothing Header axes ws = header_of ws ≡ None
 SaysNothing Node axes ws = node_head ws ≡ None
@@ -78,35 +78,35 @@ SaysNothing Cell None ws = ⊥
 SaysNothing Row axes ws = row_entry ws ≡ None
 SaysNothing End axes ws = ⊥
 
--- the line that fits is spelled as none of the five kinds, or stands after a whole dump
+-- a misfit that is spelled as none of the five kinds, or stands after a whole dump
 pub record IsBadLine (text : List ℕ) (n : ℕ) : Type 0 where
   pub misfit : IsMisfit text n
   pub no_line : (kind_at text n ≡ None) ⊎ IsDump (lines_before text n)
 
--- faulty line n is spelled as this kind, and no whole dump stands before it
-pub record IsSpelled (kind : LineKind) (text : List ℕ) (n : ℕ) : Type 0 where
+-- a misfit that is spelled as this kind, and stands after no whole dump
+pub record IsMisfitOf (kind : LineKind) (text : List ℕ) (n : ℕ) : Type 0 where
   pub misfit : IsMisfit text n
   pub spelled : kind_at text n ≡ Some kind
   pub unended : IsDump (lines_before text n) → ⊥
 
--- no line of its kind can stand there
+-- a misfit of a kind that can't stand there
 pub record IsCountWrong (text : List ℕ) (n : ℕ) : Type 0 where
   pub kind : LineKind
-  pub line : IsSpelled kind text n
+  pub line : IsMisfitOf kind text n
   pub not_due : CanFollow (lines_before text n) n kind → ⊥
 
--- a line of its kind can stand there, and a number of it is outside its range
+-- a misfit of a kind that can stand there, with a number outside its range
 pub record IsOutOfRange (text : List ℕ) (n : ℕ) : Type 0 where
   pub kind : LineKind
-  pub line : IsSpelled kind text n
+  pub line : IsMisfitOf kind text n
   pub due : CanFollow (lines_before text n) n kind
   pub outside : SaysNothing kind (axes_at text n) (words_at text n)
 
--- a node's or a row's line can stand there, its numbers are in range, and its second word, the node's number or
--- the row's id, is that of a line of its kind before it
+-- a node's or a row's misfit of a kind that can stand there, with its numbers in range: its second word, the
+-- node's number or the row's id, is that of a line of its kind before it
 pub record IsListedTwice (text : List ℕ) (n : ℕ) : Type 0 where
   pub kind : LineKind
-  pub line : IsSpelled kind text n
+  pub line : IsMisfitOf kind text n
   pub due : CanFollow (lines_before text n) n kind
   pub listing : (kind ≡ Node) ⊎ (kind ≡ Row)
   pub in_range : SaysNothing kind (axes_at text n) (words_at text n) → ⊥
@@ -115,7 +115,7 @@ pub record IsListedTwice (text : List ℕ) (n : ℕ) : Type 0 where
   pub same_kind : kind_at text first ≡ Some kind
   pub same_name : get_or (words_at text first) 1 [] ≡ get_or (words_at text n) 1 []
 
--- what each fault says of line n
+-- line n has this fault
 abbrev pub HasFault : LineFault → List ℕ → ℕ → Type 0
 HasFault Truncated text n = IsTruncated text n
 HasFault BadLine text n = IsBadLine text n
@@ -123,7 +123,7 @@ HasFault CountWrong text n = IsCountWrong text n
 HasFault OutOfRange text n = IsOutOfRange text n
 HasFault ListedTwice text n = IsListedTwice text n
 
--- reading finds exactly the dumps, the faulty lines, and which fault a line has
+-- reading finds exactly the dumps, the misfits, and the fault of each
 abbrev pub DumpsAreRead : Type 0
 DumpsAreRead = (text : List ℕ) (shadow : AnyShadow) → (read_text text ≡ Ok shadow) ↔ IsTextOf shadow text
 

@@ -1,7 +1,7 @@
 //! What is wrong with bytes that aren't a dump.
 //!
-//! The variants of `LineFault` stand in the order in which they are looked for. The codes that are printed follow
-//! another order (`specs/Codes.antt`).
+//! The variants of `LineFault` stand in the order in which they are looked for. `specs/Faults.antt` defines each.
+//! The codes that are printed follow another order (`specs/Codes.antt`).
 
 ghost use Rattle.std.specs.Prelude.{◌≡◌};
 ghost use Rattle.rt_check_dump.specs.Codes.{code_of, fault_text};

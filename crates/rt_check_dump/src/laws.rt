@@ -42,19 +42,19 @@ pub fn dumps_are_read()
     ensures { DumpsAreRead }
 {}
 
-/// A line is read as faulty, by any code but `Truncated`, exactly where the lines before it begin some dump, and
-/// with it they begin none.
+/// A line is read as faulty, by any code but `Truncated`, exactly where it is a misfit: the lines before it begin
+/// some dump, and with it they begin none.
 pub fn misfits_are_found()
     ensures { MisfitsAreFound }
 {}
 
-/// A text is read with a fault in a line exactly where that line has that fault, by the definition that each
-/// fault has of its own.
+/// A line is read with one of the five faults exactly where it has that fault, by the definition that each fault
+/// has of its own.
 pub fn faults_are_found()
     ensures { FaultsAreFound }
 {}
 
-/// A text is a dump or has a faulty line with a fault; not both, and no text has two such lines or two faults.
+/// A text is a dump or has a fault in a line; not both, and no text has two such lines or two faults.
 pub fn texts_have_one_answer()
     ensures some { IsDumpOrFaulty }
     ensures one { OneAnswer }

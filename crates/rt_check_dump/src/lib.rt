@@ -3,11 +3,12 @@
 //! - `write_dump` writes a shadow's text, or after a fault a front of it.
 //! - `read_dump` reads any bytes: as a shadow, or with the first faulty line and its first code.
 //! - `laws`: what is written is read again, and what is read is written back byte for byte. The first
-//!   faulty line is the first with which a text fits no dump, and each text is a dump or has one.
+//!   faulty line is the first with which a text fits no dump, each code has a definition of its own, and each
+//!   text is a dump or has one fault.
 //!
 //! Stands on `rt_check` (shadows) and `rt_bytes`. Definitions: `specs/Dump.antt` (the text of a shadow),
-//! `Reading.antt` (what a text is read as), `Faults.antt` (dumps and faulty lines, with no word of how they are
-//! read), `InRange.antt`, `Lines.antt`, `Numbers.antt`, `Codes.antt`.
+//! `Reading.antt` (what a text is read as), `Faults.antt` (dumps and the five faults, with no word of how they
+//! are read), `InRange.antt`, `Lines.antt`, `Numbers.antt`, `Codes.antt`.
 #![tactic(auto)]
 
 mod dump;

@@ -1,7 +1,7 @@
 //! A dump read line by line.
 //!
 //! The counts in the lines before say which kind of line is due. `specs/Reading.antt` defines this reading step by
-//! step, and `specs/Faults.antt` what a dump is and which line of a text is its first faulty one.
+//! step, and `specs/Faults.antt` what a dump is and what each fault of a text is.
 
 ghost use Rattle.std.specs.Prelude.{◌≡◌, ◌≤◌, ◌<◌, ◌-◌, ◌^◌, IfOk, length};
 ghost use Rattle.rt_check_dump.specs.Lines.{words, kind_of, node_head, row_entry, raw_cell, axes_of, capacity_of, header_of};
