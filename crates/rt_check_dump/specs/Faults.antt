@@ -57,9 +57,13 @@ pub record IsTruncated (text : List ℕ) (n : ℕ) : Type 0 where
 abbrev pub words_at : List ℕ → ℕ → List (List ℕ)
 words_at text n = words (get_or (pieces 10 text) (n - 1) [])
 
--- the number of axes, which the header's second word tells to the lines after it
+-- the second word of line n: a header's number of axes, a node's number, a row's id
+abbrev pub second_word : List ℕ → ℕ → List ℕ
+second_word text n = get_or (words_at text n) 1 []
+
+-- the number of axes, which the header tells to the lines after it
 abbrev pub axes_at : List ℕ → ℕ → Option ℕ
-axes_at text n = if nat_le n 1 then None else axes_of (get_or (words_at text 1) 1 [])
+axes_at text n = if nat_le n 1 then None else axes_of (second_word text 1)
 
 -- the kind of line n by its spelling
 abbrev pub kind_at : List ℕ → ℕ → Option LineKind
@@ -102,8 +106,8 @@ pub record IsOutOfRange (text : List ℕ) (n : ℕ) : Type 0 where
   pub due : CanFollow (lines_before text n) n kind
   pub outside : SaysNothing kind (axes_at text n) (words_at text n)
 
--- a node's or a row's misfit of a kind that can stand there, with its numbers in range: its second word, the
--- node's number or the row's id, is that of a line of its kind before it
+-- a misfit of a kind that can stand there, a node's or a row's, with its numbers in range: the node's number or the
+-- row's id is that of a line of its kind before it
 pub record IsListedTwice (text : List ℕ) (n : ℕ) : Type 0 where
   pub kind : LineKind
   pub line : IsMisfitOf kind text n
@@ -113,7 +117,7 @@ pub record IsListedTwice (text : List ℕ) (n : ℕ) : Type 0 where
   pub first : ℕ
   pub earlier : (1 ≤ first) × (first < n)
   pub same_kind : kind_at text first ≡ Some kind
-  pub same_name : get_or (words_at text first) 1 [] ≡ get_or (words_at text n) 1 []
+  pub same_name : second_word text first ≡ second_word text n
 
 -- line n has this fault
 abbrev pub HasFault : LineFault → List ℕ → ℕ → Type 0
