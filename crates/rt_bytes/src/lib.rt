@@ -3,8 +3,7 @@
 //! - `ByteReader` and `ByteWriter`: readers and writers whose contracts know the bytes left and
 //!   written, and count reads and failures.
 //! - `OverRead` and `OverWrite` lay them over std's `Read` and `Write`.
-//! - `SliceReader` and `Sink` stand in memory; `FailingReader`, `FailingWriter`, `OneByteWriter` and
-//!   `UnflushableWriter` fail, for tests.
+//! - `SliceReader` and `Sink` stand in memory.
 //! - `write_whole` and `write_parts` write all that they are given, or a front of it.
 //! - `Status` and `RunFault`: how a run over a reader and a writer ends.
 //!
@@ -17,17 +16,13 @@
 
 mod counts;
 mod device;
-mod failing;
 mod memory;
 mod outcome;
 mod over;
-mod partial;
 mod whole;
 
 pub use device::{ByteReader, ByteWriter, ReadFault, WriteFault};
-pub use failing::{FailingReader, FailingWriter};
 pub use memory::{Sink, SliceReader};
 pub use outcome::{MOST_READS, READ_SIZE, RunFault, Status};
 pub use over::{OverRead, OverWrite};
-pub use partial::{OneByteWriter, UnflushableWriter};
 pub use whole::{write_parts, write_whole};

@@ -3,13 +3,13 @@
 //! After each call the test compares the bytes and the counts, of which the contracts speak.
 
 use rt_bytes::{
-    ByteReader, ByteWriter, FailingReader, FailingWriter, OneByteWriter, OverRead, OverWrite,
-    ReadFault, RunFault, Sink, SliceReader, UnflushableWriter, WriteFault, write_parts,
-    write_whole,
+    ByteReader, ByteWriter, OverRead, OverWrite, ReadFault, RunFault, Sink, SliceReader,
+    WriteFault, write_parts, write_whole,
 };
 use std::alloc::AllocError;
 use std::io::Cursor;
 use std::test::Fail;
+use test_devices::{FailingReader, FailingWriter, OneByteWriter, UnflushableWriter};
 
 #[test]
 fn a_slice_is_read_in_small_reads(rt: HostRuntime) {
@@ -30,7 +30,7 @@ fn one_read_fails(rt: HostRuntime) {
     assert_eq!(rt; reader.read(&mut buffer), Ok(2));
     assert_eq!(rt; reader.read(&mut buffer), Err(ReadFault));
     assert_eq!(rt; reader.read(&mut buffer), Ok(1));
-    assert_eq!(rt; (reader.failures(), reader.reads()), (1, 3));
+    assert_eq!(rt; (reader.failures, reader.reads), (1, 3));
 }
 
 #[test]
@@ -58,12 +58,12 @@ fn a_front_is_written_before_a_fault(rt: HostRuntime) {
         Err(WriteFault)
     );
     assert_eq!(rt;
-        (writer.faults(), writer.inner.bytes()),
+        (writer.faults, writer.inner.bytes()),
         (1, b"row ".as_slice())
     );
     let mut writer = UnflushableWriter::new(writer.inner);
     assert_eq!(rt; write_whole(&mut writer, b"1"), Ok(()));
-    assert_eq!(rt; (writer.flush(), writer.faults()), (Err(WriteFault), 1));
+    assert_eq!(rt; (writer.flush(), writer.faults), (Err(WriteFault), 1));
     assert_eq!(rt; writer.inner.bytes(), b"row 1".as_slice());
 }
 

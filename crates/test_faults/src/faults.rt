@@ -3,15 +3,13 @@
 //! Each script stands beside what it prints, and beside how many bytes are read and written where an answer ends.
 
 use rt_box::Capacity;
-use rt_bytes::{
-    FailingReader, FailingWriter, OneByteWriter, OverWrite, RunFault, Sink, SliceReader, Status,
-    UnflushableWriter,
-};
+use rt_bytes::{OverWrite, RunFault, Sink, SliceReader, Status};
 use rt_check_report::run_check;
 use rt_shell::{Options, run};
 use std::hash::RandomState;
 use std::process::Abort;
 use std::test::Fail;
+use test_devices::{FailingReader, FailingWriter, OneByteWriter, UnflushableWriter};
 
 /// Two rows, shown by rising id.
 const ROWS: Script<'static> = Script {

@@ -1,4 +1,4 @@
-//! A reader and a writer that fail at a chosen point, for tests.
+//! A reader and a writer that fail at a chosen point.
 //!
 //! The reader fails at one read and goes on after it. The writer takes no further byte once its room is used up.
 
@@ -7,8 +7,7 @@ ghost use Rattle.std.specs.Io.{ReadsAtMost, WritesAtMost};
 ghost use Rattle.std.specs.Io.KnownBytes.{Keeps, ReadConsumes, WriteAppends};
 ghost use Rattle.rt_bytes.specs.Bytes.{one_more, CountsErr};
 
-use crate::counts::count_one;
-use crate::device::{ByteReader, ByteWriter, ReadFault, WriteFault};
+use rt_bytes::{ByteReader, ByteWriter, ReadFault, WriteFault};
 
 /// A reader that fails at one of its reads; the others are those of the reader inside.
 #[derive(Drop)]
@@ -17,17 +16,16 @@ pub struct FailingReader<R> {
     pub inner: R,
     /// How many reads come before the one that fails.
     pub before: u64,
-    failures: u64,
-    reads: u64,
+    /// How many reads failed, those of the reader inside counted.
+    pub failures: u64,
+    /// How many reads there were.
+    pub reads: u64,
 }
 
 impl<R: ByteReader> FailingReader<R> {
     /// Fails once, after `before` reads.
     pub fn new(inner: R, before: u64) -> FailingReader<R>
-        ensures inner { result.inner ≡ inner }
-        ensures before { result.before ≡ before }
-        ensures failures { ⟦<FailingReader<R> as ByteReader>⟧.failures result ≡ 0 }
-        ensures reads { ⟦<FailingReader<R> as ByteReader>⟧.reads result ≡ 0 }
+        ensures { result ≡ record { inner = inner; before = before; failures = 0; reads = 0 } }
     {
         FailingReader {
             inner,
@@ -35,20 +33,6 @@ impl<R: ByteReader> FailingReader<R> {
             failures: 0,
             reads: 0,
         }
-    }
-
-    /// How many reads failed, those of the reader inside counted.
-    pub fn failures(&self) -> u64
-        ensures { result ≡ ⟦<FailingReader<R> as ByteReader>⟧.failures self.now }
-    {
-        self.failures
-    }
-
-    /// How many reads there were.
-    pub fn reads(&self) -> u64
-        ensures { result ≡ ⟦<FailingReader<R> as ByteReader>⟧.reads self.now }
-    {
-        self.reads
     }
 }
 
@@ -64,22 +48,19 @@ impl<R: ByteReader> ByteReader for FailingReader<R> {
         requires few { length buffer.old ≤ 4096 }
         ensures count { ReadsAtMost result buffer.new }
         ensures bytes { ReadConsumes (R.left self.old.inner) (R.left self.new.inner) result buffer.new }
-        ensures failed { CountsErr (⟦<FailingReader<R> as ByteReader>⟧.failures self.old)
-            (⟦<FailingReader<R> as ByteReader>⟧.failures self.new) result }
-        ensures turns { ⟦<FailingReader<R> as ByteReader>⟧.reads self.new
-            ≡ one_more (⟦<FailingReader<R> as ByteReader>⟧.reads self.old) }
-        ensures fails { ⟦<FailingReader<R> as ByteReader>⟧.reads self.old ≡ self.old.before
-            → IsErr result × (self.new.inner ≡ self.old.inner) }
-        ensures passes { OnErr result ((⟦<FailingReader<R> as ByteReader>⟧.reads self.old ≡ self.old.before)
+        ensures failed { CountsErr self.old.failures self.new.failures result }
+        ensures turns { self.new.reads ≡ one_more self.old.reads }
+        ensures fails { self.old.reads ≡ self.old.before → IsErr result × (self.new.inner ≡ self.old.inner) }
+        ensures passes { OnErr result ((self.old.reads ≡ self.old.before)
             ⊎ (R.failures self.new.inner ≡ one_more (R.failures self.old.inner))) }
         ensures same { self.new.before ≡ self.old.before }
     {
         let is_due = self.reads == self.before;
-        count_one(&mut self.reads);
+        self.reads = self.reads.saturating_add(1);
         if !is_due && let Ok(count) = self.inner.read(buffer) {
             return Ok(count);
         }
-        count_one(&mut self.failures);
+        self.failures = self.failures.saturating_add(1);
         Err(ReadFault)
     }
 }
@@ -91,28 +72,20 @@ pub struct FailingWriter<W> {
     pub inner: W,
     /// How many bytes more it takes.
     pub room: usize,
-    faults: u64,
+    /// How many writes and flushes failed, those of the writer inside counted.
+    pub faults: u64,
 }
 
 impl<W: ByteWriter> FailingWriter<W> {
     /// Takes `room` bytes.
     pub fn new(inner: W, room: usize) -> FailingWriter<W>
-        ensures inner { result.inner ≡ inner }
-        ensures room { result.room ≡ room }
-        ensures faults { ⟦<FailingWriter<W> as ByteWriter>⟧.faults result ≡ 0 }
+        ensures { result ≡ record { inner = inner; room = room; faults = 0 } }
     {
         FailingWriter {
             inner,
             room,
             faults: 0,
         }
-    }
-
-    /// How many writes and flushes failed, those of the writer inside counted.
-    pub fn faults(&self) -> u64
-        ensures { result ≡ ⟦<FailingWriter<W> as ByteWriter>⟧.faults self.now }
-    {
-        self.faults
     }
 }
 
@@ -127,8 +100,7 @@ impl<W: ByteWriter> ByteWriter for FailingWriter<W> {
         ensures count { WritesAtMost result bytes.now }
         ensures progress { IfOk result (λ n. 0 < length bytes.now → 0 < n) }
         ensures bytes { WriteAppends (W.written self.old.inner) (W.written self.new.inner) result bytes.now }
-        ensures failed { CountsErr (⟦<FailingWriter<W> as ByteWriter>⟧.faults self.old)
-            (⟦<FailingWriter<W> as ByteWriter>⟧.faults self.new) result }
+        ensures failed { CountsErr self.old.faults self.new.faults result }
         ensures held { IfOk result (λ n. 0 < n → W.flushed self.new.inner ≡ false) }
         ensures room { IfOk result (λ n. self.new.room + n ≡ self.old.room) }
         ensures passes { OnErr result ((self.old.room ≡ 0)
@@ -144,14 +116,13 @@ impl<W: ByteWriter> ByteWriter for FailingWriter<W> {
                 return Ok(count);
             }
         }
-        count_one(&mut self.faults);
+        self.faults = self.faults.saturating_add(1);
         Err(WriteFault)
     }
 
     fn flush(&mut self) -> Result<(), WriteFault>
         ensures bytes { Keeps (W.written self.old.inner) (W.written self.new.inner) }
-        ensures failed { CountsErr (⟦<FailingWriter<W> as ByteWriter>⟧.faults self.old)
-            (⟦<FailingWriter<W> as ByteWriter>⟧.faults self.new) result }
+        ensures failed { CountsErr self.old.faults self.new.faults result }
         ensures passes { CountsErr (W.faults self.old.inner) (W.faults self.new.inner) result }
         ensures passed { OnOk result (W.flushed self.new.inner ≡ true) }
         ensures room { self.new.room ≡ self.old.room }
@@ -159,7 +130,7 @@ impl<W: ByteWriter> ByteWriter for FailingWriter<W> {
         if self.inner.flush().is_ok() {
             return Ok(());
         }
-        count_one(&mut self.faults);
+        self.faults = self.faults.saturating_add(1);
         Err(WriteFault)
     }
 }

@@ -1,4 +1,4 @@
-//! Writers that take one byte at a time, or are never flushed, for tests.
+//! Writers that take one byte at a time, or are never flushed.
 //!
 //! Both pass the bytes on to the writer inside, so what was written stands there.
 
@@ -7,8 +7,7 @@ ghost use Rattle.std.specs.Io.KnownBytes.{WriteAppends};
 ghost use Rattle.std.specs.Io.{WritesAtMost};
 ghost use Rattle.rt_bytes.specs.Bytes.{one_more, CountsErr};
 
-use crate::counts::count_one;
-use crate::device::{ByteWriter, WriteFault};
+use rt_bytes::{ByteWriter, WriteFault};
 
 /// A writer that takes one byte at a time.
 #[derive(Drop)]
@@ -56,23 +55,16 @@ impl<W: ByteWriter> ByteWriter for OneByteWriter<W> {
 pub struct UnflushableWriter<W> {
     /// The writer inside.
     pub inner: W,
-    faults: u64,
+    /// How many writes and flushes failed, the writes of the writer inside counted.
+    pub faults: u64,
 }
 
 impl<W: ByteWriter> UnflushableWriter<W> {
     /// Writes to `inner`, which is never flushed.
     pub fn new(inner: W) -> UnflushableWriter<W>
-        ensures inner { result.inner ≡ inner }
-        ensures faults { ⟦<UnflushableWriter<W> as ByteWriter>⟧.faults result ≡ 0 }
+        ensures { result ≡ record { inner = inner; faults = 0 } }
     {
         UnflushableWriter { inner, faults: 0 }
-    }
-
-    /// How many writes and flushes failed.
-    pub fn faults(&self) -> u64
-        ensures { result ≡ ⟦<UnflushableWriter<W> as ByteWriter>⟧.faults self.now }
-    {
-        self.faults
     }
 }
 
@@ -87,7 +79,7 @@ impl<W: ByteWriter> ByteWriter for UnflushableWriter<W> {
         match self.inner.write(bytes) {
             Ok(count) => Ok(count),
             Err(fault) => {
-                count_one(&mut self.faults);
+                self.faults = self.faults.saturating_add(1);
                 Err(fault)
             }
         }
@@ -96,10 +88,9 @@ impl<W: ByteWriter> ByteWriter for UnflushableWriter<W> {
     fn flush(&mut self) -> Result<(), WriteFault>
         ensures fails { IsErr result }
         ensures same { self.new.inner ≡ self.old.inner }
-        ensures failed { ⟦<UnflushableWriter<W> as ByteWriter>⟧.faults self.new
-            ≡ one_more (⟦<UnflushableWriter<W> as ByteWriter>⟧.faults self.old) }
+        ensures failed { self.new.faults ≡ one_more self.old.faults }
     {
-        count_one(&mut self.faults);
+        self.faults = self.faults.saturating_add(1);
         Err(WriteFault)
     }
 }

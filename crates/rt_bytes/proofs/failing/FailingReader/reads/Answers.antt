@@ -1,5 +1,0 @@
-use Rattle.std.proofs.Common.{rules}
-use Rattle.rt_bytes.proofs.failing.FailingReader.reads.Goals as goal
-
-pub returns : goal.returns
-returns g c = search rules
