@@ -4,30 +4,19 @@
 ghost use Rattle.std.specs.Prelude.{◌≡◌, IfOk};
 ghost use Rattle.rt_table.specs.Preparing.{ApplyInTurn};
 
+use crate::from_text::{schema, statement};
 use rt_box::Capacity;
-use rt_sql::{Refusal, Stmt, parse};
-use rt_sql_cut::{Ending, Piece};
+use rt_sql::{Refusal, Stmt};
 use rt_table::{Plan, Table};
-use rt_table_row::Schema;
 use std::alloc::Global;
 use std::hash::RandomState;
 use std::process::Abort;
 use std::test::Fail;
 
-fn statement(alloc: Global, text: &[u8]) -> Result<Stmt, Fail> {
-    match parse(alloc, &Piece::new(text, Ending::Whole)) {
-        Ok(statement) => Ok(statement),
-        Err(_) => Err(Fail::from("no statement")),
-    }
-}
-
 /// A table of one axis without rows, of the least capacity.
 fn table(alloc: Global, keys: RandomState) -> Result<Table<1>, Fail> {
-    let text = b"CREATE VIRTUAL TABLE t USING rtree_i32(id,minX,maxX,+n TEXT);";
-    let Stmt::Create { columns, .. } = statement(alloc, text)? else {
-        return Err(Fail::from("no CREATE"));
-    };
-    let schema = Schema::new(alloc, columns.as_slice()).map_err(|_| "no columns")?;
+    let create = b"CREATE VIRTUAL TABLE t USING rtree_i32(id,minX,maxX,+n TEXT);";
+    let schema = schema(alloc, create)?;
     if schema.axes() != 1 {
         return Err(Fail::from("another number of axes"));
     }

@@ -2,29 +2,15 @@
 //!
 //! It refuses a new row, but takes one in the place of a row of its own.
 
-use rt_box::Capacity;
-use rt_sql::{Edit, Items, Refusal, Rule, Stmt, Value, parse};
-use rt_sql_cut::{Ending, Piece};
+use crate::from_text::table;
+use rt_sql::{Edit, Items, Refusal, Rule, Value};
 use rt_table::AnyTable;
-use rt_table_row::Schema;
 use std::alloc::{AllocError, Global};
 use std::hash::RandomState;
 use std::process::Abort;
 use std::test::Fail;
 
 const MOST_ROWS: i64 = 1_048_576;
-
-/// A table of one axis without rows.
-fn table(alloc: Global, keys: RandomState) -> Result<AnyTable, Fail> {
-    let text = b"CREATE VIRTUAL TABLE t USING rtree_i32(id,a,b);";
-    let piece = Piece::new(text, Ending::Whole);
-    let Ok(Stmt::Create { columns, .. }) = parse(alloc, &piece) else {
-        return Err(Fail::from("no CREATE"));
-    };
-    let schema = Schema::new(alloc, columns.as_slice()).map_err(|_| "no columns")?;
-    let capacity = Capacity::new(51).ok_or("no capacity")?;
-    Ok(AnyTable::new(alloc, keys, capacity, schema)?)
-}
 
 /// Rows of these ids, each at the point 0.
 fn rows(alloc: Global, first: i64, count: i64) -> Result<Items<Items<Value>>, AllocError> {
@@ -59,7 +45,8 @@ fn takes(
 
 /// A table with the rows of all ids from 1 up but the last.
 fn filled(rt: &(impl Abort + AllocGlobal), keys: RandomState) -> Result<AnyTable, Fail> {
-    let mut table = table(rt.alloc(), keys)?;
+    let create = b"CREATE VIRTUAL TABLE t USING rtree_i32(id,a,b);";
+    let mut table = table(rt.alloc(), keys, 51, create)?;
     for block in 0..1023i64 {
         let first = block.wrapping_mul(1025).wrapping_add(1);
         expect(rt, &mut table, Rule::Abort, first, 1025, true)?;

@@ -7,6 +7,8 @@
 #[cfg(test)]
 mod committing;
 #[cfg(test)]
+mod from_text;
+#[cfg(test)]
 mod full;
 #[cfg(test)]
 mod visited;

@@ -2,33 +2,13 @@
 //!
 //! The rows are those of `worked` in `test_tree`, whose dumps show the nodes.
 
-use rt_box::Capacity;
-use rt_sql::{Stmt, parse};
-use rt_sql_cut::{Ending, Piece};
+use crate::from_text::{statement, table};
+use rt_sql::Stmt;
 use rt_table::AnyTable;
-use rt_table_row::Schema;
 use std::alloc::Global;
 use std::hash::RandomState;
 use std::process::Abort;
 use std::test::Fail;
-
-fn statement(alloc: Global, text: &[u8]) -> Result<Stmt, Fail> {
-    match parse(alloc, &Piece::new(text, Ending::Whole)) {
-        Ok(statement) => Ok(statement),
-        Err(_) => Err(Fail::from("no statement")),
-    }
-}
-
-/// A table of one axis without rows, of the least capacity.
-fn table(alloc: Global, keys: RandomState) -> Result<AnyTable, Fail> {
-    let text = b"CREATE VIRTUAL TABLE t USING rtree_i32(id,minX,maxX);";
-    let Stmt::Create { columns, .. } = statement(alloc, text)? else {
-        return Err(Fail::from("no CREATE"));
-    };
-    let schema = Schema::new(alloc, columns.as_slice()).map_err(|_| "no columns")?;
-    let capacity = Capacity::new(5).ok_or("no capacity")?;
-    Ok(AnyTable::new(alloc, keys, capacity, schema)?)
-}
 
 fn insert(alloc: Global, table: &mut AnyTable, text: &[u8]) -> Result<(), Fail> {
     let Stmt::Edit { edit, .. } = statement(alloc, text)? else {
@@ -66,7 +46,8 @@ fn expect(
 #[test]
 fn a_window_reaches_the_nodes_that_may_hold_its_rows(rt: HostRuntime) -> Result<(), Fail> {
     let alloc = rt.alloc();
-    let mut table = table(alloc, RandomState::new(&rt)?)?;
+    let create = b"CREATE VIRTUAL TABLE t USING rtree_i32(id,minX,maxX);";
+    let mut table = table(alloc, RandomState::new(&rt)?, 5, create)?;
     for text in [
         b"INSERT INTO t VALUES(1,0,0);".as_slice(),
         b"INSERT INTO t VALUES(2,1,1);",
