@@ -11,10 +11,9 @@ use Rattle.rt_tree_choice.specs.Hull.{hull}
 use Rattle.rt_tree_node.specs.declared.cell.Cell.{Cell}
 use Rattle.rt_tree_node.specs.declared.cell.Waiting.{Waiting}
 use Rattle.rt_tree_node.specs.Node.{NodeCells}
-use Rattle.rt_tree_node.specs.Places.{key_of, cells_of, level_of, cells_at, level_at, hull_at, rects}
+use Rattle.rt_tree_node.specs.Places.{key_of, cells_of, level_of, cells_at, level_at, hull_at, rects, waiting_at}
 use Rattle.rt_tree_node.specs.Sound.{IsFitted}
 use Rattle.rt_tree_node.specs.Open.{HasHull, IsFittedBut}
-use Rattle.rt_tree_node.proofs.Places.{waiting_at}
 use Rattle.rt_tree_node.proofs.Links.{same-at, All-without, All-at}
 
 module _ {D : ℕ} where

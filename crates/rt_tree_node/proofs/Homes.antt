@@ -9,10 +9,10 @@ use Rattle.slab.specs.Slab.{Slab, get, Updates}
 use Rattle.rt_tree_node.specs.declared.cell.Cell.{Cell}
 use Rattle.rt_tree_node.specs.declared.cell.Waiting.{Waiting}
 use Rattle.rt_tree_node.specs.Node.{NodeCells}
-use Rattle.rt_tree_node.specs.Places.{times_listed, leaf_part, leaf_cells_of, leaf_cells_at, waiting_rows}
+use Rattle.rt_tree_node.specs.Places.{times_listed, leaf_part, leaf_cells_of, leaf_cells_at, waiting_rows, waiting_at}
 use Rattle.rt_tree_node.specs.Sound.{HasHomes}
 use Rattle.rt_tree_node.proofs.Counts.{count-one_yes, count-one_no}
-use Rattle.rt_tree_node.proofs.Places.{count-leaf_push, rows-middle, rows-joined, waiting_at, has_id}
+use Rattle.rt_tree_node.proofs.Places.{count-leaf_push, rows-middle, rows-joined, has_id}
 use Rattle.rt_tree_node.proofs.Links.{same-at, new-at}
 
 pub same-id : (x y : ℤ) → (x ≡ y) ⊎ (x ≢ y)

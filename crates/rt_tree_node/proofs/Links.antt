@@ -10,10 +10,10 @@ use Rattle.slab.specs.Slab.{Slab, get, Updates}
 use Rattle.rt_tree_node.specs.declared.cell.Cell.{Cell}
 use Rattle.rt_tree_node.specs.declared.cell.Waiting.{Waiting}
 use Rattle.rt_tree_node.specs.Node.{NodeCells}
-use Rattle.rt_tree_node.specs.Places.{key_of, times_named, cells_of, inner_part, inner_cells_of, level_of, parent_of, cells_at, inner_cells_at, level_at, parent_at, cells_above, waiting_nodes}
+use Rattle.rt_tree_node.specs.Places.{key_of, times_named, cells_of, inner_part, inner_cells_of, level_of, parent_of, cells_at, inner_cells_at, level_at, parent_at, cells_above, waiting_nodes, waiting_at}
 use Rattle.rt_tree_node.specs.Sound.{Names, NamesChild, IsLinked}
 use Rattle.rt_tree_node.proofs.Counts.{count-some}
-use Rattle.rt_tree_node.proofs.Places.{inner-at_inner, inner-at_leaf, inner-all, count-inner_push, nodes-middle, nodes-joined, waiting_at, names_key, named-none, named-find, named-one, named-other}
+use Rattle.rt_tree_node.proofs.Places.{inner-at_inner, inner-at_leaf, inner-all, count-inner_push, nodes-middle, nodes-joined, names_key, named-none, named-find, named-one, named-other}
 
 module _ {D : ℕ} {Y : Type 0} (F : Option (NodeCells D) → Y) (a b : Slab (NodeCells D)) (k : ℕ) where
   -- a reading that the change of a node leaves as it was

@@ -16,11 +16,11 @@ use Rattle.slab.proofs.SlabLemmas.{Updates-with_value}
 use Rattle.rt_tree_node.specs.declared.cell.Cell.{Cell}
 use Rattle.rt_tree_node.specs.declared.cell.Waiting.{Waiting}
 use Rattle.rt_tree_node.specs.Node.{NodeCells}
-use Rattle.rt_tree_node.specs.Places.{key_of, rects, times_named, times_listed, cells_of, parent_of, level_of, leaf_cells_of, inner_cells_of, cells_at, level_at, parent_at, cells_above, leaf_part, inner_part, waiting_rows, waiting_nodes}
+use Rattle.rt_tree_node.specs.Places.{key_of, rects, times_named, times_listed, cells_of, parent_of, level_of, leaf_cells_of, inner_cells_of, cells_at, level_at, parent_at, cells_above, leaf_part, inner_part, waiting_rows, waiting_nodes, waiting_at}
 use Rattle.rt_tree_node.specs.Sound.{Names, NamesChild, IsLinked, HasHomes}
 use Rattle.rt_tree_node.specs.Open.{HasHull, IsFittedBut}
 use Rattle.rt_tree_node.proofs.Counts.{count-cons}
-use Rattle.rt_tree_node.proofs.Places.{waiting_at, nodes-joined, rows-joined, names_key, has_id}
+use Rattle.rt_tree_node.proofs.Places.{nodes-joined, rows-joined, names_key, has_id}
 use Rattle.rt_tree_node.proofs.Links.{appended, same-at, same-above, Names-same, NamesChild-same, All-left, All-right}
 use Rattle.rt_tree_node.proofs.Fitted.{fitted-appended}
 use Rattle.rt_tree_node.proofs.Homes.{homes-appended, homes-waiting, homes-same, same-id, listed-other}

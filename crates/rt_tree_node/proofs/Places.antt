@@ -9,7 +9,7 @@ use Rattle.slab.specs.Slab.{Slab, get}
 use Rattle.rt_tree_node.specs.declared.cell.Cell.{Cell}
 use Rattle.rt_tree_node.specs.declared.cell.Waiting.{Waiting}
 use Rattle.rt_tree_node.specs.Node.{NodeCells}
-use Rattle.rt_tree_node.specs.Places.{key_of, times_named, times_listed, cells_of, leaf_part, inner_part, leaf_cells_of, inner_cells_of, level_of, parent_of, cells_at, leaf_cells_at, inner_cells_at, level_at, parent_at, cells_above, waiting_rows, waiting_nodes}
+use Rattle.rt_tree_node.specs.Places.{key_of, times_named, times_listed, cells_of, leaf_part, inner_part, leaf_cells_of, inner_cells_of, level_of, parent_of, cells_at, leaf_cells_at, inner_cells_at, level_at, parent_at, cells_above, waiting_rows, waiting_nodes, waiting_at}
 use Rattle.rt_tree_node.proofs.Counts.{count-zero, count-find, count-append, count-one_yes, count-one_no, count-middle, count-joined}
 
 module _ {D : ℕ} where
@@ -79,10 +79,6 @@ module _ {D : ℕ} where
   pub nodes-middle : (test : Cell D → Bool) (xs : List (Waiting D)) (w : Waiting D) (ys : List (Waiting D)) →
       count_by test (waiting_nodes (xs ++ w ∷ ys)) ≡ count_by test (waiting_nodes (xs ++ ys)) + count_by test (inner_part w.level (w.cell ∷ []))
   nodes-middle test xs w ys = count-middle test (λ v. inner_part v.level (v.cell ∷ [])) xs w ys
-
-  -- cells as they wait for a node of a level
-  abbrev pub waiting_at : ℕ → List (Cell D) → List (Waiting D)
-  waiting_at l cs = map (λ c. record { level = l; cell = c }) cs
 
   nodes-waiting_at : (l : ℕ) (cs : List (Cell D)) → waiting_nodes (waiting_at l cs) ≡ inner_part l cs
   nodes-waiting_at zero [] = refl

@@ -1,5 +1,6 @@
--- The way from the root to a new row's leaf, and trees that differ along it alone.
-use Rattle.std.specs.Prelude.{◌≡◌, ℕ, zero, suc, List, [], ◌∷◌, Some, Contains, nat_eq, slice_get, slice_index_or}
+-- The way from the root down to the node that a new box goes into (Beckmann, Kriegel, Schneider, Seeger 1990, section
+-- 4.1), and trees that differ along a way alone (own).
+use Rattle.std.specs.Prelude.{◌≡◌, ℕ, zero, suc, ◌+◌, List, [], ◌∷◌, Some, Contains, nat_eq, slice_get, slice_index_or}
 use Rattle.slab.specs.Slab.{Slab}
 use Rattle.rt_box.specs.declared.interval.Interval.{Interval}
 use Rattle.rt_tree_choice.specs.Subtree.{IsBestChild}
@@ -8,13 +9,13 @@ use Rattle.rt_tree_node.specs.Node.{NodeCells}
 use Rattle.rt_tree_node.specs.Places.{key_of, rects, numbers, cells_at, leaf_cells_at, level_at, parent_at}
 
 module _ {D : ℕ} where
-  -- from the node at the key, best children lead a new box down so many levels to the leaf, through the nodes of
-  -- the path: the key first, the leaf last
-  abbrev pub LeadsTo : Slab (NodeCells D) → ℕ → ℕ → List Interval → ℕ → List ℕ → Type 0
-  LeadsTo a zero key rect leaf path = (leaf ≡ key) × (path ≡ key ∷ [])
-  LeadsTo a (suc l) key rect leaf path =
-      (at : ℕ) × (c : Cell D) × (rest : List ℕ) × IsBestChild (nat_eq l 0) (rects (cells_at a key)) rect at
-      × (slice_get (cells_at a key) at ≡ Some c) × (path ≡ key ∷ rest) × LeadsTo a l (key_of c) rect leaf rest
+  -- ChooseSubtree: from the node at the key, best children lead a new box down so many steps to a node of the target
+  -- level, through the nodes of the path: the key first, that node last
+  abbrev pub LeadsTo : Slab (NodeCells D) → ℕ → ℕ → ℕ → List Interval → ℕ → List ℕ → Type 0
+  LeadsTo a target zero key rect node path = (node ≡ key) × (path ≡ key ∷ [])
+  LeadsTo a target (suc steps) key rect node path =
+      (at : ℕ) × (c : Cell D) × (rest : List ℕ) × IsBestChild (nat_eq (target + steps) 0) (rects (cells_at a key)) rect at
+      × (slice_get (cells_at a key) at ≡ Some c) × (path ≡ key ∷ rest) × LeadsTo a target steps (key_of c) rect node rest
 
   -- the node has the level, the parent and the cells that it had, but for the boxes of cells that name a node of
   -- the path

@@ -90,6 +90,10 @@ module _ {D : ℕ} where
   abbrev pub cells_above : Slab (NodeCells D) → ℕ → List (Cell D)
   cells_above a key = option_map_or (inner_cells_at a) (parent_at a key) []
 
+  -- cells as they wait for a node of a level
+  abbrev pub waiting_at : ℕ → List (Cell D) → List (Waiting D)
+  waiting_at l cells = map (λ c. record { level = l; cell = c }) cells
+
   -- the cells that wait for a leaf, which are rows, and those that wait for another node
   abbrev pub waiting_rows : List (Waiting D) → List (Cell D)
   waiting_rows ws = flat_map (λ w. leaf_part w.level (w.cell ∷ [])) ws

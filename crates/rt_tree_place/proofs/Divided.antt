@@ -15,12 +15,12 @@ use Rattle.rt_tree_node.specs.declared.arena.Arena.{Arena}
 use Rattle.rt_tree_node.specs.declared.cell.Cell.{Cell}
 use Rattle.rt_tree_node.specs.declared.cell.Waiting.{Waiting}
 use Rattle.rt_tree_node.specs.Node.{NodeCells}
-use Rattle.rt_tree_node.specs.Places.{key_of, rects, picked, times_named, times_listed, cells_of, inner_part, leaf_part, leaf_cells_of, level_of, parent_of, level_at, parent_at, cells_at, waiting_nodes, sum_over, count_rows}
+use Rattle.rt_tree_node.specs.Places.{key_of, rects, picked, times_named, times_listed, cells_of, inner_part, leaf_part, leaf_cells_of, level_of, parent_of, level_at, parent_at, cells_at, waiting_nodes, sum_over, count_rows, waiting_at}
 use Rattle.rt_tree_node.specs.Sound.{NamesChild, IsLinked, HasHomes}
 use Rattle.rt_tree_node.specs.Open.{IsFittedBut, IsOpen}
 use Rattle.rt_tree_node.specs.Homes.{KeepsIds}
 use Rattle.rt_tree_node.proofs.Counts.{count-some}
-use Rattle.rt_tree_node.proofs.Places.{waiting_at, nodes-joined, rows-joined, names_key, has_id}
+use Rattle.rt_tree_node.proofs.Places.{nodes-joined, rows-joined, names_key, has_id}
 use Rattle.rt_tree_node.proofs.Links.{same-at, new-at, created, All-right}
 use Rattle.rt_tree_node.proofs.Homes.{homes-same, homes-waiting}
 use Rattle.rt_tree_node.proofs.Many.{linked-more, fitted-more, homes-more}

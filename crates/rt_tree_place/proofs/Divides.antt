@@ -192,11 +192,13 @@ module _ {D : ℕ} (old : Arena D) (key parent : ℕ) (pair : IsPair old key par
             cell = c;
             appended = ap cells_of second.updates.changed ∙ ap (λ cs. cs ++ c ∷ []) (sym (ap cells_of above.1) ∙ parent_cells);
             apart = λ e. cell_apart (sym e);
-            cut = done.cut;
-            best = subst (λ cs. IsBestCut D (rects cs) old.capacity done.cut) (sym (ap cells_of has)) done.best;
-            first_cells = key_cells ∙ ap (λ cs. picked cs (first_group (rects cs) done.cut)) (sym (ap cells_of has));
-            second_cells = ap cells_of (second.updates.others (key_of c) (λ e. cell_apart (sym e))) ∙ ap cells_of first.updates.changed
-                ∙ ap (λ cs. picked cs (second_group (rects cs) done.cut)) (sym (ap cells_of has));
+            parts = record {
+              cut = done.cut;
+              best = subst (λ cs. IsBestCut D (rects cs) old.capacity done.cut) (sym (ap cells_of has)) done.best;
+              first_is = key_cells ∙ ap (λ cs. picked cs (first_group (rects cs) done.cut)) (sym (ap cells_of has));
+              second_is = ap cells_of (second.updates.others (key_of c) (λ e. cell_apart (sym e))) ∙ ap cells_of first.updates.changed
+                  ∙ ap (λ cs. picked cs (second_group (rects cs) done.cut)) (sym (ap cells_of has));
+            };
           }
 
     -- what the new node and the parent are like in between; any cell of the node has a box that serves

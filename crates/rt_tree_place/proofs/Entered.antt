@@ -1,5 +1,5 @@
 -- A tree after a cell on its way was appended to a node of its level.
-use Rattle.std.proofs.Common.{◌≡◌, ◌≢◌, ℕ, zero, suc, ◌<◌, ◌≤◌, List, [], ◌∷◌, ◌++◌, length, Some, IsSome, arith, refl, ap, ◌∙◌, sym, subst, inl}
+use Rattle.std.proofs.Common.{◌≡◌, ◌≢◌, ℕ, zero, suc, ◌-◌, ◌<◌, ◌≤◌, List, [], ◌∷◌, ◌++◌, length, Some, IsSome, arith, refl, ap, ◌∙◌, sym, subst, inl}
 use Rattle.std.specs.Ordering.{int_eq}
 use Rattle.std.proofs.lemmas.Bool.{cases_eq}
 use Rattle.std.proofs.lemmas.Option.{same_Some}
@@ -180,10 +180,12 @@ module _ {D : ℕ} (old : Arena D) (w : Waiting D) (was : IsAwaited old w) where
               most = let most = was.fitted.most key w.level here (λ x. x) in omega arith;
             }
 
-        pub entered : (w.level ≡ 0 → (path : List ℕ) × LeadsTo old.nodes old.level old.root w.cell.rect key path) → Enters old new w key
-        entered leads = record {
+        pub entered : (path : List ℕ) → LeadsTo old.nodes w.level (old.level - w.level) old.root w.cell.rect key path → Enters old new w key
+        entered path leads = record {
           rising = entered-rising;
           level = here;
+          path = path;
+          leads = leads;
           rows = λ test. ap (count_rows test new.nodes) (sym items-are)
               ∙ rows-attached E (λ x. cases_eq x key) old new key n ws w [] was-odd refl has n-level at test;
           ids = effect.6;
@@ -196,5 +198,5 @@ module _ {D : ℕ} (old : Arena D) (w : Waiting D) (was : IsAwaited old w) where
           capacity = capacity-is;
           len = effect.4;
           room = effect.5;
-          row = λ e. let path = leads e in (path.0, path.1, (at.row e).0, (at.row e).1);
+          row = at.row;
         }

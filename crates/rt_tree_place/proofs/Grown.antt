@@ -1,12 +1,13 @@
 -- A tree after its root was split.
-use Rattle.std.proofs.Common.{◌≡◌, ℕ, suc, ◌+◌, ◌≤◌, unsigned_abs, [], ◌∷◌, ◌++◌, length, get_or, set, Some, arith, refl, ap, ◌∙◌, sym, subst, inl, inr}
+use Rattle.std.proofs.Common.{◌≡◌, ◌≢◌, ℕ, suc, ◌+◌, ◌≤◌, unsigned_abs, [], ◌∷◌, ◌++◌, length, get_or, set, Some, arith, refl, ap, ◌∙◌, sym, subst, inl, inr}
+use Rattle.std.proofs.lemmas.Option.{same_Some}
 use Rattle.std.proofs.lemmas.List.{get_or_default}
 use Rattle.slab.specs.Slab.{Slab, get}
 use Rattle.rt_tree_choice.specs.Split.{IsBestCut, first_group, second_group}
 use Rattle.rt_tree_node.specs.declared.arena.Arena.{Arena}
 use Rattle.rt_tree_node.specs.declared.arena.Work.{Work}
 use Rattle.rt_tree_node.specs.Node.{NodeCells}
-use Rattle.rt_tree_node.specs.Places.{key_of, picked, rects, times_named, no_cell, cells_of, cells_at}
+use Rattle.rt_tree_node.specs.Places.{key_of, picked, rects, times_named, no_cell, cells_of, cells_at, level_at}
 use Rattle.rt_tree_node.specs.Homes.{KeepsIds}
 use Rattle.rt_tree_node.specs.Whole.{IsSound, IsWhole}
 use Rattle.rt_tree_place.specs.Rise.{Raises, Grows}
@@ -41,7 +42,7 @@ module _ {D : ℕ} (t : Arena D) (rising : IsRising t t.root) where
       pub above-relieved : Relieves above mid t.root above.root
       above-relieved = relieved-divided above mid t.root above.root above-pair above-full done
 
-      module _ (b : Slab (NodeCells D)) (n : NodeCells D) (has : get mid.nodes above.root ≡ Some n) (fit : Refits mid.nodes b above.root t.root n) (work work1 : Work)
+      module _ (b : Slab (NodeCells D)) (n : NodeCells D) (has : get mid.nodes above.root ≡ Some n) (fit : Refits mid.nodes b t.root above.root n) (work work1 : Work)
           (placements : work1.placements ≡ work.placements) (splits : work1.splits ≡ suc work.splits) (reinsertions : work1.reinsertions ≡ work.reinsertions) where
         abbrev new : Arena D
         new = record mid { nodes = b }
@@ -78,6 +79,14 @@ module _ {D : ℕ} (t : Arena D) (rising : IsRising t t.root) where
         new-top : cells_at b new.root ≡ fit.cell ∷ done.cell ∷ []
         new-top = ap (cells_at b) new-root ∙ top
 
+        below-same : (x l : ℕ) → level_at t.nodes x ≡ Some l → x ≢ t.root → cells_at b x ≡ cells_at t.nodes x
+        below-same x l e away =
+            let kept = raises.others x l e away in
+            let low = rising.sound.linked.levels x l e in
+            let fresh : x ≢ above.root =
+            λ same. let high = same_Some l above.level (sym kept.0 ∙ ap (level_at above.nodes) same ∙ raises.rising.sound.linked.root_level) in absurd (omega (arith, high, low, raises.level)) in
+            lifts.others x l kept.0 away fresh ∙ kept.1
+
         new-whole : IsWhole new
         new-whole =
             let cap = lifts.next.sound.fitted.cap in
@@ -96,17 +105,20 @@ module _ {D : ℕ} (t : Arena D) (rising : IsRising t t.root) where
           reinsertions = reinsertions;
           split = inr record {
             full = omega (arith, full);
-            cut = done.cut;
-            best = subst (λ m. IsBestCut D (rects (cells_at t.nodes t.root)) m done.cut) raises.capacity
-                (subst (λ cs. IsBestCut D (rects cs) above.capacity done.cut) raises.cells done.best);
             first = fit.cell;
             second = done.cell;
+            parts = record {
+              cut = done.parts.cut;
+              best = subst (λ m. IsBestCut D (rects (cells_at t.nodes t.root)) m done.parts.cut) raises.capacity
+                  (subst (λ cs. IsBestCut D (rects cs) above.capacity done.parts.cut) raises.cells done.parts.best);
+              first_is = ap (cells_at b) fit-key ∙ ap cells_of (fit.nodes.updates.others t.root (apart above t.root above.root raises.rising raises.up)) ∙ done.parts.first_is
+                  ∙ ap (λ cs. picked cs (first_group (rects cs) done.parts.cut)) raises.cells;
+              second_is = ap cells_of (fit.nodes.updates.others (key_of done.cell) done.apart) ∙ done.parts.second_is
+                  ∙ ap (λ cs. picked cs (second_group (rects cs) done.parts.cut)) raises.cells;
+            };
             height = lifts.keeps.level ∙ raises.level;
             top = new-top;
-            first_cells = ap (cells_at b) fit-key ∙ ap cells_of (fit.nodes.updates.others t.root (apart above t.root above.root raises.rising raises.up)) ∙ done.first_cells
-                ∙ ap (λ cs. picked cs (first_group (rects cs) done.cut)) raises.cells;
-            second_cells = ap cells_of (fit.nodes.updates.others (key_of done.cell) done.apart) ∙ done.second_cells
-                ∙ ap (λ cs. picked cs (second_group (rects cs) done.cut)) raises.cells;
+            others = below-same;
             len = let l = fit.nodes.len in let m = done.len in let k = raises.len in omega arith;
             splits = splits;
           };

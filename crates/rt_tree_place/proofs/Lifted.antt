@@ -22,6 +22,7 @@ use Rattle.rt_tree_node.proofs.Places.{inner-at_inner, names_key}
 use Rattle.rt_tree_node.proofs.Links.{same-at, above-some, boxes-changed}
 use Rattle.rt_tree_node.proofs.Fitted.{fitted-weaker, opened}
 use Rattle.rt_tree_node.proofs.Homes.{homes-same}
+use Rattle.rt_tree_place.specs.Rules.{ReInserts, Parts}
 use Rattle.rt_tree_place.specs.Steps.{IsNamedAt, Refits, IsPair, Relieves, Treats, IsRising, KeepsRows, Lifts}
 use Rattle.rt_tree_place.specs.Way.{LeadsUp}
 use Rattle.rt_tree_place.proofs.Attached.{leaf-none, rows-updated}
@@ -148,7 +149,7 @@ module _ {D : ℕ} (t : Arena D) (key parent : ℕ) (rising : IsRising t key) (u
     mid-parent_some : 1 ≤ length (cells_at mid.nodes parent)
     mid-parent_some = let old = rising.sound.fitted.some parent rising.level parent-level in let kept = r.kept in omega arith
 
-    module _ (b : Slab (NodeCells D)) (n : NodeCells D) (has : get mid.nodes parent ≡ Some n) (done : Refits mid.nodes b parent key n) where
+    module _ (b : Slab (NodeCells D)) (n : NodeCells D) (has : get mid.nodes parent ≡ Some n) (done : Refits mid.nodes b key parent n) where
       abbrev m : NodeCells D
       m = record n { cells = set n.cells done.at done.cell }
 
@@ -237,6 +238,18 @@ module _ {D : ℕ} (t : Arena D) (key parent : ℕ) (rising : IsRising t key) (u
         top = top-kept;
       }
 
+      same-numbers : numbers (set n.cells done.at done.cell) ≡ numbers n.cells
+      same-numbers =
+          let was : done.cell.number ≡ get_or (numbers n.cells) done.at done.cell.number =
+          done.same_number ∙ sym (get_or-map (λ c. c.number) n.cells done.at done.cell done.cell.number done.within) in
+          map-set (λ c. c.number) n.cells done.at done.cell ∙ ap (set (numbers n.cells) done.at) was ∙ set-get_or (numbers n.cells) done.at done.cell.number
+
+      numbers-same : numbers (cells_at b parent) ≡ numbers (cells_at mid.nodes parent)
+      numbers-same = ap (λ o. numbers (cells_of o)) u.changed ∙ same-numbers ∙ ap (λ o. numbers (cells_of o)) (sym has)
+
+      key-same : cells_at b key ≡ cells_at mid.nodes key
+      key-same = ap cells_of (u.others key apart)
+
       treated : (marks marks1 : ℕ) (work work1 : Work) → Treats t mid key parent marks marks1 work work1 → Treats t (record mid { nodes = b }) key parent marks marks1 work work1
       treated marks marks1 work work1 either = elim either [
         | inl is ↦ inl record {
@@ -256,6 +269,11 @@ module _ {D : ℕ} (t : Arena D) (key parent : ℕ) (rising : IsRising t key) (u
             level = is.level;
             here = is.here;
             marked = is.marked;
+            cell = is.cell;
+            parts = subst (λ xs. Parts t.capacity (cells_at t.nodes key) xs (cells_at b (key_of is.cell))) (sym key-same)
+                (subst (λ xs. Parts t.capacity (cells_at t.nodes key) (cells_at mid.nodes key) xs) (sym (ap cells_of (u.others (key_of is.cell) is.apart))) is.parts);
+            apart = is.apart;
+            appended = numbers-same ∙ is.appended;
             waiting = is.waiting;
             len = done.nodes.len ∙ is.len;
             above = long ∙ is.above;
@@ -271,8 +289,10 @@ module _ {D : ℕ} (t : Arena D) (key parent : ℕ) (rising : IsRising t key) (u
             unmarked = is.unmarked;
             marked = is.marked;
             far = is.far;
+            chosen = subst (λ xs. ReInserts t.capacity (cells_at t.nodes key) xs is.far) (sym key-same) is.chosen;
             share = is.share;
             waiting = is.waiting;
+            beside = numbers-same ∙ is.beside;
             len = done.nodes.len ∙ is.len;
             above = long ∙ is.above;
             placements = is.placements;
@@ -282,20 +302,13 @@ module _ {D : ℕ} (t : Arena D) (key parent : ℕ) (rising : IsRising t key) (u
         ]
       ]
 
-      same-numbers : numbers (set n.cells done.at done.cell) ≡ numbers n.cells
-      same-numbers =
-          let was : done.cell.number ≡ get_or (numbers n.cells) done.at done.cell.number =
-          done.same_number ∙ sym (get_or-map (λ c. c.number) n.cells done.at done.cell done.cell.number done.within) in
-          map-set (λ c. c.number) n.cells done.at done.cell ∙ ap (set (numbers n.cells) done.at) was ∙ set-get_or (numbers n.cells) done.at done.cell.number
-
       refit-shape : (path : List ℕ) → Contains path key → (k : ℕ) → KeepsShape mid.nodes b path k
       refit-shape path on k = record {
         level = lv k;
         parent = pr k;
         rows = leaves-same k;
         numbers_same = elim (cases_eq k parent) [
-          | inl e ↦ ap (λ y. numbers (cells_at b y)) e ∙ ap (λ s. numbers (cells_of s)) u.changed ∙ same-numbers ∙ ap (λ s. numbers (cells_of s)) (sym has)
-              ∙ ap (λ y. numbers (cells_at mid.nodes y)) (sym e)
+          | inl e ↦ ap (λ y. numbers (cells_at b y)) e ∙ numbers-same ∙ ap (λ y. numbers (cells_at mid.nodes y)) (sym e)
           | inr other ↦ ap (λ s. numbers (cells_of s)) (u.others k other)
         ];
         boxes = λ j x off. elim (cases_eq k parent) [
@@ -313,8 +326,10 @@ module _ {D : ℕ} (t : Arena D) (key parent : ℕ) (rising : IsRising t key) (u
       pub lifted : (marks marks1 : ℕ) (work work1 : Work) → Treats t mid key parent marks marks1 work work1 → Lifts t (record mid { nodes = b }) key parent marks marks1 work work1
       lifted marks marks1 work work1 treats = record {
         next = next;
+        parent_is = up;
         up = λ l e. lv parent ∙ mid-parent_level ∙ ap (λ i. Some (suc i)) (same_Some rising.level l (sym rising.here ∙ e));
         keeps = keeps;
         treats = treated marks marks1 work work1 treats;
+        others = λ x l e p q. ap cells_of (u.others x q) ∙ r.cells x l e p q;
         shape = λ fits path on k. subst (λ s. KeepsShape s.nodes b path k) (r.still fits) (refit-shape path on k);
       }

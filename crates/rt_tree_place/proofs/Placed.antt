@@ -1,5 +1,5 @@
 -- The whole of a placement.
-use Rattle.std.proofs.Common.{◌≡◌, ◌≢◌, ◌⊎◌, ℕ, suc, ◌+◌, ◌<◌, ◌≤◌, List, [], ◌∷◌, ◌++◌, length, get_or, Some, vec_capacity, arith, refl, ap, ◌∙◌, sym, subst, inl, inr}
+use Rattle.std.proofs.Common.{◌≡◌, ◌≢◌, ◌⊎◌, ℕ, suc, ◌+◌, ◌-◌, ◌<◌, ◌≤◌, List, [], ◌∷◌, ◌++◌, length, get_or, Some, vec_capacity, arith, refl, ap, ◌∙◌, sym, subst, inl, inr}
 use Rattle.std.specs.Ordering.{int_eq}
 use Rattle.std.specs.List.{Contains}
 use Rattle.std.proofs.lemmas.Bool.{cases_eq}
@@ -14,14 +14,13 @@ use Rattle.rt_tree_node.specs.declared.arena.Work.{Work}
 use Rattle.rt_tree_node.specs.declared.cell.Waiting.{Waiting}
 use Rattle.rt_tree_node.specs.Node.{NodeCells}
 use Rattle.rt_tree_node.specs.Path.{LeadsTo, KeepsShape}
-use Rattle.rt_tree_node.specs.Places.{picked, rects, numbers, cells_of, leaf_cells_of, level_of, parent_of, cells_at, level_at, parent_at, count_rows}
+use Rattle.rt_tree_node.specs.Places.{picked, rects, numbers, cells_of, leaf_cells_of, level_of, parent_of, cells_at, level_at, parent_at, count_rows, waiting_at}
 use Rattle.rt_tree_node.specs.Whole.{IsWhole, IsBranched}
 use Rattle.rt_tree_node.specs.Open.{IsOpen}
 use Rattle.rt_tree_node.proofs.Links.{same-at}
 use Rattle.rt_tree_node.proofs.Places.{leaf-at_leaf}
-use Rattle.rt_tree_place.specs.Placing.{JoinsLeaf, HalvesRoot, TakesRow, InsertsAgain, InsertsNone, PlacesLast}
-use Rattle.rt_tree_place.specs.Rise.{IsUpward, KeepsAllBut, StaysRoot, SplitsRoot, Grows, HasRisen, IsAwaited, Enters}
-use Rattle.rt_tree_place.specs.Steps.{waiting_at}
+use Rattle.rt_tree_place.specs.Placing.{JoinsLeaf, HalvesRoot, TakesRow, PlacesLast}
+use Rattle.rt_tree_place.specs.Rise.{IsUpward, KeepsAllBut, StaysRoot, SplitsRoot, InsertsAgain, InsertsNone, Grows, Ascends, HasRisen, IsAwaited, Enters}
 use Rattle.rt_tree_place.proofs.Shapes.{shape-then}
 use Rattle.rt_tree_place.proofs.Upward.{path-last, path-upward}
 use Rattle.rt_tree_place.proofs.WayDown.{node-from_level}
@@ -57,7 +56,7 @@ module _ {D : ℕ} where
 
 module _ {D : ℕ} (old s0 s t u : Arena D) (entry : Waiting D) (key marks marks1 : ℕ) (work work1 work2 work3 : Work)
     (whole : IsWhole old) (was : old.waiting.items ≡ s0.waiting.items ++ entry ∷ []) (room : vec_capacity s0.waiting ≡ vec_capacity old.waiting)
-    (enters : Enters (record old { waiting = s0.waiting }) s entry key) (rises : HasRisen s t key t.root marks marks1 work work1) (grows : Grows t u work1 work2)
+    (enters : Enters (record old { waiting = s0.waiting }) s entry key) (rises : HasRisen s t key t.root marks marks1 work work1) (ascends : Ascends s t key marks marks1) (grows : Grows t u work1 work2)
     (placements : work3.placements ≡ suc work2.placements) (splits : work3.splits ≡ work2.splits) (reinsertions : work3.reinsertions ≡ work2.reinsertions) where
   grown : length (cells_at s.nodes key) ≡ suc (length (cells_at old.nodes key))
   grown = ap length enters.cells ∙ length-append (cells_at old.nodes key) (entry.cell ∷ []) ∙ omega arith
@@ -140,10 +139,13 @@ module _ {D : ℕ} (old s0 s t u : Arena D) (entry : Waiting D) (key marks marks
 
   module _ (row : entry.level ≡ 0) where
     abbrev path : List ℕ
-    path = (enters.row row).0
+    path = enters.path
 
-    leads : LeadsTo old.nodes old.level old.root entry.cell.rect key path
-    leads = (enters.row row).1
+    leads : LeadsTo old.nodes 0 old.level old.root entry.cell.rect key path
+    leads =
+        let all : old.level - 0 ≡ old.level = omega arith in
+        subst (λ n. LeadsTo old.nodes 0 n old.root entry.cell.rect key path) all
+        (subst (λ l. LeadsTo old.nodes l (old.level - l) old.root entry.cell.rect key path) row enters.leads)
 
     here : (n : NodeCells D) × (get old.nodes key ≡ Some n) × (n.level ≡ entry.level)
     here = node-from_level old.nodes key entry.level enters.level
@@ -152,11 +154,11 @@ module _ {D : ℕ} (old s0 s t u : Arena D) (entry : Waiting D) (key marks marks
     leaf-level = enters.level ∙ ap Some row
 
     others-same : (k : ℕ) → k ≢ key → get s.nodes k ≡ get old.nodes k
-    others-same k other = ((enters.row row).3 here.0 here.1).updates.others k other
+    others-same k other = ((enters.row row).1 here.0 here.1).updates.others k other
 
     parents-same : (k : ℕ) → parent_at s.nodes k ≡ parent_at old.nodes k
     parents-same = same-at parent_of old.nodes s.nodes key here.0 (record (here.0) { cells = (here.0).cells ++ entry.cell ∷ [] }) here.1
-        (((enters.row row).3 here.0 here.1).updates) refl
+        (((enters.row row).1 here.0 here.1).updates) refl
 
     upward : IsUpward s.nodes path
     upward k p on up = elim (path-upward old.nodes whole.linked.children entry.cell.rect old.level old.root key path leads whole.linked.root_level k p on (sym (parents-same k) ∙ up)) [
@@ -172,7 +174,7 @@ module _ {D : ℕ} (old s0 s t u : Arena D) (entry : Waiting D) (key marks marks
     joins-from is stays =
         let leaf_s : level_at s.nodes key ≡ Some 0 = enters.levels key ∙ leaf-level in
         let leaf_t : level_at t.nodes key ≡ Some 0 = (is.shape key).level ∙ leaf_s in
-        let moves = (enters.row row).2 in
+        let moves = (enters.row row).0 in
         let joined : JoinsLeaf old t key path entry.cell = record {
           root = root-is;
           height = level-is;
@@ -212,15 +214,17 @@ module _ {D : ℕ} (old s0 s t u : Arena D) (entry : Waiting D) (key marks marks
         ap (cells_at t.nodes) at ∙ ap (λ a. cells_at a.nodes key) same ∙ enters.cells ∙ ap (λ y. cells_at old.nodes y ++ entry.cell ∷ []) root in
         let c : t.capacity ≡ old.capacity = rises.keeps.capacity ∙ enters.capacity in (
           record {
-            cut = split.cut;
-            best = subst (λ m. IsBestCut D (rects (cells_at old.nodes old.root ++ entry.cell ∷ [])) m split.cut) c
-                (subst (λ cs. IsBestCut D (rects cs) t.capacity split.cut) cells split.best);
             first = split.first;
             second = split.second;
+            parts = record {
+              cut = split.parts.cut;
+              best = subst (λ m. IsBestCut D (rects (cells_at old.nodes old.root ++ entry.cell ∷ [])) m split.parts.cut) c
+                  (subst (λ cs. IsBestCut D (rects cs) t.capacity split.parts.cut) cells split.parts.best);
+              first_is = split.parts.first_is ∙ ap (λ cs. picked cs (first_group (rects cs) split.parts.cut)) cells;
+              second_is = split.parts.second_is ∙ ap (λ cs. picked cs (second_group (rects cs) split.parts.cut)) cells;
+            };
             height = split.height ∙ ap suc (level-is ∙ bottom);
             top = split.top;
-            first_cells = split.first_cells ∙ ap (λ cs. picked cs (first_group (rects cs) split.cut)) cells;
-            second_cells = split.second_cells ∙ ap (λ cs. picked cs (second_group (rects cs) split.cut)) cells;
           },
           splits ∙ split.splits ∙ ap (λ w. suc w.splits) work_is,
           reinsertions ∙ grows.reinsertions ∙ ap (λ w. w.reinsertions) work_is,
@@ -263,6 +267,19 @@ module _ {D : ℕ} (old s0 s t u : Arena D) (entry : Waiting D) (key marks marks
     left = left;
     entry = entry;
     was = was;
+    without = record old { waiting = s0.waiting };
+    without_is = refl;
+    left_waits = refl;
+    inserts = record {
+      key = key;
+      entered = s;
+      enters = enters;
+      risen = t;
+      ascends = ascends;
+      work = work1;
+      work1 = work2;
+      grows = grows;
+    };
     whole = grows.whole;
     rows = λ test. grows.rows test ∙ rises.keeps.rows test ∙ enters.rows test ∙ ap (count_rows test old.nodes) (sym was);
     ids = record {

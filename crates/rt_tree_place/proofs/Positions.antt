@@ -3,7 +3,8 @@ use Rattle.std.proofs.Common.{◌≡◌, ◌≢◌, ℕ, ◌+◌, ◌-◌, ◌<�
 use Rattle.std.specs.List.{All, range_with_len, remove}
 use Rattle.std.specs.List.Sorted.{IsPermutation}
 use Rattle.std.proofs.lemmas.Bool.{cases_lt}
-use Rattle.std.proofs.lemmas.List.{get_or_default, map-id, map_more, map_push, take_more, get_or-reverse, get_or_read, length-reverse, length-append, length-drop, map-append}
+use Rattle.std.proofs.lemmas.List.{get_or_default, map-id, map_more, map_push, take_more, get_or-reverse, get_or_read, length-map, length-reverse, length-append, length-drop, map-append}
+use Rattle.std.proofs.lemmas.List.Edits.{length-remove, get_or-remove_below, get_or-remove_above}
 use Rattle.std.proofs.lemmas.List.FromFn.{map-range_with_len_more, fill_by_all, length-range_with_len, get_or-range_with_len}
 use Rattle.std.proofs.lemmas.List.Sums.{sum_by_more_le, sum_by-take-drop}
 use Rattle.std.proofs.lemmas.List.Sorted.{IsPermutation-more, IsPermutation-map, IsPermutation-trans, IsPermutation-append_comm, IsPermutation-append_right, IsPermutation-reverse, All-permutation, length_permutation, sum_by-IsPermutation}
@@ -13,8 +14,8 @@ use Rattle.rt_tree_choice.specs.Sorting.{sort_by}
 use Rattle.rt_tree_choice.specs.Reinsertion.{by_distance, farthest_positions}
 use Rattle.rt_tree_choice.proofs.Sorted.{sort-permutes, length-sort}
 use Rattle.rt_tree_node.specs.declared.cell.Cell.{Cell}
-use Rattle.rt_tree_node.specs.Places.{picked, no_cell}
-use Rattle.rt_tree_place.specs.Steps.{waiting_at}
+use Rattle.rt_tree_node.specs.Places.{picked, rects, no_cell, waiting_at}
+use Rattle.rt_tree_place.specs.Rules.{IsRisingList, ReInserts}
 use Rattle.rt_tree_node.proofs.Counts.{count-append, count-zero}
 
 pub range-more : (i : ℕ) → range_with_len 0 (i + 1) ≡ range_with_len 0 i ++ i ∷ []
@@ -45,6 +46,27 @@ others-more range positions left i at within in_left same moved =
     let x = get_or positions i 0 in
     let read : x ≡ get_or left at x = sym same ∙ get_or_default left at 0 x in_left in
     subst (λ xs. IsPermutation range (xs ++ remove left at)) (sym (take_more positions i 0 within)) (IsPermutation-more range (take i positions) left at x in_left read moved)
+
+-- all positions rise, and what is left of rising ones
+pub rising-range : (len : ℕ) → IsRisingList (range_with_len 0 len)
+rising-range len i j less within =
+    let long = length-range_with_len 0 len in
+    let a = get_or-range_with_len 0 len i 0 (omega arith) in
+    let b = get_or-range_with_len 0 len j 0 (omega arith) in
+    omega arith
+
+pub rising-remove : (xs : List ℕ) (at : ℕ) → at < length xs → IsRisingList xs → IsRisingList (remove xs at)
+rising-remove xs at here rising i j less within =
+    let long = length-remove xs at here in
+    elim (cases_lt j at) [
+      | inl low ↦ omega (arith, get_or-remove_below xs at 0 i (omega arith) here, get_or-remove_below xs at 0 j low here, rising i j less (omega arith))
+      | inr high ↦ elim (cases_lt i at) [
+        | inl below ↦
+            omega (arith, get_or-remove_below xs at 0 i below here, get_or-remove_above xs at 0 j (omega arith) here, rising i (j + 1) (omega arith) (omega arith))
+        | inr above ↦
+            omega (arith, get_or-remove_above xs at 0 i (omega arith) here, get_or-remove_above xs at 0 j (omega arith) here, rising (i + 1) (j + 1) (omega arith) (omega arith))
+      ]
+    ]
 
 module _ {D : ℕ} where
   -- one more of the cells that wait
@@ -102,3 +124,17 @@ pub length-far : (boxes : List (List Interval)) (M : ℕ) → reinsertion_share 
 length-far boxes M few =
     let order = sort_by (by_distance boxes) (range_with_len 0 (length boxes)) in
     omega (arith, length-drop (length boxes - reinsertion_share M) order, length-sort (by_distance boxes) (range_with_len 0 (length boxes)), length-range_with_len 0 (length boxes))
+
+module _ {D : ℕ} (M : ℕ) (cells near far : List (Cell D)) (chosen : ReInserts M cells near far) where
+  -- the cells that stay and those that leave are the cells
+  pub reinserts-moved : IsPermutation cells (near ++ far)
+  reinserts-moved =
+      let leaving = farthest_positions (rects cells) M in
+      subst (λ xs. IsPermutation cells (near ++ xs)) (sym chosen.leave)
+      (subst (λ xs. IsPermutation cells (xs ++ picked cells (reverse leaving))) (sym chosen.stay) (picked-parted cells leaving chosen.kept chosen.parted))
+
+  pub reinserts-share : reinsertion_share M ≤ length cells → length far ≡ reinsertion_share M
+  reinserts-share few =
+      let leaving = farthest_positions (rects cells) M in
+      let long = length-map cells (λ c. c.rect) in
+      ap length chosen.leave ∙ length-map (reverse leaving) (λ p. get_or cells p no_cell) ∙ length-reverse leaving ∙ length-far (rects cells) M (omega arith)

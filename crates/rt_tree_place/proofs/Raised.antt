@@ -177,6 +177,13 @@ module _ {D : ℕ} (t : Arena D) (rising : IsRising t t.root) (b : Slab (NodeCel
           most = let most = rising.most in omega arith;
         }
 
+    -- other nodes stay
+    below-same : (x l : ℕ) → level_at t.nodes x ≡ Some l → x ≢ t.root → (level_at new.nodes x ≡ Some l) × (cells_at new.nodes x ≡ cells_at t.nodes x)
+    below-same x l e away =
+        let fresh : x ≢ k = λ same. none-some l (sym (ap level_of vacant) ∙ ap (level_at t.nodes) (sym same) ∙ e) in
+        let same = second.updates.others x fresh ∙ first.updates.others x (λ is. away (is ∙ key_is)) ∙ u.others x fresh in
+        (ap level_of same ∙ e, ap cells_of same)
+
     pub raised : t.capacity < length (cells_at t.nodes t.root) → Raises t new
     raised full = record {
       rising = new-rising full;
@@ -185,6 +192,7 @@ module _ {D : ℕ} (t : Arena D) (rising : IsRising t t.root) (b : Slab (NodeCel
       alone = ap (cells_at new.nodes) root-is ∙ top-cells;
       names = number_is;
       cells = root-cells;
+      others = below-same;
       rows = λ test. ap (count_rows test new.nodes) (sym items-are)
           ∙ rows-attached E (decide-either t.root k) mid new k empty ws w [] mid-open (inr refl) u.changed refl at test ∙ mid-rows test;
       level = ap (λ a. a.level) at.rest;

@@ -60,7 +60,7 @@ module _ {D : ℕ} where
       (up : parent_at a key ≡ Some parent) (not_root : key ≢ root)
       (key_least : least_fill M ≤ length (cells_at a key)) (key_most : length (cells_at a key) ≤ M) (key_some : 1 ≤ length (cells_at a key))
       (parent_waits_not : times_named parent (waiting_nodes ws) ≡ 0) (key_waits_not : times_named key (waiting_nodes ws) ≡ 0)
-      (done : Refits a b parent key n) where
+      (done : Refits a b key parent n) where
     u : Updates a b parent (Some (record n { cells = set n.cells done.at done.cell }))
     u = done.nodes.updates
 

@@ -11,11 +11,11 @@ use Rattle.slab.proofs.SlabLemmas.{Updates-with_value}
 use Rattle.rt_tree_node.specs.declared.cell.Cell.{Cell}
 use Rattle.rt_tree_node.specs.declared.cell.Waiting.{Waiting}
 use Rattle.rt_tree_node.specs.Node.{NodeCells}
-use Rattle.rt_tree_node.specs.Places.{key_of, times_listed, cells_of, leaf_part, leaf_cells_of, level_of, parent_of, level_at, waiting_rows, count_rows}
+use Rattle.rt_tree_node.specs.Places.{key_of, times_listed, cells_of, leaf_part, leaf_cells_of, level_of, parent_of, level_at, waiting_rows, count_rows, waiting_at}
 use Rattle.rt_tree_node.specs.Sound.{NamesChild, IsLinked, HasHomes}
 use Rattle.rt_tree_node.specs.Open.{IsFittedBut}
 use Rattle.rt_tree_node.proofs.Counts.{count-append, count-some}
-use Rattle.rt_tree_node.proofs.Places.{waiting_at, rows-joined, has_id}
+use Rattle.rt_tree_node.proofs.Places.{rows-joined, has_id}
 use Rattle.rt_tree_node.proofs.Links.{same-at, cleared, All-left}
 use Rattle.rt_tree_node.proofs.Fitted.{fitted-cleared}
 use Rattle.rt_tree_node.proofs.Homes.{homes-cleared, homes-waiting, homes-same}

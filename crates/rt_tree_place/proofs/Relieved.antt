@@ -1,18 +1,21 @@
 -- A node that overflowed, after either treatment.
 use Rattle.std.proofs.Common.{◌≡◌, ◌≢◌, ℕ, suc, ◌+◌, ◌<◌, ◌≤◌, [], ◌∷◌, length, Some, vec_capacity, arith, refl, ap, ◌∙◌, sym, subst, inl, inr}
 use Rattle.std.proofs.lemmas.Option.{same_Some}
+use Rattle.std.proofs.lemmas.List.{map-append}
 use Rattle.slab.specs.Slab.{get}
 use Rattle.rt_box.specs.Capacity.{least_fill}
 use Rattle.rt_tree_node.specs.declared.arena.Arena.{Arena}
 use Rattle.rt_tree_node.specs.declared.arena.Work.{Work}
 use Rattle.rt_tree_node.specs.Node.{NodeCells}
-use Rattle.rt_tree_node.specs.Places.{times_named, cells_of, level_of, parent_of, level_at, cells_at}
+use Rattle.rt_tree_node.specs.Places.{times_named, numbers, cells_of, level_of, parent_of, level_at, cells_at}
 use Rattle.rt_tree_node.specs.Homes.{KeepsIds}
 use Rattle.rt_tree_node.proofs.Counts.{count-append}
 use Rattle.rt_tree_node.proofs.Places.{names_key}
 use Rattle.rt_tree_node.proofs.Links.{same-at}
+use Rattle.rt_tree_place.specs.Rules.{ReInserts}
 use Rattle.rt_tree_place.specs.Steps.{GivesUp, IsPair, Divides, Relieves, Treats}
 use Rattle.rt_tree_place.proofs.Divides.{either_key, decide-either}
+use Rattle.rt_tree_place.proofs.Positions.{reinserts-share}
 use Rattle.rt_tree_place.proofs.GivenUp.{given-up, rows-given_up, filled-after}
 
 module _ {D : ℕ} (old new : Arena D) (key parent : ℕ) (pair : IsPair old key parent) where
@@ -111,6 +114,10 @@ module _ {D : ℕ} (old : Arena D) (key parent : ℕ) (pair : IsPair old key par
     level = level;
     here = here;
     marked = marked;
+    cell = done.cell;
+    parts = done.parts;
+    apart = done.apart;
+    appended = ap numbers done.appended ∙ map-append (λ c. c.number) (cells_at old.nodes parent) (done.cell ∷ []);
     waiting = done.waiting;
     len = done.len;
     above = done.grown;
@@ -132,8 +139,11 @@ module _ {D : ℕ} (old : Arena D) (key parent : ℕ) (pair : IsPair old key par
         unmarked = unmarked;
         marked = marked;
         far = done.far;
-        share = done.share;
+        chosen = subst (λ s. ReInserts old.capacity (cells_of s) (cells_at new.nodes key) done.far) (sym has)
+            (subst (λ s. ReInserts old.capacity n.cells (cells_of s) done.far) (sym done.nodes.updates.changed) done.chosen);
+        share = reinserts-share old.capacity n.cells done.near done.far done.chosen (omega (arith, pair.opened.fitted.cap, ap (λ s. length (cells_of s)) has, full));
         waiting = done.waiting;
+        beside = ap (λ s. numbers (cells_of s)) (done.nodes.updates.others parent apart);
         len = done.nodes.len;
         above = ap (λ s. length (cells_of s)) (done.nodes.updates.others parent apart);
         placements = placements;

@@ -5,10 +5,9 @@ use Rattle.slab.specs.Slab.{slab_len}
 use Rattle.rt_box.specs.Capacity.{reinsertion_share}
 use Rattle.rt_tree_node.specs.declared.arena.Arena.{Arena}
 use Rattle.rt_tree_node.specs.declared.arena.Work.{Work}
-use Rattle.rt_tree_node.specs.Places.{parent_at, cells_at}
-use Rattle.rt_tree_place.specs.Placing.{InsertsAgain, InsertsNone}
-use Rattle.rt_tree_place.specs.Rise.{IsUpward, KeepsAllBut, StartsAt, HasStepped, HasRisen}
-use Rattle.rt_tree_place.specs.Steps.{IsRising, KeepsRows, Lifts, waiting_at}
+use Rattle.rt_tree_node.specs.Places.{parent_at, cells_at, waiting_at}
+use Rattle.rt_tree_place.specs.Rise.{IsUpward, KeepsAllBut, StartsAt, HasStepped, InsertsAgain, InsertsNone, HasRisen}
+use Rattle.rt_tree_place.specs.Steps.{IsRising, KeepsRows, Lifts}
 use Rattle.rt_tree_place.specs.Way.{LeadsUp}
 use Rattle.rt_tree_place.proofs.Lifted.{parent-level, parent-most}
 use Rattle.rt_tree_place.proofs.Shapes.{shape-none, shape-then}

@@ -11,17 +11,17 @@ use Rattle.rt_tree_node.specs.Places.{key_of, cells_at, level_at, parent_at}
 use Rattle.rt_tree_node.specs.Sound.{NamesChild}
 
 module _ {D : ℕ} (a : Slab (NodeCells D)) (children : (key l : ℕ) → level_at a key ≡ Some (suc l) → All (NamesChild a l key) (cells_at a key)) (rect : List Interval) where
-  pub path-first : (l key leaf : ℕ) (path : List ℕ) → LeadsTo a l key rect leaf path → Contains path key
+  pub path-first : (l key leaf : ℕ) (path : List ℕ) → LeadsTo a 0 l key rect leaf path → Contains path key
   path-first zero key leaf path leads = subst (λ ks. Contains ks key) (sym leads.1) (0, omega arith, refl)
   path-first (suc l) key leaf path leads = subst (λ ks. Contains ks key) (sym leads.5) (0, omega arith, refl)
 
-  pub path-last : (l key leaf : ℕ) (path : List ℕ) → LeadsTo a l key rect leaf path → Contains path leaf
+  pub path-last : (l key leaf : ℕ) (path : List ℕ) → LeadsTo a 0 l key rect leaf path → Contains path leaf
   path-last zero key leaf path leads = subst (λ ks. Contains ks leaf) (sym leads.1) (subst (λ k. Contains (key ∷ []) k) (sym leads.0) (0, omega arith, refl))
   path-last (suc l) key leaf path leads =
       subst (λ ks. Contains ks leaf) (sym leads.5) (Contains-cons key leaf leads.2 (path-last l (key_of leads.1) leaf leads.2 leads.6))
 
   -- but for the first, the parents of the nodes on the path are on it
-  pub path-upward : (l key leaf : ℕ) (path : List ℕ) → LeadsTo a l key rect leaf path → level_at a key ≡ Some l →
+  pub path-upward : (l key leaf : ℕ) (path : List ℕ) → LeadsTo a 0 l key rect leaf path → level_at a key ≡ Some l →
       (k p : ℕ) → Contains path k → parent_at a k ≡ Some p → (k ≡ key) ⊎ Contains path p
   path-upward zero key leaf path leads here k p on up = elim (Contains-cons_cases key k [] (subst (λ ks. Contains ks k) leads.1 on)) [
     | inl same ↦ inl (sym same)

@@ -1,5 +1,5 @@
 -- One step down by the best child.
-use Rattle.std.proofs.Common.{◌≡◌, ℕ, zero, suc, ◌-◌, ◌<◌, ◌≤◌, List, ◌∷◌, length, get_or, Option, Some, None, nat_eq, eq-eqb, ne_eqb, IsSome, arith, refl, ap, ◌∙◌, sym, subst, inl, inr}
+use Rattle.std.proofs.Common.{◌≡◌, ℕ, zero, suc, ◌+◌, ◌-◌, ◌<◌, ◌≤◌, List, ◌∷◌, length, get_or, Option, Some, None, nat_eq, eq-eqb, ne_eqb, IsSome, arith, refl, ap, ◌∙◌, sym, subst, inl, inr}
 use Rattle.std.proofs.lemmas.Option.{none-some, same_Some, slice_get_within, get_or_from_slice_get}
 use Rattle.std.proofs.lemmas.Bool.{cases_eq}
 use Rattle.slab.specs.Slab.{Slab, get, ContainsKey}
@@ -19,6 +19,10 @@ above-leaves l = elim (cases_eq l 0) [
   | inl e ↦ eq-eqb (suc l) 1 (omega arith) ∙ sym (eq-eqb l 0 e)
   | inr d ↦ ne_eqb (suc l) 1 (λ e. d (omega arith)) ∙ sym (ne_eqb l 0 d)
 ]
+
+-- the child is as many steps away from the target level as its level says
+low-enough : (target l : ℕ) → target ≤ l → nat_eq (suc l) 1 ≡ nat_eq (target + (l - target)) 0
+low-enough target l low = let same : l ≡ target + (l - target) = omega arith in above-leaves l ∙ ap (λ n. nat_eq n 0) same
 
 module _ {D : ℕ} where
   present-of : (s : Option (NodeCells D)) (l : ℕ) → level_of s ≡ Some l → IsSome s
@@ -40,36 +44,40 @@ module _ {D : ℕ} where
   inner-some a root level k zero way e some = absurd (omega arith)
   inner-some a root level k (suc l) way e some = way.some k l e
 
-  step-suc : (a : Slab (NodeCells D)) (root level k l : ℕ) (rect : List Interval) (child : ℕ) → IsPassable a root level → level_at a k ≡ Some (suc l) →
+  step-suc : (a : Slab (NodeCells D)) (root level target k l : ℕ) (rect : List Interval) (child : ℕ) → IsPassable a root level → level_at a k ≡ Some (suc l) → target ≤ l →
       IsBestAt a k (nat_eq (suc l) 1) rect child →
-      (level_at a child ≡ Some l) × ((leaf : ℕ) (rest : List ℕ) → LeadsTo a l child rect leaf rest → (path : List ℕ) × LeadsTo a (suc l) k rect leaf path)
-  step-suc a root level k l rect child way e best =
+      (level_at a child ≡ Some l)
+      × ((node : ℕ) (rest : List ℕ) → LeadsTo a target (l - target) child rect node rest → (path : List ℕ) × LeadsTo a target (suc (l - target)) k rect node path)
+  step-suc a root level target k l rect child way e low best =
       let at = best.0 in let c = best.1 in
       let is = way.children k l e at c (slice_get_within (cells_at a k) at c best.3) in
       let named : NamesChild a l k c = subst (NamesChild a l k) (get_or_from_slice_get (cells_at a k) at c c best.3) is in (
         ap (level_at a) (sym best.4) ∙ named.names.level_is,
-        λ leaf rest below. (
+        λ node rest below. (
           k ∷ rest,
           (
             at,
             c,
             rest,
-            subst (λ b. IsBestChild b (rects (cells_at a k)) rect at) (above-leaves l) best.2,
+            subst (λ b. IsBestChild b (rects (cells_at a k)) rect at) (low-enough target l low) best.2,
             best.3,
             refl,
-            subst (λ y. LeadsTo a l y rect leaf rest) (sym best.4) below,
+            subst (λ y. LeadsTo a target (l - target) y rect node rest) (sym best.4) below,
           ),
         ),
       )
 
-  pub descent-step : (a : Slab (NodeCells D)) (root level k h : ℕ) (rect : List Interval) (child : ℕ) → IsPassable a root level → level_at a k ≡ Some h → 0 < h →
+  pub descent-step : (a : Slab (NodeCells D)) (root level target k h : ℕ) (rect : List Interval) (child : ℕ) → IsPassable a root level → level_at a k ≡ Some h → target < h →
       IsBestAt a k (nat_eq h 1) rect child →
-      (level_at a child ≡ Some (h - 1)) × ((leaf : ℕ) (rest : List ℕ) → LeadsTo a (h - 1) child rect leaf rest → (path : List ℕ) × LeadsTo a h k rect leaf path)
-  descent-step a root level k zero rect child way e some best = absurd (omega arith)
-  descent-step a root level k (suc l) rect child way e some best =
+      (level_at a child ≡ Some (h - 1))
+      × ((node : ℕ) (rest : List ℕ) → LeadsTo a target (h - 1 - target) child rect node rest → (path : List ℕ) × LeadsTo a target (h - target) k rect node path)
+  descent-step a root level target k zero rect child way e high best = absurd (omega arith)
+  descent-step a root level target k (suc l) rect child way e high best =
       let same : l ≡ suc l - 1 = omega arith in
-      subst (λ i. (level_at a child ≡ Some i) × ((leaf : ℕ) (rest : List ℕ) → LeadsTo a i child rect leaf rest → (path : List ℕ) × LeadsTo a (suc l) k rect leaf path))
-      same (step-suc a root level k l rect child way e best)
+      let steps : suc (l - target) ≡ suc l - target = omega arith in
+      subst (λ n. (level_at a child ≡ Some (suc l - 1)) × ((node : ℕ) (rest : List ℕ) → LeadsTo a target (suc l - 1 - target) child rect node rest → (path : List ℕ) × LeadsTo a target n k rect node path)) steps
+      (subst (λ i. (level_at a child ≡ Some i) × ((node : ℕ) (rest : List ℕ) → LeadsTo a target (i - target) child rect node rest → (path : List ℕ) × LeadsTo a target (suc (l - target)) k rect node path))
+      same (step-suc a root level target k l rect child way e (omega arith) best))
 
   -- what best children lead to is named by the node above it
   pub step-named : (a : Slab (NodeCells D)) (root level steps k h : ℕ) (rect : List Interval) (child : ℕ) → IsPassable a root level → level_at a k ≡ Some h → 0 < h →

@@ -4,18 +4,16 @@ use Rattle.std.specs.Prelude.{◌≡◌, ◌≢◌, ◌⊎◌, ℕ, suc, ◌+◌
 use Rattle.std.specs.Ordering.{int_eq}
 use Rattle.indexmap.specs.IndexMap.{get as leaf_of}
 use Rattle.slab.specs.Slab.{slab_len}
-use Rattle.rt_box.specs.Capacity.{reinsertion_share}
-use Rattle.rt_tree_choice.specs.declared.split.Cut.{Cut}
-use Rattle.rt_tree_choice.specs.Split.{IsBestCut, first_group, second_group}
 use Rattle.rt_tree_node.specs.declared.arena.Arena.{Arena}
 use Rattle.rt_tree_node.specs.declared.arena.Work.{Work}
 use Rattle.rt_tree_node.specs.declared.cell.Cell.{Cell}
 use Rattle.rt_tree_node.specs.declared.cell.Waiting.{Waiting}
-use Rattle.rt_tree_node.specs.Places.{key_of, picked, rects, cells_at, level_at, parent_at, count_rows}
+use Rattle.rt_tree_node.specs.Places.{key_of, cells_at, level_at, parent_at, count_rows}
 use Rattle.rt_tree_node.specs.Whole.{IsWhole, IsBranched}
 use Rattle.rt_tree_node.specs.Homes.{KeepsIds}
 use Rattle.rt_tree_node.specs.Path.{LeadsTo, KeepsShape}
-use Rattle.rt_tree_place.specs.Steps.{waiting_at}
+use Rattle.rt_tree_place.specs.Rules.{Parts}
+use Rattle.rt_tree_place.specs.Rise.{InsertsAgain, InsertsNone, Ascends, Enters, Grows}
 
 module _ {D : ℕ} where
   -- the row is the leaf's last cell; of all else only the boxes of the cells above it changed
@@ -32,23 +30,18 @@ module _ {D : ℕ} where
   -- a root that is a full leaf: the two groups of its cells and the row are the two leaves of a new root, in this
   -- order
   pub record HalvesRoot (old new : Arena D) (cell : Cell D) : Type 0 where
-    pub cut : Cut
-    pub best : IsBestCut D (rects (cells_at old.nodes old.root ++ cell ∷ [])) old.capacity cut
     pub first : Cell D
     pub second : Cell D
+    pub parts : Parts old.capacity (cells_at old.nodes old.root ++ cell ∷ []) (cells_at new.nodes (key_of first)) (cells_at new.nodes (key_of second))
     pub height : new.level ≡ 1
     pub top : cells_at new.nodes new.root ≡ first ∷ second ∷ []
-    pub first_cells : cells_at new.nodes (key_of first) ≡
-        picked (cells_at old.nodes old.root ++ cell ∷ []) (first_group (rects (cells_at old.nodes old.root ++ cell ∷ [])) cut)
-    pub second_cells : cells_at new.nodes (key_of second) ≡
-        picked (cells_at old.nodes old.root ++ cell ∷ []) (second_group (rects (cells_at old.nodes old.root ++ cell ∷ [])) cut)
 
   -- a row goes to the leaf that best children lead its box to, which takes it where it isn't full; a full root is
   -- halved; of another full leaf, where no level is marked, cells are inserted again
   pub record TakesRow (old new : Arena D) (cell : Cell D) (marks : ℕ) (work work1 : Work) : Type 0 where
     pub leaf : ℕ
     pub path : List ℕ
-    pub leads : LeadsTo old.nodes old.level old.root cell.rect leaf path
+    pub leads : LeadsTo old.nodes 0 old.level old.root cell.rect leaf path
     pub joins : length (cells_at old.nodes leaf) < old.capacity →
         JoinsLeaf old new leaf path cell × (work1.splits ≡ work.splits) × (work1.reinsertions ≡ work.reinsertions)
     pub halves : old.level ≡ 0 → old.capacity ≤ length (cells_at old.nodes leaf) →
@@ -56,29 +49,27 @@ module _ {D : ℕ} where
     pub again : 1 ≤ old.level → old.capacity ≤ length (cells_at old.nodes leaf) → marks ≡ 0 →
         work1.reinsertions ≡ suc work.reinsertions
 
-  -- Levels below `marks` are marked. A node of a level that wasn't gave up cells, which wait beside those that are
-  -- left, and the level is marked now.
-  pub record InsertsAgain (old new : Arena D) (left : List (Waiting D)) (marks marks1 : ℕ) (work work1 : Work) : Type 0 where
-    pub level : ℕ
-    pub unmarked : marks ≤ level
-    pub marked : marks1 ≡ suc level
-    pub inner : level < new.level
-    pub far : List (Cell D)
-    pub share : length far ≡ reinsertion_share old.capacity
-    pub waiting : new.waiting.items ≡ left ++ waiting_at level far
-    pub counted : work1.reinsertions ≡ suc work.reinsertions
+  -- Insert, of one cell: it enters the node that best children lead its box to, steps lead up from there, and an
+  -- overfull root is split
+  pub record InsertsCell (old new : Arena D) (entry : Waiting D) (marks marks1 : ℕ) : Type 0 where
+    pub key : ℕ
+    pub entered : Arena D
+    pub enters : Enters old entered entry key
+    pub risen : Arena D
+    pub ascends : Ascends entered risen key marks marks1
+    pub work : Work
+    pub work1 : Work
+    pub grows : Grows risen new work work1
 
-  -- no node gave up cells
-  pub record InsertsNone (new : Arena D) (left : List (Waiting D)) (marks marks1 : ℕ) (work work1 : Work) : Type 0 where
-    pub marked : marks1 ≡ marks
-    pub waiting : new.waiting.items ≡ left
-    pub counted : work1.reinsertions ≡ work.reinsertions
-
-  -- the last of the waiting cells is in the tree now, and it is whole; at most one node gave up cells
+  -- the last of the waiting cells was inserted, step by step, and the tree is whole; at most one node gave up cells
   pub record PlacesLast (old new : Arena D) (marks marks1 : ℕ) (work work1 : Work) : Type 0 where
     pub left : List (Waiting D)
     pub entry : Waiting D
     pub was : old.waiting.items ≡ left ++ entry ∷ []
+    pub without : Arena D
+    pub without_is : without ≡ record old { waiting = without.waiting }
+    pub left_waits : without.waiting.items ≡ left
+    pub inserts : InsertsCell without new entry marks marks1
     pub whole : IsWhole new
     pub rows : (test : Cell D → Bool) →
         count_rows test new.nodes new.waiting.items ≡ count_rows test old.nodes old.waiting.items

@@ -1,21 +1,20 @@
 -- The parts of a placement: a cell comes into a node, steps lead up from there, and an overfull root is split.
-use Rattle.std.specs.Prelude.{◌≡◌, ◌≢◌, ◌⊎◌, ℕ, suc, ◌+◌, ◌≤◌, ◌<◌, Bool, pos, List, [], ◌∷◌, ◌++◌, Some, length, Contains}
+use Rattle.std.specs.Prelude.{◌≡◌, ◌≢◌, ◌⊎◌, ℕ, suc, ◌+◌, ◌-◌, ◌≤◌, ◌<◌, Bool, pos, List, [], ◌∷◌, ◌++◌, Some, length, Contains}
 use Rattle.slab.specs.Slab.{Slab, slab_len}
-use Rattle.rt_tree_choice.specs.declared.split.Cut.{Cut}
-use Rattle.rt_tree_choice.specs.Split.{IsBestCut, first_group, second_group}
+use Rattle.rt_box.specs.Capacity.{reinsertion_share}
 use Rattle.rt_tree_node.specs.declared.arena.Arena.{Arena}
 use Rattle.rt_tree_node.specs.declared.arena.Work.{Work}
 use Rattle.rt_tree_node.specs.declared.cell.Cell.{Cell}
 use Rattle.rt_tree_node.specs.declared.cell.Waiting.{Waiting}
 use Rattle.rt_tree_node.specs.Node.{NodeCells}
-use Rattle.rt_tree_node.specs.Places.{key_of, picked, rects, cells_at, level_at, parent_at, count_rows}
+use Rattle.rt_tree_node.specs.Places.{key_of, cells_at, level_at, parent_at, count_rows, waiting_at}
 use Rattle.rt_tree_node.specs.Path.{LeadsTo, KeepsShape}
 use Rattle.rt_tree_node.specs.Changes.{Changes}
 use Rattle.rt_tree_node.specs.Open.{IsOpen}
 use Rattle.rt_tree_node.specs.Whole.{IsWhole}
 use Rattle.rt_tree_node.specs.Homes.{KeepsIds, Moves}
-use Rattle.rt_tree_place.specs.Steps.{IsRising, KeepsRows}
-use Rattle.rt_tree_place.specs.Placing.{InsertsAgain, InsertsNone}
+use Rattle.rt_tree_place.specs.Rules.{Parts}
+use Rattle.rt_tree_place.specs.Steps.{IsRising, Rests, KeepsRows, Lifts}
 
 module _ {D : ℕ} where
   -- with each node its parent is among the nodes of the path
@@ -43,6 +42,36 @@ module _ {D : ℕ} where
     pub higher : 1 ≤ level
     pub again : old.capacity < length (cells_at old.nodes from) → marks ≡ 0 → work1.reinsertions ≡ suc work.reinsertions
 
+  -- steps up from a node, one after the other, have come to another one; levels below the marks are marked
+  pub data ClimbsTo (old : Arena D) (from marks : ℕ) : Arena D → ℕ → ℕ → Type 0 where
+    none : ClimbsTo old from marks old from marks
+    step : {t u : Arena D} {key parent marks1 marks2 : ℕ} {work1 work2 : Work} → ClimbsTo old from marks t key marks1 →
+        Lifts t u key parent marks1 marks2 work1 work2 → ClimbsTo old from marks u parent marks2
+
+  -- the steps up end at the root, or where nothing is left to be done
+  pub record Ascends (old new : Arena D) (from marks marks1 : ℕ) : Type 0 where
+    pub last : ℕ
+    pub steps : ClimbsTo old from marks new last marks1
+    pub ends : (last ≡ new.root) ⊎ ((parent : ℕ) × (parent_at new.nodes last ≡ Some parent) × Rests new last parent)
+
+  -- Levels below `marks` are marked. A node of a level that wasn't gave up cells, which wait beside those that are
+  -- left, and the level is marked now.
+  pub record InsertsAgain (old new : Arena D) (left : List (Waiting D)) (marks marks1 : ℕ) (work work1 : Work) : Type 0 where
+    pub level : ℕ
+    pub unmarked : marks ≤ level
+    pub marked : marks1 ≡ suc level
+    pub inner : level < new.level
+    pub far : List (Cell D)
+    pub share : length far ≡ reinsertion_share old.capacity
+    pub waiting : new.waiting.items ≡ left ++ waiting_at level far
+    pub counted : work1.reinsertions ≡ suc work.reinsertions
+
+  -- no node gave up cells
+  pub record InsertsNone (new : Arena D) (left : List (Waiting D)) (marks marks1 : ℕ) (work work1 : Work) : Type 0 where
+    pub marked : marks1 ≡ marks
+    pub waiting : new.waiting.items ≡ left
+    pub counted : work1.reinsertions ≡ work.reinsertions
+
   -- steps up have come to the node at the key; one node at most gave up cells, and from there on none is overfull
   pub record HasRisen (old new : Arena D) (from key marks marks1 : ℕ) (work work1 : Work) : Type 0 where
     pub rising : IsRising new key
@@ -65,6 +94,7 @@ module _ {D : ℕ} where
     pub alone : cells_at new.nodes new.root ≡ cell ∷ []
     pub names : cell.number ≡ pos old.root
     pub cells : cells_at new.nodes old.root ≡ cells_at old.nodes old.root
+    pub others : (x l : ℕ) → level_at old.nodes x ≡ Some l → x ≢ old.root → (level_at new.nodes x ≡ Some l) × (cells_at new.nodes x ≡ cells_at old.nodes x)
     pub rows : (test : Cell D → Bool) → count_rows test new.nodes new.waiting.items ≡ count_rows test old.nodes old.waiting.items
     pub level : new.level ≡ suc old.level
     pub waiting : new.waiting ≡ old.waiting
@@ -79,19 +109,16 @@ module _ {D : ℕ} where
     pub same : new ≡ old
     pub work_same : work1 ≡ work
 
-  -- the overfull root was split, and the nodes of the two groups are the children of a new root, in this order
+  -- the overfull root was split, and the nodes of the two groups are the children of a new root, in this order; the
+  -- cells of other nodes are the same
   pub record SplitsRoot (old new : Arena D) (work work1 : Work) : Type 0 where
     pub full : old.capacity < length (cells_at old.nodes old.root)
-    pub cut : Cut
-    pub best : IsBestCut D (rects (cells_at old.nodes old.root)) old.capacity cut
     pub first : Cell D
     pub second : Cell D
+    pub parts : Parts old.capacity (cells_at old.nodes old.root) (cells_at new.nodes (key_of first)) (cells_at new.nodes (key_of second))
     pub height : new.level ≡ suc old.level
     pub top : cells_at new.nodes new.root ≡ first ∷ second ∷ []
-    pub first_cells : cells_at new.nodes (key_of first) ≡
-        picked (cells_at old.nodes old.root) (first_group (rects (cells_at old.nodes old.root)) cut)
-    pub second_cells : cells_at new.nodes (key_of second) ≡
-        picked (cells_at old.nodes old.root) (second_group (rects (cells_at old.nodes old.root)) cut)
+    pub others : (x l : ℕ) → level_at old.nodes x ≡ Some l → x ≢ old.root → cells_at new.nodes x ≡ cells_at old.nodes x
     pub len : slab_len new.nodes ≡ slab_len old.nodes + 2
     pub splits : work1.splits ≡ suc work.splits
 
@@ -111,10 +138,12 @@ module _ {D : ℕ} where
   abbrev pub IsAwaited : Arena D → Waiting D → Type 0
   IsAwaited t entry = IsOpen (λ x. ⊥) t (t.waiting.items ++ entry ∷ [])
 
-  -- the cell is the last of a node of its level, which best children lead a row to
+  -- the cell is the last of the node of its level that best children lead its box to, from the root down
   pub record Enters (old new : Arena D) (entry : Waiting D) (key : ℕ) : Type 0 where
     pub rising : IsRising new key
     pub level : level_at old.nodes key ≡ Some entry.level
+    pub path : List ℕ
+    pub leads : LeadsTo old.nodes entry.level (old.level - entry.level) old.root entry.cell.rect key path
     pub rows : (test : Cell D → Bool) →
         count_rows test new.nodes new.waiting.items ≡ count_rows test old.nodes (old.waiting.items ++ entry ∷ [])
     pub ids : KeepsIds old.leaves new.leaves
@@ -127,6 +156,5 @@ module _ {D : ℕ} where
     pub capacity : new.capacity ≡ old.capacity
     pub len : slab_len new.nodes ≡ slab_len old.nodes
     pub room : new.nodes.capacity ≡ old.nodes.capacity
-    pub row : entry.level ≡ 0 → (path : List ℕ) × LeadsTo old.nodes old.level old.root entry.cell.rect key path
-        × Moves old.leaves new.leaves entry.cell.number key
+    pub row : entry.level ≡ 0 → Moves old.leaves new.leaves entry.cell.number key
         × Changes (λ n. record n { cells = n.cells ++ entry.cell ∷ [] }) old.nodes new.nodes key

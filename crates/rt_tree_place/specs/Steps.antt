@@ -1,7 +1,6 @@
 -- What the parts of a placement do.
 use Rattle.std.specs.Prelude.{◌≡◌, ◌≢◌, ◌⊎◌, ℕ, suc, ◌+◌, ◌≤◌, Bool, List, [], ◌∷◌, ◌++◌, Some, None, length, slice_get, slice_set, slice_index_or, map, All, Contains, vec_capacity, IsSome, ℤ, pos, ◌<◌}
 use Rattle.rt_box.specs.Rect.{IsBox}
-use Rattle.std.specs.List.Sorted.{IsPermutation}
 use Rattle.rt_box.specs.Capacity.{least_fill, reinsertion_share}
 use Rattle.slab.specs.Slab.{Slab, get, slab_len, Updates}
 use Rattle.rt_tree_choice.specs.declared.split.Cut.{Cut}
@@ -15,20 +14,17 @@ use Rattle.rt_tree_node.specs.declared.arena.Work.{Work}
 use Rattle.rt_tree_node.specs.declared.cell.Cell.{Cell}
 use Rattle.rt_tree_node.specs.declared.cell.Waiting.{Waiting}
 use Rattle.rt_tree_node.specs.Node.{NodeCells}
-use Rattle.rt_tree_node.specs.Places.{key_of, picked, times_named, waiting_nodes, rects, no_cell, hull_at, cells_at, level_at, parent_at, count_rows}
+use Rattle.rt_tree_node.specs.Places.{key_of, picked, times_named, waiting_nodes, rects, numbers, no_cell, hull_at, cells_at, level_at, parent_at, count_rows, waiting_at}
 use Rattle.rt_tree_node.specs.Sound.{NamesChild, IsLinked}
 use Rattle.rt_tree_node.specs.Changes.{Puts, Changes}
 use Rattle.rt_tree_node.specs.Homes.{Moves, KeepsIds}
 use Rattle.rt_tree_node.specs.Open.{IsOpen}
 use Rattle.rt_tree_node.specs.Whole.{IsSound}
 use Rattle.rt_tree_node.specs.Path.{KeepsShape}
+use Rattle.rt_tree_place.specs.Rules.{ReInserts, Parts}
 use Rattle.rt_tree_place.specs.Way.{LeadsUp}
 
 module _ {D : ℕ} where
-  -- cells as they wait for a node of a level
-  abbrev pub waiting_at : ℕ → List (Cell D) → List (Waiting D)
-  waiting_at l cs = map (λ c. record { level = l; cell = c }) cs
-
   -- the way down from the root: each inner node has a cell, and each of its cells names a child
   pub record IsPassable (a : Slab (NodeCells D)) (root level : ℕ) : Type 0 where
     pub root_level : level_at a root ≡ Some level
@@ -49,12 +45,11 @@ module _ {D : ℕ} where
         × (mid : Slab (NodeCells D)) × Changes (λ n. record n { parent = Some key }) old.nodes mid (key_of w.cell)
         × Changes (λ n. record n { cells = n.cells ++ w.cell ∷ [] }) mid new.nodes key
 
-  -- the node keeps some of its cells, and the others wait, as many as are inserted again
+  -- the overfull node keeps the near ones of its cells, and the far ones wait
   pub record GivesUp (old new : Arena D) (key : ℕ) (n : NodeCells D) : Type 0 where
     pub near : List (Cell D)
     pub far : List (Cell D)
-    pub moved : IsPermutation n.cells (near ++ far)
-    pub share : length far ≡ reinsertion_share old.capacity
+    pub chosen : ReInserts old.capacity n.cells near far
     pub nodes : Puts old.nodes new.nodes key (record n { cells = near })
     pub waiting : new.waiting.items ≡ old.waiting.items ++ waiting_at n.level far
     pub waiting_room : vec_capacity new.waiting ≡ vec_capacity old.waiting
@@ -72,7 +67,7 @@ module _ {D : ℕ} where
     pub rect : (d : Cell D) → (slice_index_or (cells_at a parent) at d).rect ≡ hull_at a key
 
   -- the parent's cell that names the node has the least box around the node's cells
-  pub record Refits (old new : Slab (NodeCells D)) (parent key : ℕ) (n : NodeCells D) : Type 0 where
+  pub record Refits (old new : Slab (NodeCells D)) (key parent : ℕ) (n : NodeCells D) : Type 0 where
     pub at : ℕ
     pub cell : Cell D
     pub within : at < length n.cells
@@ -156,12 +151,7 @@ module _ {D : ℕ} where
     pub cell : Cell D
     pub appended : cells_at new.nodes parent ≡ cells_at old.nodes parent ++ cell ∷ []
     pub apart : key_of cell ≢ parent
-    pub cut : Cut
-    pub best : IsBestCut D (rects (cells_at old.nodes key)) old.capacity cut
-    pub first_cells : cells_at new.nodes key ≡
-        picked (cells_at old.nodes key) (first_group (rects (cells_at old.nodes key)) cut)
-    pub second_cells : cells_at new.nodes (key_of cell) ≡
-        picked (cells_at old.nodes key) (second_group (rects (cells_at old.nodes key)) cut)
+    pub parts : Parts old.capacity (cells_at old.nodes key) (cells_at new.nodes key) (cells_at new.nodes (key_of cell))
 
   -- the node has no longer too many cells, nor has it too few; the parent has at most one cell more
   pub record Relieves (old new : Arena D) (key parent : ℕ) : Type 0 where
@@ -195,12 +185,16 @@ module _ {D : ℕ} where
     pub splits : work1.splits ≡ work.splits
     pub reinsertions : work1.reinsertions ≡ work.reinsertions
 
-  -- the overfull node was split, since its level is marked
+  -- the overfull node was split, since its level is marked; the new node's cell is the last of the parent's
   pub record SplitsMarked (old new : Arena D) (key parent marks marks1 : ℕ) (work work1 : Work) : Type 0 where
     pub full : old.capacity < length (cells_at old.nodes key)
     pub level : ℕ
     pub here : level_at old.nodes key ≡ Some level
     pub marked : level < marks
+    pub cell : Cell D
+    pub parts : Parts old.capacity (cells_at old.nodes key) (cells_at new.nodes key) (cells_at new.nodes (key_of cell))
+    pub apart : key_of cell ≢ parent
+    pub appended : numbers (cells_at new.nodes parent) ≡ numbers (cells_at old.nodes parent) ++ cell.number ∷ []
     pub waiting : new.waiting ≡ old.waiting
     pub len : slab_len new.nodes ≡ slab_len old.nodes + 1
     pub above : length (cells_at new.nodes parent) ≡ suc (length (cells_at old.nodes parent))
@@ -209,7 +203,7 @@ module _ {D : ℕ} where
     pub splits : work1.splits ≡ suc work.splits
     pub reinsertions : work1.reinsertions ≡ work.reinsertions
 
-  -- the overfull node gave up cells, since its level wasn't marked, and now it is
+  -- the overfull node gave up its far cells, since its level wasn't marked, and now it is
   pub record GivesUnmarked (old new : Arena D) (key parent marks marks1 : ℕ) (work work1 : Work) : Type 0 where
     pub full : old.capacity < length (cells_at old.nodes key)
     pub level : ℕ
@@ -217,15 +211,17 @@ module _ {D : ℕ} where
     pub unmarked : marks ≤ level
     pub marked : marks1 ≡ suc level
     pub far : List (Cell D)
+    pub chosen : ReInserts old.capacity (cells_at old.nodes key) (cells_at new.nodes key) far
     pub share : length far ≡ reinsertion_share old.capacity
     pub waiting : new.waiting.items ≡ old.waiting.items ++ waiting_at level far
+    pub beside : numbers (cells_at new.nodes parent) ≡ numbers (cells_at old.nodes parent)
     pub len : slab_len new.nodes ≡ slab_len old.nodes
     pub above : length (cells_at new.nodes parent) ≡ length (cells_at old.nodes parent)
     pub placements : work1.placements ≡ work.placements
     pub splits : work1.splits ≡ work.splits
     pub reinsertions : work1.reinsertions ≡ suc work.reinsertions
 
-  -- what became of a node that might be overfull; levels below `marks` are marked
+  -- OverflowTreatment below the root: what became of a node that might be overfull; levels below `marks` are marked
   abbrev pub Treats : Arena D → Arena D → ℕ → ℕ → ℕ → ℕ → Work → Work → Type 0
   Treats old new key parent marks marks1 work work1 =
       LetsBe old new key parent marks marks1 work work1 ⊎ SplitsMarked old new key parent marks marks1 work work1
@@ -259,12 +255,14 @@ module _ {D : ℕ} where
     pub waiting_room : vec_capacity new.waiting ≡ vec_capacity old.waiting
     pub top : length (cells_at old.nodes old.root) ≤ length (cells_at new.nodes new.root)
 
-  -- a step up: the node is in shape, and its parent may now be out of shape; where the node wasn't overfull, only the
-  -- box of the cell that names it changed
+  -- a step up to the parent, which may now be out of shape, and alone: the cell that names the node has the least box.
+  -- The cells of other nodes are the same; where the node wasn't overfull, only that box changed
   pub record Lifts (old new : Arena D) (key parent marks marks1 : ℕ) (work work1 : Work) : Type 0 where
     pub next : IsRising new parent
+    pub parent_is : parent_at old.nodes key ≡ Some parent
     pub up : (l : ℕ) → level_at old.nodes key ≡ Some l → level_at new.nodes parent ≡ Some (suc l)
     pub keeps : KeepsRows old new
     pub treats : Treats old new key parent marks marks1 work work1
+    pub others : (x l : ℕ) → level_at old.nodes x ≡ Some l → x ≢ key → x ≢ parent → cells_at new.nodes x ≡ cells_at old.nodes x
     pub shape : length (cells_at old.nodes key) ≤ old.capacity → (path : List ℕ) → Contains path key → (k : ℕ) →
         KeepsShape old.nodes new.nodes path k

@@ -3,7 +3,7 @@
 //! Each step takes the best child for the box, and overlap counts only where the children are leaves (`LeadsTo` in
 //! `specs/Path.antt` of `rt_tree_node`).
 
-ghost use Rattle.std.specs.Prelude.{◌≡◌, ℕ, ◌≤◌, List, Some, length};
+ghost use Rattle.std.specs.Prelude.{◌≡◌, ℕ, ◌-◌, ◌≤◌, List, Some, length};
 ghost use Rattle.slab.specs.Slab.{ContainsKey};
 ghost use Rattle.rt_tree_node.specs.Places.{cells_at, level_at};
 ghost use Rattle.rt_tree_node.specs.Path.{LeadsTo};
@@ -45,7 +45,7 @@ pub fn choose_node<const D: usize>(
     requires below { target ≤ level }
     ensures level { level_at nodes.now result ≡ Some target }
     ensures way { (steps : ℕ) × LeadsUp nodes.now root steps result }
-    ensures path { target ≡ 0 → (path : List ℕ) × LeadsTo nodes.now level root rect.now result path }
+    ensures path { (path : List ℕ) × LeadsTo nodes.now target (level - target) root rect.now result path }
 {
     // Says that there are one to three axes.
     let _ = rect.axes();

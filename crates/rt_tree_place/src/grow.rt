@@ -10,7 +10,7 @@ ghost use Rattle.rt_tree_place.specs.Steps.{IsRising};
 ghost use Rattle.rt_tree_place.specs.Rise.{Raises, Grows};
 
 use crate::attach::attach;
-use crate::refit::{cell_for, refit};
+use crate::fit::{cell_for, refit};
 use crate::split::divide;
 use rt_tree_node::{Arena, Node, Waiting, Work, hull_at, node_at};
 
@@ -53,6 +53,6 @@ pub(crate) fn grow<const D: usize>(tree: &mut Arena<D>, work: &mut Work)
     raise(tree);
     let root = tree.root;
     divide(tree, key, root);
-    refit(&mut tree.nodes, root, key);
+    refit(&mut tree.nodes, key, root);
     work.splits += 1;
 }

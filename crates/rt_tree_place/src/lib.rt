@@ -6,22 +6,22 @@
 //! - `place_last`: of the cells that wait the last is placed, and the tree is whole again; which cells wait then is
 //!   said.
 //! - `choose_node`: the way down, by best children.
-//! - `has_least_box`: whether a node's box is its parent's already.
+//! - `has_least_box`, `refit`: whether the cell above a node has the least box, and giving it that box.
 //!
 //! Stands on `rt_tree_node` and `rt_tree_choice`. Definitions: `specs/Placing.antt` (what it comes to), `Rise.antt`,
-//! `Steps.antt` and `Way.antt` (its parts, and the way up).
+//! `Steps.antt` and `Way.antt` (its parts, and the way up), `Rules.antt` (which cells leave, and how a node is split).
 #![tactic(auto)]
 
 mod attach;
 mod descent;
+mod fit;
 mod grow;
 mod overflow;
 mod placing;
-mod refit;
 mod reinsertion;
 mod rise;
 mod split;
 
 pub use descent::choose_node;
+pub use fit::{has_least_box, refit};
 pub use placing::place_last;
-pub use refit::has_least_box;

@@ -1,13 +1,14 @@
 //! The cells that leave an overfull node and wait to be inserted again.
 //!
 //! Waiting cells are taken from the end of their list. So the cells are appended in reverse, and the nearest one
-//! is placed first (`GivesUp` in `specs/Steps.antt`).
+//! is placed first (`ReInserts` in `specs/Rules.antt`).
 
 ghost use Rattle.std.specs.Prelude.{◌≡◌, ℕ, ◌+◌, ◌<◌, ◌≤◌, All, length, count_by, nat_eq, ◌++◌, ◌≢◌, slice_index_or, reverse, vec_len, vec_capacity, Some};
 ghost use Rattle.std.specs.List.{range_with_len};
 ghost use Rattle.std.specs.List.Sorted.{IsPermutation};
-ghost use Rattle.rt_tree_node.specs.Places.{picked, cells_at};
-ghost use Rattle.rt_tree_place.specs.Steps.{waiting_at, GivesUp};
+ghost use Rattle.rt_tree_node.specs.Places.{picked, cells_at, waiting_at};
+ghost use Rattle.rt_tree_place.specs.Rules.{IsRisingList};
+ghost use Rattle.rt_tree_place.specs.Steps.{GivesUp};
 ghost use Rattle.rt_tree_node.specs.Node.{NodeCells};
 ghost use Rattle.slab.specs.Slab.{get, ContainsKey};
 
@@ -45,7 +46,8 @@ fn index_of(list: &[usize], number: usize) -> usize
 pub(crate) fn others(positions: &[usize], len: usize) -> ArrayVec<usize, MOST_CELLS>
     requires few { len ≤ 52 }
     requires distinct { (x : ℕ) → count_by (λ p. nat_eq p x) positions.now ≤ count_by (λ p. nat_eq p x) (range_with_len 0 len) }
-    ensures { IsPermutation (range_with_len 0 len) (positions.now ++ result.items) }
+    ensures parted { IsPermutation (range_with_len 0 len) (positions.now ++ result.items) }
+    ensures rising { IsRisingList result.items }
 {
     let mut left = all_positions(len);
     for position in positions {

@@ -7,10 +7,10 @@ ghost use Rattle.std.specs.Prelude.{◌≡◌, ◌+◌, ◌^◌, ◌<◌, ◌≤
 ghost use Rattle.slab.specs.Slab.{HasRoomFor};
 ghost use Rattle.rt_tree_node.specs.Places.{cells_at, parent_at};
 ghost use Rattle.rt_tree_place.specs.Steps.{IsRising, Rests, Lifts};
-ghost use Rattle.rt_tree_place.specs.Rise.{HasRisen};
+ghost use Rattle.rt_tree_place.specs.Rise.{Ascends, HasRisen};
 
+use crate::fit::{has_least_box, refit};
 use crate::overflow::relieve;
-use crate::refit::{has_least_box, refit};
 use rt_tree_node::{Arena, Work, node_at};
 
 /// One step up: the node is relieved of the cells that it has too many, and the parent's cell gets the least box around
@@ -34,7 +34,7 @@ fn lift<const D: usize>(
     ensures { Lifts tree.old tree.new key parent marks.old marks.new work.old work.new }
 {
     relieve(tree, key, parent, marks, work);
-    refit(&mut tree.nodes, parent, key);
+    refit(&mut tree.nodes, key, parent);
 }
 
 /// Whether nothing is left to be done on the way up: the node isn't overfull, and the cell above it has the least box.
@@ -48,7 +48,7 @@ fn is_relieved<const D: usize>(tree: &Arena<D>, key: usize, parent: usize) -> bo
     if node_at(&tree.nodes, key).len() > tree.capacity.greatest() {
         return false;
     }
-    has_least_box(&tree.nodes, parent, key)
+    has_least_box(&tree.nodes, key, parent)
 }
 
 /// The steps up from a node that a cell was placed in, to the root, which may have one cell too many then.
@@ -66,7 +66,8 @@ pub(crate) fn rise<const D: usize>(
     requires waiting_room { vec_len tree.old.waiting + 15 ≤ vec_capacity tree.old.waiting }
     requires splits { work.old.splits ≤ 2 ^ 31 }
     requires reinsertions { work.old.reinsertions ≤ 2 ^ 31 }
-    ensures { HasRisen tree.old tree.new from tree.new.root marks.old marks.new work.old work.new }
+    ensures risen { HasRisen tree.old tree.new from tree.new.root marks.old marks.new work.old work.new }
+    ensures ascends { Ascends tree.old tree.new from marks.old marks.new }
 {
     let mut key = from;
     while let Some(parent) = node_at(&tree.nodes, key).parent() {

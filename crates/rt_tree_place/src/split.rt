@@ -12,7 +12,7 @@ ghost use Rattle.rt_tree_node.specs.Places.{key_of as key_in, cells_at, level_at
 ghost use Rattle.rt_tree_place.specs.Steps.{Adopts, Rehouses, TakesOver, Splits, IsPair, Divides};
 
 use crate::attach::attach;
-use crate::refit::cell_for;
+use crate::fit::cell_for;
 use indexmap::IndexMap;
 use rt_tree_choice::{choose_split, sorted_positions};
 use rt_tree_node::{

@@ -1,4 +1,4 @@
-use Rattle.std.proofs.Common.{◌≡◌, suc, ◌≤◌, [], ◌∷◌, length, arith, refl, subst, rules}
+use Rattle.std.proofs.Common.{◌≡◌, suc, ◌-◌, ◌≤◌, [], ◌∷◌, length, arith, refl, subst, rules}
 use Rattle.slab.specs.Slab.{ContainsKey}
 use Rattle.rt_tree_node.specs.Places.{cells_at}
 use Rattle.rt_tree_node.specs.Path.{LeadsTo}
@@ -15,7 +15,7 @@ best_child-key-requires g c =
 
 pub loop-height-preserved : goal.loop-height-preserved
 loop-height-preserved g c =
-    let step = descent-step c.args.nodes.now c.args.root c.args.level c.loop-height.key c.loop-height.height c.args.rect.now c.best_child-key.result c.requires.passable
+    let step = descent-step c.args.nodes.now c.args.root c.args.level c.args.target c.loop-height.key c.loop-height.height c.args.rect.now c.best_child-key.result c.requires.passable
     c.loop-height.invariant.here (omega (arith, c.loop-height-test.true)) c.best_child-key.ensures in
     record {
       here = step.0;
@@ -25,11 +25,11 @@ loop-height-preserved g c =
         step-named c.args.nodes.now c.args.root c.args.level c.loop-height.invariant.way.0 c.loop-height.key c.loop-height.height c.args.rect.now c.best_child-key.result
             c.requires.passable c.loop-height.invariant.here (omega (arith, c.loop-height-test.true)) c.best_child-key.ensures c.loop-height.invariant.way.1,
       );
-      path = λ leaf rest below. let up = step.1 leaf rest below in c.loop-height.invariant.path leaf up.0 up.1;
+      path = λ node rest below. let up = step.1 node rest below in c.loop-height.invariant.path node up.0 up.1;
     }
 
 pub returns-clause-path : goal.returns-clause-path
-returns-clause-path g c e =
-    let bottom : 0 ≡ c.loop-height.height = omega (arith, c.loop-height-test.false, e) in
+returns-clause-path g c =
+    let bottom : 0 ≡ c.loop-height.height - c.args.target = omega (arith, c.loop-height-test.false, c.loop-height.invariant.above) in
     c.loop-height.invariant.path c.loop-height.key (c.loop-height.key ∷ [])
-    (subst (λ h. LeadsTo c.args.nodes.now h c.loop-height.key c.args.rect.now c.loop-height.key (c.loop-height.key ∷ [])) bottom (refl, refl))
+    (subst (λ n. LeadsTo c.args.nodes.now c.args.target n c.loop-height.key c.args.rect.now c.loop-height.key (c.loop-height.key ∷ [])) bottom (refl, refl))

@@ -38,4 +38,4 @@ returns g c =
     let level = c.choose_node-key.ensures.level in
     let way = c.choose_node-key.ensures.way in
     let here = node-from_level old.nodes key w.level level in
-    entered old w c.requires.awaited key level c.attach.new.tree c.attach.ensures here.0 here.1 way.0 way.1 c.choose_node-key.ensures.path
+    entered old w c.requires.awaited key level c.attach.new.tree c.attach.ensures here.0 here.1 way.0 way.1 c.choose_node-key.ensures.path.0 c.choose_node-key.ensures.path.1

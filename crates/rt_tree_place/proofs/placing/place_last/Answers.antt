@@ -22,5 +22,5 @@ returns g c =
     let popped : Arena g.row.D = record old { waiting = c.pop.new.self } in
     let was : old.waiting.items ≡ c.pop.new.self.items ++ entry ∷ [] = c.pop.ensures.items ∙ ap (λ o. c.pop.new.self.items ++ option_to_list o) c.unwrap-entry.ensures in
     placed old popped c.enter-key.new.tree c.rise.new.tree c.grow.new.tree entry c.enter-key.result c.args.marks.now c.rise.new.marks
-    c.args.work.now c.rise.new.work c.grow.new.work _ c.requires.whole was c.pop.ensures.capacity c.enter-key.ensures c.rise.ensures c.grow.ensures
+    c.args.work.now c.rise.new.work c.grow.new.work _ c.requires.whole was c.pop.ensures.capacity c.enter-key.ensures c.rise.ensures.risen c.rise.ensures.ascends c.grow.ensures
     (omega arith) refl refl

@@ -1,13 +1,15 @@
-use Rattle.std.proofs.Common.{◌≡◌, [], get_or, ◌+◌, ◌<◌, ◌≤◌, ◌++◌, is_some, count_by, nat_eq, length, reverse, arith, refl, ap, ◌∙◌, sym, subst, rules, vec_len, vec_capacity}
+use Rattle.std.proofs.Common.{◌≡◌, [], ◌+◌, ◌<◌, ◌≤◌, ◌++◌, is_some, count_by, nat_eq, length, reverse, arith, refl, ap, ◌∙◌, sym, subst, rules, vec_len, vec_capacity}
 use Rattle.std.specs.List.{All, range_with_len}
 use Rattle.std.specs.List.Sorted.{IsPermutation}
-use Rattle.std.proofs.lemmas.List.{length-map, length-reverse}
+use Rattle.std.proofs.lemmas.List.{length-map}
 use Rattle.std.proofs.lemmas.Option.{same_Some}
 use Rattle.slab.specs.Slab.{ContainsKey}
-use Rattle.rt_tree_node.specs.Places.{cells_of, cells_at, picked, no_cell}
+use Rattle.rt_tree_choice.specs.Reinsertion.{farthest_positions}
+use Rattle.rt_tree_node.specs.Places.{cells_of, cells_at, picked, rects}
 use Rattle.rt_tree_node.proofs.Links.{All-left, All-right}
+use Rattle.rt_tree_place.specs.Rules.{IsRisingList}
 use Rattle.rt_tree_place.specs.Steps.{GivesUp}
-use Rattle.rt_tree_place.proofs.Positions.{picked-parted, parted-within, parted-lengths, far-distinct, length-far}
+use Rattle.rt_tree_place.proofs.Positions.{parted-within, parted-lengths, far-distinct, length-far}
 use Rattle.rt_tree_place.proofs.reinsertion.reinsert.Goals as goal
 
 pub others-near-requires-clause-distinct : goal.others-near-requires-clause-distinct
@@ -25,12 +27,12 @@ add_cells-requires g c =
     let here : ContainsKey c.take_cells-old.new.nodes c.args.key = ap is_some emptied.updates.changed in
     let len = c.len.ensures.value in
     let near = c.as_slice-2.ensures.value in
-    let both = parted-within c.len.result c.as_slice.result.now c.others-near.result.items c.others-near.ensures in
+    let both = parted-within c.len.result c.as_slice.result.now c.others-near.result.items c.others-near.ensures.parted in
     let within : All (λ p. p < length c.take_cells-old.result.cells) c.as_slice-2.result.now =
     subst (λ xs. All (λ p. p < length c.take_cells-old.result.cells) xs) (sym near)
     (subst (λ n. All (λ p. p < n) c.others-near.result.items) len (All-right (λ p. p < c.len.result) c.as_slice.result.now c.others-near.result.items both)) in
     let none : length (cells_at c.take_cells-old.new.nodes c.args.key) ≡ 0 = ap (λ s. length (cells_of s)) emptied.updates.changed in
-    let lengths = parted-lengths c.len.result c.as_slice.result.now c.others-near.result.items c.others-near.ensures in
+    let lengths = parted-lengths c.len.result c.as_slice.result.now c.others-near.result.items c.others-near.ensures.parted in
     let room : length (cells_at c.take_cells-old.new.nodes c.args.key) + length c.as_slice-2.result.now ≤ 52 =
     omega (arith, none, ap length near, lengths, len, c.take_cells-old.ensures.few) in
     search rules
@@ -40,7 +42,7 @@ wait_for-requires g c =
     let few = c.requires.few in
     let len = c.len.ensures.value in
     let far = c.as_slice-3.ensures.value in
-    let both = parted-within c.len.result c.as_slice.result.now c.others-near.result.items c.others-near.ensures in
+    let both = parted-within c.len.result c.as_slice.result.now c.others-near.result.items c.others-near.ensures.parted in
     let first : c.as_slice-3.result.now ≡ c.as_slice.result.now = far ∙ sym c.as_slice.ensures.value in
     let within : All (λ p. p < length c.take_cells-old.result.cells) c.as_slice-3.result.now =
     subst (λ xs. All (λ p. p < length c.take_cells-old.result.cells) xs) (sym first)
@@ -63,11 +65,9 @@ returns g c n has =
     let moved : IsPermutation (range_with_len 0 (length old.cells)) (c.as_slice-3.result.now ++ c.as_slice-2.result.now) =
     subst (λ l. IsPermutation (range_with_len 0 l) (c.as_slice-3.result.now ++ c.as_slice-2.result.now)) c.len.ensures.value
     (subst (λ xs. IsPermutation (range_with_len 0 c.len.result) (xs ++ c.as_slice-2.result.now)) first
-    (subst (λ xs. IsPermutation (range_with_len 0 c.len.result) (c.as_slice.result.now ++ xs)) (sym c.as_slice-2.ensures.value) c.others-near.ensures)) in
-    let boxes = c.boxes.result.now in
-    let long = ap length c.boxes.ensures.value ∙ length-map old.cells (λ q. q.rect) in
-    let full = ap (λ s. length (cells_of s)) c.take_cells-old.ensures.node in
-    let share = length-far boxes c.args.tree.now.capacity (omega (arith, long, full, c.requires.full)) in
+    (subst (λ xs. IsPermutation (range_with_len 0 c.len.result) (c.as_slice.result.now ++ xs)) (sym c.as_slice-2.ensures.value) c.others-near.ensures.parted)) in
+    let leaving : c.as_slice-3.result.now ≡ farthest_positions (rects old.cells) c.args.tree.now.capacity =
+    far ∙ c.farthest-far.ensures ∙ ap (λ bs. farthest_positions bs c.args.tree.now.capacity) c.boxes.ensures.value in
     subst (λ m. GivesUp c.args.tree.now record {
       nodes = c.add_cells.new.nodes;
       leaves = c.args.tree.now.leaves;
@@ -78,8 +78,13 @@ returns g c n has =
     } c.args.key m) same record {
       near = picked old.cells c.as_slice-2.result.now;
       far = picked old.cells (reverse c.as_slice-3.result.now);
-      moved = picked-parted old.cells c.as_slice-3.result.now c.as_slice-2.result.now moved;
-      share = length-map (reverse c.as_slice-3.result.now) (λ p. get_or old.cells p no_cell) ∙ length-reverse c.as_slice-3.result.now ∙ ap length (far ∙ c.farthest-far.ensures) ∙ share;
+      chosen = record {
+        kept = c.as_slice-2.result.now;
+        parted = subst (λ ps. IsPermutation (range_with_len 0 (length old.cells)) (ps ++ c.as_slice-2.result.now)) leaving moved;
+        rising = subst IsRisingList (sym c.as_slice-2.ensures.value) c.others-near.ensures.rising;
+        stay = refl;
+        leave = ap (λ ps. picked old.cells (reverse ps)) leaving;
+      };
       nodes = record {
         updates = record { changed = added.updates.changed; others = λ x d. added.updates.others x d ∙ emptied.updates.others x d };
         len = added.len ∙ emptied.len;

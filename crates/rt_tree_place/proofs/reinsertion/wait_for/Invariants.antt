@@ -1,6 +1,5 @@
 use Rattle.std.proofs.Common.{◌≡◌, ◌+◌, ◌-◌, ◌≤◌, ◌++◌, length, take, reverse, vec_len, vec_capacity}
-use Rattle.rt_tree_node.specs.Places.{picked}
-use Rattle.rt_tree_place.specs.Steps.{waiting_at}
+use Rattle.rt_tree_node.specs.Places.{picked, waiting_at}
 use Rattle.rt_tree_place.proofs.reinsertion.wait_for.Given as goal
 
 abbrev pub invariant-loop-back : goal.invariant-loop-back

@@ -25,7 +25,7 @@ pub(crate) fn cell_for<const D: usize>(key: usize, rect: &Rect<D>) -> Cell<D>
 }
 
 /// Whether the parent's cell that names the node has the least box around the node's cells.
-pub fn has_least_box<const D: usize>(nodes: &Slab<Node<D>>, parent: usize, key: usize) -> bool
+pub fn has_least_box<const D: usize>(nodes: &Slab<Node<D>>, key: usize, parent: usize) -> bool
     requires few { D ≤ 3 }
     requires keys { nodes.now.capacity ≤ 2 ^ 62 }
     requires present { ContainsKey nodes.now key }
@@ -45,14 +45,14 @@ pub fn has_least_box<const D: usize>(nodes: &Slab<Node<D>>, parent: usize, key: 
 }
 
 /// Gives the parent's cell that names the node the least box around the node's cells.
-pub(crate) fn refit<const D: usize>(nodes: &mut Slab<Node<D>>, parent: usize, key: usize)
+pub fn refit<const D: usize>(nodes: &mut Slab<Node<D>>, key: usize, parent: usize)
     requires few { D ≤ 3 }
     requires keys { nodes.old.capacity ≤ 2 ^ 62 }
     requires present { ContainsKey nodes.old key }
     requires some { 1 ≤ length (cells_at nodes.old key) }
     requires above { ContainsKey nodes.old parent }
     requires named { (at : ℕ) × IsNamedAt (cells_at nodes.old parent) at key }
-    ensures { (n : NodeCells D) → get nodes.old parent ≡ Some n → Refits nodes.old nodes.new parent key n }
+    ensures { (n : NodeCells D) → get nodes.old parent ≡ Some n → Refits nodes.old nodes.new key parent n }
 {
     // Says that keys are below the capacity, and so fit into a cell.
     let _ = nodes.capacity();

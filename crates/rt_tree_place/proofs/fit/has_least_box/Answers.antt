@@ -6,7 +6,7 @@ use Rattle.rt_box.proofs.Equality.{Decides-box_eq}
 use Rattle.rt_tree_node.specs.declared.cell.Cell.{Cell}
 use Rattle.rt_tree_node.specs.Places.{key_of, cells_of, cells_at, no_cell, hull_at}
 use Rattle.rt_tree_place.proofs.Refitted.{named-at_once}
-use Rattle.rt_tree_place.proofs.refit.has_least_box.Goals as goal
+use Rattle.rt_tree_place.proofs.fit.has_least_box.Goals as goal
 
 pub cell_for-cell-requires : goal.cell_for-cell-requires
 cell_for-cell-requires g c =

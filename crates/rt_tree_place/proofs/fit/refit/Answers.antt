@@ -4,7 +4,7 @@ use Rattle.std.proofs.lemmas.Option.{same_Some}
 use Rattle.slab.proofs.SlabLemmas.{ContainsKey-within}
 use Rattle.rt_tree_node.specs.Places.{cells_of, cells_at, no_cell}
 use Rattle.rt_box.specs.Rect.{IsBox}
-use Rattle.rt_tree_place.proofs.refit.refit.Goals as goal
+use Rattle.rt_tree_place.proofs.fit.refit.Goals as goal
 
 pub cell_for-cell-requires : goal.cell_for-cell-requires
 cell_for-cell-requires g c =
