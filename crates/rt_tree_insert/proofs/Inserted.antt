@@ -9,7 +9,7 @@ use Rattle.rt_tree_node.specs.Whole.{IsBranched}
 use Rattle.rt_tree_node.specs.Settles.{Settles}
 use Rattle.rt_tree_place.specs.Placing.{JoinsLeaf, HalvesRoot}
 use Rattle.rt_tree_insert.specs.Awaiting.{AwaitsLeaf}
-use Rattle.rt_tree_insert.specs.Settling.{CountsWork, PlacesRow}
+use Rattle.rt_tree_insert.specs.Settling.{PlacesInTurn, CountsWork, PlacesRow}
 use Rattle.rt_tree_insert.specs.Insertion.{Inserts}
 use Rattle.rt_tree_insert.proofs.Awaited.{awaiting_arena, waits-alone, rows-spelled, gains-id}
 
@@ -41,7 +41,7 @@ module _ (cells capacity level level1 splits reinsertions : ℕ) (o : Outcome ce
 
 module _ {D : ℕ} where
   module _ (old mid new : Arena D) (c : Cell D) (work : Work) (awaits : AwaitsLeaf old mid c) (idle : old.waiting.items ≡ [])
-      (settled : Settles mid new 0) (counted : CountsWork mid new 0 work) (placed : PlacesRow mid new c work) where
+      (settled : Settles mid new 0) (turned : (marks : ℕ) × PlacesInTurn mid new marks) (counted : CountsWork mid new 0 work) (placed : PlacesRow mid new c work) where
     start : Arena D
     start = awaiting_arena old mid c awaits idle
 
@@ -73,14 +73,11 @@ module _ {D : ℕ} where
     halved : HalvesRoot start new c → HalvesRoot old new c
     unfolding start
     halved h = record {
-      cut = h.cut;
-      best = h.best;
       first = h.first;
       second = h.second;
       height = h.height;
       top = h.top;
-      first_cells = h.first_cells;
-      second_cells = h.second_cells;
+      parts = h.parts;
     }
 
     -- the leaf has room, or the root is halved, or cells are inserted again
@@ -104,6 +101,10 @@ module _ {D : ℕ} where
           capacity = settles.capacity;
           room = settles.room;
           waiting_room = let a = settles.waiting_room in let b = awaits.waiting_room in omega arith;
+          awaiting = mid;
+          awaits = awaits;
+          marks = turned.0;
+          turns = turned.1;
           leaf = places.leaf;
           path = places.path;
           leads = places.leads;

@@ -9,13 +9,13 @@ use Rattle.rt_tree_node.specs.declared.arena.Arena.{Arena}
 use Rattle.rt_tree_node.specs.declared.arena.Work.{Work}
 use Rattle.rt_tree_node.specs.declared.cell.Cell.{Cell}
 use Rattle.rt_tree_node.specs.declared.cell.Waiting.{Waiting}
-use Rattle.rt_tree_node.specs.Places.{no_cell, count_rows}
+use Rattle.rt_tree_node.specs.Places.{no_cell, count_rows, waiting_at}
 use Rattle.rt_tree_node.specs.Whole.{IsWhole, IsBranched, HasRoom, row_count}
 use Rattle.rt_tree_node.specs.Homes.{KeepsIds}
 use Rattle.rt_tree_node.specs.Settles.{Settles}
-use Rattle.rt_tree_place.specs.Placing.{PlacesLast, TakesRow, InsertsAgain}
-use Rattle.rt_tree_place.specs.Steps.{waiting_at}
-use Rattle.rt_tree_insert.specs.Settling.{CountsWork, PlacesRow}
+use Rattle.rt_tree_place.specs.Placing.{PlacesLast, TakesRow}
+use Rattle.rt_tree_place.specs.Rise.{InsertsAgain}
+use Rattle.rt_tree_insert.specs.Settling.{PlacesInTurn, CountsWork, PlacesRow}
 use Rattle.rt_tree_insert.proofs.Few.{few-levels, few-waiting, fewer-nodes_than_rows, room-for}
 
 share-few : (capacity : ℕ) → IsCapacity capacity → reinsertion_share capacity ≤ 15
@@ -50,6 +50,7 @@ module _ {D : ℕ} where
     pub room : now.nodes.capacity ≡ old.nodes.capacity
     pub waiting_room : vec_capacity now.waiting ≡ vec_capacity old.waiting
     pub branched : IsBranched old → IsBranched now
+    pub turns : PlacesInTurn old now marks
     pub placements : vec_len now.waiting + work.placements ≡ vec_len old.waiting + reinsertion_share old.capacity * work.reinsertions
     pub few : work.reinsertions ≤ marks
     pub marked : marks ≤ now.level
@@ -69,6 +70,7 @@ module _ {D : ℕ} where
     room = refl;
     waiting_room = omega arith;
     branched = λ h. h;
+    turns = subst (PlacesInTurn t t) (sym unmarked) PlacesInTurn.none;
     placements = let none = ap (λ r. reinsertion_share t.capacity * r) no_reinsertions in omega (arith, none);
     few = omega arith;
     marked = omega arith;
@@ -197,6 +199,7 @@ module _ {D : ℕ} where
           room = places.room ∙ p.room;
           waiting_room = let a = p.waiting_room in let b = places.waiting_room in omega arith;
           branched = λ h. places.branched (p.branched h);
+          turns = PlacesInTurn.next p.turns places;
           placements = turn-placements;
           few = elim places.waits [ inl a ↦ omega (arith, a.counted, a.unmarked, a.marked) | inr n ↦ omega (arith, n.counted, n.marked) ];
           marked = elim places.waits [ inl a ↦ omega (arith, a.marked, a.inner) | inr n ↦ omega (arith, n.marked) ];

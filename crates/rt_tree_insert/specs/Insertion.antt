@@ -13,6 +13,8 @@ use Rattle.rt_tree_node.specs.Places.{cells_at, count_rows}
 use Rattle.rt_tree_node.specs.Whole.{IsWhole, IsBranched}
 use Rattle.rt_tree_node.specs.Path.{LeadsTo}
 use Rattle.rt_tree_place.specs.Placing.{JoinsLeaf, HalvesRoot}
+use Rattle.rt_tree_insert.specs.Awaiting.{AwaitsLeaf}
+use Rattle.rt_tree_insert.specs.Settling.{PlacesInTurn}
 
 module _ {S : Type 0} where
   -- the map has this id beside those that it had
@@ -25,7 +27,7 @@ module _ {S : Type 0} where
 module _ {D : ℕ} where
   -- The row is in the tree, and so is each that was. Its leaf is the one that best children lead its box to: where
   -- the leaf isn't full no other row moves, and a full root is halved. In these two cases and in no other nothing is
-  -- inserted again.
+  -- inserted again. The row waits at first, and all cells that wait are placed in turn.
   pub record Inserts (old new : Arena D) (id : ℤ) (rect : List Interval) (work : Work) : Type 0 where
     pub whole : IsWhole new
     pub branched : IsBranched new
@@ -37,9 +39,13 @@ module _ {D : ℕ} where
     pub capacity : new.capacity ≡ old.capacity
     pub room : new.nodes.capacity ≡ old.nodes.capacity
     pub waiting_room : vec_capacity new.waiting ≡ vec_capacity old.waiting
+    pub awaiting : Arena D
+    pub awaits : AwaitsLeaf old awaiting record { number = id; rect = rect }
+    pub marks : ℕ
+    pub turns : PlacesInTurn awaiting new marks
     pub leaf : ℕ
     pub path : List ℕ
-    pub leads : LeadsTo old.nodes old.level old.root rect leaf path
+    pub leads : LeadsTo old.nodes 0 old.level old.root rect leaf path
     pub joins : length (cells_at old.nodes leaf) < old.capacity →
         JoinsLeaf old new leaf path record { number = id; rect = rect }
     pub halves : old.level ≡ 0 → old.capacity ≤ length (cells_at old.nodes leaf) →

@@ -1,3 +1,3 @@
-pub mod Insertion
-pub mod Settling
 pub mod Awaiting
+pub mod Settling
+pub mod Insertion

@@ -1,4 +1,4 @@
--- What placing waiting cells takes (Beckmann, Kriegel, Schneider, Seeger 1990, section 4.3; the counts own).
+-- How waiting cells are placed, and what it takes (Beckmann, Kriegel, Schneider, Seeger 1990, section 4.3; the counts own).
 use Rattle.std.specs.Prelude.{◌≡◌, ℕ, ◌+◌, ◌*◌, ◌≤◌, ◌<◌, List, length}
 use Rattle.slab.specs.Slab.{slab_len}
 use Rattle.rt_box.specs.Capacity.{reinsertion_share}
@@ -7,9 +7,15 @@ use Rattle.rt_tree_node.specs.declared.arena.Work.{Work}
 use Rattle.rt_tree_node.specs.declared.cell.Cell.{Cell}
 use Rattle.rt_tree_node.specs.Places.{cells_at}
 use Rattle.rt_tree_node.specs.Path.{LeadsTo}
-use Rattle.rt_tree_place.specs.Placing.{JoinsLeaf, HalvesRoot}
+use Rattle.rt_tree_place.specs.Placing.{JoinsLeaf, HalvesRoot, PlacesLast}
 
 module _ {D : ℕ} where
+  -- cells inserted one after the other, each time the last that waits; levels below the marks are marked, none at first
+  pub data PlacesInTurn (old : Arena D) : Arena D → ℕ → Type 0 where
+    none : PlacesInTurn old old 0
+    next : {t u : Arena D} {marks marks1 : ℕ} {work work1 : Work} → PlacesInTurn old t marks → PlacesLast t u marks marks1 work work1 →
+        PlacesInTurn old u marks1
+
   -- All waiting cells but the first `base` were placed, and each that was inserted again. A level gives up cells at
   -- most once; a split makes one node, and so does a new root.
   pub record CountsWork (old new : Arena D) (base : ℕ) (work : Work) : Type 0 where
@@ -22,7 +28,7 @@ module _ {D : ℕ} where
   pub record PlacesRow (old new : Arena D) (cell : Cell D) (work : Work) : Type 0 where
     pub leaf : ℕ
     pub path : List ℕ
-    pub leads : LeadsTo old.nodes old.level old.root cell.rect leaf path
+    pub leads : LeadsTo old.nodes 0 old.level old.root cell.rect leaf path
     pub joins : length (cells_at old.nodes leaf) < old.capacity →
         JoinsLeaf old new leaf path cell × (work.splits ≡ 0) × (work.reinsertions ≡ 0)
     pub halves : old.level ≡ 0 → old.capacity ≤ length (cells_at old.nodes leaf) →

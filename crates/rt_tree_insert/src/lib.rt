@@ -2,7 +2,7 @@
 //! cells that wait.
 //!
 //! - `insert_row`: a row comes into a whole tree, which is whole again, and each other row stays in it.
-//! - `settle`: places the cells that wait, the last first, until so many are left.
+//! - `settle`: places the cells that wait, the last first, until so many are left; each as `place_last` says.
 //! - `laws`: how many nodes and levels a whole tree has at most.
 //!
 //! Stands on `rt_tree_place` and `rt_tree_node`. Definitions: `specs/Insertion.antt`, `Settling.antt`, `Awaiting.antt`.

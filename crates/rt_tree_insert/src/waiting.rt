@@ -3,11 +3,11 @@
 //! Cells of all levels wait in one list, and the last is placed first. Cells that an overfull node gives up
 //! meanwhile join its end, so they are placed before the others (`specs/Settling.antt`).
 
-ghost use Rattle.std.specs.Prelude.{◌≡◌, ◌+◌, ◌^◌, ◌<◌, ◌≤◌, [], ◌∷◌, vec_len, vec_capacity};
+ghost use Rattle.std.specs.Prelude.{◌≡◌, ℕ, ◌+◌, ◌^◌, ◌<◌, ◌≤◌, [], ◌∷◌, vec_len, vec_capacity};
 ghost use Rattle.rt_tree_node.specs.declared.cell.Cell.{Cell};
 ghost use Rattle.rt_tree_node.specs.Whole.{IsWhole, HasRoom, row_count};
 ghost use Rattle.rt_tree_node.specs.Settles.{Settles};
-ghost use Rattle.rt_tree_insert.specs.Settling.{CountsWork, PlacesRow};
+ghost use Rattle.rt_tree_insert.specs.Settling.{PlacesInTurn, CountsWork, PlacesRow};
 
 use rt_tree_node::{Arena, Work};
 use rt_tree_place::place_last;
@@ -21,6 +21,7 @@ pub fn settle<const D: usize>(tree: &mut Arena<D>, base: usize) -> Work
     requires room { HasRoom tree.old (row_count tree.old) }
     requires waiting_room { vec_len tree.old.waiting + 512 ≤ vec_capacity tree.old.waiting }
     ensures settles { Settles tree.old tree.new base }
+    ensures turns { (marks : ℕ) × PlacesInTurn tree.old tree.new marks }
     ensures counts { CountsWork tree.old tree.new base result }
     ensures alone { (cell : Cell D) → tree.old.waiting.items ≡ record { level = 0; cell = cell } ∷ [] → PlacesRow tree.old tree.new cell result }
 {

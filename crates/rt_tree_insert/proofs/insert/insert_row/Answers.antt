@@ -23,5 +23,5 @@ returns g c =
     let old = c.args.tree.now in
     let mid = c.await_leaf.new.tree in
     let cell : Cell g.row.D = record { number = c.args.id.now; rect = c.args.rect.now } in
-    inserts old mid c.settle.new.tree cell c.settle.result c.await_leaf.ensures c.requires.idle c.settle.ensures.settles c.settle.ensures.counts
+    inserts old mid c.settle.new.tree cell c.settle.result c.await_leaf.ensures c.requires.idle c.settle.ensures.settles c.settle.ensures.turns c.settle.ensures.counts
     (c.settle.ensures.alone cell (waits-alone old mid cell c.await_leaf.ensures c.requires.idle)) c.requires.branched
