@@ -1,16 +1,18 @@
 -- A slab in which the cells of one node changed.
 use Rattle.std.proofs.Common.{◌≡◌, ◌≢◌, ℕ, ◌<◌, ℤ, List, length, map, set, get_or, None, Some, ap, sym, subst, ◌∙◌, inl, inr, arith}
 use Rattle.std.specs.Prelude.{unsigned_abs}
-use Rattle.std.proofs.lemmas.List.{length-map, get_or-map, get_or_read}
+use Rattle.std.proofs.lemmas.Option.{same_Some}
+use Rattle.std.proofs.lemmas.List.{length-map, get_or-map, get_or_default}
 use Rattle.rt_box.specs.Rect.{IsBox}
-use Rattle.rt_tree_remove.specs.Steps.{IsNamedAt, Refits, Dissolves}
+use Rattle.rt_tree_place.specs.Steps.{Refits}
+use Rattle.rt_tree_remove.specs.Steps.{IsNamedAt, Dissolves}
 use Rattle.std.proofs.lemmas.Bool.{cases_eq}
 use Rattle.std.specs.List.{remove}
 use Rattle.slab.specs.Slab.{Slab, get, Updates}
 use Rattle.rt_tree_node.specs.declared.cell.Cell.{Cell}
 use Rattle.rt_tree_node.specs.Node.{NodeCells}
 use Rattle.rt_tree_node.specs.Changes.{Puts, Changes}
-use Rattle.rt_tree_node.specs.Places.{cells_of, level_of, parent_of, cells_at, level_at, parent_at, hull_at}
+use Rattle.rt_tree_node.specs.Places.{key_of, cells_of, level_of, parent_of, cells_at, level_at, parent_at, hull_at}
 
 module _ {D : ℕ} (a b : Slab (NodeCells D)) (key : ℕ) (n : NodeCells D) (cs : List (Cell D)) (was : get a key ≡ Some n) (puts : Puts a b key (record n { cells = cs })) where
   pub changed-levels : (k : ℕ) → level_at b k ≡ level_at a k
@@ -50,21 +52,30 @@ module _ {D : ℕ} where
         names = λ d. ap unsigned_abs (cell-number cs ns at d is within) ∙ names d.number;
       }
 
-  pub refits-from : (a b : Slab (NodeCells D)) (key parent at : ℕ) (p : NodeCells D) (ns : List ℤ) (c cell : Cell D) →
-      get a parent ≡ Some p → ns ≡ map (λ x. x.number) p.cells → at < length ns →
-      ((d : ℤ) → unsigned_abs (get_or ns at d) ≡ key) → c ≡ get_or p.cells at c → cell.number ≡ c.number →
-      cell.rect ≡ hull_at a key → IsBox D cell.rect →
-      Changes (λ m. record m { cells = set m.cells at cell }) a b parent → Refits a b key parent at
-  refits-from a b key parent at p ns c cell above ns_is within names c_is number rect is_box change =
-      let cells : cells_at a parent ≡ p.cells = ap cells_of above in
-      let place = named-at p.cells ns key at ns_is within names in
+  -- the parent's cell for the node, at the position, has the least box around the node's cells
+  pub record RefitsAt (a b : Slab (NodeCells D)) (key parent at : ℕ) : Type 0 where
+    pub place : IsNamedAt (cells_at a parent) key at
+    pub cell : Cell D
+    pub number : (d : Cell D) → cell.number ≡ (get_or (cells_at a parent) at d).number
+    pub rect : cell.rect ≡ hull_at a key
+    pub is_box : IsBox D cell.rect
+    pub change : Changes (λ n. record n { cells = set n.cells at cell }) a b parent
+
+  pub refits-at : (a b : Slab (NodeCells D)) (key parent : ℕ) (n : NodeCells D) → get a parent ≡ Some n → (r : Refits a b key parent n) → RefitsAt a b key parent r.at
+  refits-at a b key parent n has r =
+      let cells : cells_at a parent ≡ n.cells = ap cells_of has in
+      let same : (d : Cell D) → (get_or n.cells r.at d).number ≡ r.cell.number =
+      λ d. ap (λ c. c.number) (get_or_default n.cells r.at d r.cell r.within) ∙ sym r.same_number in
       record {
-        place = subst (λ (xs : List (Cell D)). IsNamedAt xs key at) (sym cells) place;
-        cell = cell;
-        number = λ d. number ∙ ap (λ x. x.number) (get_or_read p.cells at c place.within c_is d) ∙ ap (λ xs. (get_or xs at d).number) (sym cells);
-        rect = rect;
-        is_box = is_box;
-        change = change;
+        place = record {
+          within = subst (λ (cs : List (Cell D)). r.at < length cs) (sym cells) r.within;
+          names = λ d. ap (λ cs. key_of (get_or cs r.at d)) cells ∙ ap unsigned_abs (same d ∙ r.number_is);
+        };
+        cell = r.cell;
+        number = λ d. sym (ap (λ cs. (get_or cs r.at d).number) cells ∙ same d);
+        rect = r.rect_is;
+        is_box = r.is_box;
+        change = λ m is. subst (λ (k : NodeCells D). Puts a b parent (record k { cells = set k.cells r.at r.cell })) (same_Some n m (sym has ∙ is)) r.nodes;
       }
 
   -- the node at the key leaves the slab after its cell left the parent

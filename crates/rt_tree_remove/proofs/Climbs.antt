@@ -15,10 +15,11 @@ use Rattle.rt_tree_node.specs.declared.arena.Arena.{Arena}
 use Rattle.rt_tree_node.specs.declared.cell.Cell.{Cell}
 use Rattle.rt_tree_node.specs.declared.cell.Waiting.{Waiting}
 use Rattle.rt_tree_node.specs.Node.{NodeCells}
-use Rattle.rt_tree_node.specs.Places.{key_of, numbers, times_named, cells_of, level_of, cells_at, level_at, parent_at, count_rows}
+use Rattle.rt_tree_node.specs.Places.{key_of, numbers, times_named, cells_of, level_of, cells_at, level_at, parent_at, count_rows, waiting_at}
 use Rattle.rt_tree_node.specs.Path.{KeepsShape}
 use Rattle.rt_tree_node.specs.Sound.{IsLinked, IsFitted, HasHomes}
-use Rattle.rt_tree_remove.specs.Steps.{Refits, Dissolves, IsSoundBut, Climbs, waiting_at}
+use Rattle.rt_tree_remove.specs.Steps.{Dissolves, IsSoundBut, Climbs}
+use Rattle.rt_tree_remove.proofs.Changed.{RefitsAt}
 use Rattle.rt_tree_remove.proofs.Dissolved.{unnamed-below, parent-named, dissolved-linked, dissolved-fitted, dissolved-homes, dissolved-rows}
 use Rattle.rt_tree_remove.proofs.Refitted.{refitted-levels, refitted-parents, refitted-others, refitted-cells, refitted-leaves, refitted-long, refitted-linked, refitted-fitted, refitted-homes, refitted-rows}
 
@@ -82,7 +83,7 @@ module _ {D : ℕ} (t : Arena D) (key parent : ℕ) (but : IsSoundBut t key) (up
       let whole = mul-le-mul_left (least_fill t.capacity - 1) high in
       omega arith
 
-  module _ (b : Slab (NodeCells D)) (at : ℕ) (r : Refits t.nodes b key parent at) where
+  module _ (b : Slab (NodeCells D)) (at : ℕ) (r : RefitsAt t.nodes b key parent at) where
     abbrev p : NodeCells D
     p = (node-there t.nodes parent (suc but.level) parent-level).0
 

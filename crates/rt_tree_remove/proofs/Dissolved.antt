@@ -10,7 +10,7 @@ use Rattle.slab.specs.Slab.{Slab, get}
 use Rattle.rt_tree_node.specs.declared.cell.Cell.{Cell}
 use Rattle.rt_tree_node.specs.declared.cell.Waiting.{Waiting}
 use Rattle.rt_tree_node.specs.Node.{NodeCells}
-use Rattle.rt_tree_node.specs.Places.{key_of, times_named, cells_of, inner_part, leaf_part, inner_cells_of, leaf_cells_of, level_of, cells_at, inner_cells_at, leaf_cells_at, level_at, parent_at, cells_above, waiting_nodes, waiting_rows, times_listed, hull_at, rects, count_rows}
+use Rattle.rt_tree_node.specs.Places.{key_of, times_named, cells_of, inner_part, leaf_part, inner_cells_of, leaf_cells_of, level_of, cells_at, inner_cells_at, leaf_cells_at, level_at, parent_at, cells_above, waiting_nodes, waiting_rows, times_listed, hull_at, rects, count_rows, waiting_at}
 use Rattle.rt_tree_node.specs.Sound.{Names, NamesChild, IsLinked, IsFitted, HasHomes}
 use Rattle.rt_box.specs.Rect.{IsBox}
 use Rattle.rt_tree_choice.specs.Hull.{hull}
@@ -19,7 +19,7 @@ use Rattle.rt_tree_remove.proofs.Sums.{sums-but}
 use Rattle.rt_tree_node.proofs.Counts.{count-some}
 use Rattle.rt_tree_node.proofs.Places.{inner-at_inner, leaf-at_inner, has_id, inner-all, nodes-joined, nodes-middle, rows-joined, names_key, named-find, named-other}
 use Rattle.rt_tree_node.proofs.Links.{above-some, above-none, Names-same, NamesChild-same, unnamed-elsewhere}
-use Rattle.rt_tree_remove.specs.Steps.{IsNamedAt, Dissolves, waiting_at}
+use Rattle.rt_tree_remove.specs.Steps.{IsNamedAt, Dissolves}
 
 module _ {X : Type 0} (P : X → Type 0) where
   pub All-remove : (xs : List X) (at : ℕ) → All P xs → All P (remove xs at)

@@ -1,8 +1,16 @@
--- Room for what waits.
-use Rattle.std.proofs.Common.{◌≡◌, ℕ, ◌-◌, ◌*◌, ◌≤◌, arith, ap}
+-- Cells that wait, and room for them.
+use Rattle.std.proofs.Common.{◌≡◌, ℕ, ◌-◌, ◌*◌, ◌<◌, ◌≤◌, Bool, false, nat_eq, eq-eqb, arith, ap, ◌∙◌, sym, inl, inr}
+use Rattle.std.proofs.lemmas.Bool.{true≢false, cases_lt}
 use Rattle.rt_box.specs.Capacity.{least_fill}
 use Rattle.rt_tree_node.specs.declared.arena.Arena.{Arena}
 use Rattle.rt_tree_node.specs.Whole.{HasRoom}
+
+-- a list that isn't empty has an element
+pub some-wait : (n : ℕ) (b : Bool) → b ≡ nat_eq n 0 → b ≡ false → 0 < n
+some-wait n b is off = elim (cases_lt 0 n) [
+  | inl some ↦ some
+  | inr none ↦ absurd (true≢false (sym (eq-eqb n 0 (omega arith)) ∙ sym is ∙ off))
+]
 
 module _ {D : ℕ} where
   -- room for no more rows than before

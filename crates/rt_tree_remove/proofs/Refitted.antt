@@ -20,8 +20,8 @@ use Rattle.rt_tree_node.specs.Sound.{IsLinked, IsFitted, HasHomes}
 use Rattle.rt_tree_node.proofs.Places.{leaf-at_inner, names_key}
 use Rattle.rt_tree_node.proofs.Links.{boxes-changed}
 use Rattle.rt_tree_node.proofs.Homes.{homes-same}
-use Rattle.rt_tree_remove.specs.Steps.{IsNamedAt, Refits}
-use Rattle.rt_tree_remove.proofs.Changed.{changed-levels, changed-parents, changed-others, changed-cells}
+use Rattle.rt_tree_remove.specs.Steps.{IsNamedAt}
+use Rattle.rt_tree_remove.proofs.Changed.{RefitsAt, changed-levels, changed-parents, changed-others, changed-cells}
 use Rattle.rt_tree_remove.proofs.Dissolved.{unnamed-all, leaf-same}
 use Rattle.rt_tree_remove.proofs.Sums.{sums-same}
 
@@ -41,7 +41,7 @@ module _ {D : ℕ} where
 module _ {D : ℕ} (a b : Slab (NodeCells D)) (root level : ℕ) (ws : List (Waiting D)) (key parent at l : ℕ) (p : NodeCells D)
     (linked : IsLinked a root level ws) (here : level_at a key ≡ Some l) (up : parent_at a key ≡ Some parent) (has : get a parent ≡ Some p)
     (up_level : level_at a parent ≡ Some (suc l)) (once : times_named key (cells_at a parent) ≡ 1)
-    (low : All (λ w. w.level ≤ l) ws) (r : Refits a b key parent at) where
+    (low : All (λ w. w.level ≤ l) ws) (r : RefitsAt a b key parent at) where
   puts : Puts a b parent (record p { cells = set p.cells at r.cell })
   puts = r.change p has
 

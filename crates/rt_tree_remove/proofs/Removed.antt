@@ -176,7 +176,22 @@ module _ {D : ℕ} where
   removes s0 s1 s2 u s4 s5 id leaf at rect branched idle takes condenses turned turned_room places none gives = record {
     whole = gives.whole;
     branched = gives.branched;
-    none_waits = ap (λ w. w.items) gives.waiting ∙ nil_from_length s4.waiting.items (let long = s4.waiting.ok.0 in omega arith);
+    none_waits = ap (λ w. w.items) gives.waiting ∙ none_left;
+    steps = record {
+      leaf = leaf;
+      at = at;
+      taken = s1;
+      takes = takes;
+      condensed = s2;
+      condenses = condenses;
+      turned = record s2 { waiting = u.waiting };
+      turned_is = refl;
+      reversed = turned;
+      placed = s4;
+      places = places.turns;
+      none_left = none_left;
+      gives_way = gives;
+    };
     rows = λ test.
         let a = gives.rows test in
         let b = places.rows test in
@@ -221,6 +236,9 @@ module _ {D : ℕ} where
         );
   }
     where
+      none_left : s4.waiting.items ≡ []
+      none_left = nil_from_length s4.waiting.items (let long = s4.waiting.ok.0 in omega arith)
+
       taken_room : s1.nodes.capacity ≡ s0.nodes.capacity
       taken_room = let there = leaf-there s0 s1 s2 id leaf at rect takes condenses in (takes.change there.0 there.1).room
 

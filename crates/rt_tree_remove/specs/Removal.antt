@@ -1,5 +1,5 @@
 -- What a removal comes to (own).
-use Rattle.std.specs.Prelude.{◌≡◌, ◌≢◌, ◌↔◌, ℕ, suc, ◌+◌, ◌≤◌, Bool, ℤ, List, [], length, remove, slice_get, if◌then◌else◌, None, Some, IsSome, vec_capacity}
+use Rattle.std.specs.Prelude.{◌≡◌, ◌≢◌, ◌↔◌, ℕ, suc, ◌+◌, ◌≤◌, Bool, ℤ, List, [], length, remove, reverse, slice_get, if◌then◌else◌, None, Some, IsSome, vec_capacity}
 use Rattle.std.specs.Ordering.{int_eq}
 use Rattle.indexmap.specs.IndexMap.{IndexMap, get as leaf_of, spare, index_map_len}
 use Rattle.rt_box.specs.declared.interval.Interval.{Interval}
@@ -10,6 +10,7 @@ use Rattle.rt_tree_node.specs.Places.{cells_at, level_at, parent_at, count_rows}
 use Rattle.rt_tree_node.specs.Path.{KeepsShape}
 use Rattle.rt_tree_node.specs.Whole.{IsWhole, IsBranched}
 use Rattle.rt_tree_remove.specs.Above.{way_up}
+use Rattle.rt_tree_remove.specs.Steps.{Takes, Condenses, SettlesInTurn, GivesWay}
 
 module _ {S : Type 0} where
   -- the map has the ids that it had, but this one, and as much room
@@ -31,6 +32,23 @@ module _ {D : ℕ} where
     pub others : (k : ℕ) → k ≢ leaf → KeepsShape old.nodes new.nodes (way_up old.nodes old.level leaf) k
     pub homes : (other : ℤ) → other ≢ cell.number → leaf_of int_eq new.leaves other ≡ leaf_of int_eq old.leaves other
 
+  -- The steps: the row leaves its leaf, thin nodes leave the tree from there up, their cells are placed again, those of
+  -- the lowest level first, and a root with one child gives way.
+  pub record RemovesInSteps (old new : Arena D) (id : ℤ) (rect : List Interval) : Type 0 where
+    pub leaf : ℕ
+    pub at : ℕ
+    pub taken : Arena D
+    pub takes : Takes old taken id leaf at rect
+    pub condensed : Arena D
+    pub condenses : Condenses taken condensed leaf
+    pub turned : Arena D
+    pub turned_is : turned ≡ record condensed { waiting = turned.waiting }
+    pub reversed : turned.waiting.items ≡ reverse condensed.waiting.items
+    pub placed : Arena D
+    pub places : SettlesInTurn turned placed
+    pub none_left : placed.waiting.items ≡ []
+    pub gives_way : GivesWay placed new
+
   -- the row with the id and the box is out of the tree, and each other row in it; where its leaf was the root or had
   -- cells to spare, no other row moved
   pub record Removes (old new : Arena D) (id : ℤ) (rect : List Interval) : Type 0 where
@@ -44,6 +62,7 @@ module _ {D : ℕ} where
     pub capacity : new.capacity ≡ old.capacity
     pub room : new.nodes.capacity ≡ old.nodes.capacity
     pub waiting_room : vec_capacity new.waiting ≡ vec_capacity old.waiting
+    pub steps : RemovesInSteps old new id rect
     pub exact : (leaf : ℕ) → leaf_of int_eq old.leaves id ≡ Some leaf →
         (leaf ≢ old.root → suc (least_fill old.capacity) ≤ length (cells_at old.nodes leaf)) →
         (at : ℕ) × LeavesLeaf old new leaf at record { number = id; rect = rect }

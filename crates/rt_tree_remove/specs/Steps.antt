@@ -1,7 +1,7 @@
 -- The steps of a removal, and the trees between them: a cell leaves its leaf, nodes that are too thin then leave
 -- the tree and their cells wait, and a root with one child gives way (Guttman 1984, section 3.3; that the waiting
 -- cells are placed before the root gives way is own).
-use Rattle.std.specs.Prelude.{◌≡◌, ◌≢◌, ℕ, suc, ◌+◌, ◌-◌, ◌*◌, ◌<◌, ◌≤◌, Bool, ℤ, List, length, map, remove, slice_get, slice_set, slice_index_or, if◌then◌else◌, None, Some, All, Contains, vec_len, vec_capacity}
+use Rattle.std.specs.Prelude.{◌≡◌, ◌≢◌, ℕ, suc, ◌+◌, ◌-◌, ◌*◌, ◌<◌, ◌≤◌, Bool, ℤ, List, length, take, remove, slice_get, slice_set, slice_index_or, if◌then◌else◌, None, Some, All, Contains, vec_len, vec_capacity}
 use Rattle.std.specs.Ordering.{int_eq}
 use Rattle.slab.specs.Slab.{Slab, get}
 use Rattle.indexmap.specs.IndexMap.{IndexMap, get as leaf_of, spare, index_map_len}
@@ -18,6 +18,7 @@ use Rattle.rt_tree_node.specs.Changes.{Changes}
 use Rattle.rt_tree_node.specs.Homes.{KeepsIds}
 use Rattle.rt_tree_node.specs.Path.{KeepsShape}
 use Rattle.rt_tree_place.specs.Steps.{HasLeastBox}
+use Rattle.rt_tree_insert.specs.Settling.{PlacesInTurn}
 use Rattle.rt_tree_remove.specs.Above.{way_up}
 
 module _ {S : Type 0} where
@@ -34,15 +35,6 @@ module _ {D : ℕ} where
     pub within : at < length cells
     pub names : (d : Cell D) → key_of (slice_index_or cells at d) ≡ key
 
-  -- the parent's cell for the node has the least box around the node's cells
-  pub record Refits (old new : Slab (NodeCells D)) (key parent at : ℕ) : Type 0 where
-    pub place : IsNamedAt (cells_at old parent) key at
-    pub cell : Cell D
-    pub number : (d : Cell D) → cell.number ≡ (slice_index_or (cells_at old parent) at d).number
-    pub rect : cell.rect ≡ hull_at old key
-    pub is_box : IsBox D cell.rect
-    pub change : Changes (λ n. record n { cells = slice_set n.cells at cell }) old new parent
-
   -- the node left the slab, and its cell left the parent
   pub record Dissolves (old new : Slab (NodeCells D)) (key parent at : ℕ) : Type 0 where
     pub place : IsNamedAt (cells_at old parent) key at
@@ -52,10 +44,6 @@ module _ {D : ℕ} where
     pub cells : (k : ℕ) → k ≢ key → k ≢ parent → cells_at new k ≡ cells_at old k
     pub shorter : cells_at new parent ≡ remove (cells_at old parent) at
     pub room : new.capacity ≡ old.capacity
-
-  -- cells as they wait for a node of a level
-  abbrev pub waiting_at : ℕ → List (Cell D) → List (Waiting D)
-  waiting_at l cells = map (λ c. record { level = l; cell = c }) cells
 
   -- sound, but that the node at the key lost a cell and may have one too few, and that the cell above it may have
   -- another box; what waits belongs below it
@@ -157,6 +145,12 @@ module _ {D : ℕ} where
     pub level : new.level ≡ old.level
     pub capacity : new.capacity ≡ old.capacity
 
+  -- waiting cells placed one after the other, each by itself, the last first: no level is marked before
+  pub data SettlesInTurn (old : Arena D) : Arena D → Type 0 where
+    none : SettlesInTurn old old
+    next : {t u : Arena D} {base marks : ℕ} → SettlesInTurn old t → suc base ≡ length t.waiting.items → PlacesInTurn t u marks →
+        u.waiting.items ≡ take base t.waiting.items → SettlesInTurn old u
+
   -- some of the waiting cells were placed, the last first
   pub record Places (old new : Arena D) : Type 0 where
     pub whole : IsWhole new
@@ -169,3 +163,4 @@ module _ {D : ℕ} where
     pub fewer : vec_len new.waiting ≤ vec_len old.waiting
     pub branched : IsBranched old → IsBranched new
     pub still : vec_len old.waiting ≡ 0 → new ≡ old
+    pub turns : SettlesInTurn old new

@@ -8,7 +8,7 @@ ghost use Rattle.rt_box.specs.Capacity.{least_fill};
 ghost use Rattle.rt_tree_node.specs.Places.{level_at, parent_at};
 ghost use Rattle.rt_tree_remove.specs.Steps.{IsSoundBut, Rests, Condenses};
 
-use crate::refit::climb;
+use crate::climb::climb;
 use rt_tree_node::{Arena, node_at};
 use rt_tree_place::has_least_box;
 
@@ -22,7 +22,7 @@ fn is_condensed<const D: usize>(tree: &Arena<D>, key: usize, parent: usize) -> b
     if node_at(&tree.nodes, key).len() < tree.capacity.least() {
         return false;
     }
-    has_least_box(&tree.nodes, parent, key)
+    has_least_box(&tree.nodes, key, parent)
 }
 
 /// Takes out the nodes from the leaf up that have too few cells, and fits the boxes of the others.

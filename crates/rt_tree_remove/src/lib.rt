@@ -8,10 +8,10 @@
 //! `Steps.antt`, `Above.antt`.
 #![tactic(auto)]
 
+mod climb;
 mod condense;
 mod find;
 mod give_way;
-mod refit;
 mod remove;
 mod settle;
 mod take;

@@ -46,6 +46,7 @@ climb-requires g c =
     let old = c.requires.room in
     let cap = keeps.waiting_room in
     let room : (least_fill t.capacity - 1) * t.level ≤ vec_capacity t.waiting = omega arith in
+    let keys : t.nodes.capacity ≤ 2 ^ 62 = omega (arith, keeps.room, c.requires.keys) in
     search rules
 
 pub loop-parent-preserved : goal.loop-parent-preserved

@@ -3,31 +3,16 @@
 //! Either the node has enough cells and the box above it is fitted, or the node leaves the tree and its cells wait
 //! (`Climbs` in `specs/Steps.antt`).
 
-ghost use Rattle.std.specs.Prelude.{◌≡◌, ◌≢◌, ℕ, ◌+◌, ◌-◌, ◌*◌, ◌<◌, ◌≤◌, ◌++◌, length, vec_len, vec_capacity};
+ghost use Rattle.std.specs.Prelude.{◌≡◌, ◌≢◌, ℕ, ◌+◌, ◌-◌, ◌*◌, ◌^◌, ◌<◌, ◌≤◌, ◌++◌, length, vec_len, vec_capacity};
 ghost use Rattle.slab.specs.Slab.{get, ContainsKey};
 ghost use Rattle.rt_box.specs.Capacity.{least_fill};
-ghost use Rattle.rt_tree_node.specs.Places.{times_named, cells_at, parent_at};
-ghost use Rattle.rt_tree_remove.specs.Steps.{Refits, Dissolves, IsSoundBut, Climbs, waiting_at};
+ghost use Rattle.rt_tree_node.specs.Places.{times_named, cells_at, parent_at, waiting_at};
+ghost use Rattle.rt_tree_remove.specs.Steps.{Dissolves, IsSoundBut, Climbs};
 
 use crate::find::place_of_child;
-use rt_tree_node::{Arena, Node, Waiting, hull_at, node_at, remove_cell, set_cell};
+use rt_tree_node::{Arena, Node, Waiting, node_at, remove_cell};
+use rt_tree_place::refit;
 use slab::Slab;
-
-/// Gives the parent's cell for the node the least box around the node's cells.
-pub(crate) fn refit<const D: usize>(nodes: &mut Slab<Node<D>>, key: usize, parent: usize)
-    requires here { ContainsKey nodes.old key }
-    requires above { ContainsKey nodes.old parent }
-    requires named { 0 < times_named key (cells_at nodes.old parent) }
-    requires some { 0 < length (cells_at nodes.old key) }
-    ensures { (at : ℕ) × Refits nodes.old nodes.new key parent at }
-{
-    let rect = hull_at(nodes, key);
-    let above = node_at(nodes, parent);
-    let at = place_of_child(above.numbers(), key);
-    let mut cell = above.cell(at);
-    cell.rect = rect;
-    set_cell(nodes, parent, at, &cell);
-}
 
 /// Takes the node out of the slab, and the cell that names it out of the parent.
 pub(crate) fn take_out<const D: usize>(
@@ -65,6 +50,7 @@ pub(crate) fn await_places<const D: usize>(waiting: &mut Vec<Waiting<D>>, node: 
 pub(crate) fn climb<const D: usize>(tree: &mut Arena<D>, key: usize, parent: usize)
     requires but { IsSoundBut tree.old key }
     requires up { parent_at tree.old.nodes key ≡ Some parent }
+    requires keys { tree.old.nodes.capacity ≤ 2 ^ 62 }
     requires room { (least_fill tree.old.capacity - 1) * tree.old.level ≤ vec_capacity tree.old.waiting }
     ensures { Climbs tree.old tree.new key parent }
 {

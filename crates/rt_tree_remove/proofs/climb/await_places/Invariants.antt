@@ -1,6 +1,6 @@
 use Rattle.std.proofs.Common.{◌≡◌, ◌++◌, take, vec_capacity}
-use Rattle.rt_tree_remove.specs.Steps.{waiting_at}
-use Rattle.rt_tree_remove.proofs.refit.await_places.Given as goal
+use Rattle.rt_tree_node.specs.Places.{waiting_at}
+use Rattle.rt_tree_remove.proofs.climb.await_places.Given as goal
 
 abbrev pub invariant-loop-at : goal.invariant-loop-at
 invariant-loop-at g l =

@@ -1,7 +1,7 @@
 use Rattle.std.proofs.Common.{◌≡◌, is_some, ap, sym, ◌∙◌, rules}
 use Rattle.slab.specs.Slab.{get, ContainsKey}
 use Rattle.rt_tree_remove.proofs.Changed.{taken-out}
-use Rattle.rt_tree_remove.proofs.refit.take_out.Goals as goal
+use Rattle.rt_tree_remove.proofs.climb.take_out.Goals as goal
 
 pub remove-requires : goal.remove-requires
 remove-requires g c =

@@ -1,0 +1,37 @@
+use Rattle.std.proofs.Common.{◌≡◌, ◌-◌, ◌<◌, length, vec_len, refl, ap, ◌∙◌, arith}
+use Rattle.std.proofs.lemmas.List.{length-take}
+use Rattle.rt_tree_remove.specs.Steps.{SettlesInTurn}
+use Rattle.rt_tree_remove.proofs.Placed.{some-wait}
+use Rattle.rt_tree_remove.proofs.settle.place_waiting.Goals as goal
+
+pub loop-tree-init : goal.loop-tree-init
+loop-tree-init g c = record {
+  whole = c.requires.whole;
+  rows = λ test. refl;
+  ids = record { ids = refl; len = refl; room = refl };
+  capacity = refl;
+  room = refl;
+  waiting_room = omega arith;
+  fewer = omega arith;
+  branched = λ h. h;
+  still = λ none. refl;
+  turns = SettlesInTurn.none;
+}
+
+pub loop-tree-preserved : goal.loop-tree-preserved
+loop-tree-preserved g c =
+    let p = c.loop-tree.invariant in
+    let s = c.settle.ensures.settles in
+    let some : 0 < vec_len c.loop-tree.tree.waiting = some-wait (vec_len c.loop-tree.tree.waiting) c.is_empty.result c.is_empty.ensures c.loop-tree-test.true in
+    record {
+      whole = s.whole;
+      rows = λ test. s.rows test ∙ p.rows test;
+      ids = record { ids = s.ids.ids ∙ p.ids.ids; len = s.ids.len ∙ p.ids.len; room = s.ids.room ∙ p.ids.room };
+      capacity = s.capacity ∙ p.capacity;
+      room = s.room ∙ p.room;
+      waiting_room = omega (arith, s.waiting_room, p.waiting_room);
+      fewer = omega (arith, ap (λ ws. length ws) s.waiting, length-take (c.len-base.result - 1) c.loop-tree.tree.waiting.items, p.fewer);
+      branched = λ h. s.branched (p.branched h);
+      still = λ none. absurd (omega (arith, p.fewer, some, none));
+      turns = SettlesInTurn.next p.turns (omega (arith, c.len-base.ensures, some)) c.settle.ensures.turns.1 s.waiting;
+    }
