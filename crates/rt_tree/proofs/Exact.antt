@@ -162,16 +162,16 @@ module _ {D : ℕ} where
 
       halves-root : HalvesRoot (outside t) (outside u) (outer cell)
       halves-root = record {
-        cut = h.cut;
-        best = subst (λ (bs : List (List Interval)). IsBestCut D bs t.capacity h.cut) (sym all-boxes) h.best;
+        cut = h.parts.cut;
+        best = subst (λ (bs : List (List Interval)). IsBestCut D bs t.capacity h.parts.cut) (sym all-boxes) h.parts.best;
         height = root-high u s1 ∙ h.height;
         count = length-map (tree_keys u) (row u s1 (tree_keys u) (number u) (numbering u s1)) ∙ ap length keys-are;
-        first = ap (cells_of_number (outside u).nodes) (sym number-first) ∙ cells-read u s1 first 0 first-low ∙ ap (map outer) h.first_cells
-            ∙ group (first_group (rects (cells_at t.nodes t.root ++ cell ∷ [])) h.cut) (first_group (boxes_in (overfull (outside t) (outer cell))) h.cut)
-            (ap (λ bs. first_group bs h.cut) all-boxes);
-        second = ap (cells_of_number (outside u).nodes) (sym number-second) ∙ cells-read u s1 second 0 second-low ∙ ap (map outer) h.second_cells
-            ∙ group (second_group (rects (cells_at t.nodes t.root ++ cell ∷ [])) h.cut) (second_group (boxes_in (overfull (outside t) (outer cell))) h.cut)
-            (ap (λ bs. second_group bs h.cut) all-boxes);
+        first = ap (cells_of_number (outside u).nodes) (sym number-first) ∙ cells-read u s1 first 0 first-low ∙ ap (map outer) h.parts.first_is
+            ∙ group (first_group (rects (cells_at t.nodes t.root ++ cell ∷ [])) h.parts.cut) (first_group (boxes_in (overfull (outside t) (outer cell))) h.parts.cut)
+            (ap (λ bs. first_group bs h.parts.cut) all-boxes);
+        second = ap (cells_of_number (outside u).nodes) (sym number-second) ∙ cells-read u s1 second 0 second-low ∙ ap (map outer) h.parts.second_is
+            ∙ group (second_group (rects (cells_at t.nodes t.root ++ cell ∷ [])) h.parts.cut) (second_group (boxes_in (overfull (outside t) (outer cell))) h.parts.cut)
+            (ap (λ bs. second_group bs h.parts.cut) all-boxes);
       }
 
     pub insertion : (id : ℤ) (rect : List Interval) (work : Work) → Inserts t u id rect work → IsInsertion (outside t) (outside u) id rect work
@@ -192,6 +192,19 @@ module _ {D : ℕ} where
           halves = λ flat full. let zero_level : t.level ≡ 0 = sym level ∙ flat in halves-root cell zero_level (i.halves zero_level (omega (arith, long, full)));
         } in
         record {
+          steps = record {
+            before = t;
+            shown_before = refl;
+            whole = s.whole;
+            idle = s.none;
+            awaiting = i.awaiting;
+            awaits = i.awaits;
+            after = u;
+            shown_after = refl;
+            none_waits = i.none_waits;
+            marks = i.marks;
+            turns = i.turns;
+          };
           takes = takes;
           takes_work = record {
             placements = i.placements;
@@ -210,6 +223,7 @@ module _ {D : ℕ} where
         let cell : Cell D = record { number = id; rect = rect } in
         let is = numbering t s in
         record {
+          steps = record { before = t; shown_before = refl; whole = s.whole; idle = s.none; after = u; shown_after = refl; steps = r.steps };
           leaf = number t k;
           entry = entry-some t id k e;
           leaves = λ h.

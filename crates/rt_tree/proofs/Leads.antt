@@ -1,5 +1,5 @@
 -- Ways in a settled tree, said of the tree from outside.
-use Rattle.std.proofs.Common.{◌≡◌, ◌≢◌, ℕ, zero, suc, ◌<◌, ℤ, List, [], ◌∷◌, length, map, Option, Some, None, nat_eq, slice_get, arith, refl, ap, sym, ◌∙◌, subst}
+use Rattle.std.proofs.Common.{◌≡◌, ◌≢◌, ℕ, zero, suc, ◌+◌, ◌<◌, ℤ, List, [], ◌∷◌, length, map, Option, Some, None, nat_eq, slice_get, arith, refl, ap, sym, ◌∙◌, subst}
 use Rattle.std.specs.Option.{option_map, option_map_or}
 use Rattle.std.proofs.lemmas.Option.{same_Some, none-some, slice_get-map, get_or_from_slice_get}
 use Rattle.rt_box.specs.declared.interval.Interval.{Interval}
@@ -30,7 +30,7 @@ module _ {D : ℕ} where
   boxes-back named l (c ∷ cs) = ap (λ b. b ∷ boxes_in (map (cell_row named l) cs)) (intervals-back c.rect) ∙ ap (λ bs. c.rect ∷ bs) (boxes-back named l cs)
 
   module _ (t : Arena D) (s : IsSettled t) where
-    pub leads-read : (l key : ℕ) (rect : List Interval) (leaf : ℕ) (path : List ℕ) → level_at t.nodes key ≡ Some l → LeadsDown t.nodes l key rect leaf path →
+    pub leads-read : (l key : ℕ) (rect : List Interval) (leaf : ℕ) (path : List ℕ) → level_at t.nodes key ≡ Some l → LeadsDown t.nodes 0 l key rect leaf path →
         LeadsTo (outside t).nodes l (number t key) rect (number t leaf) (map (number t) path)
     leads-read zero key rect leaf path e (is, path_is) = (ap (number t) is, ap (map (number t)) path_is)
     leads-read (suc l) key rect leaf path e (at, c, rest, best, found, path_is, more) =
@@ -43,7 +43,8 @@ module _ {D : ℕ} where
           at,
           cell_row (number t) (suc l) c,
           map (number t) rest,
-          subst (λ (bs : List (List Interval)). IsBestChild (nat_eq l 0) bs rect at) (sym boxes) best,
+          subst (λ (bs : List (List Interval)). IsBestChild (nat_eq l 0) bs rect at) (sym boxes)
+              (let same : 0 + l ≡ l = omega arith in subst (λ n. IsBestChild (nat_eq n 0) (rects (cells_at t.nodes key)) rect at) same best),
           ap (λ cs. slice_get cs at) cells ∙ slice_get-map (cell_row (number t) (suc l)) (cells_at t.nodes key) at ∙ ap (option_map (cell_row (number t) (suc l))) found,
           ap (map (number t)) path_is,
           leads-read l (key_of c) rect leaf rest low more,
@@ -73,7 +74,7 @@ module _ {D : ℕ} where
             ∙ sym (ap (λ o. option_map_or (way_up (outside t).nodes n) o []) (read ∙ ap (option_map (number t)) q))
 
     -- the leaf that the way leads to
-    pub leads-low : (l key : ℕ) (rect : List Interval) (leaf : ℕ) (path : List ℕ) → level_at t.nodes key ≡ Some l → LeadsDown t.nodes l key rect leaf path → level_at t.nodes leaf ≡ Some 0
+    pub leads-low : (l key : ℕ) (rect : List Interval) (leaf : ℕ) (path : List ℕ) → level_at t.nodes key ≡ Some l → LeadsDown t.nodes 0 l key rect leaf path → level_at t.nodes leaf ≡ Some 0
     leads-low zero key rect leaf path e (is, path_is) = ap (level_at t.nodes) is ∙ e
     leads-low (suc l) key rect leaf path e (at, c, rest, best, found, path_is, more) =
         let inside = within (cells_at t.nodes key) at c found in

@@ -8,7 +8,13 @@ use Rattle.rt_check.specs.Shadow.{ShadowLists}
 use Rattle.rt_check.specs.Conditions.{entry_of}
 use Rattle.rt_tree_choice.specs.declared.split.Cut.{Cut}
 use Rattle.rt_tree_choice.specs.Split.{IsBestCut, first_group, second_group}
+use Rattle.rt_tree_node.specs.declared.arena.Arena.{Arena}
 use Rattle.rt_tree_node.specs.declared.arena.Work.{Work}
+use Rattle.rt_tree_node.specs.Whole.{IsWhole}
+use Rattle.rt_tree_insert.specs.Awaiting.{AwaitsLeaf}
+use Rattle.rt_tree_insert.specs.Settling.{PlacesInTurn}
+use Rattle.rt_tree_remove.specs.Removal.{RemovesInSteps}
+use Rattle.rt_tree_walk.specs.Outside.{outside}
 use Rattle.rt_tree_walk.specs.InOrder.{cells_of_number}
 use Rattle.rt_tree.specs.Lists.{root_level}
 use Rattle.rt_tree.specs.Way.{boxes_in, cell_with, LeadsTo, JoinsLeaf, LeavesLeaf}
@@ -54,13 +60,41 @@ module _ {D : ℕ} where
     pub none : work.reinsertions ≡ 0 ↔ ((length (cells_of_number old.nodes leaf) < old.capacity) ⊎ (root_level old ≡ 0))
     pub plain : work.reinsertions ≡ 0 → root_level new ≡ root_level old + work.splits
 
-  -- a row is taken, with so much work
+  -- The steps of an insertion, on the nodes that the lists show: the row waits for a leaf, and the cells that wait are
+  -- placed in turn.
+  pub record InsertsInSteps (old new : ShadowLists D) (id : ℤ) (rect : List Interval) : Type 0 where
+    pub before : Arena D
+    pub shown_before : outside before ≡ old
+    pub whole : IsWhole before
+    pub idle : before.waiting.items ≡ []
+    pub awaiting : Arena D
+    pub awaits : AwaitsLeaf before awaiting record { number = id; rect = rect }
+    pub after : Arena D
+    pub shown_after : outside after ≡ new
+    pub none_waits : after.waiting.items ≡ []
+    pub marks : ℕ
+    pub turns : PlacesInTurn awaiting after marks
+
+  -- a row is taken, with so much work, step by step
   pub record IsInsertion (old new : ShadowLists D) (id : ℤ) (rect : List Interval) (work : Work) : Type 0 where
+    pub steps : InsertsInSteps old new id rect
     pub takes : TakesRow old new id rect
     pub takes_work : TakesWork old new takes.leaf work
 
-  -- where the row's leaf was the root or had cells to spare, the row's cell left it, and no other row moved
+  -- the steps of a removal, on the nodes that the lists show
+  pub record TakesOutInSteps (old new : ShadowLists D) (id : ℤ) (rect : List Interval) : Type 0 where
+    pub before : Arena D
+    pub shown_before : outside before ≡ old
+    pub whole : IsWhole before
+    pub idle : before.waiting.items ≡ []
+    pub after : Arena D
+    pub shown_after : outside after ≡ new
+    pub steps : RemovesInSteps before after id rect
+
+  -- a row is taken out, step by step; where its leaf was the root or had cells to spare, its cell left the leaf, and no
+  -- other row moved
   pub record IsRemoval (old new : ShadowLists D) (id : ℤ) (rect : List Interval) : Type 0 where
+    pub steps : TakesOutInSteps old new id rect
     pub leaf : ℤ
     pub entry : entry_of old.rows id ≡ Some record { id = id; leaf = leaf }
     pub leaves : (leaf ≡ old.root) ⊎ (least_fill old.capacity < length (cells_of_number old.nodes leaf)) →

@@ -5,7 +5,8 @@
 //! their cells, and an entry for each row.
 //!
 //! - `insert` and `remove` take no memory and don't fail: `reserve` made the room. Of each other row they say that it
-//!   stays, and where no node overflows or gets thin, that no other row moves.
+//!   stays, and where no node overflows or gets thin, that no other row moves. Each step is named: where best children
+//!   lead each cell that is placed, which cells an overfull node gives up, and by which cut one is split.
 //! - `is_in_shape`, `has_boxes` and `is_small` hold of each tree, whatever was done to it: the checker finds no problem,
 //!   each cell has a box, and there are few nodes and few levels.
 //! - `search` lists the rows that a window admits, and counts the nodes that it went into.

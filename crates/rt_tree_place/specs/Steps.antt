@@ -255,8 +255,8 @@ module _ {D : ℕ} where
     pub waiting_room : vec_capacity new.waiting ≡ vec_capacity old.waiting
     pub top : length (cells_at old.nodes old.root) ≤ length (cells_at new.nodes new.root)
 
-  -- a step up to the parent, which may now be out of shape, and alone: the cell that names the node has the least box.
-  -- The cells of other nodes are the same; where the node wasn't overfull, only that box changed
+  -- a step up: the parent alone may be out of shape now. The cell that names the node has the least box, and the cells
+  -- of other nodes are the same; where the node wasn't overfull, only that box changed
   pub record Lifts (old new : Arena D) (key parent marks marks1 : ℕ) (work work1 : Work) : Type 0 where
     pub next : IsRising new parent
     pub parent_is : parent_at old.nodes key ≡ Some parent
