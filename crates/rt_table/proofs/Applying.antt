@@ -1,11 +1,14 @@
 -- The steps that a statement answers apply to the rows of its table.
-use Rattle.std.proofs.Common.{◌≡◌, ◌∙◌, ℕ, ℤ, Bool, true, false, cond, not, ◌&&◌, ◌||◌, List, [], ◌∷◌, ◌++◌, map, length, Option, Some, None, Result, Ok, Err, IfOk, refl, sym, ap, subst}
+use Rattle.std.proofs.Common.{◌≡◌, ◌∙◌, ℕ, ◌+◌, ◌*◌, ◌-◌, ℤ, Bool, true, false, cond, not, ◌&&◌, ◌||◌, List, [], ◌∷◌, ◌++◌, map, drop, length, Option, Some, None, Result, Ok, Err, IfOk, refl, sym, ap, subst}
 use Rattle.std.specs.Prelude.{◌<ℤ◌, find, filter, is_some, nat_le, ◌==◌, if◌then◌else◌}
 use Rattle.std.specs.List.{AllByRecursion, list_any, list_all}
 use Rattle.std.specs.Ordering.{int_eq}
 use Rattle.std.proofs.lemmas.Bool.{leb-false}
+use Rattle.std.proofs.lemmas.List.{length-map, length-drop}
+use Rattle.std.proofs.lemmas.List.Elements.{All-from_recursion}
 use Rattle.rt_sql_statement.specs.declared.value.Value.{Value}
 use Rattle.rt_sql_statement.specs.declared.statement.Edit.TheVariants.{Insert, Update, Delete}
+use Rattle.rt_sql_statement.specs.declared.statement.Edit.{Edit}
 use Rattle.rt_sql_statement.specs.declared.statement.Rule.{Rule}
 use Rattle.rt_sql_statement.specs.declared.statement.Rule.TheVariants.{Abort, Replace, Ignore}
 use Rattle.rt_sql_statement.specs.declared.statement.Test.{Test}
@@ -13,13 +16,14 @@ use Rattle.rt_sql_statement.specs.declared.refusal.Refusal.{Refusal}
 use Rattle.rt_sql_statement.specs.declared.refusal.Refusal.TheVariants.{BadColumnList, NoSuchColumn, WrongNumberOfValues, WrongType, IntegerOutOfRange, IdAlreadyTaken, MinimumAboveMaximum, TableFull}
 use Rattle.rt_table_row.specs.Columns.{Columns, has_name, are_distinct}
 use Rattle.rt_table_row.specs.Conditions.{has_columns, holds, picked}
-use Rattle.rt_table_row.specs.Candidates.{Candidate, candidate_of, is_integer, id_value, coordinate_values}
+use Rattle.rt_table_row.specs.Candidates.{Candidate, candidate_of, is_id, is_integer, id_in, number_in, fits_bits, id_value, coordinate_values, box_of, is_ordered}
 use Rattle.rt_table_row.specs.Rows.{TableRow, values_of, AreRising, has_id, with_row, without_id}
-use Rattle.rt_table_row.specs.Edits.{Step, Leaves, Comes, Becomes, Steps, after_step, outcome, and_then, Setting, row_of, put_taken, put_at, id_or_new, unless_ignored, put, put_all, steps_and, arranged, listed_columns, insert, delete, update, update_all, update_row, becomes, become_candidate, new_values, is_summable, sum_fits, columns_read}
+use Rattle.rt_table_row.specs.Edits.{Step, Leaves, Comes, Becomes, Steps, after_step, outcome, and_then, Setting, row_of, put_taken, put_at, id_or_new, unless_ignored, put, put_all, steps_and, arranged, listed_columns, insert, delete, update, steps_of, update_all, update_row, becomes, become_candidate, new_values, is_summable, sum_fits, columns_read}
 use Rattle.rt_table_store.proofs.Order.{eq_same, eq_below}
 use Rattle.rt_table_store.proofs.Sorted.{at_key-taken, at_key-placed, Rises, rises}
 use Rattle.rt_table_plan.specs.Plans.{Plans}
-use Rattle.rt_table.specs.Preparing.{ApplyInTurn}
+use Rattle.rt_table.specs.Preparing.{ApplyInTurn, ApplyTo, FitsColumns}
+use Rattle.rt_table.proofs.Showing.{if_ok}
 use Rattle.rt_table.specs.Applying.{StepsApply}
 
 -- ---- which ids there are
@@ -236,10 +240,145 @@ apply-update columns rows sets cond rise =
     (λ right. of_choice (ApplyInTurn rows) (not known) (Err NoSuchColumn) steps (λ wrong. tt)
     (λ right. apply-update_all columns rows sets (picked columns cond rows) (stand-filter (holds columns cond) rows rows (stand rows (rises (λ r. r.id) rows rise)))))
 
+in_turn : (columns : Columns) (rows : List TableRow) → AreRising rows → (edit : Edit) → IfOk (steps_of edit columns rows) (ApplyInTurn rows)
+in_turn columns rows rise (Insert rule listed lists) = apply-insert columns rows rule listed lists
+in_turn columns rows rise (Update sets cond) = apply-update columns rows sets cond rise
+in_turn columns rows rise (Delete cond) = apply-delete columns rows cond rise
+
+-- ---- columns
+
+abbrev Fit : Columns → List Step → Type 0
+Fit columns steps = AllByRecursion (FitsColumns columns) steps
+
+candidate_auxiliary : (axes : ℕ) (values : List Value) → IfOk (candidate_of axes values) (λ c. c.auxiliary ≡ drop (1 + 2 * axes) values)
+candidate_auxiliary axes values =
+    let numbers = map number_in (coordinate_values axes values) in
+    let made : Result Candidate Refusal = Ok (record { id = id_in (id_value values); box = box_of numbers; auxiliary = drop (1 + 2 * axes) values }) in
+    let ordered : Result Candidate Refusal = if not (is_ordered (box_of numbers)) then Err MinimumAboveMaximum else made in
+    let fitting : Result Candidate Refusal = if not (list_all (fits_bits 31) numbers) then Err IntegerOutOfRange else ordered in
+    of_choice (λ (c : Candidate). c.auxiliary ≡ drop (1 + 2 * axes) values) (not (is_id (id_value values) && list_all is_integer (coordinate_values axes values))) (Err WrongType) fitting (λ wrong. tt)
+    (λ right. of_choice (λ (c : Candidate). c.auxiliary ≡ drop (1 + 2 * axes) values) (not (list_all (fits_bits 31) numbers)) (Err IntegerOutOfRange) ordered (λ wrong. tt)
+    (λ right. of_choice (λ (c : Candidate). c.auxiliary ≡ drop (1 + 2 * axes) values) (not (is_ordered (box_of numbers))) (Err MinimumAboveMaximum) made (λ wrong. tt) (λ right. refl)))
+
+fit_both : (columns : Columns) (steps more : List Step) → Fit columns steps → Fit columns more → Fit columns (steps ++ more)
+fit_both columns [] more first later = later
+fit_both columns (step ∷ steps) more first later = (first.0, fit_both columns steps more first.1 later)
+
+module _ (columns : Columns) where
+  abbrev auxiliary_long : List Value → Type 0
+  auxiliary_long values = length values ≡ length (drop (1 + 2 * columns.axes) columns.names)
+
+  -- as many values as columns, and so as many auxiliary ones as auxiliary columns
+  candidate_fits : (values : List Value) → length values ≡ length columns.names → IfOk (candidate_of columns.axes values) (λ c. auxiliary_long c.auxiliary)
+  candidate_fits values long =
+      if_ok (λ (c : Candidate). c.auxiliary ≡ drop (1 + 2 * columns.axes) values) (λ (c : Candidate). auxiliary_long c.auxiliary) (candidate_of columns.axes values)
+      (λ c is. ap length is ∙ length-drop (1 + 2 * columns.axes) values ∙ ap (λ (n : ℕ). n - (1 + 2 * columns.axes)) long ∙ sym (length-drop (1 + 2 * columns.axes) columns.names))
+      (candidate_auxiliary columns.axes values)
+
+  fit-put_taken : (rule : Rule) (id : ℤ) (c : Candidate) → auxiliary_long c.auxiliary → IfOk (put_taken rule id c) (Fit columns)
+  fit-put_taken Replace id c fits = (fits, tt)
+  fit-put_taken Abort id c fits = tt
+  fit-put_taken Ignore id c fits = tt
+
+  fit-put_at : (rule : Rule) (rows : List TableRow) (c : Candidate) (id : Option ℤ) → auxiliary_long c.auxiliary → IfOk (put_at rule rows c id) (Fit columns)
+  fit-put_at rule rows c None fits = tt
+  fit-put_at rule rows c (Some id) fits =
+      of_choice (Fit columns) (has_id rows id) (put_taken rule id c) (if nat_le 1048576 (length rows) then Err TableFull else Ok (Comes (row_of id c) ∷ []))
+      (λ there. fit-put_taken rule id c fits)
+      (λ new. of_choice (Fit columns) (nat_le 1048576 (length rows)) (Err TableFull) (Ok (Comes (row_of id c) ∷ [])) (λ full. tt) (λ room. (fits, tt)))
+
+  fit-unless_ignored : (rule : Rule) (steps : Steps) → IfOk steps (Fit columns) → IfOk (unless_ignored rule steps) (Fit columns)
+  fit-unless_ignored Abort (Ok steps) fit = fit
+  fit-unless_ignored Abort (Err refusal) fit = tt
+  fit-unless_ignored Replace (Ok steps) fit = fit
+  fit-unless_ignored Replace (Err refusal) fit = tt
+  fit-unless_ignored Ignore (Ok steps) fit = fit
+  fit-unless_ignored Ignore (Err IdAlreadyTaken) fit = tt
+  fit-unless_ignored Ignore (Err MinimumAboveMaximum) fit = tt
+  fit-unless_ignored Ignore (Err _) fit = tt
+
+  fit-put : (rule : Rule) (rows : List TableRow) (values : List Value) → length values ≡ length columns.names → IfOk (put columns.axes rule rows values) (Fit columns)
+  fit-put rule rows values long =
+      fit-unless_ignored rule (and_then (candidate_of columns.axes values) (λ c. put_at rule rows c (id_or_new rows c.id)))
+      (of_next (λ (c : Candidate). auxiliary_long c.auxiliary) (Fit columns) (candidate_of columns.axes values) (λ c. put_at rule rows c (id_or_new rows c.id)) (candidate_fits values long)
+      (λ c fits. fit-put_at rule rows c (id_or_new rows c.id) fits))
+
+  fit-put_all : (rule : Rule) (rows : List TableRow) (lists : List (List Value)) → AllByRecursion (λ (values : List Value). length values ≡ length columns.names) lists
+      → IfOk (put_all columns.axes rule rows lists) (Fit columns)
+  fit-put_all rule rows [] long = tt
+  fit-put_all rule rows (values ∷ lists) long =
+      of_next (Fit columns) (Fit columns) (put columns.axes rule rows values) (λ steps. steps_and steps (put_all columns.axes rule (outcome rows steps) lists)) (fit-put rule rows values long.0)
+      (λ steps fit. of_next (Fit columns) (Fit columns) (put_all columns.axes rule (outcome rows steps) lists) (λ more. Ok (steps ++ more)) (fit-put_all rule (outcome rows steps) lists long.1)
+      (λ more later. fit_both columns steps more fit later))
+
+  arranged_long : (names : List (List ℕ)) (lists : List (List Value)) → AllByRecursion (λ (values : List Value). length values ≡ length columns.names) (map (arranged columns.names names) lists)
+  arranged_long names [] = tt
+  arranged_long names (values ∷ lists) = (length-map _ _, arranged_long names lists)
+
+  fit-insert : (rows : List TableRow) (rule : Rule) (listed : Option (List (List ℕ))) (lists : List (List Value)) → IfOk (insert columns rows rule listed lists) (Fit columns)
+  fit-insert rows rule listed lists =
+      let names = listed_columns columns listed in
+      let steps : Steps = put_all columns.axes rule rows (map (arranged columns.names names) lists) in
+      let long : Steps = if not (list_all (λ values. length values == length names) lists) then Err WrongNumberOfValues else steps in
+      let known : Steps = if not (list_all (has_name columns.names) names) then Err NoSuchColumn else long in
+      of_choice (Fit columns) (not (are_distinct names)) (Err BadColumnList) known (λ wrong. tt)
+      (λ right. of_choice (Fit columns) (not (list_all (has_name columns.names) names)) (Err NoSuchColumn) long (λ wrong. tt)
+      (λ right. of_choice (Fit columns) (not (list_all (λ values. length values == length names) lists)) (Err WrongNumberOfValues) steps (λ wrong. tt)
+      (λ right. fit-put_all rule rows (map (arranged columns.names names) lists) (arranged_long names lists))))
+
+  fit-leaves : (rows : List TableRow) → Fit columns (map (λ row. Leaves row.id) rows)
+  fit-leaves [] = tt
+  fit-leaves (row ∷ rows) = (tt, fit-leaves rows)
+
+  fit-become_candidate : (now : List TableRow) (old : ℤ) (c : Candidate) (id : Option ℤ) → auxiliary_long c.auxiliary → IfOk (become_candidate now old c id) (Fit columns)
+  fit-become_candidate now old c None fits = tt
+  fit-become_candidate now old c (Some id) fits =
+      of_choice (Fit columns) (not (int_eq old id) && has_id now id) (Err IdAlreadyTaken) (Ok (Becomes old (row_of id c) ∷ [])) (λ taken. tt) (λ none. (fits, tt))
+
+  fit-update_row : (now : List TableRow) (sets : List Setting) (row : TableRow) → IfOk (update_row columns now sets row) (Fit columns)
+  fit-update_row now sets row =
+      let old = values_of row in
+      let new = new_values columns.names old sets in
+      let done : Steps = and_then (candidate_of columns.axes new) (λ c. become_candidate now row.id c c.id) in
+      let summed : Steps = if not (list_all (λ set. sum_fits columns.names old set.1) sets) then Err IntegerOutOfRange else done in
+      let typed : Steps = if not (is_integer (id_value new) && list_all is_integer (coordinate_values columns.axes new)) then Err WrongType else summed in
+      of_choice (Fit columns) (not (list_all (λ set. is_summable columns.names old set.1) sets)) (Err WrongType) typed (λ wrong. tt)
+      (λ right. of_choice (Fit columns) (not (is_integer (id_value new) && list_all is_integer (coordinate_values columns.axes new))) (Err WrongType) summed (λ wrong. tt)
+      (λ right. of_choice (Fit columns) (not (list_all (λ set. sum_fits columns.names old set.1) sets)) (Err IntegerOutOfRange) done (λ wrong. tt)
+      (λ right. of_next (λ (c : Candidate). auxiliary_long c.auxiliary) (Fit columns) (candidate_of columns.axes new) (λ c. become_candidate now row.id c c.id) (candidate_fits new (length-map _ _))
+      (λ c fits. fit-become_candidate now row.id c c.id fits))))
+
+  fit-update_all : (now : List TableRow) (sets : List Setting) (rows : List TableRow) → IfOk (update_all columns now sets rows) (Fit columns)
+  fit-update_all now sets [] = tt
+  fit-update_all now sets (row ∷ rows) =
+      of_next (Fit columns) (Fit columns) (update_row columns now sets row) (λ steps. steps_and steps (update_all columns (outcome now steps) sets rows)) (fit-update_row now sets row)
+      (λ steps fit. of_next (Fit columns) (Fit columns) (update_all columns (outcome now steps) sets rows) (λ more. Ok (steps ++ more)) (fit-update_all (outcome now steps) sets rows)
+      (λ more later. fit_both columns steps more fit later))
+
+  fit-update : (rows : List TableRow) (sets : List Setting) (cond : List Test) → IfOk (update columns rows sets cond) (Fit columns)
+  fit-update rows sets cond =
+      let names = map (λ (set : Setting). set.0) sets in
+      let known = list_all (has_name columns.names) names && list_all (λ (set : Setting). list_all (has_name columns.names) (columns_read set.1)) sets && has_columns columns cond in
+      let steps : Steps = update_all columns rows sets (picked columns cond rows) in
+      let listed : Steps = if not known then Err NoSuchColumn else steps in
+      of_choice (Fit columns) (not (are_distinct names)) (Err BadColumnList) listed (λ wrong. tt)
+      (λ right. of_choice (Fit columns) (not known) (Err NoSuchColumn) steps (λ wrong. tt)
+      (λ right. fit-update_all rows sets (picked columns cond rows)))
+
+  fit : (rows : List TableRow) (edit : Edit) → IfOk (steps_of edit columns rows) (Fit columns)
+  fit rows (Insert rule listed lists) = fit-insert rows rule listed lists
+  fit rows (Update sets cond) = fit-update rows sets cond
+  fit rows (Delete cond) = of_choice (Fit columns) (not (has_columns columns cond)) (Err NoSuchColumn) (Ok (map (λ row. Leaves row.id) (picked columns cond rows))) (λ wrong. tt)
+      (λ right. fit-leaves (picked columns cond rows))
+
+both_ok : {A : Type 0} (P Q R : A → Type 0) (r : Result A Refusal) → ((a : A) → P a → Q a → R a) → IfOk r P → IfOk r Q → IfOk r R
+both_ok P Q R (Ok a) next p q = next a p q
+both_ok P Q R (Err refusal) next p q = tt
+
 pub steps_apply : StepsApply
-steps_apply columns rows rise (Insert rule listed lists) = apply-insert columns rows rule listed lists
-steps_apply columns rows rise (Update sets cond) = apply-update columns rows sets cond rise
-steps_apply columns rows rise (Delete cond) = apply-delete columns rows cond rise
+steps_apply columns rows rise edit =
+    both_ok (ApplyInTurn rows) (Fit columns) (ApplyTo columns rows) (steps_of edit columns rows)
+    (λ steps apply fits. (apply, All-from_recursion (FitsColumns columns) steps fits)) (in_turn columns rows rise edit) (fit columns rows edit)
 
 -- what holds of the wanted steps holds of those of a plan
 pub planned : (P : List Step → Type 0) (wanted : Steps) (given : Result (List Step) Refusal) → Plans wanted given → IfOk wanted P → IfOk given P

@@ -4,6 +4,7 @@ pub mod Noting
 pub mod Refreshing
 pub mod Deltas
 pub mod Readying
+pub mod Touching
 pub mod Showing
 pub mod Replaying
 pub mod Applying

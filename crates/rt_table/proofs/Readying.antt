@@ -1,5 +1,5 @@
 -- A table that was made ready for a plan.
-use Rattle.std.proofs.Common.{◌≡◌, ◌≢◌, ap, ℕ, ◌≤◌, ℤ, Bool, true, false, cond, ◌||◌, List, [], ◌∷◌, map, length, Option, Some, refl, sym, subst}
+use Rattle.std.proofs.Common.{◌≡◌, ℕ, ◌≤◌, ℤ, Bool, true, false, cond, ◌||◌, List, [], ◌∷◌, map, Option, Some, refl, sym, subst}
 use Rattle.std.specs.Prelude.{AllPairs, ◌<ℤ◌, is_some}
 use Rattle.std.specs.List.{All, AllByRecursion, list_any}
 use Rattle.std.specs.List.Sorted.{IsStrictlySortedBy}
@@ -8,8 +8,6 @@ use Rattle.std.specs.declared.cmp.Ordering.TheVariants.{Less}
 use Rattle.std.specs.BTreeMap.{BTreeMap, keys, get}
 use Rattle.std.specs.Map.{keys_of, lookup}
 use Rattle.std.proofs.lemmas.Cmp.{int_ranked}
-use Rattle.std.proofs.lemmas.List.Elements.{All-map}
-use Rattle.indexmap.specs.IndexSet.{spare}
 use Rattle.rt_check.specs.Shadow.{ShadowLists}
 use Rattle.rt_table_row.specs.Columns.{Columns}
 use Rattle.rt_table_row.specs.Rows.{TableRow}
@@ -18,9 +16,9 @@ use Rattle.rt_table_row.specs.Views.{View, deltas}
 use Rattle.rt_table_store.proofs.Sorted.{Rises, rising}
 use Rattle.rt_table.specs.declared.watched.Watched.{Watched}
 use Rattle.rt_table.specs.declared.watched.Change.{Change}
-use Rattle.rt_table.specs.Held.{Held}
-use Rattle.rt_table.specs.Watching.{view_of, change_of}
-use Rattle.rt_table.specs.Preparing.{ApplyInTurn, places_all, auxiliary_rows_all, DifferAt, IsReady}
+use Rattle.rt_table.specs.Held.{Held, Awaited}
+use Rattle.rt_table.specs.Watching.{view_of, change_of, awaited_of}
+use Rattle.rt_table.specs.Preparing.{ApplyTo, places_all, auxiliary_rows_all, IsAwaited, IsReady}
 
 -- ---- the ids of a map
 
@@ -47,31 +45,30 @@ any_key (e ∷ entries) q = some_first (int_eq q e.0) _ e.1 _ (any_key entries q
 pub any_listed : {V : Type 0} (fates : BTreeMap ℤ V) (q : ℤ) → list_any (int_eq q) (keys fates) ≡ is_some (get int_cmp fates q)
 any_listed fates q = any_key fates.entries q
 
--- ---- room
+-- ---- ready for a plan
 
-abbrev made : {D : ℕ} → Columns → List TableRow → ShadowLists D → List View → ℕ → ℕ → List ℕ → List ℤ → List Change → Held D
-made columns rows tree views room auxiliary_room id_rooms touched changes = record {
+abbrev made : {D : ℕ} → Columns → List TableRow → ShadowLists D → List View → ℕ → ℕ → List Awaited → List Change → Held D
+made columns rows tree views room auxiliary_room awaited changes = record {
   lists = record { columns = columns; rows = rows; views = views };
   tree = tree;
   room = room;
   auxiliary_room = auxiliary_room;
-  id_rooms = id_rooms;
-  touched = touched;
+  awaited = awaited;
   staged = map change_of changes;
 }
 
-pub ready : {D : ℕ} (columns : Columns) (rows now : List TableRow) (tree : ShadowLists D) (views new : List Watched) (room auxiliary_room : ℕ) (touched : List ℤ) (changes : List Change) (steps : List Step) → now ≡ rows
-    → map view_of new ≡ map view_of views → ApplyInTurn rows steps → places_all steps ≤ room → auxiliary_rows_all steps ≤ auxiliary_room → (views ≢ [] → DifferAt touched rows (outcome rows steps)) → All (λ w. length touched ≤ spare w.ids) new
+pub ready : {D : ℕ} (columns : Columns) (rows now : List TableRow) (tree : ShadowLists D) (views new : List Watched) (room auxiliary_room : ℕ) (changes : List Change) (steps : List Step) → now ≡ rows
+    → map view_of new ≡ map view_of views → ApplyTo columns rows steps → places_all steps ≤ room → auxiliary_rows_all steps ≤ auxiliary_room
+    → All (IsAwaited columns rows (outcome rows steps)) (map awaited_of new)
     → map change_of changes ≡ deltas columns (map view_of views) rows (outcome rows steps)
-    → IsReady (made columns now tree (map view_of new) room auxiliary_room (map (λ (w : Watched). spare w.ids) new) touched changes) steps
-ready columns rows now tree views new room auxiliary_room touched changes steps same_rows same_views apply fits auxiliary_rows_fit differ roomy staged =
-    subst (λ (rs : List TableRow). IsReady (made columns rs tree (map view_of new) room auxiliary_room (map (λ (w : Watched). spare w.ids) new) touched changes) steps) (sym same_rows)
-    (subst (λ (vs : List View). IsReady (made columns rows tree vs room auxiliary_room (map (λ (w : Watched). spare w.ids) new) touched changes) steps) (sym same_views)
+    → IsReady (made columns now tree (map view_of new) room auxiliary_room (map awaited_of new) changes) steps
+ready columns rows now tree views new room auxiliary_room changes steps same_rows same_views apply fits auxiliary_rows_fit awaited staged =
+    subst (λ (rs : List TableRow). IsReady (made columns rs tree (map view_of new) room auxiliary_room (map awaited_of new) changes) steps) (sym same_rows)
+    (subst (λ (vs : List View). IsReady (made columns rows tree vs room auxiliary_room (map awaited_of new) changes) steps) (sym same_views)
     (record {
       apply = apply;
       room = fits;
       auxiliary_room = auxiliary_rows_fit;
-      touched = λ some. differ (λ none. some (ap (map view_of) none));
-      id_rooms = All-map (λ room. length touched ≤ room) (λ (w : Watched). spare w.ids) new roomy;
+      awaited = awaited;
       staged = staged;
     }))

@@ -4,9 +4,9 @@ use Rattle.rt_sql_statement.specs.declared.statement.Edit.{Edit}
 use Rattle.rt_table_row.specs.Columns.{Columns}
 use Rattle.rt_table_row.specs.Rows.{TableRow, AreRising}
 use Rattle.rt_table_row.specs.Edits.{steps_of}
-use Rattle.rt_table.specs.Preparing.{ApplyInTurn}
+use Rattle.rt_table.specs.Preparing.{ApplyTo}
 
 -- The steps of an edit apply to the rows, one after the other.
 abbrev pub StepsApply : Type 0
 StepsApply =
-    (columns : Columns) (rows : List TableRow) → AreRising rows → (edit : Edit) → IfOk (steps_of edit columns rows) (ApplyInTurn rows)
+    (columns : Columns) (rows : List TableRow) → AreRising rows → (edit : Edit) → IfOk (steps_of edit columns rows) (ApplyTo columns rows)

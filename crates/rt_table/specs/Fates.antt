@@ -1,15 +1,15 @@
--- What is known of the ids that steps touch: which row has them afterwards. Source: own.
-use Rattle.std.specs.Prelude.{ℕ, ℤ, true, false, List, ◌++◌, Option, Some, None, if◌then◌else◌}
+-- What is known of the ids that steps touch: which row has them afterwards, and what that changes in a view. Source: own.
+use Rattle.std.specs.Prelude.{ℤ, Bool, true, false, List, [], ◌∷◌, Option, Some, None, if◌then◌else◌, is_some}
 use Rattle.std.specs.Borrow.{Bor}
-use Rattle.std.specs.Option.{option_map, option_to_list, unwrap_or}
+use Rattle.std.specs.Option.{option_map, unwrap_or}
 use Rattle.std.specs.BTreeMap.{BTreeMap, get}
-use Rattle.rt_sql_statement.specs.declared.value.Value.{Value}
 use Rattle.std.specs.Ordering.{int_eq, int_cmp}
 use Rattle.rt_table_row.specs.declared.entry.Entry.{Entry}
 use Rattle.rt_table_row.specs.Rows.{TableRow, row_at}
 use Rattle.rt_table_row.specs.Filters.{admits}
 use Rattle.rt_table_row.specs.Views.{ViewChange, change_at}
 use Rattle.rt_table.specs.declared.watched.Watched.{Watched}
+use Rattle.rt_table.specs.declared.watched.Shift.{Shift}
 use Rattle.rt_table.specs.Watching.{shown}
 use Rattle.rt_table_row.specs.Entries.{row_of}
 use Rattle.rt_table_row.specs.Edits.{Step, Leaves, Comes, Becomes}
@@ -36,8 +36,10 @@ changes_at watched before after id =
 abbrev pub rows_after : {D : _} → List TableRow → BTreeMap ℤ (Option (Bor (Entry D))) → ℤ → Option TableRow
 rows_after before fates id = unwrap_or (fate_of (get int_cmp fates id)) (row_at before id)
 
--- the row that left, and then the row that came
-abbrev pub changes_of : List ℕ → Option (List Value) → Option (List Value) → List ViewChange
-changes_of view left came =
-    option_to_list (option_map (λ row. record { view = view; came = false; row = row }) left)
-    ++ option_to_list (option_map (λ row. record { view = view; came = true; row = row }) came)
+-- an id comes into a view or leaves it, where the view has a row of it before or after, and not both
+abbrev pub shift : ℤ → Bool → Bool → List Shift
+shift id was_in is_in = if was_in then (if is_in then [] else record { id = id; is_in = false } ∷ [])
+    else (if is_in then record { id = id; is_in = true } ∷ [] else [])
+
+abbrev pub shifts_at : Watched → List TableRow → (ℤ → Option TableRow) → ℤ → List Shift
+shifts_at watched before after id = shift id (is_some (shown (admits watched.filter) (row_at before id))) (is_some (shown (admits watched.filter) (after id)))

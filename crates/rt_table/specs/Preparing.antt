@@ -1,11 +1,14 @@
 -- When a table is ready for a plan. Source: own.
-use Rattle.std.specs.Prelude.{◌≡◌, ◌≢◌, ℕ, ◌+◌, ◌≤◌, ◌<◌, ◌==◌, if◌then◌else◌, ℤ, true, false, List, [], ◌∷◌, length}
+use Rattle.std.specs.Prelude.{◌≡◌, drop, ℕ, ◌+◌, ◌*◌, ◌≤◌, ◌<◌, ◌==◌, if◌then◌else◌, ℤ, true, false, List, [], ◌∷◌, length}
 use Rattle.std.specs.Ordering.{int_eq}
 use Rattle.std.specs.List.{All, list_any}
 use Rattle.rt_table_row.specs.Rows.{TableRow, row_at, has_id, without_id}
 use Rattle.rt_table_row.specs.Edits.{Step, Leaves, Comes, Becomes, after_step, outcome, most_rows}
+use Rattle.rt_table_row.specs.Columns.{Columns}
+use Rattle.rt_table_row.specs.Conditions.{holds}
 use Rattle.rt_table_row.specs.Views.{deltas}
-use Rattle.rt_table.specs.Held.{Held}
+use Rattle.rt_table.specs.Held.{Held, Awaited}
+use Rattle.rt_table.specs.Watching.{AreShifts}
 
 -- the row that goes is there, the id of the one that comes is free, and the table isn't full
 abbrev pub Applies : List TableRow → Step → Type 0
@@ -17,6 +20,16 @@ Applies rows (Becomes id row) = (has_id rows id ≡ true) × (has_id (without_id
 abbrev pub ApplyInTurn : List TableRow → List Step → Type 0
 ApplyInTurn rows [] = Unit {0}
 ApplyInTurn rows (step ∷ steps) = Applies rows step × ApplyInTurn (after_step rows step) steps
+
+-- the row that a step places has a value for each auxiliary column, which stand behind the id and the coordinates
+abbrev pub FitsColumns : Columns → Step → Type 0
+FitsColumns columns (Leaves id) = Unit {0}
+FitsColumns columns (Comes row) = length row.auxiliary ≡ length (drop (1 + 2 * columns.axes) columns.names)
+FitsColumns columns (Becomes id row) = length row.auxiliary ≡ length (drop (1 + 2 * columns.axes) columns.names)
+
+-- the steps apply to these rows of a table of these columns
+abbrev pub ApplyTo : Columns → List TableRow → List Step → Type 0
+ApplyTo columns rows steps = ApplyInTurn rows steps × All (FitsColumns columns) steps
 
 -- how many rows a step places
 abbrev pub places : Step → ℕ
@@ -45,12 +58,16 @@ auxiliary_rows_all (step ∷ steps) = auxiliary_rows_of step + auxiliary_rows_al
 abbrev pub DifferAt : List ℤ → List TableRow → List TableRow → Type 0
 DifferAt ids before after = (id : ℤ) → list_any (int_eq id) ids ≡ false → row_at after id ≡ row_at before id
 
--- the steps apply, there is room for the rows that they place and in each view for the ids that they touch, which are
--- known where there is a view, and the changes of the views lie ready
+-- a view has ready which ids come and leave as these rows become those, and the room for it
+pub record IsAwaited (columns : Columns) (before after : List TableRow) (a : Awaited) : Type 0 where
+  pub shifts : AreShifts (holds columns a.view.cond) before after a.shifts
+  pub room : length a.shifts ≤ a.room
+
+-- the steps apply, there is room for the rows that they place, each view awaits them, and the changes of the views lie
+-- ready
 pub record IsReady {D : ℕ} (held : Held D) (steps : List Step) : Type 0 where
-  pub apply : ApplyInTurn held.lists.rows steps
+  pub apply : ApplyTo held.lists.columns held.lists.rows steps
   pub room : places_all steps ≤ held.room
   pub auxiliary_room : auxiliary_rows_all steps ≤ held.auxiliary_room
-  pub touched : held.lists.views ≢ [] → DifferAt held.touched held.lists.rows (outcome held.lists.rows steps)
-  pub id_rooms : All (λ room. length held.touched ≤ room) held.id_rooms
+  pub awaited : All (IsAwaited held.lists.columns held.lists.rows (outcome held.lists.rows steps)) held.awaited
   pub staged : held.staged ≡ deltas held.lists.columns held.lists.views held.lists.rows (outcome held.lists.rows steps)

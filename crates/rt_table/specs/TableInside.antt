@@ -1,11 +1,10 @@
 -- What a table's fields are to hold. Source: own.
 use Rattle.std.specs.Prelude.{◌≡◌, ◌≤◌, ℕ, map}
 use Rattle.std.specs.List.{All}
-use Rattle.indexmap.specs.IndexSet.{spare}
 use Rattle.rt_table_row.specs.Rows.{AreRising}
 use Rattle.rt_table.specs.declared.table.Table.TheInside.{Inside}
 use Rattle.rt_table.specs.Held.{Held}
-use Rattle.rt_table.specs.Watching.{view_of, change_of, IsKept}
+use Rattle.rt_table.specs.Watching.{view_of, change_of, awaited_of, IsKept}
 
 abbrev pub held : {D : _} → Inside D → Held D
 held t = record {
@@ -13,8 +12,7 @@ held t = record {
   tree = t.store.tree;
   room = t.store.room;
   auxiliary_room = t.store.auxiliary_room;
-  id_rooms = map (λ w. spare w.ids) t.views.items;
-  touched = t.touched.items;
+  awaited = map awaited_of t.views.items;
   staged = map change_of t.staged.items;
 }
 

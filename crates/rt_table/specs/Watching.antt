@@ -1,14 +1,17 @@
 -- A view as a table keeps it: with the ids of its rows. Source: own.
-use Rattle.std.specs.Prelude.{◌≡◌, ℤ, Bool, false, List, Option, Some, None, if◌then◌else◌}
+use Rattle.std.specs.Prelude.{◌≡◌, ℤ, Bool, false, List, map, Option, Some, None, if◌then◌else◌}
 use Rattle.std.specs.Ordering.{int_eq}
 use Rattle.std.specs.Option.{option_map_or}
-use Rattle.std.specs.List.{list_any}
+use Rattle.std.specs.List.{All, list_any}
+use Rattle.indexmap.specs.IndexSet.{spare}
 use Rattle.rt_table_row.specs.Columns.{Columns}
 use Rattle.rt_table_row.specs.Rows.{TableRow, row_at}
 use Rattle.rt_table_row.specs.Filters.{IsFilterOf, admits}
 use Rattle.rt_table_row.specs.Views.{View, ViewChange}
 use Rattle.rt_table.specs.declared.watched.Watched.{Watched}
 use Rattle.rt_table.specs.declared.watched.Change.{Change}
+use Rattle.rt_table.specs.declared.watched.Shift.{Shift}
+use Rattle.rt_table.specs.Held.{Awaited}
 
 -- the view that it is
 abbrev pub view_of : Watched → View
@@ -36,14 +39,26 @@ abbrev pub shown : (TableRow → Bool) → Option TableRow → Option TableRow
 shown p None = None
 shown p (Some row) = if p row then Some row else None
 
--- a view after a plan: at the touched ids it has those whose rows it shows now
-pub record IsRefreshed (rows : List TableRow) (touched : List ℤ) (old new : Watched) : Type 0 where
+-- what it has ready for the next plan
+abbrev pub awaited_of : Watched → Awaited
+awaited_of watched = record { view = view_of watched; room = spare watched.ids; shifts = watched.shifts.items }
+
+abbrev pub shifted_ids : List Shift → List ℤ
+shifted_ids shifts = map (λ s. s.id) shifts
+
+-- each shift says whether the row that then has the id is picked; at the other ids that stays as it was
+pub record AreShifts (p : TableRow → Bool) (before after : List TableRow) (shifts : List Shift) : Type 0 where
+  pub are_in : All (λ s. s.is_in ≡ is_picked p (row_at after s.id)) shifts
+  pub others : (id : ℤ) → list_any (int_eq id) (shifted_ids shifts) ≡ false → is_picked p (row_at after id) ≡ is_picked p (row_at before id)
+
+-- the view with its shifts carried out
+pub record IsRefreshed (old new : Watched) : Type 0 where
   pub name_is : new.name ≡ old.name
   pub filter_is : new.filter ≡ old.filter
-  pub ids_are : (id : ℤ) → list_any (int_eq id) new.ids.keys
-      ≡ (if list_any (int_eq id) touched then is_picked (admits old.filter) (row_at rows id) else list_any (int_eq id) old.ids.keys)
+  pub ids_are : (is_in : ℤ → Bool) → All (λ s. s.is_in ≡ is_in s.id) old.shifts.items → (id : ℤ) → list_any (int_eq id) new.ids.keys
+      ≡ (if list_any (int_eq id) (shifted_ids old.shifts.items) then is_in id else list_any (int_eq id) old.ids.keys)
 
--- the same view, whatever its room
+-- the same view, whatever it has ready
 pub record IsRoomier (old new : Watched) : Type 0 where
   pub name_is : new.name ≡ old.name
   pub filter_is : new.filter ≡ old.filter

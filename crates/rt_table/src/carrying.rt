@@ -1,27 +1,28 @@
 //! A plan carried out.
 //!
-//! All room was reserved before, so nothing here takes memory or fails. A view changes only at the ids that the
-//! plan touched (`specs/Preparing.antt`, `specs/Watching.antt`).
+//! All room was reserved before, so nothing here takes memory or fails. A view knows which ids the plan has come and
+//! leave (`specs/Preparing.antt`, `specs/Watching.antt`).
 
 ghost use Rattle.std.specs.Prelude.{◌≡◌, ◌≤◌, ◌<◌, ◌+◌, ℕ, ℤ, List, All, slice_index_or, map, length, if◌then◌else◌};
 ghost use Rattle.std.specs.List.{list_any};
 ghost use Rattle.std.specs.Ordering.{int_eq};
 ghost use Rattle.indexmap.specs.IndexSet.{spare};
 ghost use Rattle.rt_table_row.specs.Columns.{Columns};
-ghost use Rattle.rt_table_row.specs.Rows.{TableRow, row_at};
-ghost use Rattle.rt_table_row.specs.Filters.{admits};
+ghost use Rattle.rt_table_row.specs.Rows.{TableRow};
 ghost use Rattle.rt_table_row.specs.Edits.{after_step, outcome};
 ghost use Rattle.rt_table_row.specs.Entries.{step_of};
 ghost use Rattle.rt_table_store.specs.Moves.{TakesStep, TakesEach};
-ghost use Rattle.rt_table.specs.Preparing.{Applies, ApplyInTurn, places, places_all, auxiliary_rows_of, auxiliary_rows_all, DifferAt};
+ghost use Rattle.rt_table.specs.Preparing.{Applies, ApplyInTurn, places, places_all, auxiliary_rows_of, auxiliary_rows_all, IsAwaited};
 ghost use Rattle.rt_table.specs.declared.watched.Watched.{Watched};
-ghost use Rattle.rt_table.specs.Watching.{view_of, is_picked, IsKept, IsRefreshed};
+ghost use Rattle.rt_table.specs.Watching.{view_of, awaited_of, IsKept, IsRefreshed};
 
 use crate::watched::Watched;
 use indexmap::IndexSet;
-use rt_table_row::{Filter, Step};
+use rt_table_row::Step;
 use rt_table_store::Store;
+use std::alloc::Global;
 use std::hash::RandomState;
+use std::mem;
 
 fn apply_step<const D: usize>(store: &mut Store<D>, step: Step<D>)
     requires applies { Applies store.old.rows (step_of step) }
@@ -59,17 +60,6 @@ pub(crate) fn apply<const D: usize>(store: &mut Store<D>, plan: Vec<Step<D>>)
     }
 }
 
-/// Whether a row of that id is there, and the filter holds of it.
-fn shows<const D: usize>(store: &Store<D>, condition: &Filter, id: &i64) -> bool
-    ensures { result ≡ is_picked (admits condition.now) (row_at store.now.rows id.now) }
-{
-    store.facts();
-    match store.get(id) {
-        Some(row) => condition.holds(&row),
-        None => false,
-    }
-}
-
 /// Makes the id one of the set, or not one of it.
 fn set_among(ids: &mut IndexSet<i64, RandomState>, id: &i64, is_among: bool)
     requires { 0 < spare ids.old }
@@ -84,37 +74,33 @@ fn set_among(ids: &mut IndexSet<i64, RandomState>, id: &i64, is_among: bool)
     let _ = ids.swap_remove(id);
 }
 
-/// Brings a view up to date at the ids that a plan touched.
-fn refresh<const D: usize>(view: &mut Watched, store: &Store<D>, touched: &[i64])
-    requires { length touched.now ≤ spare view.old.ids }
-    ensures { IsRefreshed store.now.rows touched.now view.old view.new }
+/// Carries out the shifts that a view awaits.
+fn refresh(alloc: Global, view: &mut Watched)
+    requires { length view.old.shifts.items ≤ spare view.old.ids }
+    ensures { IsRefreshed view.old view.new }
 {
-    for id in touched {
-        let is_among = shows(store, &view.filter, id);
-        set_among(&mut view.ids, id, is_among);
+    let shifts = mem::replace(&mut view.shifts, Vec::new(alloc));
+    for shift in shifts.as_slice() {
+        set_among(&mut view.ids, &shift.id, shift.is_in);
     }
 }
 
-/// Brings each view up to date at the ids that a plan touched.
-fn refresh_each<const D: usize>(views: &mut [Watched], store: &Store<D>, touched: &[i64])
-    requires { All (λ w. length touched.now ≤ spare w.ids) views.old }
-    ensures { (k : ℕ) (w : Watched) → k < length views.old → IsRefreshed store.now.rows touched.now (slice_index_or views.old k w) (slice_index_or views.new k w) }
+/// Carries out the shifts that each view awaits.
+fn refresh_each(alloc: Global, views: &mut [Watched])
+    requires { All (λ w. length w.shifts.items ≤ spare w.ids) views.old }
+    ensures { (k : ℕ) (w : Watched) → k < length views.old → IsRefreshed (slice_index_or views.old k w) (slice_index_or views.new k w) }
 {
     for at in 0..views.len() {
-        refresh(&mut views[at], store, touched);
+        refresh(alloc, &mut views[at]);
     }
 }
 
-/// Brings the views up to date at the ids that a plan touched. The rows of the other ids are as before.
-pub(crate) fn refresh_all<const D: usize>(
-    views: &mut Vec<Watched>,
-    store: &Store<D>,
-    touched: &[i64],
-)
-    requires { All (λ w. length touched.now ≤ spare w.ids) views.old.items }
+/// Carries out the shifts that the views await: each view then has the ids of the rows that it shows now.
+pub(crate) fn refresh_all(alloc: Global, views: &mut Vec<Watched>)
+    requires { All (λ w. length w.shifts.items ≤ spare w.ids) views.old.items }
     ensures views { map view_of views.new.items ≡ map view_of views.old.items }
-    ensures kept { (columns : Columns) (before : List TableRow) → DifferAt touched.now before store.now.rows
-        → All (IsKept columns before) views.old.items → All (IsKept columns store.now.rows) views.new.items }
+    ensures kept { (columns : Columns) (before after : List TableRow) → All (IsAwaited columns before after) (map awaited_of views.old.items)
+        → All (IsKept columns before) views.old.items → All (IsKept columns after) views.new.items }
 {
-    refresh_each(views.as_mut_slice(), store, touched);
+    refresh_each(alloc, views.as_mut_slice());
 }

@@ -1,27 +1,27 @@
-//! What a plan touches, and what it changes in the views.
+//! What a plan changes in the views.
 //!
-//! All of it is found before anything changes. At each touched id the row that is there is compared with the row
-//! that has the id after the plan (`specs/Fates.antt`).
+//! All of it is found before anything changes. At each touched id a view's filter looks at the row that is there, and at
+//! the one that has the id after the plan (`specs/Fates.antt`).
 
-ghost use Rattle.std.specs.Prelude.{◌≡◌, ◌≢◌, ◌≤◌, ◌++◌, ◌∷◌, [], All, ℕ, ℤ, List, AllPairs, ◌<ℤ◌, is_some, map, OnOk, IfOk};
+ghost use Rattle.std.specs.Prelude.{◌≡◌, ◌≤◌, ◌<◌, ◌++◌, ◌∷◌, [], ℕ, ℤ, List, All, AllPairs, ◌<ℤ◌, is_some, slice_index_or, length, map, OnOk, IfOk};
 ghost use Rattle.std.specs.Ordering.{int_eq, int_cmp};
 ghost use Rattle.std.specs.Option.{option_map, unwrap_or};
-ghost use Rattle.std.specs.List.{list_any, flat_map};
-ghost use Rattle.std.specs.Cmp.Lexicographic.{pointwise};
+ghost use Rattle.std.specs.List.{flat_map, list_any};
 ghost use Rattle.std.specs.BTreeMap.{get, keys};
-ghost use Rattle.rt_sql_statement.specs.Value.{same_value};
+ghost use Rattle.indexmap.specs.IndexSet.{spare};
 ghost use Rattle.rt_table_row.specs.Rows.{TableRow, row_at, values_of};
 ghost use Rattle.rt_table_row.specs.Edits.{outcome};
-ghost use Rattle.rt_table_row.specs.Entries.{step_of, view_row};
+ghost use Rattle.rt_table_row.specs.Entries.{row_of, step_of, view_row};
 ghost use Rattle.rt_table_row.specs.Filters.{admits};
 ghost use Rattle.rt_table_row.specs.Views.{change_at, deltas};
 ghost use Rattle.rt_table_row.specs.Columns.{Columns};
-ghost use Rattle.rt_table.specs.Preparing.{DifferAt};
-ghost use Rattle.rt_table.specs.Watching.{view_of, change_of, shown, IsKept};
-ghost use Rattle.rt_table.specs.Fates.{fate_of, noted, rows_after, changes_of, changes_at};
+ghost use Rattle.rt_table.specs.declared.watched.Watched.{Watched};
+ghost use Rattle.rt_table.specs.Preparing.{IsAwaited};
+ghost use Rattle.rt_table.specs.Watching.{view_of, change_of, awaited_of, shown, IsKept, IsRoomier};
+ghost use Rattle.rt_table.specs.Fates.{fate_of, noted, rows_after, changes_at, shift, shifts_at};
 
-use crate::watched::{Change, Watched};
-use rt_sql_statement::{Items, Name, Value};
+use crate::watched::{Change, Shift, Watched};
+use rt_sql_statement::Name;
 use rt_table_row::{Entry, Filter, RowView, Step};
 use rt_table_store::Store;
 use std::alloc::{AllocError, Global};
@@ -141,193 +141,145 @@ fn shown_after<'a, const D: usize>(
     Some(row)
 }
 
-fn are_same(left: &[Value], came: &[Value]) -> bool
-    ensures { result ≡ pointwise same_value left.now came.now }
-{
-    left == came
-}
-
-fn push_change(
+fn push_change<const D: usize>(
     alloc: Global,
     staged: &mut Vec<Change>,
     view: &Name,
     came: bool,
-    row: Items<Value>,
+    row: &RowView<'_, D>,
 ) -> Result<(), AllocError>
-    ensures { OnOk result (map change_of staged.new.items ≡ map change_of staged.old.items ++ record { view = view.now; came = came; row = row } ∷ []) }
+    ensures { OnOk result (map change_of staged.new.items ≡ map change_of staged.old.items ++ record { view = view.now; came = came; row = values_of (view_row row.now) } ∷ []) }
 {
     let view = view.try_clone(alloc)?;
+    let row = row.values(alloc)?;
     staged.push(Change { view, came, row })?;
     Ok(())
 }
 
-/// What changes in a view at one id: the row that leaves it, and the row that comes.
-#[derive(Drop)]
-struct RowChange {
-    left: Option<Items<Value>>,
-    came: Option<Items<Value>>,
-}
-
-/// Nothing where both rows are equal, else the row that left and the row that came.
-fn row_change<const D: usize>(
+/// Stages the row that leaves a view at an id, and the one that comes. Rows are compared before they are copied.
+fn push_changes<const D: usize>(
     alloc: Global,
+    staged: &mut Vec<Change>,
+    view: &Name,
     before: &Option<RowView<'_, D>>,
     after: &Option<RowView<'_, D>>,
-) -> Result<RowChange, AllocError>
-    ensures { IfOk result (λ c. (view : List ℕ) → changes_of view c.left c.came ≡ change_at view (option_map view_row before.now) (option_map view_row after.now)) }
+) -> Result<(), AllocError>
+    ensures { OnOk result (map change_of staged.new.items ≡ map change_of staged.old.items ++ change_at view.now (option_map view_row before.now) (option_map view_row after.now)) }
 {
     match (before, after) {
-        (None, None) => Ok(RowChange {
-            left: None,
-            came: None,
-        }),
-        (Some(old), None) => Ok(RowChange {
-            left: Some(old.values(alloc)?),
-            came: None,
-        }),
-        (None, Some(new)) => Ok(RowChange {
-            left: None,
-            came: Some(new.values(alloc)?),
-        }),
+        (None, None) => Ok(()),
+        (Some(old), None) => push_change(alloc, staged, view, false, old),
+        (None, Some(new)) => push_change(alloc, staged, view, true, new),
         (Some(old), Some(new)) => {
-            let left = old.values(alloc)?;
-            let came = new.values(alloc)?;
-            if are_same(left.as_slice(), came.as_slice()) {
-                return Ok(RowChange {
-                    left: None,
-                    came: None,
-                });
+            if old.is_same(new) {
+                return Ok(());
             }
-            Ok(RowChange {
-                left: Some(left),
-                came: Some(came),
-            })
+            push_change(alloc, staged, view, false, old)?;
+            push_change(alloc, staged, view, true, new)
         }
     }
 }
 
-/// What the plan changes in a view at one id.
-fn change_at<'a, const D: usize>(
-    alloc: Global,
-    view: &Watched,
-    store: &'a Store<D>,
-    fates: &BTreeMap<i64, Option<&'a Entry<D>>>,
+fn push_shift(
+    shifts: &mut Vec<Shift>,
     id: &i64,
-) -> Result<RowChange, AllocError>
-    ensures { IfOk result (λ c. changes_of view.now.name c.left c.came ≡ changes_at view.now store.now.rows (rows_after store.now.rows fates.now) id.now) }
-{
-    store.facts();
-    let before = shown_before(store, &view.filter, id);
-    let after = shown_after(store, fates, &view.filter, id);
-    row_change(alloc, &before, &after)
-}
-
-fn push_changes(
-    alloc: Global,
-    staged: &mut Vec<Change>,
-    view: &Name,
-    change: RowChange,
+    was_in: bool,
+    is_in: bool,
 ) -> Result<(), AllocError>
-    ensures { OnOk result (map change_of staged.new.items ≡ map change_of staged.old.items ++ changes_of view.now change.left change.came) }
+    ensures { OnOk result (shifts.new.items ≡ shifts.old.items ++ shift id.now was_in is_in) }
 {
-    let RowChange { left, came } = change;
-    if let Some(row) = left {
-        push_change(alloc, staged, view, false, row)?;
-    }
-    if let Some(row) = came {
-        push_change(alloc, staged, view, true, row)?;
+    if was_in != is_in {
+        shifts.push(Shift { id: *id, is_in })?;
     }
     Ok(())
 }
 
-/// What the plan changes in a view.
-fn stage_view<'a, const D: usize>(
+/// Stages what a plan changes in a view, and which ids it shifts.
+fn stage_changes<'a, const D: usize>(
     alloc: Global,
     staged: &mut Vec<Change>,
     view: &Watched,
     store: &'a Store<D>,
     fates: &BTreeMap<i64, Option<&'a Entry<D>>>,
     ids: &[i64],
-) -> Result<(), AllocError>
-    ensures { OnOk result (map change_of staged.new.items ≡ map change_of staged.old.items ++ flat_map (changes_at view.now store.now.rows (rows_after store.now.rows fates.now)) ids.now) }
+) -> Result<Vec<Shift>, AllocError>
+    ensures changes { OnOk result (map change_of staged.new.items ≡ map change_of staged.old.items ++ flat_map (changes_at view.now store.now.rows (rows_after store.now.rows fates.now)) ids.now) }
+    ensures shifts { IfOk result (λ shifts. shifts.items ≡ flat_map (shifts_at view.now store.now.rows (rows_after store.now.rows fates.now)) ids.now) }
 {
+    store.facts();
+    let mut shifts = Vec::new(alloc);
     for id in ids {
-        let change = change_at(alloc, view, store, fates, id)?;
-        push_changes(alloc, staged, &view.name, change)?;
+        let before = shown_before(store, &view.filter, id);
+        let after = shown_after(store, fates, &view.filter, id);
+        push_shift(&mut shifts, id, before.is_some(), after.is_some())?;
+        push_changes(alloc, staged, &view.name, &before, &after)?;
     }
+    Ok(shifts)
+}
+
+/// Stages what a plan changes in a view, and has the view await the ids that come and leave.
+fn stage_view<'a, const D: usize>(
+    alloc: Global,
+    staged: &mut Vec<Change>,
+    view: &mut Watched,
+    store: &'a Store<D>,
+    fates: &BTreeMap<i64, Option<&'a Entry<D>>>,
+    ids: &[i64],
+) -> Result<(), AllocError>
+    ensures same { IsRoomier view.old view.new }
+    ensures changes { OnOk result (map change_of staged.new.items ≡ map change_of staged.old.items ++ flat_map (changes_at view.old store.now.rows (rows_after store.now.rows fates.now)) ids.now) }
+    ensures shifts { OnOk result (view.new.shifts.items ≡ flat_map (shifts_at view.old store.now.rows (rows_after store.now.rows fates.now)) ids.now) }
+    ensures room { OnOk result (length view.new.shifts.items ≤ spare view.new.ids) }
+{
+    store.facts();
+    let shifts = stage_changes(alloc, staged, view, store, fates, ids)?;
+    view.ids.reserve(shifts.len())?;
+    view.shifts = shifts;
     Ok(())
 }
 
-/// What the plan changes in the views, in the order in which they were named.
-fn stage<'a, const D: usize>(
+/// Stages what a plan changes in the views, in the order in which they were named.
+fn stage_each<'a, const D: usize>(
     alloc: Global,
-    views: &[Watched],
+    views: &mut [Watched],
     store: &'a Store<D>,
     fates: &BTreeMap<i64, Option<&'a Entry<D>>>,
     ids: &[i64],
 ) -> Result<Vec<Change>, AllocError>
-    ensures { IfOk result (λ staged. map change_of staged.items ≡ flat_map (λ w. flat_map (changes_at w store.now.rows (rows_after store.now.rows fates.now)) ids.now) views.now) }
+    ensures same { (k : ℕ) (w : Watched) → k < length views.old → IsRoomier (slice_index_or views.old k w) (slice_index_or views.new k w) }
+    ensures changes { IfOk result (λ staged. map change_of staged.items ≡ flat_map (λ w. flat_map (changes_at w store.now.rows (rows_after store.now.rows fates.now)) ids.now) views.old) }
+    ensures shifts { OnOk result ((k : ℕ) (w : Watched) → k < length views.old
+        → (slice_index_or views.new k w).shifts.items ≡ flat_map (shifts_at (slice_index_or views.old k w) store.now.rows (rows_after store.now.rows fates.now)) ids.now) }
+    ensures room { OnOk result (All (λ w. length w.shifts.items ≤ spare w.ids) views.new) }
 {
+    store.facts();
     let mut staged = Vec::new(alloc);
-    for view in views {
-        stage_view(alloc, &mut staged, view, store, fates, ids)?;
+    for at in 0..views.len() {
+        stage_view(alloc, &mut staged, &mut views[at], store, fates, ids)?;
     }
     Ok(staged)
 }
 
-/// What a plan touches.
-#[derive(Drop)]
-pub(crate) struct Touched {
-    /// The ids, rising.
-    pub(crate) ids: Vec<i64>,
-    /// What changes in the views.
-    pub(crate) changes: Vec<Change>,
-}
-
-impl Touched {
-    fn nothing(alloc: Global) -> Touched
-        ensures ids { result.ids.items ≡ [] }
-        ensures changes { result.changes.items ≡ [] }
-    {
-        Touched {
-            ids: Vec::new(alloc),
-            changes: Vec::new(alloc),
-        }
-    }
-}
-
-/// What a plan touches, and what it changes in the views.
-fn touch<'a, const D: usize>(
+/// Stages what a plan changes in the views, and has each view await it. The views stay, also after a refusal.
+pub(crate) fn stage<'a, const D: usize>(
     alloc: Global,
-    views: &[Watched],
+    views: &mut Vec<Watched>,
     store: &'a Store<D>,
     plan: &'a [Step<D>],
-) -> Result<Touched, AllocError>
-    ensures ids { IfOk result (λ touched. DifferAt touched.ids.items store.now.rows (outcome store.now.rows (map step_of plan.now))) }
-    ensures changes { IfOk result (λ touched. (columns : Columns) → All (IsKept columns store.now.rows) views.now
-        → map change_of touched.changes.items ≡ deltas columns (map view_of views.now) store.now.rows (outcome store.now.rows (map step_of plan.now))) }
-{
-    store.facts();
-    let fates = fates(alloc, plan)?;
-    let ids = rising_ids(alloc, &fates)?;
-    let changes = stage(alloc, views, store, &fates, ids.as_slice())?;
-    Ok(Touched { ids, changes })
-}
-
-/// What a plan touches, and what it changes in the views. Where there is no view, no ids are gathered.
-pub(crate) fn touch_where_watched<'a, const D: usize>(
-    alloc: Global,
-    views: &[Watched],
-    store: &'a Store<D>,
-    plan: &'a [Step<D>],
-) -> Result<Touched, AllocError>
-    ensures ids { IfOk result (λ touched. views.now ≢ [] → DifferAt touched.ids.items store.now.rows (outcome store.now.rows (map step_of plan.now))) }
-    ensures changes { IfOk result (λ touched. (columns : Columns) → All (IsKept columns store.now.rows) views.now
-        → map change_of touched.changes.items ≡ deltas columns (map view_of views.now) store.now.rows (outcome store.now.rows (map step_of plan.now))) }
+) -> Result<Vec<Change>, AllocError>
+    ensures views { map view_of views.new.items ≡ map view_of views.old.items }
+    ensures kept { (columns : Columns) (rows : List TableRow) → All (IsKept columns rows) views.old.items → All (IsKept columns rows) views.new.items }
+    ensures changes { IfOk result (λ staged. (columns : Columns) → All (IsKept columns store.now.rows) views.old.items
+        → map change_of staged.items ≡ deltas columns (map view_of views.old.items) store.now.rows (outcome store.now.rows (map step_of plan.now))) }
+    ensures awaited { OnOk result ((columns : Columns) → All (IsKept columns store.now.rows) views.old.items
+        → All (IsAwaited columns store.now.rows (outcome store.now.rows (map step_of plan.now))) (map awaited_of views.new.items)) }
 {
     store.facts();
     if views.is_empty() {
-        return Ok(Touched::nothing(alloc));
+        return Ok(Vec::new(alloc));
     }
-    touch(alloc, views, store, plan)
+    let fates = fates(alloc, plan)?;
+    let ids = rising_ids(alloc, &fates)?;
+    let staged = stage_each(alloc, views.as_mut_slice(), store, &fates, ids.as_slice())?;
+    Ok(staged)
 }

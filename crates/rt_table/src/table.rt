@@ -9,9 +9,9 @@ ghost use Rattle.rt_box.specs.declared.interval.Interval.{Interval};
 ghost use Rattle.rt_sql_statement.specs.Name.{same_name};
 
 use crate::carrying::{apply, refresh_all};
-use crate::preparing::{Touched, touch_where_watched};
+use crate::preparing::stage;
 use crate::room::{auxiliary_rows_all, places_all};
-use crate::watched::{Change, Picked, Watched, pick, reserve_ids, rows_of, rows_picked, watch};
+use crate::watched::{Change, Picked, Watched, pick, rows_of, rows_picked, watch};
 use rt_box::Capacity;
 use rt_check::{Problem, Shadow, check};
 use rt_sql_statement::{Cond, Edit, Name, Refusal};
@@ -51,7 +51,6 @@ pub struct Table<const D: usize> {
     columns: Schema,
     store: Store<D>,
     views: Vec<Watched>,
-    touched: Vec<i64>,
     staged: Vec<Change>,
 }
 
@@ -64,7 +63,6 @@ impl<const D: usize> Drop for Table<D> {
             columns: _,
             store: _,
             views: _,
-            touched: _,
             staged: _,
         } = self;
     }
@@ -91,7 +89,7 @@ impl<const D: usize> Table<D> {
     ghost use Rattle.rt_table_row.specs.Tables.{edited};
     ghost use Rattle.rt_table_plan.specs.Plans.{Plans};
     ghost use Rattle.rt_table.specs.Replies.{Refuses, Shows};
-    ghost use Rattle.rt_table.specs.Preparing.{ApplyInTurn, IsReady};
+    ghost use Rattle.rt_table.specs.Preparing.{ApplyTo, IsReady};
     ghost use Rattle.rt_table.specs.Watching.{change_of};
     ghost use Rattle.rt_table_row.specs.Windows.{IsWindowOf};
     ghost use Rattle.rt_tree.specs.Lists.{empty_lists};
@@ -119,7 +117,6 @@ impl<const D: usize> Table<D> {
             columns,
             store,
             views: Vec::new(alloc),
-            touched: Vec::new(alloc),
             staged: Vec::new(alloc),
         })
     }
@@ -235,7 +232,7 @@ impl<const D: usize> Table<D> {
     /// - Of any: `OutOfMemory`.
     pub fn plan(&self, alloc: Global, edit: Edit) -> Result<Plan<D>, Refusal>
         ensures plans { Plans (steps_of edit self.now.lists.columns self.now.lists.rows) result }
-        ensures applies { IfOk result (ApplyInTurn self.now.lists.rows) }
+        ensures applies { IfOk result (ApplyTo self.now.lists.columns self.now.lists.rows) }
     {
         Plan::new(alloc, self.keys, &self.columns, &self.store, edit)
     }
@@ -247,18 +244,15 @@ impl<const D: usize> Table<D> {
     ///
     /// `AllocError` where no memory is left.
     pub fn prepare(&mut self, alloc: Global, plan: &[Step<D>]) -> Result<(), AllocError>
-        requires { ApplyInTurn self.old.lists.rows (map step_of plan.now) }
+        requires { ApplyTo self.old.lists.columns self.old.lists.rows (map step_of plan.now) }
         ensures lists { self.new.lists ≡ self.old.lists }
         ensures tree { self.new.tree ≡ self.old.tree }
         ensures ok { OnOk result (IsReady self.new (map step_of plan.now)) }
     {
-        let touched = touch_where_watched(alloc, self.views.as_slice(), &self.store, plan)?;
+        let staged = stage(alloc, &mut self.views, &self.store, plan)?;
         self.store
             .reserve(alloc, places_all(plan), auxiliary_rows_all(plan))?;
-        reserve_ids(&mut self.views, touched.ids.len())?;
-        let Touched { ids, changes } = touched;
-        self.touched = ids;
-        self.staged = changes;
+        self.staged = staged;
         Ok(())
     }
 
@@ -271,7 +265,7 @@ impl<const D: usize> Table<D> {
     {
         apply(&mut self.store, plan);
         self.store.facts();
-        refresh_all(&mut self.views, &self.store, self.touched.as_slice());
+        refresh_all(self.alloc, &mut self.views);
         mem::replace(&mut self.staged, Vec::new(self.alloc))
     }
 
@@ -295,7 +289,7 @@ impl<const D: usize> Table<D> {
 
     /// Carries a plan out, and answers what it changed in the views. A refusal changes nothing.
     fn carry_out(&mut self, alloc: Global, plan: Plan<D>) -> Result<Vec<Change>, AllocError>
-        requires { ApplyInTurn self.old.lists.rows plan }
+        requires { ApplyTo self.old.lists.columns self.old.lists.rows plan }
         ensures ok { IfOk result (λ changes. edited self.old.lists (Ok plan.entry) ≡ Ok (map change_of changes.items, self.new.lists)) }
         ensures tree { OnOk result (FollowsSteps self.old.lists.rows plan.entry self.old.tree self.new.tree) }
         ensures refused { OnErr result (self.new.lists ≡ self.old.lists) }

@@ -3,18 +3,17 @@
 //! A view keeps ids and no rows. They are the ids of exactly the rows that its condition picks (`IsKept` in
 //! `specs/Watching.antt`).
 
-ghost use Rattle.std.specs.Prelude.{◌≡◌, ◌≤◌, ◌<◌, ◌+◌, ℕ, ℤ, slice_index_or, AllPairs, ◌<ℤ◌, List, [], All, Some, filter, map, length, IfOk, IfErr, OnOk, OnErr, MatchResult};
+ghost use Rattle.std.specs.Prelude.{◌≡◌, ℤ, AllPairs, ◌<ℤ◌, List, [], All, Some, filter, map, IfOk, IfErr};
 ghost use Rattle.std.specs.List.{list_any, filter_map};
 ghost use Rattle.std.specs.Ordering.{int_eq};
 ghost use Rattle.std.specs.Option.{option_map};
-ghost use Rattle.indexmap.specs.IndexSet.{contains, spare};
 ghost use Rattle.rt_box.specs.declared.interval.Interval.{Interval};
 ghost use Rattle.rt_table_row.specs.Columns.{Columns, has_name};
 ghost use Rattle.rt_table_row.specs.Rows.{TableRow, AreRising, row_at, values_of};
 ghost use Rattle.rt_table_row.specs.Filters.{admits, IsUnknown};
 ghost use Rattle.rt_table_row.specs.Windows.{IsWindowAt};
 ghost use Rattle.rt_table_store.specs.Trees.{leaf_row, Visits};
-ghost use Rattle.rt_table.specs.Watching.{view_of, KeepsIds, IsKept, IsRoomier};
+ghost use Rattle.rt_table.specs.Watching.{view_of, KeepsIds, IsKept};
 ghost use Rattle.rt_table.specs.declared.watched.Watched.{Watched};
 
 use indexmap::IndexSet;
@@ -46,12 +45,21 @@ pub struct Change {
     pub row: Items<Value>,
 }
 
-/// A view: its name, the condition that its rows meet, and their ids.
+/// An id that comes into a view, or leaves it.
+#[derive(Clone, Copy)]
+pub(crate) struct Shift {
+    pub(crate) id: i64,
+    /// Whether it comes; else it leaves.
+    pub(crate) is_in: bool,
+}
+
+/// A view: its name, the condition that its rows meet, their ids, and which ids the next plan shifts.
 #[derive(Drop)]
 pub(crate) struct Watched {
     pub(crate) name: Name,
     pub(crate) filter: Filter,
     pub(crate) ids: IndexSet<i64, RandomState>,
+    pub(crate) shifts: Vec<Shift>,
 }
 
 /// The set of these ids.
@@ -209,24 +217,10 @@ pub(crate) fn watch<const D: usize>(
     store.facts();
     let found = store.picked(alloc, &filter)?;
     let ids = id_set(alloc, keys, found.as_slice())?;
-    Ok(Watched { name, filter, ids })
-}
-
-fn reserve_each(views: &mut [Watched], ids: usize) -> Result<(), AllocError>
-    ensures same { (k : ℕ) (w : Watched) → k < length views.old → IsRoomier (slice_index_or views.old k w) (slice_index_or views.new k w) }
-    ensures ok { OnOk result (All (λ w. ids ≤ spare w.ids) views.new) }
-{
-    for at in 0..views.len() {
-        views[at].ids.reserve(ids)?;
-    }
-    Ok(())
-}
-
-/// Makes room in each view for so many more ids. The views stay, also after a refusal.
-pub(crate) fn reserve_ids(views: &mut Vec<Watched>, ids: usize) -> Result<(), AllocError>
-    ensures views { map view_of views.new.items ≡ map view_of views.old.items }
-    ensures kept { (columns : Columns) (rows : List TableRow) → All (IsKept columns rows) views.old.items → All (IsKept columns rows) views.new.items }
-    ensures ok { OnOk result (All (λ w. ids ≤ spare w.ids) views.new.items) }
-{
-    reserve_each(views.as_mut_slice(), ids)
+    Ok(Watched {
+        name,
+        filter,
+        ids,
+        shifts: Vec::new(alloc),
+    })
 }

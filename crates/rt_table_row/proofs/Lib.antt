@@ -6,3 +6,4 @@ pub mod Setting
 pub mod Windows
 pub mod RowLists
 pub mod Names
+pub mod Same

@@ -138,6 +138,16 @@ pub struct RowView<'a, const D: usize> {
 impl<'a, const D: usize> RowView<'a, D> {
     ghost use Rattle.rt_table_row.specs.Rows.{values_of};
     ghost use Rattle.rt_table_row.specs.Entries.{view_row};
+    ghost use Rattle.rt_table_row.specs.Views.{same_row};
+
+    /// Whether both rows have the same values, column by column. Nothing is copied.
+    pub fn is_same(&self, other: &RowView<'_, D>) -> bool
+        ensures { result ≡ same_row (view_row self.now) (view_row other.now) }
+    {
+        // Says that both boxes have `D` axes.
+        let _ = (self.rect.axes(), other.rect.axes());
+        self.id == other.id && self.rect == other.rect && self.auxiliary == other.auxiliary
+    }
 
     /// The value of the column at that place.
     pub fn value_at(&self, place: usize) -> Field<'a>

@@ -2,7 +2,7 @@
 //! `scripts/faults` looks whether memory is asked for in between.
 
 ghost use Rattle.std.specs.Prelude.{◌≡◌, IfOk};
-ghost use Rattle.rt_table.specs.Preparing.{ApplyInTurn};
+ghost use Rattle.rt_table.specs.Preparing.{ApplyTo};
 
 use crate::from_text::{schema, statement};
 use rt_box::Capacity;
@@ -37,7 +37,7 @@ fn watch(alloc: Global, table: &mut Table<1>) -> Result<(), Fail> {
 
 /// The plan of a statement.
 fn plan(alloc: Global, table: &Table<1>, statement: Stmt) -> Result<Plan<1>, Refusal>
-    ensures { IfOk result (ApplyInTurn table.now.lists.rows) }
+    ensures { IfOk result (ApplyTo table.now.lists.columns table.now.lists.rows) }
 {
     match statement {
         Stmt::Edit { edit, .. } => table.plan(alloc, edit),

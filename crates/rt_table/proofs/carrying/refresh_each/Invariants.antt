@@ -4,7 +4,7 @@ use Rattle.rt_table.specs.Watching.{IsRefreshed}
 use Rattle.rt_table.proofs.carrying.refresh_each.Given as goal
 
 abbrev pub invariant-loop-at : goal.invariant-loop-at
-invariant-loop-at g l = record {
-  before : (k : ℕ) (w : Watched) → k < l.at → IsRefreshed l.store.rows l.touched (get_or l.fn.views k w) (get_or l.views k w);
+invariant-loop-at l = record {
+  before : (k : ℕ) (w : Watched) → k < l.at → IsRefreshed (get_or l.fn.views k w) (get_or l.views k w);
   rest : (k : ℕ) (w : Watched) → l.at ≤ k → get_or l.views k w ≡ get_or l.fn.views k w;
 }

@@ -1,5 +1,6 @@
-use Rattle.std.proofs.Common.{◌≢◌, [], ◌≤◌, length, map, lit<, sym, subst}
+use Rattle.std.proofs.Common.{◌≤◌, length, map, sym, subst}
 use Rattle.std.specs.List.{All}
+use Rattle.std.proofs.lemmas.List.Elements.{All-weaker}
 use Rattle.indexmap.specs.IndexSet.{spare}
 use Rattle.rt_table_row.specs.Edits.{outcome}
 use Rattle.rt_table_row.specs.Entries.{step_of}
@@ -7,28 +8,30 @@ use Rattle.rt_table_store.specs.Trees.{IsTreeOf}
 use Rattle.rt_table_store.specs.Moves.{FollowsSteps}
 use Rattle.rt_table.specs.declared.watched.Watched.{Watched}
 use Rattle.rt_table.specs.Held.{Held}
-use Rattle.rt_table.specs.Preparing.{DifferAt}
-use Rattle.rt_table.specs.Watching.{view_of}
-use Rattle.rt_table.proofs.Refreshing.{All-unmapped, kept_where_any}
+use Rattle.rt_table.specs.Preparing.{IsAwaited}
+use Rattle.rt_table.specs.Watching.{awaited_of}
+use Rattle.rt_table.proofs.Refreshing.{All-unmapped}
 use Rattle.rt_table.proofs.table.Table.commit.Goals as goal
 
 pub refresh_all-requires : goal.refresh_all-requires
 refresh_all-requires g c =
-    let rooms : All (λ room. length c.self.inside.touched.items ≤ room) (map (λ (w : Watched). spare w.ids) c.self.inside.views.items) =
-    subst (λ (h : Held g.row.D). All (λ room. length h.touched ≤ room) h.id_rooms) (sym c.self.view_is) c.requires.id_rooms in
-    (lit< tt, rw c.as_slice.ensures.value (All-unmapped (λ room. length c.self.inside.touched.items ≤ room) (λ (w : Watched). spare w.ids) c.self.inside.views.items rooms))
+    let after = outcome c.self.inside.store.rows (map step_of c.args.plan.items) in
+    let awaited : All (IsAwaited c.self.inside.columns c.self.inside.store.rows after) (map awaited_of c.self.inside.views.items) =
+    subst (λ (h : Held g.row.D). All (IsAwaited h.lists.columns h.lists.rows (outcome h.lists.rows (map step_of c.args.plan.items))) h.awaited) (sym c.self.view_is) c.requires.awaited in
+    All-weaker (λ (w : Watched). IsAwaited c.self.inside.columns c.self.inside.store.rows after (awaited_of w)) (λ (w : Watched). length w.shifts.items ≤ spare w.ids) (λ w is. is.room) c.self.inside.views.items
+    (All-unmapped (IsAwaited c.self.inside.columns c.self.inside.store.rows after) awaited_of c.self.inside.views.items awaited)
 
 pub invariant_of-self : goal.invariant_of-self
 invariant_of-self g c =
-    let differ : map view_of c.self.inside.views.items ≢ [] → DifferAt c.self.inside.touched.items c.self.inside.store.rows (outcome c.self.inside.store.rows (map step_of c.args.plan.items)) =
-    subst (λ (h : Held g.row.D). h.lists.views ≢ [] → DifferAt h.touched h.lists.rows (outcome h.lists.rows (map step_of c.args.plan.items))) (sym c.self.view_is) c.requires.touched in
+    let after = outcome c.self.inside.store.rows (map step_of c.args.plan.items) in
+    let awaited : All (IsAwaited c.self.inside.columns c.self.inside.store.rows after) (map awaited_of c.self.inside.views.items) =
+    subst (λ (h : Held g.row.D). All (IsAwaited h.lists.columns h.lists.rows (outcome h.lists.rows (map step_of c.args.plan.items))) h.awaited) (sym c.self.view_is) c.requires.awaited in
     record {
       some = c.self.invariant.some;
       few = c.self.invariant.few;
       axes_are = c.self.invariant.axes_are;
       rising = c.facts.ensures.rising;
-      kept = kept_where_any c.self.inside.columns c.self.inside.store.rows _ _ c.self.inside.views.items _ c.refresh_all.ensures.views
-          (λ some. rw (c.as_slice.ensures.value, c.apply.ensures.rows) (differ some)) (c.refresh_all.ensures.kept c.self.inside.columns c.self.inside.store.rows) c.self.invariant.kept;
+      kept = rw c.apply.ensures.rows (c.refresh_all.ensures.kept c.self.inside.columns c.self.inside.store.rows after awaited c.self.invariant.kept);
     }
 
 pub returns-clause-tree : goal.returns-clause-tree
