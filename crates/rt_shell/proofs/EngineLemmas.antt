@@ -3,6 +3,7 @@ use Rattle.std.proofs.Common.{◌≡◌, ◌∙◌, ℕ, ◌+◌, ◌≤◌, Boo
 use Rattle.std.specs.Prelude.{◌<◌, ◌||◌, ◌&&◌, ◌⊎◌, if◌then◌else◌, nat_eq}
 use Rattle.std.specs.Bool.{MatchBool}
 use Rattle.std.proofs.lemmas.Bool.Decides.{nat_tests}
+use Rattle.std.specs.List.{concat}
 use Rattle.std.specs.Result.{is_err}
 use Rattle.rt_sql_cut.specs.Piece.{PieceText}
 use Rattle.rt_sql_cut.specs.Pieces.{IsGap, IsWholePiece, IsLastPiece, Pieces, EndedPieces}
@@ -21,7 +22,7 @@ use Rattle.rt_shell.specs.declared.runner.Flow.TheVariants.{Goes, Stops}
 use Rattle.rt_shell.specs.declared.runner.Options.{Options}
 use Rattle.rt_session.specs.Session.{State, Outcome}
 use Rattle.rt_shell.specs.Lines.{answer_lines}
-use Rattle.rt_shell.specs.Transcript.{Marks, Progress, MayGive, after, Prints, lines_of, status_of}
+use Rattle.rt_shell.specs.Transcript.{Marks, Progress, MayGive, after, Prints, PrintsText, lines_of, status_of}
 use Rattle.rt_shell.specs.Engine.{outcome_of, GivesAnswer, AnswersNext, progress_of, ready_lines, flow_of, CutInto, Gives, Moves, StopsWith, Reaches, AnswersReady, Finishes}
 
 is_err-outcome_of : (answer : Result Reply Refusal) (new : State) → is_err (outcome_of answer new) ≡ is_err answer
@@ -50,10 +51,10 @@ unfolding marked
 marked-later marks number mark n later = grind (arith, nat_tests)
 
 -- only the marks of pieces to come matter
-remarked : (options : Options) (marks others : Marks) (p : Progress) (pieces : List PieceText) (out : List ℕ) (status : Status)
-    → ((n : ℕ) → p.pieces < n → others n ≡ marks n) → Prints options marks p pieces out status → Prints options others p pieces out status
-remarked options marks others p [] out status agree prints = prints
-remarked options marks others p (piece ∷ pieces) out status agree (outcome, gives, later, lines, more) = (
+remarked : (options : Options) (marks others : Marks) (p : Progress) (pieces : List PieceText) (parts : List (List ℕ)) (status : Status)
+    → ((n : ℕ) → p.pieces < n → others n ≡ marks n) → Prints options marks p pieces parts status → Prints options others p pieces parts status
+remarked options marks others p [] parts status agree prints = prints
+remarked options marks others p (piece ∷ pieces) parts status agree (outcome, gives, later, lines, more) = (
   outcome,
   rw (agree (p.pieces + 1) (omega arith)) gives,
   later,
@@ -65,6 +66,25 @@ remarked options marks others p (piece ∷ pieces) out status agree (outcome, gi
         | false ↦ λ goes. remarked options marks others (after p outcome) pieces later status (λ n lt. agree n (omega arith)) goes
       ] more,
 )
+
+-- ---- the text of parts
+
+-- the lines of a piece, and then the text of those behind it
+text_from : (options : Options) (marks : Marks) (p : Progress) (piece : PieceText) (pieces : List PieceText) (outcome : Outcome) → MayGive (marks (p.pieces + 1)) p.state piece outcome
+    → (later out : List ℕ) (status : Status) → out ≡ lines_of (p.pieces + 1) outcome ++ later
+    → MatchBool (options.bail && is_err outcome) ((later ≡ []) × (status ≡ Refused)) (PrintsText options marks (after p outcome) pieces later status)
+    → PrintsText options marks p (piece ∷ pieces) out status
+text_from options marks p piece pieces outcome gives later out status is more =
+    let rest : (parts : List (List ℕ)) × (later ≡ concat parts)
+    × MatchBool (options.bail && is_err outcome) ((parts ≡ []) × (status ≡ Refused)) (Prints options marks (after p outcome) pieces parts status) =
+    elim (options.bail && is_err outcome) as
+    (λ b. MatchBool b ((later ≡ []) × (status ≡ Refused)) (PrintsText options marks (after p outcome) pieces later status)
+    → (parts : List (List ℕ)) × (later ≡ concat parts) × MatchBool b ((parts ≡ []) × (status ≡ Refused)) (Prints options marks (after p outcome) pieces parts status)) [
+      | true ↦ λ ends. ([], ends.0, (refl, ends.1))
+      | false ↦ λ goes. (goes.0, goes.2, goes.1)
+    ] more
+    in
+    (lines_of (p.pieces + 1) outcome ∷ rest.0, (outcome, gives, rest.0, refl, rest.2), is ∙ ap (λ ls. lines_of (p.pieces + 1) outcome ++ ls) rest.1)
 
 -- ---- every text is cut, and every list of pieces may print something
 
@@ -83,24 +103,24 @@ cut_in_some_way true x = ended_of x _ (cut_somehow x).1
 all_marked : Marks
 all_marked = λ number. true
 
-prints_somehow : (options : Options) (p : Progress) (pieces : List PieceText) → (out : List ℕ) × (status : Status) × Prints options all_marked p pieces out status
+prints_somehow : (options : Options) (p : Progress) (pieces : List PieceText) → (parts : List (List ℕ)) × (status : Status) × Prints options all_marked p pieces parts status
 unfolding all_marked
 prints_somehow options p [] = ([], status_of p, (refl, refl))
 prints_somehow options p (piece ∷ pieces) =
     let later = prints_somehow options (after p (Err OutOfMemory)) pieces in
     elim options.bail as
-    (λ b. (out : List ℕ) × (status : Status) × ((outcome : Outcome) × MayGive true p.state piece outcome
-    × (more : List ℕ) × (out ≡ lines_of (p.pieces + 1) outcome ++ more)
+    (λ b. (parts : List (List ℕ)) × (status : Status) × ((outcome : Outcome) × MayGive true p.state piece outcome
+    × (more : List (List ℕ)) × (parts ≡ lines_of (p.pieces + 1) outcome ∷ more)
     × MatchBool (b && is_err outcome) ((more ≡ []) × (status ≡ Refused)) (Prints options all_marked (after p outcome) pieces more status))) [
-      | true ↦ (lines_of (p.pieces + 1) (Err OutOfMemory) ++ [], Refused, (Err OutOfMemory, refl, [], refl, (refl, refl)))
-      | false ↦ (lines_of (p.pieces + 1) (Err OutOfMemory) ++ later.0, later.1, (Err OutOfMemory, refl, later.0, refl, later.2))
+      | true ↦ (lines_of (p.pieces + 1) (Err OutOfMemory) ∷ [], Refused, (Err OutOfMemory, refl, [], refl, (refl, refl)))
+      | false ↦ (lines_of (p.pieces + 1) (Err OutOfMemory) ∷ later.0, later.1, (Err OutOfMemory, refl, later.0, refl, later.2))
     ]
 
 gives_somehow : (so_far : Bool) (options : Options) (p : Progress) (x : List ℕ) → (out : List ℕ) × (status : Status) × Gives so_far options p x out status
 gives_somehow so_far options p x =
     let cut = cut_in_some_way so_far x in
     let printed = prints_somehow options p cut.0 in
-    (printed.0, printed.1, (all_marked, (cut.0, cut.1, printed.2)))
+    (concat printed.0, printed.1, (all_marked, (cut.0, cut.1, (printed.0, printed.2, refl))))
 
 -- ---- steps
 
@@ -175,16 +195,16 @@ moves_by_answer old (Some answer) new x stands answers flow = (
         let number = old.pieces + 1 in
         let mark = answers.gives.mark in
         let marks = marked gives.0 number mark in
-        let on : Prints old.options gives.0 (after (progress_of old) outcome) gives.1.0 out status = rw (← answers.comes_on) gives.1.2 in
-        let on_here : Prints old.options marks (after (progress_of old) outcome) gives.1.0 out status =
-        remarked old.options gives.0 marks (after (progress_of old) outcome) gives.1.0 out status (λ n lt. marked-later gives.0 number mark n lt) on in
+        let on : PrintsText old.options gives.0 (after (progress_of old) outcome) gives.1.0 out status = rw (← answers.comes_on) gives.1.2 in
+        let on_here : PrintsText old.options marks (after (progress_of old) outcome) gives.1.0 out status =
+        (on.0, remarked old.options gives.0 marks (after (progress_of old) outcome) gives.1.0 on.0 status (λ n lt. marked-later gives.0 number mark n lt) on.1, on.2) in
         let here : MayGive (marks number) old.session answers.piece outcome = rw (marked-there gives.0 number mark) answers.gives.gives in
         let kept = goes_on old.options.bail answer new.session flow in (
           marks,
           (
             answers.piece ∷ gives.1.0,
             cut_more so_far x ahead answers.piece gives.1.0 (answers.whole x stands) gives.1.1,
-            (outcome, here, out, rw (lines_of-outcome_of number answer new.session) refl, rw kept on_here),
+            text_from old.options marks (progress_of old) answers.piece gives.1.0 outcome here out _ status (rw (lines_of-outcome_of number answer new.session) refl) (rw kept on_here),
           ),
         );
   },
@@ -201,7 +221,8 @@ stops_by_answer old (Some answer) new x stands answers flow so_far ahead =
       (
         answers.piece ∷ cut.0,
         cut_more so_far x ahead answers.piece cut.0 (answers.whole x stands) cut.1,
-        (outcome, answers.gives.gives, [], rw (lines_of-outcome_of (old.pieces + 1) answer new.session) (sym (append-nil _)), rw stop (refl, refl)),
+        text_from old.options (λ number. answers.gives.mark) (progress_of old) answers.piece cut.0 outcome answers.gives.gives [] _ Refused
+            (rw (lines_of-outcome_of (old.pieces + 1) answer new.session) (sym (append-nil _))) (rw stop (refl, refl)),
       ),
     )
 
@@ -231,20 +252,26 @@ or-true false = refl
 abbrev no_lines : List ℕ
 no_lines = []
 
-last_of_all : (bail : Bool) (p : Progress) (outcome : Outcome)
-    → MatchBool (bail && is_err outcome) ((no_lines ≡ []) × (status_of (after p outcome) ≡ Refused)) ((no_lines ≡ []) × (status_of (after p outcome) ≡ status_of (after p outcome)))
-last_of_all true p (Err refusal) = (refl, rw (or-true p.refused) refl)
-last_of_all false p (Err refusal) = (refl, refl)
-last_of_all true p (Ok given) = (refl, refl)
-last_of_all false p (Ok given) = (refl, refl)
+-- no piece is left
+prints_none : (options : Options) (marks : Marks) (p : Progress) (status : Status) → status ≡ status_of p → PrintsText options marks p [] [] status
+prints_none options marks p status is = ([], (refl, is), refl)
+
+last_of_all : (options : Options) (marks : Marks) (bail : Bool) (p : Progress) (outcome : Outcome)
+    → MatchBool (bail && is_err outcome) ((no_lines ≡ []) × (status_of (after p outcome) ≡ Refused)) (PrintsText options marks (after p outcome) [] no_lines (status_of (after p outcome)))
+last_of_all options marks true p (Err refusal) = (refl, rw (or-true p.refused) refl)
+last_of_all options marks false p (Err refusal) = prints_none options marks (after p (Err refusal)) _ refl
+last_of_all options marks true p (Ok given) = prints_none options marks (after p (Ok given)) _ refl
+last_of_all options marks false p (Ok given) = prints_none options marks (after p (Ok given)) _ refl
 
 prints_last : (options : Options) (marks : Marks) (p : Progress) (piece : PieceText) (outcome : Outcome) → MayGive (marks (p.pieces + 1)) p.state piece outcome
-    → Prints options marks p (piece ∷ []) (lines_of (p.pieces + 1) outcome) (status_of (after p outcome))
-prints_last options marks p piece outcome gives = (outcome, gives, [], sym (append-nil _), last_of_all options.bail p outcome)
+    → PrintsText options marks p (piece ∷ []) (lines_of (p.pieces + 1) outcome) (status_of (after p outcome))
+prints_last options marks p piece outcome gives =
+    text_from options marks p piece [] outcome gives no_lines (lines_of (p.pieces + 1) outcome) (status_of (after p outcome)) (sym (append-nil _)) (last_of_all options marks options.bail p outcome)
 
 pub gives_at_end : (old : Engine) (answer : Option (Result Reply Refusal)) (new : Engine) (x : List ℕ) → FinishedAt old.cutter x → AnswersNext old answer new
     → Gives false old.options (progress_of old) x (ready_lines (old.pieces + 1) answer) (status_of (progress_of new))
-gives_at_end old None new x finished waits = (all_marked, ([], waits.gap x finished, (refl, ap (λ e. status_of (progress_of e)) waits.same)))
+gives_at_end old None new x finished waits =
+    (all_marked, ([], waits.gap x finished, prints_none old.options all_marked (progress_of old) (status_of (progress_of new)) (ap (λ e. status_of (progress_of e)) waits.same)))
 gives_at_end old (Some answer) new x finished answers =
     let marks : Marks = λ number. answers.gives.mark in
     let outcome = outcome_of answer new.session in
@@ -253,8 +280,8 @@ gives_at_end old (Some answer) new x finished answers =
       (
         answers.piece ∷ [],
         only_piece x answers.piece (answers.last x finished),
-        subst (λ (q : Progress). Prints old.options marks (progress_of old) (answers.piece ∷ []) (answer_lines (old.pieces + 1) answer) (status_of q)) (sym answers.comes_on)
-            (subst (λ (out : List ℕ). Prints old.options marks (progress_of old) (answers.piece ∷ []) out (status_of (after (progress_of old) outcome)))
+        subst (λ (q : Progress). PrintsText old.options marks (progress_of old) (answers.piece ∷ []) (answer_lines (old.pieces + 1) answer) (status_of q)) (sym answers.comes_on)
+            (subst (λ (out : List ℕ). PrintsText old.options marks (progress_of old) (answers.piece ∷ []) out (status_of (after (progress_of old) outcome)))
             (lines_of-outcome_of (old.pieces + 1) answer new.session) prints),
       ),
     )

@@ -10,7 +10,7 @@ use Rattle.rt_shell.specs.declared.runner.Engine.{Engine}
 use Rattle.rt_bytes.specs.declared.outcome.Status.{Status}
 use Rattle.rt_bytes.specs.declared.outcome.Status.TheVariants.{Refused}
 use Rattle.rt_shell.specs.declared.runner.Flow.TheVariants.{Goes, Stops}
-use Rattle.rt_shell.specs.Transcript.{Marks, Progress, start, status_of, MayPrintSoFar}
+use Rattle.rt_shell.specs.Transcript.{Marks, Progress, start, status_of, MayPrint, MayPrintSoFar}
 use Rattle.rt_shell.specs.declared.runner.Options.{Options}
 use Rattle.rt_shell.specs.Engine.{IsFresh, progress_of, Gives, Moves, TakesAll, Finishes}
 use Rattle.rt_bytes.specs.Devices.{Devices, most_reads}
@@ -41,6 +41,10 @@ unmarked = λ number. false
 so_far_of : (options : Options) (text out : List ℕ) (status : Status) → Gives true options (start options) text out status → MayPrintSoFar options text out
 so_far_of options text out status gives = (gives.0, (gives.1.0, gives.1.1, status, gives.1.2))
 
+-- all pieces of a text printed this
+whole_of : (options : Options) (text out : List ℕ) (status : Status) → Gives false options (start options) text out status → MayPrint options text out status
+whole_of options text out status gives = (gives.0, (gives.1.2.0, (gives.1.0, gives.1.1, gives.1.2.1), gives.1.2.2))
+
 module _ (e0 e : Engine) (old now : Devices) (turn : ℕ) (fresh : IsFresh e0 e0.options) (so_far : Pumping e0 e old now turn) where
   moved : (y : List ℕ) × Moves e0 [] so_far.read so_far.lines e y
   moved = so_far.moves [] fresh.stands
@@ -53,7 +57,7 @@ module _ (e0 e : Engine) (old now : Devices) (turn : ℕ) (fresh : IsFresh e0 e0
   transcript_so_far : MayPrintSoFar e0.options so_far.read so_far.lines
   transcript_so_far =
       let nothing : Gives true e0.options (progress_of e) (moved.0 ++ []) [] (status_of (progress_of e)) =
-      (unmarked, ([], rw (append-nil moved.0) (rw so_far.idle at (whole_at e.cutter moved.0 moved.1.stands)), (refl, refl))) in
+      (unmarked, ([], rw (append-nil moved.0) (rw so_far.idle at (whole_at e.cutter moved.0 moved.1.stands)), ([], (refl, refl), refl))) in
       let gives : Gives true e0.options (start e0.options) so_far.read so_far.lines (status_of (progress_of e)) =
       rw (append-nil so_far.read, append-nil so_far.lines) at (from_start true [] [] (status_of (progress_of e)) nothing) in
       so_far_of e0.options _ _ (status_of (progress_of e)) gives
@@ -120,7 +124,7 @@ module _ (e0 e : Engine) (old now : Devices) (turn : ℕ) (fresh : IsFresh e0 e0
           wrote = all.0;
           transcript = inr (
             so_far_of e0.options _ _ Refused so,
-            λ rest. rw (append_assoc so_far.read bytes rest) (given false (bytes ++ rest) takes.0 Refused (stop false rest)),
+            λ rest. whole_of e0.options _ _ Refused (rw (append_assoc so_far.read bytes rest) (given false (bytes ++ rest) takes.0 Refused (stop false rest))),
           );
           no_read_failed = no_failure ∙ so_far.no_failure;
           no_write_failed = all.1;
@@ -155,7 +159,7 @@ module _ (e0 e : Engine) (old now : Devices) (turn : ℕ) (fresh : IsFresh e0 e0
           out = so_far.lines ++ finishes.0;
           consumed = consumed;
           wrote = all.0;
-          transcript = inl (at_end, rw none (given false [] finishes.0 status last));
+          transcript = inl (at_end, whole_of e0.options _ _ status (rw none (given false [] finishes.0 status last)));
           no_read_failed = no_failure ∙ so_far.no_failure;
           no_write_failed = all.1;
         }
@@ -169,7 +173,7 @@ module _ (e0 e : Engine) (old now : Devices) (turn : ℕ) (fresh : IsFresh e0 e0
           read = so_far.read ++ bytes;
           out = so_far.lines ++ finishes.0;
           consumed = consumed;
-          transcript = inr (at_end, (gives.0, rw none (given false [] finishes.0 gives.0 last)));
+          transcript = inr (at_end, (gives.0, whole_of e0.options _ _ gives.0 (rw none (given false [] finishes.0 gives.0 last))));
           wrote = front.0;
           why = front.1;
           no_read_failed = no_failure ∙ so_far.no_failure;

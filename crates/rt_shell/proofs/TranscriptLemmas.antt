@@ -1,5 +1,5 @@
 -- What two runs of one script print, is equal but for dumps, and over plain lists there is a transcript for all marks.
-use Rattle.std.proofs.Common.{◌≡◌, ◌∙◌, inl, inr, ℕ, ◌+◌, Bool, true, false, List, [], ◌∷◌, ◌++◌, Option, Some, None, Result, Ok, Err, refl, sym, ap, subst}
+use Rattle.std.proofs.Common.{◌≡◌, ◌∙◌, ◌⊎◌, inl, inr, ℕ, ◌+◌, Bool, true, false, List, [], ◌∷◌, ◌++◌, Option, Some, None, Result, Ok, Err, refl, sym, ap, subst}
 use Rattle.std.specs.Prelude.{◌&&◌, ◌||◌, if◌then◌else◌}
 use Rattle.std.specs.Bool.{MatchBool}
 use Rattle.std.specs.Result.{is_err}
@@ -20,7 +20,7 @@ use Rattle.rt_session.specs.Session.{State, NamedTable, Outcome, table_of, is_na
 use Rattle.rt_shell.specs.declared.runner.Options.{Options}
 use Rattle.rt_shell.specs.Lines.{reply_lines, refusal_line}
 use Rattle.rt_shell.specs.Transcript.{Marks, Progress, start, AnswersParsed, MayGive, after, lines_of, status_of, Prints}
-use Rattle.rt_shell.specs.Laws.{EqualButDumps, ends, lines, dumps, HaveSameRows, TranscriptIsDetermined, no_tree, PlainlyAnswersParsed, PlainlyGives, PlainlyPrints, AnyTrees, EveryScriptHasAPlainTranscript}
+use Rattle.rt_shell.specs.Laws.{EqualButDumps, AreDumps, HaveSameRows, TranscriptIsDetermined, no_tree, PlainlyAnswersParsed, PlainlyGives, PlainlyPrints, AnyTrees, EveryScriptHasAPlainTranscript}
 use Rattle.rt_shell.proofs.Alike.{FoundAlike, SameTables, table_alike, SameAnswer, FoundRelated, AreRelated, both_answer}
 use Rattle.rt_shell.proofs.Standing.{IsStanding, found_stands, stands_after}
 
@@ -31,31 +31,31 @@ abbrev pub SameProgress : Progress → Progress → Type 0
 SameProgress p q = SameTables p.state q.state × (q.pieces ≡ p.pieces) × (q.refused ≡ p.refused)
 
 -- what is printed from a piece on that has this outcome, where the later pieces print by a rule
-abbrev pub PrintsFrom : (List ℕ → Status → Type 0) → Options → Progress → Outcome → List ℕ → Status → Type 0
-PrintsFrom Rest options p outcome out status =
-    (later : List ℕ) × (out ≡ lines_of (p.pieces + 1) outcome ++ later)
+abbrev pub PrintsFrom : (List (List ℕ) → Status → Type 0) → Options → Progress → Outcome → List (List ℕ) → Status → Type 0
+PrintsFrom Rest options p outcome parts status =
+    (later : List (List ℕ)) × (parts ≡ lines_of (p.pieces + 1) outcome ∷ later)
     × MatchBool (options.bail && is_err outcome) ((later ≡ []) × (status ≡ Refused)) (Rest later status)
 
-no_lines : (T : AnyShadow → AnyShadow → Type 0) → (one other : List ℕ) → one ≡ [] → other ≡ [] → EqualButDumps T one other
-no_lines T one other is are = subst (λ ls. EqualButDumps T ls other) (sym is) (subst (λ ls. EqualButDumps T [] ls) (sym are) ends)
+no_lines : (T : AnyShadow → AnyShadow → Type 0) → (one other : List (List ℕ)) → one ≡ [] → other ≡ [] → EqualButDumps T one other
+no_lines T one other is are = subst (λ ls. EqualButDumps T ls other) (sym is) (subst (λ ls. EqualButDumps T [] ls) (sym are) tt)
 
 module _ (T : AnyShadow → AnyShadow → Type 0) where
   -- equal but for dumps, and the status is one
-  abbrev pub PrintSame : List ℕ → List ℕ → Status → Status → Type 0
+  abbrev pub PrintSame : List (List ℕ) → List (List ℕ) → Status → Status → Type 0
   PrintSame one other first second = EqualButDumps T one other × (first ≡ second)
 
-  same_reply : (one other : Reply) → (one ≡ other) → (l m : List ℕ) → EqualButDumps T l m → EqualButDumps T (reply_lines one ++ l) (reply_lines other ++ m)
-  same_reply one other is l m rest = subst (λ (r : Reply). EqualButDumps T (reply_lines one ++ l) (reply_lines r ++ m)) is (lines (reply_lines one) rest)
-
-  same_lines : (n : ℕ) (o a : Outcome) → SameAnswer T o a → (l m : List ℕ) → EqualButDumps T l m → EqualButDumps T (lines_of n o ++ l) (lines_of n a ++ m)
-  same_lines n (Ok one) (Ok other) (inl is, _) l m rest = same_reply one.0 other.0 is l m rest
-  same_lines n (Ok one) (Ok other) (inr (tree, given, is, are, related), _) l m rest =
-      subst (λ (r : Reply). EqualButDumps T (reply_lines r ++ l) (reply_lines other.0 ++ m)) (sym is)
-      (subst (λ (r : Reply). EqualButDumps T (any_text tree ++ l) (reply_lines r ++ m)) (sym are) (dumps tree given related rest))
-  same_lines n (Err one) (Err other) is l m rest =
-      subst (λ (r : Refusal). EqualButDumps T (refusal_line n one ++ l) (refusal_line n r ++ m)) is (lines (refusal_line n one) rest)
-  same_lines n (Ok one) (Err other) none l m rest = absurd none
-  same_lines n (Err one) (Ok other) none l m rest = absurd none
+  same_lines : (n : ℕ) (o a : Outcome) → SameAnswer T o a → (lines_of n o ≡ lines_of n a) ⊎ AreDumps T (lines_of n o) (lines_of n a)
+  same_lines n (Ok one) (Ok other) (inl is, _) = inl (ap (λ (r : Reply). reply_lines r) is)
+  same_lines n (Ok one) (Ok other) (inr (tree, given, is, are, related), _) = inr (record {
+    tree = tree;
+    given = given;
+    related = related;
+    one_is = ap (λ (r : Reply). reply_lines r) is;
+    other_is = ap (λ (r : Reply). reply_lines r) are;
+  })
+  same_lines n (Err one) (Err other) is = inl (ap (λ (r : Refusal). refusal_line n r) is)
+  same_lines n (Ok one) (Err other) none = absurd none
+  same_lines n (Err one) (Ok other) none = absurd none
 
   same_kind : (o a : Outcome) → SameAnswer T o a → is_err a ≡ is_err o
   same_kind (Ok one) (Ok other) same = refl
@@ -77,9 +77,9 @@ module _ (T : AnyShadow → AnyShadow → Type 0) where
   )
 
   -- outcomes that are the same, with later lines that are the same
-  pub same_from : (options : Options) (p q : Progress) → SameProgress p q → (o a : Outcome) → SameAnswer T o a → (Mine Theirs : List ℕ → Status → Type 0)
-      → ((l m : List ℕ) (first second : Status) → Mine l first → Theirs m second → PrintSame l m first second)
-      → (one other : List ℕ) (first second : Status) → PrintsFrom Mine options p o one first → PrintsFrom Theirs options q a other second → PrintSame one other first second
+  pub same_from : (options : Options) (p q : Progress) → SameProgress p q → (o a : Outcome) → SameAnswer T o a → (Mine Theirs : List (List ℕ) → Status → Type 0)
+      → ((l m : List (List ℕ)) (first second : Status) → Mine l first → Theirs m second → PrintSame l m first second)
+      → (one other : List (List ℕ)) (first second : Status) → PrintsFrom Mine options p o one first → PrintsFrom Theirs options q a other second → PrintSame one other first second
   same_from options p q same o a alike Mine Theirs rest one other first second (l, is, finish) (m, are, finished) =
       let finished_so : MatchBool (options.bail && is_err o) ((m ≡ []) × (second ≡ Refused)) (Theirs m second) =
       subst (λ b. MatchBool (options.bail && b) ((m ≡ []) × (second ≡ Refused)) (Theirs m second)) (same_kind o a alike) finished in
@@ -90,14 +90,14 @@ module _ (T : AnyShadow → AnyShadow → Type 0) where
         | false ↦ λ x y. rest l m first second x y
       ] finish finished_so
       in
-      let theirs : lines_of (p.pieces + 1) a ++ m ≡ other = ap (λ n. lines_of (n + 1) a ++ m) (sym same.1) ∙ sym are in (
+      let theirs : lines_of (p.pieces + 1) a ∷ m ≡ other = ap (λ n. lines_of (n + 1) a ∷ m) (sym same.1) ∙ sym are in (
         subst (λ ls. EqualButDumps T ls other) (sym is)
-            (subst (λ ls. EqualButDumps T (lines_of (p.pieces + 1) o ++ l) ls) theirs (same_lines (p.pieces + 1) o a alike l m both.0)),
+            (subst (λ ls. EqualButDumps T (lines_of (p.pieces + 1) o ∷ l) ls) theirs (same_lines (p.pieces + 1) o a alike, both.0)),
         both.1,
       )
 
   -- no piece is left
-  pub same_end : (p q : Progress) → SameProgress p q → (one other : List ℕ) (first second : Status) → (one ≡ []) × (first ≡ status_of p) → (other ≡ []) × (second ≡ status_of q)
+  pub same_end : (p q : Progress) → SameProgress p q → (one other : List (List ℕ)) (first second : Status) → (one ≡ []) × (first ≡ status_of p) → (other ≡ []) × (second ≡ status_of q)
       → PrintSame one other first second
   same_end p q same one other first second g h =
       (no_lines T one other g.0 h.0, g.1 ∙ ap (λ b. if b then Refused else Clean) (sym same.2) ∙ sym h.1)
@@ -152,7 +152,7 @@ stands_given s stands true piece o is = subst (λ x. IsStanding (state_after s x
 stands_given s stands false piece o (Ok statement, parses, answers) = stands_after s stands statement o answers
 stands_given s stands false piece o (Err refusal, parses, is) = subst (λ x. IsStanding (state_after s x)) (sym is) stands
 
-same_print : (options : Options) (marks : Marks) (p q : Progress) → SameProgress p q → IsStanding p.state → IsStanding q.state → (pieces : List PieceText) (one other : List ℕ) (first second : Status)
+same_print : (options : Options) (marks : Marks) (p q : Progress) → SameProgress p q → IsStanding p.state → IsStanding q.state → (pieces : List PieceText) (one other : List (List ℕ)) (first second : Status)
     → Prints options marks p pieces one first → Prints options marks q pieces other second → PrintSame HaveSameRows one other first second
 same_print options marks p q same stands other_stands [] one other first second g h = same_end HaveSameRows p q same one other first second g h
 same_print options marks p q same stands other_stands (piece ∷ pieces) one other first second (o, gives, l, is, finish) (a, given, m, are, finished) =
@@ -195,7 +195,7 @@ plain_given s u same true piece o a g h = same_refusal AnyTrees OutOfMemory o a 
 plain_given s u same false piece o a (p, first, g) (q, second, h) =
     plain_parsed s u same p o a g (subst (λ r. PlainlyAnswersParsed u r a) (one_answer piece q p second first) h)
 
-plain_print : (options : Options) (marks : Marks) (p q : Progress) → SameProgress p q → (pieces : List PieceText) (one other : List ℕ) (first second : Status)
+plain_print : (options : Options) (marks : Marks) (p q : Progress) → SameProgress p q → (pieces : List PieceText) (one other : List (List ℕ)) (first second : Status)
     → Prints options marks p pieces one first → PlainlyPrints options marks q pieces other second → PrintSame AnyTrees one other first second
 plain_print options marks p q same [] one other first second g h = same_end AnyTrees p q same one other first second g h
 plain_print options marks p q same (piece ∷ pieces) one other first second (o, gives, l, is, finish) (a, given, m, are, finished) =
@@ -217,15 +217,15 @@ some_outcome false old piece =
     (given.0, (parsed.0, parsed.1, given.1))
 
 abbrev PrintsSomething : Options → Marks → Progress → List PieceText → Type 0
-PrintsSomething options marks p pieces = (out : List ℕ) × (status : Status) × PlainlyPrints options marks p pieces out status
+PrintsSomething options marks p pieces = (parts : List (List ℕ)) × (status : Status) × PlainlyPrints options marks p pieces parts status
 
 some_print_after : (options : Options) (marks : Marks) (p : Progress) (piece : PieceText) (pieces : List PieceText) (outcome : Outcome)
     → PlainlyGives (marks (p.pieces + 1)) p.state piece outcome → PrintsSomething options marks (after p outcome) pieces
     → (stops : Bool) → (options.bail && is_err outcome) ≡ stops → PrintsSomething options marks p (piece ∷ pieces)
 some_print_after options marks p piece pieces outcome gives later true stops =
-    (lines_of (p.pieces + 1) outcome ++ [], Refused, (outcome, gives, [], refl, rw stops (refl, refl)))
+    (lines_of (p.pieces + 1) outcome ∷ [], Refused, (outcome, gives, [], refl, rw stops (refl, refl)))
 some_print_after options marks p piece pieces outcome gives later false goes =
-    (lines_of (p.pieces + 1) outcome ++ later.0, later.1, (outcome, gives, later.0, refl, rw goes later.2))
+    (lines_of (p.pieces + 1) outcome ∷ later.0, later.1, (outcome, gives, later.0, refl, rw goes later.2))
 
 some_print : (options : Options) (marks : Marks) (p : Progress) (pieces : List PieceText) → PrintsSomething options marks p pieces
 some_print options marks p [] = ([], status_of p, (refl, refl))

@@ -16,7 +16,7 @@ use Rattle.rt_bytes.specs.declared.outcome.Status.TheVariants.{Refused}
 use Rattle.rt_shell.specs.declared.runner.Options.{Options}
 use Rattle.rt_session.specs.Session.{State, Outcome, state_after}
 use Rattle.rt_shell.specs.Lines.{answer_lines}
-use Rattle.rt_shell.specs.Transcript.{Marks, Progress, start, MayGive, after, Prints}
+use Rattle.rt_shell.specs.Transcript.{Marks, Progress, start, MayGive, after, PrintsText}
 
 -- an answer with the state that it leaves
 abbrev pub outcome_of : Result Reply Refusal → State → Outcome
@@ -83,7 +83,7 @@ CutInto false x pieces = Pieces x pieces
 -- from here on the pieces of the text print this, for some marks
 abbrev pub Gives : Bool → Options → Progress → List ℕ → List ℕ → Status → Type 0
 Gives so_far options p text out status =
-    (marks : Marks) × ((pieces : List PieceText) × CutInto so_far text pieces × Prints options marks p pieces out status)
+    (marks : Marks) × ((pieces : List PieceText) × CutInto so_far text pieces × PrintsText options marks p pieces out status)
 
 -- from x the engine took the bytes and printed the lines, and stands at y: whatever comes and is printed after
 -- that, comes and is printed with these in front

@@ -1,5 +1,5 @@
 -- What holds of every script, over the definitions that the contracts cite (own).
-use Rattle.std.specs.Prelude.{◌≡◌, ℕ, ◌+◌, Bool, true, false, ◌&&◌, List, [], ◌∷◌, ◌++◌, Result, Ok, Err}
+use Rattle.std.specs.Prelude.{◌≡◌, ◌⊎◌, ℕ, ◌+◌, Bool, true, false, ◌&&◌, List, [], ◌∷◌, Result, Ok, Err}
 use Rattle.std.specs.Bool.{MatchBool}
 use Rattle.std.specs.Result.{is_err}
 use Rattle.rt_bytes.specs.declared.outcome.Status.{Status}
@@ -19,27 +19,34 @@ use Rattle.rt_table_row.specs.Rows.{TableRow}
 use Rattle.rt_table.specs.AnyTrees.{StandsFor}
 use Rattle.rt_session.specs.Session.{State, Outcome, answer}
 use Rattle.rt_shell.specs.declared.runner.Options.{Options}
-use Rattle.rt_shell.specs.Transcript.{Marks, Progress, start, after, lines_of, status_of, IsTranscript}
+use Rattle.rt_shell.specs.Transcript.{Marks, Progress, start, after, lines_of, status_of, IsTranscriptByPieces}
 
--- two texts that are equal but for dumps: where the one has the dump of a tree, the other has the dump of a tree that
--- is related to it
-pub data EqualButDumps (Related : AnyShadow → AnyShadow → Type 0) : List ℕ → List ℕ → Type 0 where
-  ends : EqualButDumps Related [] []
-  lines : (text : List ℕ) {one other : List ℕ} → EqualButDumps Related one other → EqualButDumps Related (text ++ one) (text ++ other)
-  dumps : (tree given : AnyShadow) {one other : List ℕ} → Related tree given → EqualButDumps Related one other
-      → EqualButDumps Related (any_text tree ++ one) (any_text given ++ other)
+-- the one is the dump of a tree, and the other that of a tree that is related to it
+pub record AreDumps (Related : AnyShadow → AnyShadow → Type 0) (one other : List ℕ) : Type 0 where
+  pub tree : AnyShadow
+  pub given : AnyShadow
+  pub related : Related tree given
+  pub one_is : one ≡ any_text tree
+  pub other_is : other ≡ any_text given
+
+-- of each piece two runs print the same lines, or the dumps of related trees
+abbrev pub EqualButDumps : (AnyShadow → AnyShadow → Type 0) → List (List ℕ) → List (List ℕ) → Type 0
+EqualButDumps Related [] [] = Unit {0}
+EqualButDumps Related (one ∷ ones) (other ∷ others) = ((one ≡ other) ⊎ AreDumps Related one other) × EqualButDumps Related ones others
+EqualButDumps Related [] (other ∷ others) = ⊥
+EqualButDumps Related (one ∷ ones) [] = ⊥
 
 -- trees without a problem, of one capacity and of the same rows
 abbrev pub HaveSameRows : AnyShadow → AnyShadow → Type 0
 HaveSameRows tree given =
     (capacity : ℕ) × (columns : Columns) × (rows : List TableRow) × StandsFor capacity columns rows tree × StandsFor capacity columns rows given
 
--- given the options and the pieces that memory refuses, a script prints one thing and ends in one status, but that where
--- it prints the dump of a tree, it may print that of another tree of the same rows
+-- given the options and the pieces that memory refuses, each piece of a script prints one thing at most, and the run ends
+-- in one status; but a piece that prints the dump of a tree may print that of another tree of the same rows
 abbrev pub TranscriptIsDetermined : Type 0
 TranscriptIsDetermined =
-    (options : Options) (marks : Marks) (script one other : List ℕ) (first second : Status)
-    → IsTranscript options marks script one first → IsTranscript options marks script other second
+    (options : Options) (marks : Marks) (script : List ℕ) (one other : List (List ℕ)) (first second : Status)
+    → IsTranscriptByPieces options marks script one first → IsTranscriptByPieces options marks script other second
     → EqualButDumps HaveSameRows one other × (first ≡ second)
 
 -- ---- plain lists alone: no table's tree is looked at
@@ -56,26 +63,26 @@ abbrev pub PlainlyGives : Bool → State → PieceText → Outcome → Type 0
 PlainlyGives true old piece outcome = outcome ≡ Err OutOfMemory
 PlainlyGives false old piece outcome = (parsed : Result Stmt Refusal) × Parses piece parsed × PlainlyAnswersParsed old parsed outcome
 
-abbrev pub PlainlyPrints : Options → Marks → Progress → List PieceText → List ℕ → Status → Type 0
-PlainlyPrints options marks p [] out status = (out ≡ []) × (status ≡ status_of p)
-PlainlyPrints options marks p (piece ∷ pieces) out status =
+abbrev pub PlainlyPrints : Options → Marks → Progress → List PieceText → List (List ℕ) → Status → Type 0
+PlainlyPrints options marks p [] parts status = (parts ≡ []) × (status ≡ status_of p)
+PlainlyPrints options marks p (piece ∷ pieces) parts status =
     (outcome : Outcome) × PlainlyGives (marks (p.pieces + 1)) p.state piece outcome
-    × (later : List ℕ) × (out ≡ lines_of (p.pieces + 1) outcome ++ later)
+    × (later : List (List ℕ)) × (parts ≡ lines_of (p.pieces + 1) outcome ∷ later)
     × MatchBool (options.bail && is_err outcome) ((later ≡ []) × (status ≡ Refused)) (PlainlyPrints options marks (after p outcome) pieces later status)
 
--- what a script prints over plain lists of rows, which leave open what is printed of a tree
-abbrev pub IsPlainTranscript : Options → Marks → List ℕ → List ℕ → Status → Type 0
-IsPlainTranscript options marks script out status =
-    (pieces : List PieceText) × Pieces script pieces × PlainlyPrints options marks (start options) pieces out status
+-- what each piece of a script prints over plain lists of rows, which leave open what is printed of a tree
+abbrev pub IsPlainTranscript : Options → Marks → List ℕ → List (List ℕ) → Status → Type 0
+IsPlainTranscript options marks script parts status =
+    (pieces : List PieceText) × Pieces script pieces × PlainlyPrints options marks (start options) pieces parts status
 
 abbrev pub AnyTrees : AnyShadow → AnyShadow → Type 0
 AnyTrees tree given = Unit {0}
 
--- Whichever pieces memory refuses, a script prints something over plain lists, and whatever a run prints, is equal to it
--- but for dumps.
+-- Whichever pieces memory refuses, a script prints something over plain lists, and whatever a run prints is equal to it,
+-- piece by piece, but for dumps.
 abbrev pub EveryScriptHasAPlainTranscript : Type 0
 EveryScriptHasAPlainTranscript =
     (options : Options) (marks : Marks) (script : List ℕ)
-    → (out : List ℕ) × (status : Status) × IsPlainTranscript options marks script out status
-    × ((printed : List ℕ) (answered : Status) → IsTranscript options marks script printed answered
-    → EqualButDumps AnyTrees printed out × (answered ≡ status))
+    → (parts : List (List ℕ)) × (status : Status) × IsPlainTranscript options marks script parts status
+    × ((printed : List (List ℕ)) (answered : Status) → IsTranscriptByPieces options marks script printed answered
+    → EqualButDumps AnyTrees printed parts × (answered ≡ status))

@@ -1,6 +1,7 @@
 -- What a run of a script prints (own). A script is a whole text, and the tables are plain lists.
-use Rattle.std.specs.Prelude.{◌≡◌, ℕ, ◌+◌, Bool, true, false, ◌&&◌, ◌||◌, if◌then◌else◌, List, [], ◌∷◌, ◌++◌, Result, Ok, Err}
+use Rattle.std.specs.Prelude.{◌≡◌, ℕ, ◌+◌, Bool, true, false, ◌&&◌, ◌||◌, if◌then◌else◌, List, [], ◌∷◌, Result, Ok, Err}
 use Rattle.std.specs.Bool.{MatchBool}
+use Rattle.std.specs.List.{concat}
 use Rattle.std.specs.Result.{is_err}
 use Rattle.rt_bytes.specs.declared.outcome.Status.{Status}
 use Rattle.rt_bytes.specs.declared.outcome.Status.TheVariants.{Clean, Refused}
@@ -48,23 +49,33 @@ lines_of number (Err refusal) = refusal_line number refusal
 abbrev pub status_of : Progress → Status
 status_of p = if p.refused then Refused else Clean
 
--- from here on, the pieces print this and end in this status. With bail nothing comes after the first refusal.
-abbrev pub Prints : Options → Marks → Progress → List PieceText → List ℕ → Status → Type 0
-Prints options marks p [] out status = (out ≡ []) × (status ≡ status_of p)
-Prints options marks p (piece ∷ pieces) out status =
+-- from here on, each piece prints its part, and they end in this status. With bail nothing comes after the first refusal.
+abbrev pub Prints : Options → Marks → Progress → List PieceText → List (List ℕ) → Status → Type 0
+Prints options marks p [] parts status = (parts ≡ []) × (status ≡ status_of p)
+Prints options marks p (piece ∷ pieces) parts status =
     (outcome : Outcome) × MayGive (marks (p.pieces + 1)) p.state piece outcome
-    × (later : List ℕ) × (out ≡ lines_of (p.pieces + 1) outcome ++ later)
+    × (later : List (List ℕ)) × (parts ≡ lines_of (p.pieces + 1) outcome ∷ later)
     × MatchBool (options.bail && is_err outcome) ((later ≡ []) × (status ≡ Refused)) (Prints options marks (after p outcome) pieces later status)
 
--- the script's run prints this and ends in this status, where memory refuses the pieces that are marked
+-- the parts in a row
+abbrev pub PrintsText : Options → Marks → Progress → List PieceText → List ℕ → Status → Type 0
+PrintsText options marks p pieces out status = (parts : List (List ℕ)) × Prints options marks p pieces parts status × (out ≡ concat parts)
+
+-- the script's run prints these parts, one for each piece, and ends in this status, where memory refuses the pieces that
+-- are marked
+abbrev pub IsTranscriptByPieces : Options → Marks → List ℕ → List (List ℕ) → Status → Type 0
+IsTranscriptByPieces options marks script parts status =
+    (pieces : List PieceText) × Pieces script pieces × Prints options marks (start options) pieces parts status
+
+-- the same as one text
 abbrev pub IsTranscript : Options → Marks → List ℕ → List ℕ → Status → Type 0
 IsTranscript options marks script out status =
-    (pieces : List PieceText) × Pieces script pieces × Prints options marks (start options) pieces out status
+    (parts : List (List ℕ)) × IsTranscriptByPieces options marks script parts status × (out ≡ concat parts)
 
 -- the run of the pieces that have ended in what was read of a script
 abbrev pub IsTranscriptSoFar : Options → Marks → List ℕ → List ℕ → Type 0
 IsTranscriptSoFar options marks read out =
-    (pieces : List PieceText) × EndedPieces read pieces × (status : Status) × Prints options marks (start options) pieces out status
+    (pieces : List PieceText) × EndedPieces read pieces × (status : Status) × PrintsText options marks (start options) pieces out status
 
 -- the same, whichever pieces memory refuses
 abbrev pub MayPrint : Options → List ℕ → List ℕ → Status → Type 0

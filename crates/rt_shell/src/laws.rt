@@ -3,14 +3,14 @@
 
 ghost use Rattle.rt_shell.specs.Laws.{TranscriptIsDetermined, EveryScriptHasAPlainTranscript};
 
-/// A script's run prints one thing and ends in one status, given the options and the pieces that
-/// memory refuses; but where it prints the dump of a tree, it may print that of another tree of the same rows.
+/// Given the options and the pieces that memory refuses, each piece of a script prints one thing at most, and the run ends
+/// in one status; but a piece that prints the dump of a tree may print that of another tree of the same rows.
 pub fn transcript_is_determined()
     ensures { TranscriptIsDetermined }
 {}
 
-/// Whichever pieces memory refuses, a script's run over plain lists of rows prints one thing and ends in one status, and
-/// each run prints just that, but for the dumps of trees.
+/// Whichever pieces memory refuses, a script's run over plain lists of rows prints something and ends in some status, and
+/// each run prints just that, piece by piece, but for the dumps of trees.
 pub fn every_script_has_a_plain_transcript()
     ensures { EveryScriptHasAPlainTranscript }
 {}
