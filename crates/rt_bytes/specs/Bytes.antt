@@ -1,5 +1,5 @@
 -- What readers and writers count, and what a whole write leaves (own).
-use Rattle.std.specs.Prelude.{◌≡◌, ℕ, ◌+◌, ◌-◌, ◌^◌, ◌≤◌, min, List, length, take, MatchResult, Result, Ok, Err, Option}
+use Rattle.std.specs.Prelude.{◌≡◌, ℕ, ◌+◌, ◌-◌, ◌^◌, ◌<◌, ◌≤◌, min, List, length, take, MatchResult, Result, Ok, Err, Option}
 use Rattle.std.specs.Io.KnownBytes.{Appends}
 
 -- a count raised by one, which stays at 2^64 - 1
@@ -14,6 +14,10 @@ CountsErr old new r = MatchResult r (λ _. new ≡ old) (λ _. new ≡ one_more 
 abbrev pub PassesOn : {T E F : Type 0} → Result T E → F → ℕ → ℕ → Result T F → Type 0
 PassesOn (Ok given) fault old new r = (r ≡ Ok given) × (new ≡ old)
 PassesOn (Err reason) fault old new r = (r ≡ Err fault) × (new ≡ one_more old)
+
+-- a write of so many bytes took none, though there was one
+abbrev pub TookNone : {E : Type 0} → ℕ → Result ℕ E → Type 0
+TookNone len answer = (0 < len) × (answer ≡ Ok 0)
 
 -- all of the bytes were written, and no fault was counted
 abbrev pub WritesAll : Option (List ℕ) → Option (List ℕ) → ℕ → ℕ → List ℕ → Type 0

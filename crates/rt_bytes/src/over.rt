@@ -6,7 +6,7 @@
 ghost use Rattle.std.specs.Prelude.{◌≡◌};
 ghost use Rattle.rt_bytes.specs.Bytes.{one_more};
 
-use crate::counts::{count_one, pass_on};
+use crate::counts::{count_one, pass_on, pass_on_write};
 use crate::device::{ByteReader, ByteWriter, ReadFault, WriteFault};
 use std::io::{Read, Write};
 
@@ -138,11 +138,7 @@ impl<W: Write> ByteWriter for OverWrite<W> {
     fn write(&mut self, bytes: &[u8]) -> Result<usize, WriteFault> {
         self.flushed = false;
         let answer = self.inner.write(bytes);
-        if matches!(answer, Ok(0)) && !bytes.is_empty() {
-            count_one(&mut self.faults);
-            return Err(WriteFault);
-        }
-        pass_on(&mut self.faults, answer, WriteFault)
+        pass_on_write(&mut self.faults, bytes.len(), answer, WriteFault)
     }
 
     fn flush(&mut self) -> Result<(), WriteFault> {
