@@ -1,4 +1,4 @@
-"""Has calls of the proved program fail, and gives it hard devices: see scripts/faults."""
+"""Injects faults into the proved program, and gives it hard devices: see scripts/faults."""
 
 import subprocess
 import sys

@@ -5,10 +5,9 @@ use rt_sql_cut::Cutter;
 use std::alloc::{AllocError, Global};
 use std::io::{self, IsTerminal, Read};
 
-const SCRIPT_HINT: &str =
-    "rtsh: `;` ends a statement, the line's end a command that begins with `.`, and Ctrl-D on an empty line the input";
+const SCRIPT_HINT: &str = "rtsh: End statements with ;. Ctrl-D exits.";
 
-const DUMP_HINT: &str = "rtsh: the line `end` ends a dump, and Ctrl-D on an empty line the input";
+const DUMP_HINT: &str = "rtsh: End the dump with the line `end`. Ctrl-D exits.";
 
 const PROMPT: &str = "rtsh> ";
 
