@@ -41,6 +41,14 @@ impl Capacity {
         }
     }
 
+    /// A law: the greatest number of cells is from 5 to 51. The call does nothing.
+    #[inline]
+    pub fn facts(self)
+        ensures { IsCapacity self }
+    {
+        let _ = self.greatest;
+    }
+
     /// The greatest number of cells in a node.
     pub fn greatest(self) -> usize
         ensures value { result ≡ self }

@@ -72,6 +72,14 @@ impl<const D: usize> Rect<D> {
         Some(Rect { sides })
     }
 
+    /// A law: it has one to three axes, and on each an interval whose `lo` is not above its `hi`. The call does nothing.
+    #[inline]
+    pub fn facts(&self)
+        ensures { IsBox D self.now }
+    {
+        let _ = &self.sides;
+    }
+
     /// The number of axes.
     pub fn axes(&self) -> usize
         ensures value { result ≡ D }
@@ -192,8 +200,8 @@ impl<const D: usize> Rect<D> {
         ensures value { result + area self.now ≡ area (union_box self.now other.now) }
         ensures bound { result ≤ 2 ^ 96 }
     {
-        let _ = &self.sides;
-        let _ = &other.sides;
+        self.facts();
+        other.facts();
         self.union(other).area() - self.area()
     }
 

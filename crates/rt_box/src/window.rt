@@ -131,8 +131,7 @@ impl<const D: usize> Window<D> {
     pub fn may_hold(&self, rect: &Rect<D>) -> bool
         ensures { IsTrue result ↔ MayHold D self.now rect.now }
     {
-        // The contract of `axes` says that it is a box.
-        let _ = rect.axes();
+        rect.facts();
         self.reach().admits(rect)
     }
 

@@ -114,7 +114,7 @@ fn best_of_sorting<const D: usize>(
     requires full { length boxes.now ≡ capacity + 1 }
     ensures { IsJudgedSorting boxes.now capacity axis upper result }
 {
-    let _ = boxes[0].axes(); // for the proof: it bounds D
+    boxes[0].facts();
     let least = capacity.least();
     let order = sorted_positions(boxes, axis, upper);
     let fronts = front_hulls(boxes, order.as_slice());

@@ -54,9 +54,8 @@ fn overlap_growth<const D: usize>(boxes: &[Rect<D>], position: usize, new_box: &
     ensures { result ≡ overlap_enlargement boxes.now new_box.now position }
 {
     let own = &boxes[position];
-    // For the proof: both are boxes of D axes, so the union holds both.
-    let _ = own.axes();
-    let _ = new_box.axes();
+    own.facts();
+    new_box.facts();
     let widened = own.union(new_box);
     common_growth(&boxes[..position], own, &widened)
         + common_growth(&boxes[position + 1..], own, &widened)
@@ -151,9 +150,8 @@ fn overlap_growth_within<const D: usize>(
         (λ growth. growth ≡ overlap_enlargement boxes.now new_box.now position) }
 {
     let own = &boxes[position];
-    // For the proof: both are boxes of D axes, so the union holds both.
-    let _ = own.axes();
-    let _ = new_box.axes();
+    own.facts();
+    new_box.facts();
     let widened = own.union(new_box);
     let neighbour = &boxes[near];
     if widened.overlap(neighbour) - own.overlap(neighbour) > limit {

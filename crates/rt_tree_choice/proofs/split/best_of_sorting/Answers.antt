@@ -12,9 +12,9 @@ front_hulls-fronts-requires g c =
     let boxes = c.args.boxes.now in
     let is = c.as_slice.ensures.value ∙ c.sorted_positions-order.ensures in
     let long = length-sorting (along boxes c.args.axis c.args.upper) boxes in (
-      omega (arith, c.axes.ensures.is_box.few),
+      omega (arith, c.facts.ensures.few),
       (
-        omega (arith, c.axes.ensures.is_box.few),
+        omega (arith, c.facts.ensures.few),
         (
           omega (arith, ap length is, long),
           (
@@ -30,9 +30,9 @@ back_hulls-backs-requires g c =
     let boxes = c.args.boxes.now in
     let is = c.as_slice-2.ensures.value ∙ c.sorted_positions-order.ensures in
     let long = length-sorting (along boxes c.args.axis c.args.upper) boxes in (
-      omega (arith, c.axes.ensures.is_box.few),
+      omega (arith, c.facts.ensures.few),
       (
-        omega (arith, c.axes.ensures.is_box.few),
+        omega (arith, c.facts.ensures.few),
         (
           omega (arith, ap length is, long),
           (

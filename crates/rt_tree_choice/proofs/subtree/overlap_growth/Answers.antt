@@ -6,9 +6,9 @@ use Rattle.rt_tree_choice.proofs.subtree.overlap_growth.Goals as goal
 pub common_growth-requires : goal.common_growth-requires
 common_growth-requires g c =
     let boxes = c.args.boxes.now in (
-      omega (arith, c.axes.ensures.is_box.few),
+      omega (arith, c.facts.ensures.few),
       (
-        Holds-widened _ _ _ _ c.axes.ensures.is_box c.axes-2.ensures.is_box c.union-widened.ensures,
+        Holds-widened _ _ _ _ c.facts.ensures c.facts-2.ensures c.union-widened.ensures,
         omega (arith, c.requires.few, length-take c.args.position boxes),
       ),
     )
@@ -17,9 +17,9 @@ pub common_growth-requires-2 : goal.common_growth-requires-2
 common_growth-requires-2 g c =
     let boxes = c.args.boxes.now in
     let rest = drop (c.args.position + 1) boxes in (
-      omega (arith, c.axes.ensures.is_box.few),
+      omega (arith, c.facts.ensures.few),
       (
-        Holds-widened _ _ _ _ c.axes.ensures.is_box c.axes-2.ensures.is_box c.union-widened.ensures,
+        Holds-widened _ _ _ _ c.facts.ensures c.facts-2.ensures c.union-widened.ensures,
         omega (arith, c.requires.few, length-take (length boxes - (c.args.position + 1)) rest, length-drop (c.args.position + 1) boxes),
       ),
     )

@@ -7,7 +7,7 @@ use Rattle.rt_box.proofs.rect.Rect.enlargement.Goals.{After-area-2}
 
 grows : (g : Over) (c : After-area-2 g) → c.area-2.result ≤ c.area.result
 grows g c =
-    let same : length c.args.self.now ≡ length c.args.other.now = omega (arith, ap length c.self.view_is, ap length c.other.view_is) in
+    let same : length c.args.self.now ≡ length c.args.other.now = omega (arith, c.facts.ensures.axes_are, c.facts-2.ensures.axes_are) in
     omega (arith, area-le-union c.args.self.now c.args.other.now same, ap area c.union.ensures)
 
 pub overflow_sub-result : goal.overflow_sub-result
