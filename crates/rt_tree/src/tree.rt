@@ -15,7 +15,7 @@ use indexmap::IndexMap;
 use rt_box::{Capacity, Rect, Window};
 use rt_check::Shadow;
 use rt_tree_insert::{insert_row, levels_are_few, nodes_are_few};
-use rt_tree_node::{Arena, Node, Work, node_at};
+use rt_tree_node::{Arena, Node, Work, add_node, leaves_facts, node_at};
 use rt_tree_remove::remove_row;
 use rt_tree_walk::{Found, search, shadow_of};
 use slab::Slab;
@@ -140,14 +140,13 @@ impl<const D: usize> Tree<D> {
         requires few { D ≤ 3 }
         ensures { IfOk result (λ tree. tree ≡ record { lists = empty_lists capacity; spare = 0 }) }
     {
-        // The capacity is in its range.
-        let _ = capacity.least();
+        capacity.facts();
         let mut nodes = Slab::with_capacity(alloc, NODES_AHEAD)?;
         if nodes.capacity() > MOST_NODES {
             return Err(AllocError);
         }
         let waiting = Vec::with_capacity(alloc, WAITING_ROOM)?;
-        let root = nodes.insert_reserved(Node::new(0, None, &point()));
+        let root = add_node(&mut nodes, Node::new(0, None, &point()));
         Ok(Tree {
             arena: Arena {
                 nodes,
@@ -218,8 +217,7 @@ impl<const D: usize> Tree<D> {
     pub fn is_in_shape(&self)
         ensures { IsInShape self.now.lists }
     {
-        // The map's length says that its ids differ.
-        let _ = self.arena.leaves.len();
+        leaves_facts(&self.arena.leaves);
     }
 
     /// A law: each cell of each node has a box of `D` axes. The call does nothing.

@@ -13,11 +13,11 @@ ghost use Rattle.rt_tree_insert.specs.Insertion.{Inserts};
 use crate::waiting::settle;
 use indexmap::IndexMap;
 use rt_box::Rect;
-use rt_tree_node::{Arena, Cell, Waiting, Work};
+use rt_tree_node::{Arena, Cell, Key, Waiting, Work};
 use std::hash::RandomState;
 
 /// Gives an id that isn't in the map a leaf.
-fn learn(leaves: &mut IndexMap<i64, usize, RandomState>, id: &i64, leaf: usize)
+fn learn(leaves: &mut IndexMap<i64, Key, RandomState>, id: &i64, leaf: Key)
     requires absent { leaf_of int_eq leaves.old id.now ≡ None }
     requires room { 1 ≤ spare leaves.old }
     ensures { Learns leaves.old leaves.new id.now leaf }
@@ -55,8 +55,7 @@ pub fn insert_row<const D: usize>(tree: &mut Arena<D>, id: &i64, rect: &Rect<D>)
     requires waiting_room { 513 ≤ vec_capacity tree.old.waiting }
     ensures { Inserts tree.old tree.new id.now rect.now result }
 {
-    // The contract of `axes` says that it is a box.
-    let _ = rect.axes();
+    rect.facts();
     await_leaf(tree, id, rect);
     settle(tree, 0)
 }

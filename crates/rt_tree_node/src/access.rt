@@ -2,16 +2,17 @@
 //!
 //! A call that writes changes the node at its key and no other (`Changes` in `specs/Changes.antt`).
 
-ghost use Rattle.std.specs.Prelude.{◌≡◌, ◌+◌, ◌<◌, ◌≤◌, All, Some, IsSome, [], ◌∷◌, ◌++◌, length, slice_set, remove};
-ghost use Rattle.slab.specs.Slab.{get, ContainsKey};
+ghost use Rattle.std.specs.Prelude.{◌≡◌, ℕ, ◌+◌, ◌^◌, ◌<◌, ◌≤◌, All, None, Some, IsSome, [], ◌∷◌, ◌++◌, length, slice_set, remove};
+ghost use Rattle.slab.specs.Slab.{get, ContainsKey, HasRoomFor, Updates, slab_len};
 ghost use Rattle.rt_box.specs.Rect.{IsBox};
 ghost use Rattle.rt_tree_node.specs.Places.{cells_at, hull_at, picked};
 ghost use Rattle.rt_tree_node.specs.Changes.{Changes};
 ghost use Rattle.std.specs.Ordering.{int_eq};
-ghost use Rattle.indexmap.specs.IndexMap.{get as leaf_of};
+ghost use Rattle.indexmap.specs.IndexMap.{IsUnique, get as leaf_of};
 ghost use Rattle.rt_tree_node.specs.Homes.{Moves};
 
 use crate::cell::Cell;
+use crate::key::Key;
 use crate::node::Node;
 use indexmap::IndexMap;
 use rt_box::Rect;
@@ -20,56 +21,96 @@ use slab::Slab;
 use std::hash::RandomState;
 use std::mem;
 
+/// A law: the keys of the nodes are below the slab's capacity, and its places can be counted in 64 bits. The call does
+/// nothing.
+#[inline]
+pub fn slab_facts<const D: usize>(nodes: &Slab<Node<D>>)
+    ensures keys { (key : ℕ) → ContainsKey nodes.now key → key < nodes.now.capacity }
+    ensures few { length nodes.now.slots < 2 ^ 64 }
+{
+    let _ = nodes.capacity();
+}
+
+/// Puts a node into a vacant place, and answers its key. It takes no memory.
+pub fn add_node<const D: usize>(nodes: &mut Slab<Node<D>>, node: Node<D>) -> Key
+    requires { HasRoomFor nodes.old 1 }
+    ensures was_vacant { get nodes.old result ≡ None }
+    ensures updates { Updates nodes.old nodes.new result (Some node.entry) }
+    ensures len { slab_len nodes.new ≡ slab_len nodes.old + 1 }
+    ensures key_in_range { result < nodes.new.capacity }
+    ensures capacity { nodes.new.capacity ≡ nodes.old.capacity }
+{
+    Key::new(nodes.insert_reserved(node))
+}
+
+/// Takes the node at a key out of the slab.
+pub fn remove_node<const D: usize>(nodes: &mut Slab<Node<D>>, key: Key) -> Node<D>
+    requires { ContainsKey nodes.old key }
+    ensures value { get nodes.old key ≡ Some result }
+    ensures updates { Updates nodes.old nodes.new key None }
+    ensures capacity { nodes.new.capacity ≡ nodes.old.capacity }
+{
+    nodes.remove(key.index())
+}
+
 /// The node at a key.
 #[inline]
-pub fn node_at<const D: usize>(nodes: &Slab<Node<D>>, key: usize) -> &Node<D>
+pub fn node_at<const D: usize>(nodes: &Slab<Node<D>>, key: Key) -> &Node<D>
     requires { ContainsKey nodes.now key }
     ensures { get nodes.now key ≡ Some result.now }
 {
-    &nodes[key]
+    &nodes[key.index()]
 }
 
 /// Makes the node the child of another, or of none.
-pub fn set_parent<const D: usize>(nodes: &mut Slab<Node<D>>, key: usize, parent: Option<usize>)
+pub fn set_parent<const D: usize>(nodes: &mut Slab<Node<D>>, key: Key, parent: Option<Key>)
     requires { ContainsKey nodes.old key }
     ensures { Changes (λ n. record n { parent = parent }) nodes.old nodes.new key }
 {
-    let node = &mut nodes[key];
+    let node = &mut nodes[key.index()];
     node.set_parent(parent);
 }
 
 /// Appends a cell to the node.
-pub fn add_cell<const D: usize>(nodes: &mut Slab<Node<D>>, key: usize, cell: &Cell<D>)
+pub fn add_cell<const D: usize>(nodes: &mut Slab<Node<D>>, key: Key, cell: &Cell<D>)
     requires present { ContainsKey nodes.old key }
     requires room { length (cells_at nodes.old key) < 52 }
     ensures { Changes (λ n. record n { cells = n.cells ++ cell.now ∷ [] }) nodes.old nodes.new key }
 {
-    let node = &mut nodes[key];
+    let node = &mut nodes[key.index()];
     node.add(cell);
 }
 
 /// Puts another cell in the place of the one at a position.
-pub fn set_cell<const D: usize>(nodes: &mut Slab<Node<D>>, key: usize, at: usize, cell: &Cell<D>)
+pub fn set_cell<const D: usize>(nodes: &mut Slab<Node<D>>, key: Key, at: usize, cell: &Cell<D>)
     requires present { ContainsKey nodes.old key }
     requires within { at < length (cells_at nodes.old key) }
     ensures { Changes (λ n. record n { cells = slice_set n.cells at cell.now }) nodes.old nodes.new key }
 {
-    let node = &mut nodes[key];
+    let node = &mut nodes[key.index()];
     node.set(at, cell);
 }
 
 /// Takes out the cell at a position; the cells after it close up.
-pub fn remove_cell<const D: usize>(nodes: &mut Slab<Node<D>>, key: usize, at: usize)
+pub fn remove_cell<const D: usize>(nodes: &mut Slab<Node<D>>, key: Key, at: usize)
     requires present { ContainsKey nodes.old key }
     requires within { at < length (cells_at nodes.old key) }
     ensures { Changes (λ n. record n { cells = remove n.cells at }) nodes.old nodes.new key }
 {
-    let node = &mut nodes[key];
+    let node = &mut nodes[key.index()];
     node.remove(at);
 }
 
+/// A law: no id stands twice in the map of leaves. The call does nothing.
+#[inline]
+pub fn leaves_facts(leaves: &IndexMap<i64, Key, RandomState>)
+    ensures { IsUnique int_eq leaves.now }
+{
+    let _ = leaves.len();
+}
+
 /// Notes the leaf that a row lies in now.
-pub fn set_leaf(leaves: &mut IndexMap<i64, usize, RandomState>, id: &i64, leaf: usize)
+pub fn set_leaf(leaves: &mut IndexMap<i64, Key, RandomState>, id: &i64, leaf: Key)
     requires { IsSome (leaf_of int_eq leaves.old id.now) }
     ensures { Moves leaves.old leaves.new id.now leaf }
 {
@@ -79,16 +120,15 @@ pub fn set_leaf(leaves: &mut IndexMap<i64, usize, RandomState>, id: &i64, leaf: 
 }
 
 /// Takes out all cells: answers the node as it was, and leaves one without cells in its place.
-pub fn take_cells<const D: usize>(nodes: &mut Slab<Node<D>>, key: usize) -> Node<D>
+pub fn take_cells<const D: usize>(nodes: &mut Slab<Node<D>>, key: Key) -> Node<D>
     requires present { ContainsKey nodes.old key }
     requires some { 1 ≤ length (cells_at nodes.old key) }
     ensures node { get nodes.old key ≡ Some result }
     ensures emptied { Changes (λ n. record n { cells = [] }) nodes.old nodes.new key }
     ensures few { length result.cells ≤ 52 }
 {
-    let node = &mut nodes[key];
-    // The contract of `len` says that a node has 52 cells at most.
-    let _ = node.len();
+    let node = &mut nodes[key.index()];
+    node.facts();
     let empty = node.without_cells();
     mem::replace(node, empty)
 }
@@ -96,7 +136,7 @@ pub fn take_cells<const D: usize>(nodes: &mut Slab<Node<D>>, key: usize) -> Node
 /// Appends the cells of another node at some positions, in the order of the positions.
 pub fn add_cells<const D: usize>(
     nodes: &mut Slab<Node<D>>,
-    key: usize,
+    key: Key,
     from: &Node<D>,
     positions: &[usize],
 )
@@ -105,18 +145,18 @@ pub fn add_cells<const D: usize>(
     requires room { length (cells_at nodes.old key) + length positions.now ≤ 52 }
     ensures { Changes (λ n. record n { cells = n.cells ++ picked from.now.cells positions.now }) nodes.old nodes.new key }
 {
-    let node = &mut nodes[key];
+    let node = &mut nodes[key.index()];
     node.add_from(from, positions);
 }
 
 /// The least box around the cells of the node.
-pub fn hull_at<const D: usize>(nodes: &Slab<Node<D>>, key: usize) -> Rect<D>
+pub fn hull_at<const D: usize>(nodes: &Slab<Node<D>>, key: Key) -> Rect<D>
     requires present { ContainsKey nodes.now key }
     requires some { 1 ≤ length (cells_at nodes.now key) }
     ensures value { result ≡ hull_at nodes.now key }
     ensures is_box { IsBox D result }
 {
     let hull = hull_of(node_at(nodes, key).boxes());
-    let _ = hull.axes();
+    hull.facts();
     hull
 }

@@ -4,6 +4,7 @@
 //! holds: `IsWhole` in `specs/Whole.antt` between two placements.
 
 use crate::cell::Waiting;
+use crate::key::Key;
 use crate::node::Node;
 use indexmap::IndexMap;
 use rt_box::Capacity;
@@ -17,11 +18,11 @@ pub struct Arena<const D: usize> {
     /// The nodes by key.
     pub nodes: Slab<Node<D>>,
     /// The key of the leaf that each row lies in, by the row's id.
-    pub leaves: IndexMap<i64, usize, RandomState>,
+    pub leaves: IndexMap<i64, Key, RandomState>,
     /// The cells that wait to be placed; the last is placed first.
     pub waiting: Vec<Waiting<D>>,
     /// The key of the root.
-    pub root: usize,
+    pub root: Key,
     /// The level of the root, from 0 where it is a leaf.
     pub level: u8,
     /// The greatest number of cells in a node.

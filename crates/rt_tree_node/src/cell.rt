@@ -5,6 +5,7 @@
 ghost use Rattle.std.specs.Prelude.{◌≡◌, ◌^◌, ◌<◌, pos, unsigned_abs};
 ghost use Rattle.rt_tree_node.specs.Places.{key_of as key_in};
 
+use crate::key::Key;
 use rt_box::Rect;
 
 /// A cell of a node: in a leaf a row's id and box, above the leaves a child's key and the least box around
@@ -20,7 +21,7 @@ pub struct Cell<const D: usize> {
 impl<const D: usize> Cell<D> {
     /// The key of the node that a cell above the leaves names.
     #[inline]
-    pub fn key(&self) -> usize
+    pub fn key(&self) -> Key
         ensures { result ≡ key_in self.now }
     {
         key_of(self.number)
@@ -38,17 +39,17 @@ pub struct Waiting<const D: usize> {
 
 /// The key that a cell above the leaves has as its number.
 #[inline]
-pub fn key_of(number: i64) -> usize
+pub fn key_of(number: i64) -> Key
     ensures { result ≡ unsigned_abs number }
 {
-    number.unsigned_abs() as usize
+    Key::new(number.unsigned_abs() as usize)
 }
 
 /// The number of a cell that names the node at this key.
 #[inline]
-pub fn number_of(key: usize) -> i64
+pub fn number_of(key: Key) -> i64
     requires { key < 2 ^ 63 }
     ensures { result ≡ pos key }
 {
-    key as i64
+    key.index() as i64
 }

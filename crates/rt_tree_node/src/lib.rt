@@ -12,11 +12,14 @@
 mod access;
 mod arena;
 mod cell;
+mod key;
 mod node;
 
 pub use access::{
-    add_cell, add_cells, hull_at, node_at, remove_cell, set_cell, set_leaf, set_parent, take_cells,
+    add_cell, add_cells, add_node, hull_at, leaves_facts, node_at, remove_cell, remove_node,
+    set_cell, set_leaf, set_parent, slab_facts, take_cells,
 };
 pub use arena::{Arena, Work};
 pub use cell::{Cell, Waiting, key_of, number_of};
+pub use key::Key;
 pub use node::{MOST_CELLS, Node};

@@ -8,6 +8,7 @@ ghost use Rattle.rt_tree_node.specs.declared.cell.Cell.{Cell};
 ghost use Rattle.rt_tree_node.specs.Places.{picked};
 
 use crate::cell::Cell;
+use crate::key::Key;
 use arrayvec::ArrayVec;
 use rt_box::Rect;
 use std::alloc::AllocError;
@@ -20,7 +21,7 @@ pub const MOST_CELLS: usize = 52;
 #[derive(Drop)]
 pub struct Node<const D: usize> {
     level: u8,
-    parent: Option<usize>,
+    parent: Option<Key>,
     numbers: ArrayVec<i64, MOST_CELLS>,
     boxes: ArrayVec<Rect<D>, MOST_CELLS, Rect<D>>,
 }
@@ -90,22 +91,30 @@ fn set_rect<const D: usize>(
     requires { at < length boxes.old.items }
     ensures { boxes.new.items ≡ slice_set boxes.old.items at rect.now }
 {
-    let _ = rect.axes();
+    rect.facts();
     boxes[at] = *rect;
 }
 
 impl<const D: usize> Node<D> {
     /// A node without cells; `rect` may be any box.
-    pub fn new(level: u8, parent: Option<usize>, rect: &Rect<D>) -> Node<D>
+    pub fn new(level: u8, parent: Option<Key>, rect: &Rect<D>) -> Node<D>
         ensures { result ≡ record { level = level; parent = parent; cells = [] } }
     {
-        let _ = rect.axes();
+        rect.facts();
         Node {
             level,
             parent,
             numbers: ArrayVec::new(),
             boxes: ArrayVec::new_in(*rect),
         }
+    }
+
+    /// A law: it has 52 cells at most. The call does nothing.
+    #[inline]
+    pub fn facts(&self)
+        ensures { length self.now.cells ≤ 52 }
+    {
+        let _ = self.len();
     }
 
     /// The level, from 0 at the leaves.
@@ -118,7 +127,7 @@ impl<const D: usize> Node<D> {
 
     /// The parent's key.
     #[inline]
-    pub fn parent(&self) -> Option<usize>
+    pub fn parent(&self) -> Option<Key>
         ensures { result ≡ self.now.parent }
     {
         self.parent
@@ -161,7 +170,7 @@ impl<const D: usize> Node<D> {
     }
 
     /// Makes it the child of another node, or of none.
-    pub fn set_parent(&mut self, parent: Option<usize>)
+    pub fn set_parent(&mut self, parent: Option<Key>)
         ensures { self.new ≡ record self.old { parent = parent } }
     {
         self.parent = parent;

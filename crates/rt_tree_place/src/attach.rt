@@ -10,10 +10,10 @@ ghost use Rattle.slab.specs.Slab.{ContainsKey};
 ghost use Rattle.rt_tree_node.specs.Places.{cells_at, key_of as key_in};
 ghost use Rattle.rt_tree_place.specs.Steps.{Attaches};
 
-use rt_tree_node::{Arena, Waiting, add_cell, set_leaf, set_parent};
+use rt_tree_node::{Arena, Key, Waiting, add_cell, set_leaf, set_parent};
 
 /// Appends the cell to a node of its level, and notes at what it names that it stands there.
-pub(crate) fn attach<const D: usize>(tree: &mut Arena<D>, key: usize, entry: &Waiting<D>)
+pub(crate) fn attach<const D: usize>(tree: &mut Arena<D>, key: Key, entry: &Waiting<D>)
     requires present { ContainsKey tree.old.nodes key }
     requires room { length (cells_at tree.old.nodes key) < 52 }
     requires row { entry.now.level ≡ 0 → IsSome (leaf_of int_eq tree.old.leaves entry.now.cell.number) }
@@ -21,8 +21,7 @@ pub(crate) fn attach<const D: usize>(tree: &mut Arena<D>, key: usize, entry: &Wa
     requires apart { 1 ≤ entry.now.level → key_in entry.now.cell ≢ key }
     ensures { Attaches tree.old tree.new key entry.now }
 {
-    // Says that there are one to three axes.
-    let _ = entry.cell.rect.axes();
+    entry.cell.rect.facts();
     if entry.level == 0 {
         set_leaf(&mut tree.leaves, &entry.cell.number, key);
         add_cell(&mut tree.nodes, key, &entry.cell);

@@ -12,16 +12,16 @@ ghost use Rattle.rt_tree_place.specs.Way.{LeadsUp};
 
 use rt_box::Rect;
 use rt_tree_choice::choose_subtree;
-use rt_tree_node::{Node, node_at};
+use rt_tree_node::{Key, Node, node_at};
 use slab::Slab;
 
 /// The child that the box goes into.
 fn best_child<const D: usize>(
     nodes: &Slab<Node<D>>,
-    key: usize,
+    key: Key,
     above_leaves: bool,
     rect: &Rect<D>,
-) -> usize
+) -> Key
     requires present { ContainsKey nodes.now key }
     requires some { 1 ≤ length (cells_at nodes.now key) }
     ensures { IsBestAt nodes.now key above_leaves rect.now result }
@@ -36,19 +36,18 @@ fn best_child<const D: usize>(
 /// 1990, section 4.1).
 pub fn choose_node<const D: usize>(
     nodes: &Slab<Node<D>>,
-    root: usize,
+    root: Key,
     level: u8,
     target: u8,
     rect: &Rect<D>,
-) -> usize
+) -> Key
     requires passable { IsPassable nodes.now root level }
     requires below { target ≤ level }
     ensures level { level_at nodes.now result ≡ Some target }
     ensures way { (steps : ℕ) × LeadsUp nodes.now root steps result }
     ensures path { (path : List ℕ) × LeadsTo nodes.now target (level - target) root rect.now result path }
 {
-    // Says that there are one to three axes.
-    let _ = rect.axes();
+    rect.facts();
     let mut key = root;
     let mut height = level;
     while height > target {

@@ -9,11 +9,11 @@ ghost use Rattle.rt_tree_node.specs.Places.{times_named, cells_at};
 ghost use Rattle.rt_tree_place.specs.Steps.{IsNamedAt, HasLeastBox, Refits};
 
 use rt_box::Rect;
-use rt_tree_node::{Cell, Node, hull_at, node_at, number_of, set_cell};
+use rt_tree_node::{Cell, Key, Node, hull_at, node_at, number_of, set_cell, slab_facts};
 use slab::Slab;
 
 /// The cell that names a node and has this box.
-pub(crate) fn cell_for<const D: usize>(key: usize, rect: &Rect<D>) -> Cell<D>
+pub(crate) fn cell_for<const D: usize>(key: Key, rect: &Rect<D>) -> Cell<D>
     requires { key < 2 ^ 63 }
     ensures number { result.number ≡ pos key }
     ensures rect { result.rect ≡ rect.now }
@@ -25,7 +25,7 @@ pub(crate) fn cell_for<const D: usize>(key: usize, rect: &Rect<D>) -> Cell<D>
 }
 
 /// Whether the parent's cell that names the node has the least box around the node's cells.
-pub fn has_least_box<const D: usize>(nodes: &Slab<Node<D>>, key: usize, parent: usize) -> bool
+pub fn has_least_box<const D: usize>(nodes: &Slab<Node<D>>, key: Key, parent: Key) -> bool
     requires few { D ≤ 3 }
     requires keys { nodes.now.capacity ≤ 2 ^ 62 }
     requires present { ContainsKey nodes.now key }
@@ -35,8 +35,7 @@ pub fn has_least_box<const D: usize>(nodes: &Slab<Node<D>>, key: usize, parent: 
     requires once { times_named key (cells_at nodes.now parent) ≤ 1 }
     ensures { IsTrue result ↔ HasLeastBox nodes.now key parent }
 {
-    // Says that keys are below the capacity, and so fit into a cell.
-    let _ = nodes.capacity();
+    slab_facts(nodes);
     let hull = hull_at(nodes, key);
     let cell = cell_for(key, &hull);
     let node = node_at(nodes, parent);
@@ -45,7 +44,7 @@ pub fn has_least_box<const D: usize>(nodes: &Slab<Node<D>>, key: usize, parent: 
 }
 
 /// Gives the parent's cell that names the node the least box around the node's cells.
-pub fn refit<const D: usize>(nodes: &mut Slab<Node<D>>, key: usize, parent: usize)
+pub fn refit<const D: usize>(nodes: &mut Slab<Node<D>>, key: Key, parent: Key)
     requires few { D ≤ 3 }
     requires keys { nodes.old.capacity ≤ 2 ^ 62 }
     requires present { ContainsKey nodes.old key }
@@ -54,8 +53,7 @@ pub fn refit<const D: usize>(nodes: &mut Slab<Node<D>>, key: usize, parent: usiz
     requires named { (at : ℕ) × IsNamedAt (cells_at nodes.old parent) at key }
     ensures { (n : NodeCells D) → get nodes.old parent ≡ Some n → Refits nodes.old nodes.new key parent n }
 {
-    // Says that keys are below the capacity, and so fit into a cell.
-    let _ = nodes.capacity();
+    slab_facts(nodes);
     let hull = hull_at(nodes, key);
     let cell = cell_for(key, &hull);
     let node = node_at(nodes, parent);

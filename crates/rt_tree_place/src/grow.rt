@@ -12,7 +12,7 @@ ghost use Rattle.rt_tree_place.specs.Rise.{Raises, Grows};
 use crate::attach::attach;
 use crate::fit::{cell_for, refit};
 use crate::split::divide;
-use rt_tree_node::{Arena, Node, Waiting, Work, hull_at, node_at};
+use rt_tree_node::{Arena, Node, Waiting, Work, add_node, hull_at, node_at, slab_facts};
 
 /// Makes a new root with one cell, which names the old one.
 fn raise<const D: usize>(tree: &mut Arena<D>)
@@ -24,12 +24,11 @@ fn raise<const D: usize>(tree: &mut Arena<D>)
     requires height { tree.old.level ≤ 30 }
     ensures { Raises tree.old tree.new }
 {
-    // Says that keys are below the capacity, and so fit into a cell.
-    let _ = tree.nodes.capacity();
+    slab_facts(&tree.nodes);
     let hull = hull_at(&tree.nodes, tree.root);
     let cell = cell_for(tree.root, &hull);
     let level = tree.level + 1;
-    let root = tree.nodes.insert_reserved(Node::new(level, None, &hull));
+    let root = add_node(&mut tree.nodes, Node::new(level, None, &hull));
     tree.root = root;
     tree.level = level;
     attach(tree, root, &Waiting { level, cell });

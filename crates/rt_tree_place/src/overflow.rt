@@ -11,15 +11,15 @@ ghost use Rattle.rt_tree_place.specs.Steps.{IsPair, Relieves, Treats};
 
 use crate::reinsertion::reinsert;
 use crate::split::divide;
-use rt_tree_node::{Arena, Work, node_at};
+use rt_tree_node::{Arena, Key, Work, node_at};
 
 /// OverflowTreatment of a node below the root, where it is overfull: cells leave it to be inserted again where no node
 /// of its level has given up cells yet, which is marked then, and else it is split (Beckmann, Kriegel, Schneider,
 /// Seeger 1990, section 4.3). The levels below `marks` are the marked ones.
 pub(crate) fn relieve<const D: usize>(
     tree: &mut Arena<D>,
-    key: usize,
-    parent: usize,
+    key: Key,
+    parent: Key,
     marks: &mut u8,
     work: &mut Work,
 )

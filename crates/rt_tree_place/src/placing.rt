@@ -13,10 +13,10 @@ use crate::attach::attach;
 use crate::descent::choose_node;
 use crate::grow::grow;
 use crate::rise::rise;
-use rt_tree_node::{Arena, Waiting, Work};
+use rt_tree_node::{Arena, Key, Waiting, Work};
 
 /// Appends the cell to the node of its level that best children lead its box to, and answers that node's key.
-fn enter<const D: usize>(tree: &mut Arena<D>, entry: &Waiting<D>) -> usize
+fn enter<const D: usize>(tree: &mut Arena<D>, entry: &Waiting<D>) -> Key
     requires few { D ≤ 3 }
     requires awaited { IsAwaited tree.old entry.now }
     ensures { Enters tree.old tree.new entry.now result }

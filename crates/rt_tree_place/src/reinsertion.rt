@@ -14,7 +14,7 @@ ghost use Rattle.slab.specs.Slab.{get, ContainsKey};
 
 use arrayvec::ArrayVec;
 use rt_tree_choice::farthest;
-use rt_tree_node::{Arena, MOST_CELLS, Node, Waiting, add_cells, take_cells};
+use rt_tree_node::{Arena, Key, MOST_CELLS, Node, Waiting, add_cells, take_cells};
 
 /// The numbers from 0 up to `len`.
 fn all_positions(len: usize) -> ArrayVec<usize, MOST_CELLS>
@@ -78,15 +78,14 @@ pub(crate) fn wait_for<const D: usize>(
 
 /// ReInsert: the cells of an overfull node whose centres are farthest from the node's leave it and wait, so that the
 /// nearest is placed first (Beckmann, Kriegel, Schneider, Seeger 1990, section 4.3).
-pub(crate) fn reinsert<const D: usize>(tree: &mut Arena<D>, key: usize)
+pub(crate) fn reinsert<const D: usize>(tree: &mut Arena<D>, key: Key)
     requires few { D ≤ 3 }
     requires present { ContainsKey tree.old.nodes key }
     requires full { length (cells_at tree.old.nodes key) ≡ tree.old.capacity + 1 }
     requires room { vec_len tree.old.waiting + 15 ≤ vec_capacity tree.old.waiting }
     ensures { (n : NodeCells D) → get tree.old.nodes key ≡ Some n → GivesUp tree.old tree.new key n }
 {
-    // Says that the capacity is from 5 to 51.
-    let _ = tree.capacity.greatest();
+    tree.capacity.facts();
     let old = take_cells(&mut tree.nodes, key);
     let far = farthest(old.boxes(), tree.capacity);
     let near = others(far.as_slice(), old.len());

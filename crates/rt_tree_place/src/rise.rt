@@ -11,17 +11,11 @@ ghost use Rattle.rt_tree_place.specs.Rise.{Ascends, HasRisen};
 
 use crate::fit::{has_least_box, refit};
 use crate::overflow::relieve;
-use rt_tree_node::{Arena, Work, node_at};
+use rt_tree_node::{Arena, Key, Work, node_at};
 
 /// One step up: the node is relieved of the cells that it has too many, and the parent's cell gets the least box around
 /// those that are left.
-fn lift<const D: usize>(
-    tree: &mut Arena<D>,
-    key: usize,
-    parent: usize,
-    marks: &mut u8,
-    work: &mut Work,
-)
+fn lift<const D: usize>(tree: &mut Arena<D>, key: Key, parent: Key, marks: &mut u8, work: &mut Work)
     requires few { D ≤ 3 }
     requires rising { IsRising tree.old key }
     requires up { parent_at tree.old.nodes key ≡ Some parent }
@@ -38,7 +32,7 @@ fn lift<const D: usize>(
 }
 
 /// Whether nothing is left to be done on the way up: the node isn't overfull, and the cell above it has the least box.
-fn is_relieved<const D: usize>(tree: &Arena<D>, key: usize, parent: usize) -> bool
+fn is_relieved<const D: usize>(tree: &Arena<D>, key: Key, parent: Key) -> bool
     requires few { D ≤ 3 }
     requires rising { IsRising tree.now key }
     requires up { parent_at tree.now.nodes key ≡ Some parent }
@@ -52,12 +46,7 @@ fn is_relieved<const D: usize>(tree: &Arena<D>, key: usize, parent: usize) -> bo
 }
 
 /// The steps up from a node that a cell was placed in, to the root, which may have one cell too many then.
-pub(crate) fn rise<const D: usize>(
-    tree: &mut Arena<D>,
-    from: usize,
-    marks: &mut u8,
-    work: &mut Work,
-)
+pub(crate) fn rise<const D: usize>(tree: &mut Arena<D>, from: Key, marks: &mut u8, work: &mut Work)
     requires few { D ≤ 3 }
     requires rising { IsRising tree.old from }
     requires room { HasRoomFor tree.old.nodes 30 }

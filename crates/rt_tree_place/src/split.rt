@@ -16,15 +16,16 @@ use crate::fit::cell_for;
 use indexmap::IndexMap;
 use rt_tree_choice::{choose_split, sorted_positions};
 use rt_tree_node::{
-    Arena, Node, Waiting, add_cells, hull_at, node_at, set_leaf, set_parent, take_cells,
+    Arena, Key, Node, Waiting, add_cells, add_node, hull_at, node_at, set_leaf, set_parent,
+    take_cells,
 };
 use slab::Slab;
 use std::hash::RandomState;
 
 /// Notes that the rows of the cells at the positions lie in another leaf now.
 fn rehouse<const D: usize>(
-    leaves: &mut IndexMap<i64, usize, RandomState>,
-    leaf: usize,
+    leaves: &mut IndexMap<i64, Key, RandomState>,
+    leaf: Key,
     from: &Node<D>,
     positions: &[usize],
 )
@@ -40,7 +41,7 @@ fn rehouse<const D: usize>(
 }
 
 /// Makes the nodes that the cells at the positions name the children of another node.
-fn adopt<const D: usize>(nodes: &mut Slab<Node<D>>, key: usize, from: &Node<D>, positions: &[usize])
+fn adopt<const D: usize>(nodes: &mut Slab<Node<D>>, key: Key, from: &Node<D>, positions: &[usize])
     requires few { D ≤ 3 }
     requires within { All (λ p. p < length from.now.cells) positions.now }
     requires present { All (λ c. ContainsKey nodes.old (key_in c)) (picked from.now.cells positions.now) }
@@ -53,7 +54,7 @@ fn adopt<const D: usize>(nodes: &mut Slab<Node<D>>, key: usize, from: &Node<D>, 
 }
 
 /// Notes at what the cells at the positions name that they stand in another node now.
-fn take_over<const D: usize>(tree: &mut Arena<D>, key: usize, from: &Node<D>, positions: &[usize])
+fn take_over<const D: usize>(tree: &mut Arena<D>, key: Key, from: &Node<D>, positions: &[usize])
     requires few { D ≤ 3 }
     requires within { All (λ p. p < length from.now.cells) positions.now }
     requires known { from.now.level ≡ 0 → All (λ c. IsSome (leaf_of int_eq tree.old.leaves c.number)) (picked from.now.cells positions.now) }
@@ -78,7 +79,7 @@ fn groups(order: &[usize], first: usize) -> (&[usize], &[usize])
 
 /// Split: the cells of an overfull node are cut into two groups; the first stays, and the second goes to a new node,
 /// whose key is the answer (Beckmann, Kriegel, Schneider, Seeger 1990, section 4.2).
-pub(crate) fn split<const D: usize>(tree: &mut Arena<D>, key: usize) -> usize
+pub(crate) fn split<const D: usize>(tree: &mut Arena<D>, key: Key) -> Key
     requires few { D ≤ 3 }
     requires present { ContainsKey tree.old.nodes key }
     requires full { length (cells_at tree.old.nodes key) ≡ tree.old.capacity + 1 }
@@ -87,24 +88,24 @@ pub(crate) fn split<const D: usize>(tree: &mut Arena<D>, key: usize) -> usize
     requires children { (l : ℕ) → level_at tree.old.nodes key ≡ Some (suc l) → All (λ c. ContainsKey tree.old.nodes (key_in c) × (key_in c ≢ key)) (cells_at tree.old.nodes key) }
     ensures { (n : NodeCells D) → get tree.old.nodes key ≡ Some n → Splits tree.old tree.new key n result }
 {
-    // Says that the capacity is from 5 to 51.
-    let _ = tree.capacity.greatest();
+    tree.capacity.facts();
     let old = take_cells(&mut tree.nodes, key);
     let cut = choose_split(old.boxes(), tree.capacity);
     let order = sorted_positions(old.boxes(), cut.axis, cut.upper);
     let (first, second) = groups(order.as_slice(), cut.first);
     add_cells(&mut tree.nodes, key, &old, first);
     let cell = old.cell(0);
-    let sibling = tree
-        .nodes
-        .insert_reserved(Node::new(old.level(), old.parent(), &cell.rect));
+    let sibling = add_node(
+        &mut tree.nodes,
+        Node::new(old.level(), old.parent(), &cell.rect),
+    );
     take_over(tree, sibling, &old, second);
     add_cells(&mut tree.nodes, sibling, &old, second);
     sibling
 }
 
 /// Splits an overfull node below the root, and appends the new node's cell to the parent.
-pub(crate) fn divide<const D: usize>(tree: &mut Arena<D>, key: usize, parent: usize)
+pub(crate) fn divide<const D: usize>(tree: &mut Arena<D>, key: Key, parent: Key)
     requires few { D ≤ 3 }
     requires pair { IsPair tree.old key parent }
     requires full { length (cells_at tree.old.nodes key) ≡ tree.old.capacity + 1 }

@@ -79,11 +79,11 @@ module _ {D : ℕ} where
       }
 
   -- the node at the key leaves the slab after its cell left the parent
-  pub taken-out : (a s b : Slab (NodeCells D)) (key parent at : ℕ) (p : NodeCells D) (ns : List ℤ) →
+  pub child-removed : (a s b : Slab (NodeCells D)) (key parent at : ℕ) (p : NodeCells D) (ns : List ℤ) →
       get a parent ≡ Some p → key ≢ parent → ns ≡ map (λ x. x.number) p.cells → at < length ns →
       ((d : ℤ) → unsigned_abs (get_or ns at d) ≡ key) → Puts a s parent (record p { cells = remove p.cells at }) →
       Updates s b key None → b.capacity ≡ s.capacity → Dissolves a b key parent at
-  taken-out a s b key parent at p ns above apart ns_is within names puts updates room =
+  child-removed a s b key parent at p ns above apart ns_is within names puts updates room =
       let cells : cells_at a parent ≡ p.cells = ap cells_of above in
       let place = named-at p.cells ns key at ns_is within names in
       record {

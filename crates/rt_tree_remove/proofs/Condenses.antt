@@ -16,16 +16,16 @@ use Rattle.rt_tree_node.specs.Path.{KeepsShape}
 use Rattle.rt_tree_node.specs.Whole.{IsWhole}
 use Rattle.rt_tree_place.proofs.Rested.{rested-whole}
 use Rattle.rt_tree_remove.specs.Above.{way_up}
-use Rattle.rt_tree_remove.specs.Steps.{IsSoundBut, KeepsRows, Climbs, Rests, Spares, IsClimbing, Condenses}
+use Rattle.rt_tree_remove.specs.Steps.{IsSoundBut, KeepsHomes, Climbs, IsCondensed, Spares, IsClimbing, Condenses}
 use Rattle.rt_tree_remove.proofs.Climbs.{parent-level}
 use Rattle.rt_tree_remove.proofs.Dissolved.{unnamed-below, parent-named}
 
 module _ {D : ℕ} where
-  pub KeepsRows-none : (t : Arena D) → KeepsRows t t
-  KeepsRows-none t = record { rows = λ test. refl; leaves = refl; root = refl; level = refl; capacity = refl; room = refl; waiting_room = refl }
+  pub KeepsHomes-none : (t : Arena D) → KeepsHomes t t
+  KeepsHomes-none t = record { rows = λ test. refl; leaves = refl; root = refl; level = refl; capacity = refl; room = refl; waiting_room = refl }
 
-  pub KeepsRows-then : (s t u : Arena D) → KeepsRows s t → KeepsRows t u → KeepsRows s u
-  KeepsRows-then s t u p q = record {
+  pub KeepsHomes-then : (s t u : Arena D) → KeepsHomes s t → KeepsHomes t u → KeepsHomes s u
+  KeepsHomes-then s t u p q = record {
     rows = λ test. q.rows test ∙ p.rows test;
     leaves = q.leaves ∙ p.leaves;
     root = q.root ∙ p.root;
@@ -104,7 +104,7 @@ module _ {D : ℕ} where
   pub climbing-start : (t : Arena D) (leaf : ℕ) → IsSoundBut t leaf → level_at t.nodes leaf ≡ Some 0 → IsClimbing t t leaf leaf
   climbing-start t leaf but bottom = record {
     but = but;
-    keeps = KeepsRows-none t;
+    keeps = KeepsHomes-none t;
     exact = λ roomy. record {
       waiting = refl;
       shape = KeepsShape-none t.nodes (way_up t.nodes t.level leaf);
@@ -117,7 +117,7 @@ module _ {D : ℕ} where
     };
   }
 
-  spares-more : (s t u : Arena D) (leaf key parent : ℕ) → IsSoundBut t key → parent_at t.nodes key ≡ Some parent → KeepsRows s t → Climbs t u key parent →
+  spares-more : (s t u : Arena D) (leaf key parent : ℕ) → IsSoundBut t key → parent_at t.nodes key ≡ Some parent → KeepsHomes s t → Climbs t u key parent →
       Spares s t leaf key → key ≢ t.root → Spares s u leaf parent
   spares-more s t u leaf key parent but up keeps climbs so_far away =
       let exact = climbs.exact (so_far.full away) in
@@ -146,7 +146,7 @@ module _ {D : ℕ} where
       let away : key ≢ t.root = λ e. none-some parent (sym so_far.but.sound.linked.root_parent ∙ ap (parent_at t.nodes) (sym e) ∙ up) in
       record {
         but = climbs.next;
-        keeps = KeepsRows-then s t u so_far.keeps climbs.keeps;
+        keeps = KeepsHomes-then s t u so_far.keeps climbs.keeps;
         exact = λ roomy. spares-more s t u leaf key parent so_far.but up so_far.keeps climbs (so_far.exact roomy) away;
       }
 
@@ -164,15 +164,15 @@ module _ {D : ℕ} where
       }
 
   -- the steps may end below the root
-  pub climbing-rests : (s t : Arena D) (leaf key parent : ℕ) → IsClimbing s t leaf key → parent_at t.nodes key ≡ Some parent → Rests t key parent → Condenses s t leaf
-  climbing-rests s t leaf key parent so_far up rests =
+  pub climbing-condensed : (s t : Arena D) (leaf key parent : ℕ) → IsClimbing s t leaf key → parent_at t.nodes key ≡ Some parent → IsCondensed t key parent → Condenses s t leaf
+  climbing-condensed s t leaf key parent so_far up condensed =
       let but = so_far.but in
       let above = parent-level t key parent but up in
       let high : but.level ≤ t.level = but.sound.linked.levels key but.level but.here in
       let product : (least_fill t.capacity - 1) * but.level ≤ (least_fill t.capacity - 1) * t.level = mul-le-mul_left (least_fill t.capacity - 1) high in
       let few = but.few in
       record {
-        whole = rested-whole t key parent but.level but.sound but.here up above rests.filled but.most rests.box;
+        whole = rested-whole t key parent but.level but.sound but.here up above condensed.filled but.most condensed.box;
         keeps = so_far.keeps;
         few = omega arith;
         waiting = λ roomy. (so_far.exact roomy).waiting;

@@ -59,7 +59,7 @@ module _ {D : ℕ} where
     pub branched : key ≢ t.root → 2 ≤ length (cells_at t.nodes t.root)
 
   -- the rows in the tree and among what waits stay, and the root, the map of leaves and the room
-  pub record KeepsRows (old new : Arena D) : Type 0 where
+  pub record KeepsHomes (old new : Arena D) : Type 0 where
     pub rows : (test : Cell D → Bool) →
         count_rows test new.nodes new.waiting.items ≡ count_rows test old.nodes old.waiting.items
     pub leaves : new.leaves ≡ old.leaves
@@ -79,11 +79,11 @@ module _ {D : ℕ} where
   pub record Climbs (old new : Arena D) (key parent : ℕ) : Type 0 where
     pub next : IsSoundBut new parent
     pub up : (l : ℕ) → level_at old.nodes key ≡ Some l → level_at new.nodes parent ≡ Some (suc l)
-    pub keeps : KeepsRows old new
+    pub keeps : KeepsHomes old new
     pub exact : least_fill old.capacity ≤ length (cells_at old.nodes key) → KeepsShapes old new key parent
 
   -- nothing is left to be done on the way up: the node has enough cells, and the cell above it has the least box
-  pub record Rests (t : Arena D) (key parent : ℕ) : Type 0 where
+  pub record IsCondensed (t : Arena D) (key parent : ℕ) : Type 0 where
     pub filled : least_fill t.capacity ≤ length (cells_at t.nodes key)
     pub box : HasLeastBox t.nodes key parent
 
@@ -106,13 +106,13 @@ module _ {D : ℕ} where
   -- the steps up from the leaf so far
   pub record IsClimbing (old t : Arena D) (leaf key : ℕ) : Type 0 where
     pub but : IsSoundBut t key
-    pub keeps : KeepsRows old t
+    pub keeps : KeepsHomes old t
     pub exact : IsRoomy old leaf → Spares old t leaf key
 
   -- no node is out of shape any more, and the cells of the thin ones wait
   pub record Condenses (old new : Arena D) (leaf : ℕ) : Type 0 where
     pub whole : IsWhole new
-    pub keeps : KeepsRows old new
+    pub keeps : KeepsHomes old new
     pub few : length new.waiting.items ≤ (least_fill new.capacity - 1) * new.level
     pub waiting : IsRoomy old leaf → new.waiting.items ≡ old.waiting.items
     pub shape : IsRoomy old leaf → (k : ℕ) → KeepsShape old.nodes new.nodes (way_up old.nodes old.level leaf) k

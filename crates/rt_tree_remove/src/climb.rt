@@ -10,15 +10,15 @@ ghost use Rattle.rt_tree_node.specs.Places.{times_named, cells_at, parent_at, wa
 ghost use Rattle.rt_tree_remove.specs.Steps.{Dissolves, IsSoundBut, Climbs};
 
 use crate::find::place_of_child;
-use rt_tree_node::{Arena, Node, Waiting, node_at, remove_cell};
+use rt_tree_node::{Arena, Key, Node, Waiting, node_at, remove_cell, remove_node};
 use rt_tree_place::refit;
 use slab::Slab;
 
 /// Takes the node out of the slab, and the cell that names it out of the parent.
-pub(crate) fn take_out<const D: usize>(
+pub(crate) fn remove_child<const D: usize>(
     nodes: &mut Slab<Node<D>>,
-    key: usize,
-    parent: usize,
+    key: Key,
+    parent: Key,
 ) -> Node<D>
     requires here { ContainsKey nodes.old key }
     requires above { ContainsKey nodes.old parent }
@@ -29,7 +29,7 @@ pub(crate) fn take_out<const D: usize>(
 {
     let at = place_of_child(node_at(nodes, parent).numbers(), key);
     remove_cell(nodes, parent, at);
-    nodes.remove(key)
+    remove_node(nodes, key)
 }
 
 /// Lets the cells of a node wait for another node of its level.
@@ -47,7 +47,7 @@ pub(crate) fn await_places<const D: usize>(waiting: &mut Vec<Waiting<D>>, node: 
 
 /// A node with too few cells is taken out of its parent and its cells wait; of another the parent's cell gets
 /// the least box around its cells.
-pub(crate) fn climb<const D: usize>(tree: &mut Arena<D>, key: usize, parent: usize)
+pub(crate) fn climb<const D: usize>(tree: &mut Arena<D>, key: Key, parent: Key)
     requires but { IsSoundBut tree.old key }
     requires up { parent_at tree.old.nodes key ≡ Some parent }
     requires keys { tree.old.nodes.capacity ≤ 2 ^ 62 }
@@ -58,6 +58,6 @@ pub(crate) fn climb<const D: usize>(tree: &mut Arena<D>, key: usize, parent: usi
         refit(&mut tree.nodes, key, parent);
         return;
     }
-    let node = take_out(&mut tree.nodes, key, parent);
+    let node = remove_child(&mut tree.nodes, key, parent);
     await_places(&mut tree.waiting, &node);
 }

@@ -6,18 +6,18 @@
 ghost use Rattle.std.specs.Prelude.{◌≡◌, ◌-◌, ◌*◌, ◌^◌, ◌≤◌, Some, true, vec_capacity};
 ghost use Rattle.rt_box.specs.Capacity.{least_fill};
 ghost use Rattle.rt_tree_node.specs.Places.{level_at, parent_at};
-ghost use Rattle.rt_tree_remove.specs.Steps.{IsSoundBut, Rests, Condenses};
+ghost use Rattle.rt_tree_remove.specs.Steps.{IsSoundBut, IsCondensed, Condenses};
 
 use crate::climb::climb;
-use rt_tree_node::{Arena, node_at};
+use rt_tree_node::{Arena, Key, node_at};
 use rt_tree_place::has_least_box;
 
 /// Whether nothing is left to be done on the way up: the node has enough cells, and the cell above it has the least box.
-fn is_condensed<const D: usize>(tree: &Arena<D>, key: usize, parent: usize) -> bool
+fn is_condensed<const D: usize>(tree: &Arena<D>, key: Key, parent: Key) -> bool
     requires but { IsSoundBut tree.now key }
     requires up { parent_at tree.now.nodes key ≡ Some parent }
     requires keys { tree.now.nodes.capacity ≤ 2 ^ 62 }
-    ensures { result ≡ true → Rests tree.now key parent }
+    ensures { result ≡ true → IsCondensed tree.now key parent }
 {
     if node_at(&tree.nodes, key).len() < tree.capacity.least() {
         return false;
@@ -26,7 +26,7 @@ fn is_condensed<const D: usize>(tree: &Arena<D>, key: usize, parent: usize) -> b
 }
 
 /// Takes out the nodes from the leaf up that have too few cells, and fits the boxes of the others.
-pub(crate) fn condense<const D: usize>(tree: &mut Arena<D>, leaf: usize)
+pub(crate) fn condense<const D: usize>(tree: &mut Arena<D>, leaf: Key)
     requires but { IsSoundBut tree.old leaf }
     requires keys { tree.old.nodes.capacity ≤ 2 ^ 62 }
     requires bottom { level_at tree.old.nodes leaf ≡ Some 0 }

@@ -4,10 +4,10 @@
 
 ghost use Rattle.std.specs.Prelude.{◌≡◌, ◌<◌, ℤ, nat_eq, unsigned_abs, count_by, length, slice_index_or};
 
-use rt_tree_node::key_of;
+use rt_tree_node::{Key, key_of};
 
 /// The place of the first cell that names the node at the key.
-pub(crate) fn place_of_child(numbers: &[i64], key: usize) -> usize
+pub(crate) fn place_of_child(numbers: &[i64], key: Key) -> usize
     requires { 0 < count_by (λ n. nat_eq (unsigned_abs n) key) numbers.now }
     ensures within { result < length numbers.now }
     ensures names { (d : ℤ) → unsigned_abs (slice_index_or numbers.now result d) ≡ key }

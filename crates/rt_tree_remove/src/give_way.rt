@@ -7,10 +7,10 @@ ghost use Rattle.std.specs.Prelude.{◌≡◌, ◌<◌, ℤ, [], length, unsigne
 ghost use Rattle.rt_tree_node.specs.Whole.{IsWhole};
 ghost use Rattle.rt_tree_remove.specs.Steps.{GivesWay};
 
-use rt_tree_node::{Arena, key_of, node_at, set_parent};
+use rt_tree_node::{Arena, Key, key_of, node_at, remove_node, set_parent};
 
 /// The key in the first of these numbers.
-fn first_key(numbers: &[i64]) -> usize
+fn first_key(numbers: &[i64]) -> Key
     requires { 0 < length numbers.now }
     ensures { (d : ℤ) → result ≡ unsigned_abs (slice_index_or numbers.now 0 d) }
 {
@@ -31,7 +31,7 @@ pub(crate) fn give_way<const D: usize>(tree: &mut Arena<D>)
         return;
     }
     let child = first_key(root.numbers());
-    tree.nodes.remove(tree.root);
+    remove_node(&mut tree.nodes, tree.root);
     set_parent(&mut tree.nodes, child, None);
     tree.root = child;
     tree.level -= 1;

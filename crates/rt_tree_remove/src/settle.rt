@@ -22,6 +22,7 @@ pub(crate) fn place_waiting<const D: usize>(tree: &mut Arena<D>)
 {
     while !tree.waiting.is_empty() {
         let base = tree.waiting.len() - 1;
+        // What an insertion took is counted for its caller; a removal promises no count.
         let _ = settle(tree, base);
     }
 }

@@ -11,19 +11,19 @@ ghost use Rattle.rt_tree_remove.specs.Steps.{Forgets, Takes};
 
 use indexmap::IndexMap;
 use rt_box::Rect;
-use rt_tree_node::{Arena, node_at, remove_cell};
+use rt_tree_node::{Arena, Key, node_at, remove_cell};
 use std::hash::RandomState;
 
 /// A row that left its leaf.
 pub(crate) struct Taken<const D: usize> {
     /// The key of the leaf.
-    pub(crate) leaf: usize,
+    pub(crate) leaf: Key,
     /// The row's box.
     pub(crate) rect: Rect<D>,
 }
 
 /// Takes the id out of the map, and answers the leaf that its row lies in.
-fn forget(leaves: &mut IndexMap<i64, usize, RandomState>, id: &i64) -> usize
+fn forget(leaves: &mut IndexMap<i64, Key, RandomState>, id: &i64) -> Key
     requires { IsSome (leaf_of int_eq leaves.old id.now) }
     ensures leaf { leaf_of int_eq leaves.old id.now ≡ Some result }
     ensures forgets { Forgets leaves.old leaves.new id.now }

@@ -8,7 +8,7 @@ ghost use Rattle.rt_tree_node.specs.Whole.{IsWhole, IsBranched};
 ghost use Rattle.rt_tree_walk.specs.InOrder.{IsPreorder, AreByRisingId, HasRows};
 ghost use Rattle.rt_tree_walk.specs.Outside.{outside};
 
-use rt_tree_node::Arena;
+use rt_tree_node::{Arena, leaves_facts};
 
 /// The checker finds no problem in a whole tree, whose inner root has two cells at least.
 pub fn outside_is_sound<const D: usize>(tree: &Arena<D>)
@@ -33,8 +33,7 @@ pub fn outside_is_in_preorder<const D: usize>(tree: &Arena<D>)
 pub fn entries_are_by_rising_id<const D: usize>(tree: &Arena<D>)
     ensures { AreByRisingId (outside tree.now).rows }
 {
-    // The map's length says that its ids differ.
-    let _ = tree.leaves.len();
+    leaves_facts(&tree.leaves);
 }
 
 /// The cells of the leaves are the rows.

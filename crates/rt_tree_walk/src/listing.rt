@@ -11,11 +11,11 @@ ghost use Rattle.rt_tree_walk.specs.Preorder.{tree_keys, number_in};
 ghost use Rattle.rt_tree_walk.specs.Outside.{noted};
 
 use crate::searching::child_of;
-use rt_tree_node::{Arena, Node, node_at};
+use rt_tree_node::{Arena, Key, Node, node_at};
 use std::alloc::{AllocError, Global};
 
 /// Appends the keys of a node's children, the last cell's first.
-fn push_children<const D: usize>(keys: &mut Vec<usize>, node: &Node<D>) -> Result<(), AllocError>
+fn push_children<const D: usize>(keys: &mut Vec<Key>, node: &Node<D>) -> Result<(), AllocError>
     ensures { OnOk result (keys.new.items ≡ keys.old.items ++ reverse (map key_of node.now.cells)) }
 {
     let count = node.len();
@@ -27,10 +27,10 @@ fn push_children<const D: usize>(keys: &mut Vec<usize>, node: &Node<D>) -> Resul
 
 /// Lists the node next, and notes its children as due.
 fn list_next<const D: usize>(
-    order: &mut Vec<usize>,
-    keys: &mut Vec<usize>,
+    order: &mut Vec<Key>,
+    keys: &mut Vec<Key>,
     tree: &Arena<D>,
-    key: usize,
+    key: Key,
 ) -> Result<(), AllocError>
     requires present { ContainsKey tree.now.nodes key }
     requires few { D ≤ 3 }
@@ -49,7 +49,7 @@ fn list_next<const D: usize>(
 pub(crate) fn preorder<const D: usize>(
     alloc: Global,
     tree: &Arena<D>,
-) -> Result<Vec<usize>, AllocError>
+) -> Result<Vec<Key>, AllocError>
     requires whole { IsWhole tree.now }
     requires settled { tree.now.waiting.items ≡ [] }
     requires few { D ≤ 3 }
@@ -67,7 +67,7 @@ pub(crate) fn preorder<const D: usize>(
 /// Notes for each listed key its place in the list, counted from 1. Keys are below `bound`.
 pub(crate) fn number_keys(
     alloc: Global,
-    order: &[usize],
+    order: &[Key],
     bound: usize,
 ) -> Result<Vec<usize>, AllocError>
     requires within { All (λ key. key < bound) order.now }
@@ -80,7 +80,7 @@ pub(crate) fn number_keys(
     let count = order.len();
     for back in 0..count {
         let at = count - 1 - back;
-        numbers[order[at]] = at + 1;
+        numbers[order[at].index()] = at + 1;
     }
     Ok(numbers)
 }

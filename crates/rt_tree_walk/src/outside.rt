@@ -16,17 +16,17 @@ use crate::listing::{number_keys, preorder};
 use crate::searching::child_of;
 use indexmap::IndexMap;
 use rt_check::{Items, NodeRow, RawCell, RowEntry, Shadow};
-use rt_tree_node::{Arena, Cell, Node, node_at, number_of};
+use rt_tree_node::{Arena, Cell, Key, Node, node_at};
 use std::alloc::{AllocError, Global};
 use std::hash::RandomState;
 
 /// The number that is noted for a key.
-fn number_at(numbers: &[usize], key: usize) -> i64
+fn number_at(numbers: &[usize], key: Key) -> i64
     requires known { key < length numbers.now }
     requires small { All (λ n. n < 2 ^ 63) numbers.now }
     ensures { result ≡ noted numbers.now key }
 {
-    number_of(numbers[key])
+    numbers[key.index()] as i64
 }
 
 /// The id of a leaf's cell.
@@ -93,7 +93,7 @@ fn parent_number<const D: usize>(node: &Node<D>, numbers: &[usize]) -> Option<i6
 fn node_row<const D: usize>(
     alloc: Global,
     node: &Node<D>,
-    key: usize,
+    key: Key,
     numbers: &[usize],
 ) -> Result<NodeRow<D>, AllocError>
     requires known { AreKnown (length numbers.now) key node.now }
@@ -113,7 +113,7 @@ fn list_node<const D: usize>(
     shadow: &mut Shadow<D>,
     alloc: Global,
     tree: &Arena<D>,
-    key: usize,
+    key: Key,
     numbers: &[usize],
 ) -> Result<(), AllocError>
     requires few { D ≤ 3 }
@@ -133,7 +133,7 @@ fn list_nodes<const D: usize>(
     shadow: &mut Shadow<D>,
     alloc: Global,
     tree: &Arena<D>,
-    order: &[usize],
+    order: &[Key],
     numbers: &[usize],
 ) -> Result<(), AllocError>
     requires few { D ≤ 3 }
@@ -148,7 +148,7 @@ fn list_nodes<const D: usize>(
 }
 
 /// The ids of the rows, in the order of the map.
-fn ids_of(alloc: Global, leaves: &IndexMap<i64, usize, RandomState>) -> Result<Vec<i64>, AllocError>
+fn ids_of(alloc: Global, leaves: &IndexMap<i64, Key, RandomState>) -> Result<Vec<i64>, AllocError>
     ensures { IfOk result (λ ids. ids.items ≡ keys leaves.now) }
 {
     leaves.keys().copied().collect(alloc)
@@ -157,7 +157,7 @@ fn ids_of(alloc: Global, leaves: &IndexMap<i64, usize, RandomState>) -> Result<V
 /// The ids of the rows, in rising order.
 fn rising_ids(
     alloc: Global,
-    leaves: &IndexMap<i64, usize, RandomState>,
+    leaves: &IndexMap<i64, Key, RandomState>,
 ) -> Result<Vec<i64>, AllocError>
     ensures { IfOk result (λ ids. ids.items ≡ rising (keys leaves.now)) }
 {
@@ -167,7 +167,7 @@ fn rising_ids(
 }
 
 /// The entry of a row: its leaf by its number.
-fn row_entry(leaves: &IndexMap<i64, usize, RandomState>, id: &i64, numbers: &[usize]) -> RowEntry
+fn row_entry(leaves: &IndexMap<i64, Key, RandomState>, id: &i64, numbers: &[usize]) -> RowEntry
     requires known { ForSome (leaf_of int_eq leaves.now id.now) (λ key. key < length numbers.now) }
     requires small { All (λ n. n < 2 ^ 63) numbers.now }
     ensures { result ≡ row_entry (noted numbers.now) (leaf_of int_eq leaves.now) id.now }
@@ -182,7 +182,7 @@ fn row_entry(leaves: &IndexMap<i64, usize, RandomState>, id: &i64, numbers: &[us
 /// Lists the row entries, by rising id.
 fn list_rows<const D: usize>(
     shadow: &mut Shadow<D>,
-    leaves: &IndexMap<i64, usize, RandomState>,
+    leaves: &IndexMap<i64, Key, RandomState>,
     ids: &[i64],
     numbers: &[usize],
 ) -> Result<(), AllocError>

@@ -13,7 +13,7 @@ ghost use Rattle.rt_tree_walk.specs.Visits.{rows_at, TakesRows, TakesChildren, V
 
 use crate::ahead::look_ahead;
 use rt_box::{Rect, Window};
-use rt_tree_node::{Arena, Cell, MOST_CELLS, Node, key_of, node_at};
+use rt_tree_node::{Arena, Cell, Key, MOST_CELLS, Node, key_of, node_at, slab_facts};
 use std::alloc::{AllocError, Global};
 
 /// How many rows a search has room for before it finds the first one.
@@ -58,7 +58,7 @@ fn row_of<const D: usize>(cell: &Cell<D>) -> Row<D>
 
 /// The key of the child that a cell names.
 #[inline]
-pub(crate) fn child_of<const D: usize>(cell: &Cell<D>) -> usize
+pub(crate) fn child_of<const D: usize>(cell: &Cell<D>) -> Key
     ensures { result ≡ key_of cell.now }
 {
     key_of(cell.number)
@@ -112,8 +112,7 @@ fn take_rows<const D: usize>(
 ) -> Result<(), AllocError>
     ensures { OnOk result (TakesRows window.now node.now.cells rows.old.items rows.new.items) }
 {
-    // The contract of `len` says that a node has no more cells than there is room for here.
-    let _ = node.len();
+    node.facts();
     let mut positions = [0; MOST_CELLS];
     let count = put_admitted(&mut positions, node, window);
     push_rows(rows, node, &positions[..count])
@@ -121,7 +120,7 @@ fn take_rows<const D: usize>(
 
 /// Takes the children in which a box may lie that the window admits.
 fn take_children<const D: usize>(
-    keys: &mut Vec<usize>,
+    keys: &mut Vec<Key>,
     node: &Node<D>,
     asked: &Asked<D>,
 ) -> Result<(), AllocError>
@@ -133,8 +132,7 @@ fn take_children<const D: usize>(
     for at in 0..boxes.len() {
         let rect = &boxes[at];
         let kept = keys.len() + usize::from(reach.admits(rect));
-        // The contract of `axes` says that it is a box.
-        let _ = rect.axes();
+        rect.facts();
         keys.push_reserved(child_of(&node.cell(at)));
         keys.truncate(kept);
     }
@@ -149,10 +147,10 @@ fn take_children<const D: usize>(
 #[inline(never)]
 fn visit<const D: usize>(
     rows: &mut Vec<Row<D>>,
-    keys: &mut Vec<usize>,
+    keys: &mut Vec<Key>,
     seen: &mut usize,
     tree: &Arena<D>,
-    key: usize,
+    key: Key,
     asked: &Asked<D>,
 ) -> Result<(), AllocError>
     requires present { ContainsKey tree.now.nodes key }
@@ -194,8 +192,7 @@ pub fn search<const D: usize>(
     let mut found = Found { rows, visited: 0 };
     let mut keys = Vec::with_capacity(alloc, 2 * MOST_CELLS)?;
     keys.push(tree.root)?;
-    // The contract of `capacity` says that there are fewer nodes than can be counted.
-    let _ = tree.nodes.capacity();
+    slab_facts(&tree.nodes);
     let asked = Asked {
         window: *window,
         reach: window.reach(),

@@ -10,7 +10,7 @@ settle-requires g c =
     let old = c.args.tree.now in
     let mid = c.await_leaf.new.tree in
     let cell : Cell g.row.D = record { number = c.args.id.now; rect = c.args.rect.now } in
-    let whole : IsWhole mid = whole-awaiting old mid cell c.await_leaf.ensures c.requires.idle c.requires.whole c.requires.absent c.axes.ensures.is_box in
+    let whole : IsWhole mid = whole-awaiting old mid cell c.await_leaf.ensures c.requires.idle c.requires.whole c.requires.absent c.facts.ensures in
     let one = waits-one old mid cell c.await_leaf.ensures c.requires.idle in
     let waits : 0 < vec_len mid.waiting = omega arith in
     let rows : row_count mid ≤ 2 ^ 20 = omega (arith, rows-awaiting old mid cell c.await_leaf.ensures c.requires.idle) in

@@ -7,7 +7,7 @@ use Rattle.rt_tree_place.proofs.descent.choose_node.Goals as goal
 
 pub best_child-key-requires : goal.best_child-key-requires
 best_child-key-requires g c =
-    let few = c.axes.ensures.is_box.few in
+    let few = c.facts.ensures.few in
     let here : ContainsKey c.args.nodes.now c.loop-height.key = present c.args.nodes.now c.loop-height.key c.loop-height.height c.loop-height.invariant.here in
     let some : 1 ≤ length (cells_at c.args.nodes.now c.loop-height.key) =
     inner-some c.args.nodes.now c.args.root c.args.level c.loop-height.key c.loop-height.height c.requires.passable c.loop-height.invariant.here (omega (arith, c.loop-height-test.true)) in

@@ -1,7 +1,6 @@
 use Rattle.std.proofs.Common.{◌≡◌, ◌<◌, ◌^◌, get_or, length, unsigned_abs, arith, ap, ◌∙◌, sym, inl, inr, rules}
 use Rattle.std.proofs.lemmas.Bool.{cases_lt}
 use Rattle.std.proofs.lemmas.List.{get_or_default}
-use Rattle.slab.proofs.SlabLemmas.{ContainsKey-within}
 use Rattle.rt_box.proofs.Equality.{Decides-box_eq}
 use Rattle.rt_tree_node.specs.declared.cell.Cell.{Cell}
 use Rattle.rt_tree_node.specs.Places.{key_of, cells_of, cells_at, no_cell, hull_at}
@@ -11,7 +10,7 @@ use Rattle.rt_tree_place.proofs.fit.has_least_box.Goals as goal
 pub cell_for-cell-requires : goal.cell_for-cell-requires
 cell_for-cell-requires g c =
     let few = c.requires.few in
-    let below : c.args.key < 2 ^ 63 = omega (arith, ContainsKey-within c.args.nodes.now c.args.key c.requires.present, c.capacity.ensures.slots, c.capacity.ensures.value, c.requires.keys) in
+    let below : c.args.key < 2 ^ 63 = omega (arith, c.slab_facts.ensures.keys c.args.key c.requires.present, c.requires.keys) in
     search rules
 
 pub returns : goal.returns

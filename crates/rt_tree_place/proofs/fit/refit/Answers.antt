@@ -1,7 +1,6 @@
 use Rattle.std.proofs.Common.{◌≡◌, ◌<◌, ◌^◌, get_or, length, arith, ap, ◌∙◌, sym, subst, inl, inr, rules}
 use Rattle.std.proofs.lemmas.Bool.{cases_lt}
 use Rattle.std.proofs.lemmas.Option.{same_Some}
-use Rattle.slab.proofs.SlabLemmas.{ContainsKey-within}
 use Rattle.rt_tree_node.specs.Places.{cells_of, cells_at, no_cell}
 use Rattle.rt_box.specs.Rect.{IsBox}
 use Rattle.rt_tree_place.proofs.fit.refit.Goals as goal
@@ -9,7 +8,7 @@ use Rattle.rt_tree_place.proofs.fit.refit.Goals as goal
 pub cell_for-cell-requires : goal.cell_for-cell-requires
 cell_for-cell-requires g c =
     let few = c.requires.few in
-    let below : c.args.key < 2 ^ 63 = omega (arith, ContainsKey-within c.args.nodes.now c.args.key c.requires.present, c.capacity.ensures.slots, c.capacity.ensures.value, c.requires.keys) in
+    let below : c.args.key < 2 ^ 63 = omega (arith, c.slab_facts.ensures.keys c.args.key c.requires.present, c.requires.keys) in
     search rules
 
 -- the position that was found is one of a cell

@@ -51,7 +51,7 @@ wait_for-requires g c =
     let long = ap length c.boxes.ensures.value ∙ length-map c.take_cells-old.result.cells (λ q. q.rect) in
     let full = ap (λ s. length (cells_of s)) c.take_cells-old.ensures.node in
     let share = length-far boxes c.args.tree.now.capacity (omega (arith, long, full, c.requires.full)) in
-    let room : vec_len c.args.tree.now.waiting + length c.as_slice-3.result.now ≤ vec_capacity c.args.tree.now.waiting = omega (arith, ap length (far ∙ c.farthest-far.ensures), share, c.requires.room, c.greatest.ensures.valid) in
+    let room : vec_len c.args.tree.now.waiting + length c.as_slice-3.result.now ≤ vec_capacity c.args.tree.now.waiting = omega (arith, ap length (far ∙ c.farthest-far.ensures), share, c.requires.room, c.facts.ensures) in
     search rules
 
 pub returns : goal.returns

@@ -42,8 +42,8 @@ add_cells-requires g c =
     omega (arith, none, ap length first, length-take cut.first (sorting boxes cut.axis cut.upper), sorting-long boxes cut.axis cut.upper, long, c.take_cells-old.ensures.few) in
     search rules
 
-pub insert_reserved-sibling-requires : goal.insert_reserved-sibling-requires
-insert_reserved-sibling-requires g c =
+pub add_node-sibling-requires : goal.add_node-sibling-requires
+add_node-sibling-requires g c =
     let old = c.take_cells-old.result in
     let emptied = c.take_cells-old.ensures.emptied old c.take_cells-old.ensures.node in
     let added = c.add_cells.ensures (record old { cells = [] }) emptied.updates.changed in
@@ -67,13 +67,13 @@ take_over-requires g c =
     let known : old.level ≡ 0 → All (λ q. IsSome (leaf_of int_eq c.args.tree.now.leaves q.number)) (picked old.cells c.groups.result.1.now) =
     λ e. All-picked (λ q. IsSome (leaf_of int_eq c.args.tree.now.leaves q.number)) old.cells c.groups.result.1.now within
     (subst (All (λ q. IsSome (leaf_of int_eq c.args.tree.now.leaves q.number))) cells (c.requires.known (level ∙ ap Some e))) in
-    let present : 1 ≤ old.level → All (λ q. ContainsKey c.insert_reserved-sibling.new.self (key_of q)) (picked old.cells c.groups.result.1.now) =
-    λ some. All-picked (λ q. ContainsKey c.insert_reserved-sibling.new.self (key_of q)) old.cells c.groups.result.1.now within
-    (All-inner (λ q. ContainsKey c.args.tree.now.nodes (key_of q) × (key_of q ≢ c.args.key)) (λ q. ContainsKey c.insert_reserved-sibling.new.self (key_of q)) old.level old.cells
+    let present : 1 ≤ old.level → All (λ q. ContainsKey c.add_node-sibling.new.nodes (key_of q)) (picked old.cells c.groups.result.1.now) =
+    λ some. All-picked (λ q. ContainsKey c.add_node-sibling.new.nodes (key_of q)) old.cells c.groups.result.1.now within
+    (All-inner (λ q. ContainsKey c.args.tree.now.nodes (key_of q) × (key_of q ≢ c.args.key)) (λ q. ContainsKey c.add_node-sibling.new.nodes (key_of q)) old.level old.cells
     (λ l e. subst (All (λ q. ContainsKey c.args.tree.now.nodes (key_of q) × (key_of q ≢ c.args.key))) cells (c.requires.children l (level ∙ ap Some e)))
-    (λ q is. made-present c.args.tree.now.nodes c.add_cells.new.nodes c.insert_reserved-sibling.new.self c.args.key c.insert_reserved-sibling.result (key_of q) is.0 is.1
-    (λ y other. added.updates.others y other ∙ emptied.updates.others y other) c.insert_reserved-sibling.ensures.was_vacant
-    (λ y other. c.insert_reserved-sibling.ensures.updates.others y other)) some) in
+    (λ q is. made-present c.args.tree.now.nodes c.add_cells.new.nodes c.add_node-sibling.new.nodes c.args.key c.add_node-sibling.result (key_of q) is.0 is.1
+    (λ y other. added.updates.others y other ∙ emptied.updates.others y other) c.add_node-sibling.ensures.was_vacant
+    (λ y other. c.add_node-sibling.ensures.updates.others y other)) some) in
     search rules
 
 pub add_cells-requires-2 : goal.add_cells-requires-2
@@ -87,11 +87,11 @@ add_cells-requires-2 g c =
     let second : c.groups.result.1.now ≡ drop cut.first (sorting boxes cut.axis cut.upper) = c.groups.ensures.second ∙ ap (drop cut.first) order in
     let within : All (λ p. p < length old.cells) c.groups.result.1.now =
     subst (All (λ p. p < length old.cells)) (sym second) (back-below boxes cut.axis cut.upper cut.first (length old.cells) long) in
-    let made = c.insert_reserved-sibling.ensures.updates.changed in
-    let over = over-present _ _ c.insert_reserved-sibling.result old.level c.insert_reserved-sibling.result _ c.take_over.ensures (ap is_some made) in
-    let here : ContainsKey c.take_over.new.tree.nodes c.insert_reserved-sibling.result = over.0 in
-    let none : length (cells_at c.take_over.new.tree.nodes c.insert_reserved-sibling.result) ≡ 0 = ap length over.1 ∙ ap (λ s. length (cells_of s)) made ∙ ap (λ m. length m.cells) c.new.ensures in
-    let room : length (cells_at c.take_over.new.tree.nodes c.insert_reserved-sibling.result) + length c.groups.result.1.now ≤ 52 =
+    let made = c.add_node-sibling.ensures.updates.changed in
+    let over = over-present _ _ c.add_node-sibling.result old.level c.add_node-sibling.result _ c.take_over.ensures (ap is_some made) in
+    let here : ContainsKey c.take_over.new.tree.nodes c.add_node-sibling.result = over.0 in
+    let none : length (cells_at c.take_over.new.tree.nodes c.add_node-sibling.result) ≡ 0 = ap length over.1 ∙ ap (λ s. length (cells_of s)) made ∙ ap (λ m. length m.cells) c.new.ensures in
+    let room : length (cells_at c.take_over.new.tree.nodes c.add_node-sibling.result) + length c.groups.result.1.now ≤ 52 =
     omega (arith, none, ap length second, length-drop cut.first (sorting boxes cut.axis cut.upper), sorting-long boxes cut.axis cut.upper, long, c.take_cells-old.ensures.few) in
     search rules
 
@@ -111,18 +111,18 @@ returns g c n has =
     let t = c.take_over.new.tree in
     let after : Arena g.row.D = record t { nodes = c.add_cells-2.new.nodes } in
     let between : Arena g.row.D = record {
-      nodes = c.insert_reserved-sibling.new.self;
+      nodes = c.add_node-sibling.new.nodes;
       leaves = c.args.tree.now.leaves;
       waiting = c.args.tree.now.waiting;
       root = c.args.tree.now.root;
       level = c.args.tree.now.level;
       capacity = c.args.tree.now.capacity;
     } in
-    subst (λ m. Splits c.args.tree.now after c.args.key m c.insert_reserved-sibling.result) same record {
+    subst (λ m. Splits c.args.tree.now after c.args.key m c.add_node-sibling.result) same record {
       cut = cut;
       best = subst (λ bs. IsBestCut g.row.D bs c.args.tree.now.capacity cut) c.boxes.ensures.value c.choose_split-cut.ensures;
       kept = c.add_cells.new.nodes;
-      made = c.insert_reserved-sibling.new.self;
+      made = c.add_node-sibling.new.nodes;
       moved = c.take_over.new.tree;
       keeps = record {
         updates = record {
@@ -132,12 +132,12 @@ returns g c n has =
         len = added.len ∙ emptied.len;
         room = added.room ∙ emptied.room;
       };
-      vacant = c.insert_reserved-sibling.ensures.was_vacant;
-      makes = subst (λ m. Updates c.add_cells.new.nodes c.insert_reserved-sibling.new.self c.insert_reserved-sibling.result (Some m)) new_node c.insert_reserved-sibling.ensures.updates;
-      made_len = c.insert_reserved-sibling.ensures.len;
-      made_room = c.insert_reserved-sibling.ensures.capacity;
-      key_fits = c.insert_reserved-sibling.ensures.key_in_range;
-      takes = subst (λ ps. TakesOver between c.take_over.new.tree c.insert_reserved-sibling.result old.level (picked old.cells ps)) second c.take_over.ensures;
-      gives = subst (λ ps. Changes (λ m. record m { cells = m.cells ++ picked old.cells ps }) c.take_over.new.tree.nodes c.add_cells-2.new.nodes c.insert_reserved-sibling.result) second c.add_cells-2.ensures;
+      vacant = c.add_node-sibling.ensures.was_vacant;
+      makes = subst (λ m. Updates c.add_cells.new.nodes c.add_node-sibling.new.nodes c.add_node-sibling.result (Some m)) new_node c.add_node-sibling.ensures.updates;
+      made_len = c.add_node-sibling.ensures.len;
+      made_room = c.add_node-sibling.ensures.capacity;
+      key_fits = c.add_node-sibling.ensures.key_in_range;
+      takes = subst (λ ps. TakesOver between c.take_over.new.tree c.add_node-sibling.result old.level (picked old.cells ps)) second c.take_over.ensures;
+      gives = subst (λ ps. Changes (λ m. record m { cells = m.cells ++ picked old.cells ps }) c.take_over.new.tree.nodes c.add_cells-2.new.nodes c.add_node-sibling.result) second c.add_cells-2.ensures;
       rest = refl;
     }

@@ -49,8 +49,8 @@ returns-then-len-least g c =
     climb-refit t c.args.key c.args.parent but c.requires.up c.refit.new.nodes fit.at
     (refits-at t.nodes c.refit.new.nodes c.args.key c.args.parent above.0 above.1 fit) (omega arith)
 
-pub take_out-node-requires : goal.take_out-node-requires
-take_out-node-requires g c =
+pub remove_child-node-requires : goal.remove_child-node-requires
+remove_child-node-requires g c =
     let t = c.args.tree.now in
     let but = c.requires.but in
     let here : ContainsKey t.nodes c.args.key = key-there t.nodes c.args.key but.level but.here in
@@ -65,9 +65,9 @@ pub await_places-requires : goal.await_places-requires
 await_places-requires g c =
     let t = c.args.tree.now in
     let own = ap (λ s. length (cells_of s)) c.node_at.ensures in
-    let node = ap (λ s. length (cells_of s)) c.take_out-node.ensures.node in
-    let fits = waits-fit t c.args.key c.args.parent c.requires.but c.requires.up c.take_out-node.result.cells (omega arith) c.requires.room in
-    let room : vec_len t.waiting + length c.take_out-node.result.cells ≤ vec_capacity t.waiting = search rules in
+    let node = ap (λ s. length (cells_of s)) c.remove_child-node.ensures.node in
+    let fits = waits-fit t c.args.key c.args.parent c.requires.but c.requires.up c.remove_child-node.result.cells (omega arith) c.requires.room in
+    let room : vec_len t.waiting + length c.remove_child-node.result.cells ≤ vec_capacity t.waiting = search rules in
     let few : g.row.D ≤ 3 = c.requires.but.axes in
     search rules
 
@@ -75,7 +75,7 @@ pub returns : goal.returns
 returns g c =
     let t = c.args.tree.now in
     let own = ap (λ s. length (cells_of s)) c.node_at.ensures in
-    let node = ap (λ s. length (cells_of s)) c.take_out-node.ensures.node in
-    climb-dissolve t c.args.key c.args.parent c.requires.but c.requires.up (record t { nodes = c.take_out-node.new.nodes; waiting = c.await_places.new.waiting })
-    c.take_out-node.ensures.change.0 c.take_out-node.result c.take_out-node.ensures.node c.take_out-node.ensures.change.1 (omega arith)
+    let node = ap (λ s. length (cells_of s)) c.remove_child-node.ensures.node in
+    climb-dissolve t c.args.key c.args.parent c.requires.but c.requires.up (record t { nodes = c.remove_child-node.new.nodes; waiting = c.await_places.new.waiting })
+    c.remove_child-node.ensures.change.0 c.remove_child-node.result c.remove_child-node.ensures.node c.remove_child-node.ensures.change.1 (omega arith)
     c.await_places.ensures.items c.await_places.ensures.room

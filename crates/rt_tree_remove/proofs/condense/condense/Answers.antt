@@ -4,7 +4,7 @@ use Rattle.rt_box.specs.Capacity.{least_fill}
 use Rattle.rt_tree_node.specs.Places.{parent_at, parent_of}
 use Rattle.rt_tree_remove.specs.Steps.{IsSoundBut}
 use Rattle.rt_tree_remove.proofs.Climbs.{key-there}
-use Rattle.rt_tree_remove.proofs.Condenses.{climbing-start, climbing-more, climbing-end, climbing-rests}
+use Rattle.rt_tree_remove.proofs.Condenses.{climbing-start, climbing-more, climbing-end, climbing-condensed}
 use Rattle.rt_tree_remove.proofs.condense.condense.Goals as goal
 
 pub loop-parent-init : goal.loop-parent-init
@@ -31,7 +31,7 @@ is_condensed-requires g c =
 
 pub returns-then-is_condensed : goal.returns-then-is_condensed
 returns-then-is_condensed g c =
-    climbing-rests c.args.tree.now c.loop-parent.tree c.args.leaf c.loop-parent.key c.in-Some.parent c.loop-parent.invariant
+    climbing-condensed c.args.tree.now c.loop-parent.tree c.args.leaf c.loop-parent.key c.in-Some.parent c.loop-parent.invariant
     (ap parent_of c.node_at.ensures ∙ sym c.parent.ensures ∙ c.in-Some.is) (c.is_condensed.ensures c.if-is_condensed.true)
 
 pub climb-requires : goal.climb-requires

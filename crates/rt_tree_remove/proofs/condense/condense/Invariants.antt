@@ -4,7 +4,7 @@ use Rattle.rt_tree_remove.specs.Steps.{IsClimbing}
 use Rattle.rt_tree_remove.proofs.condense.condense.Given as goal
 
 abbrev pub invariant-loop-parent : goal.invariant-loop-parent
-invariant-loop-parent g l = IsClimbing l.initial.tree l.tree l.leaf l.key
+invariant-loop-parent g l = IsClimbing l.initial.tree l.tree l.fn.leaf l.key
 
 abbrev pub decreases-loop-parent : goal.decreases-loop-parent
 decreases-loop-parent g l = l.tree.level - unwrap_or (level_at l.tree.nodes l.key) 0

@@ -42,6 +42,13 @@ first_key-child-requires g c =
     let same = length-map c.node_at-root.result.now.cells (λ (x : Cell g.row.D). x.number) in
     omega arith
 
+pub remove_node-requires : goal.remove_node-requires
+remove_node-requires g c =
+    let t = c.args.tree.now in
+    let few : g.row.D ≤ 3 = first-few t (t.level - 1) c.requires.whole (omega arith) in
+    let here : ContainsKey t.nodes t.root = key-there t.nodes t.root t.level c.requires.whole.linked.root_level in
+    search rules
+
 pub set_parent-requires : goal.set_parent-requires
 set_parent-requires g c =
     let t = c.args.tree.now in
@@ -57,7 +64,7 @@ set_parent-requires g c =
     let child_is = first-child t.nodes t.root child c.node_at-root.result.now c.numbers.result.now c.node_at-root.ensures c.numbers.ensures.value some c.first_key-child.ensures in
     let apart = root-not_child t (t.level - 1) child c.requires.whole c.requires.idle height alone child_is in
     let level = child-level t (t.level - 1) child c.requires.whole c.requires.idle height alone child_is in
-    let here : ContainsKey c.remove.new.self child = ap is_some (c.remove.ensures.updates.others child (λ s. apart (sym s))) ∙ key-there t.nodes child (t.level - 1) level in
+    let here : ContainsKey c.remove_node.new.nodes child = ap is_some (c.remove_node.ensures.updates.others child (λ s. apart (sym s))) ∙ key-there t.nodes child (t.level - 1) level in
     search rules
 
 pub returns : goal.returns
@@ -75,8 +82,8 @@ returns g c =
     let apart = root-not_child t (t.level - 1) child c.requires.whole c.requires.idle height alone child_is in
     let level = child-level t (t.level - 1) child c.requires.whole c.requires.idle height alone child_is in
     let there = node-there t.nodes child (t.level - 1) level in
-    let has : get c.remove.new.self child ≡ Some there.0 = c.remove.ensures.updates.others child (λ s. apart (sym s)) ∙ there.1 in
+    let has : get c.remove_node.new.nodes child ≡ Some there.0 = c.remove_node.ensures.updates.others child (λ s. apart (sym s)) ∙ there.1 in
     let puts = c.set_parent.ensures there.0 has in
     way-given t (t.level - 1) child c.requires.whole c.requires.idle height alone child_is c.set_parent.new.nodes
-    (loses-root t.nodes c.remove.new.self c.set_parent.new.nodes t.root child there.0 apart c.remove.ensures.updates has puts)
-    (puts.room ∙ c.remove.ensures.capacity)
+    (loses-root t.nodes c.remove_node.new.nodes c.set_parent.new.nodes t.root child there.0 apart c.remove_node.ensures.updates has puts)
+    (puts.room ∙ c.remove_node.ensures.capacity)

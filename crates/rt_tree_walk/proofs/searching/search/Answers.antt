@@ -23,7 +23,7 @@ pub overflow_add-found : goal.overflow_add-found
 overflow_add-found g c =
     let s : IsSettled c.args.tree.now = record { whole = c.requires.whole; none = c.requires.settled } in
     let few = visited-few c.args.tree.now c.args.window.now s c.loop-key.keys.items c.pop.new.self.items c.in-Some.key c.loop-key.found.rows.items c.loop-key.found.visited c.loop-key.invariant c.in-Some.ensures.items in
-    omega (arith, few, c.capacity.ensures.slots, c.capacity.type_inv)
+    omega (arith, few, c.slab_facts.ensures.few)
 
 pub loop-key-smaller : goal.loop-key-smaller
 loop-key-smaller g c =

@@ -21,7 +21,7 @@ loop-at-preserved g c =
       | inl holds ↦
           let one : c.from.result ≡ 1 = c.from.ensures ∙ ap from_bool holds in (
             TakesChildren-takes c.args.asked.now.window cells c.loop-at.at c.index-boxes-at.result next.0 c.args.keys.now.items c.loop-at.keys.items c.truncate.new.self.items
-                next.1 c.loop-at.invariant.0 ((c.requires c.index-boxes-at.result c.axes.ensures.is_box).0 (c.admits.ensures.0 holds))
+                next.1 c.loop-at.invariant.0 ((c.requires c.index-boxes-at.result c.facts.ensures).0 (c.admits.ensures.0 holds))
                 (taken-stays c.loop-at.keys.items c.truncate.new.self.items c.child_of.result kept (omega (arith, one)) new
                 ∙ ap (λ k. c.loop-at.keys.items ++ k ∷ []) (c.child_of.ensures ∙ ap key_of (c.cell.ensures ∙ next.1.read c.cell.result))),
             omega (arith, one),
@@ -31,7 +31,7 @@ loop-at-preserved g c =
           let back = taken-back c.loop-at.keys.items c.truncate.new.self.items c.child_of.result kept (omega (arith, none)) new in (
             subst (λ (ks : List ℕ). TakesChildren c.args.asked.now.window (take (c.loop-at.at + 1) cells) c.args.keys.now.items ks) (sym back)
                 (TakesChildren-keeps c.args.asked.now.window cells c.loop-at.at c.index-boxes-at.result next.0 c.args.keys.now.items c.loop-at.keys.items
-                next.1 c.loop-at.invariant.0 (λ may. iff_false c.admits.ensures fails ((c.requires c.index-boxes-at.result c.axes.ensures.is_box).1 may))),
+                next.1 c.loop-at.invariant.0 (λ may. iff_false c.admits.ensures fails ((c.requires c.index-boxes-at.result c.facts.ensures).1 may))),
             omega (arith, none),
           )
     ]

@@ -7,11 +7,11 @@ use Rattle.rt_tree.proofs.tree.Tree.new.Goals as goal
 pub invariant_of-result : goal.invariant_of-result
 invariant_of-result g c =
     let a = c.in_ok-nodes.nodes in
-    let b = c.insert_reserved-root.new.self in
-    let root = c.insert_reserved-root.result in
-    let leaf = subst (λ (n : NodeCells g.row.D). Updates a b root (Some n)) c.new.ensures c.insert_reserved-root.ensures.updates in
-    let many : 33 ≤ b.capacity = omega (arith, c.in_ok-nodes.ensures.capacity, c.insert_reserved-root.ensures.capacity) in
-    let few : b.capacity ≤ 2 ^ 62 = omega (arith, c.capacity.ensures.value, c.insert_reserved-root.ensures.capacity, c.if-capacity-gt-MOST_NODES.false) in
+    let b = c.add_node-root.new.nodes in
+    let root = c.add_node-root.result in
+    let leaf = subst (λ (n : NodeCells g.row.D). Updates a b root (Some n)) c.new.ensures c.add_node-root.ensures.updates in
+    let many : 33 ≤ b.capacity = omega (arith, c.in_ok-nodes.ensures.capacity, c.add_node-root.ensures.capacity) in
+    let few : b.capacity ≤ 2 ^ 62 = omega (arith, c.capacity.ensures.value, c.add_node-root.ensures.capacity, c.if-capacity-gt-MOST_NODES.false) in
     let room : 1024 ≤ vec_capacity c.in_ok-waiting.waiting = omega (arith, c.in_ok-waiting.ensures.capacity) in
     fresh-kept a b root c.in_ok-nodes.ensures.empty leaf (record {
       nodes = b;
@@ -20,4 +20,4 @@ invariant_of-result g c =
       root = root;
       level = 0;
       capacity = c.args.capacity;
-    }) refl refl refl c.in_ok-waiting.ensures.items c.with_hasher.ensures.empty c.requires.some c.requires.few c.least.ensures.valid many few room
+    }) refl refl refl c.in_ok-waiting.ensures.items c.with_hasher.ensures.empty c.requires.some c.requires.few c.facts.ensures many few room
