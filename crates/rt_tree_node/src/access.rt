@@ -32,6 +32,7 @@ pub fn slab_facts<const D: usize>(nodes: &Slab<Node<D>>)
 }
 
 /// Puts a node into a vacant place, and answers its key. It takes no memory.
+#[inline]
 pub fn add_node<const D: usize>(nodes: &mut Slab<Node<D>>, node: Node<D>) -> Key
     requires { HasRoomFor nodes.old 1 }
     ensures was_vacant { get nodes.old result ≡ None }
@@ -44,6 +45,7 @@ pub fn add_node<const D: usize>(nodes: &mut Slab<Node<D>>, node: Node<D>) -> Key
 }
 
 /// Takes the node at a key out of the slab.
+#[inline]
 pub fn remove_node<const D: usize>(nodes: &mut Slab<Node<D>>, key: Key) -> Node<D>
     requires { ContainsKey nodes.old key }
     ensures value { get nodes.old key ≡ Some result }

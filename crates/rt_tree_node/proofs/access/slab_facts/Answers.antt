@@ -1,4 +1,4 @@
-use Rattle.std.proofs.Common.{length, arith}
+use Rattle.std.proofs.Common.{arith}
 use Rattle.slab.proofs.SlabLemmas.{ContainsKey-within}
 use Rattle.rt_tree_node.proofs.access.slab_facts.Goals as goal
 
