@@ -1,6 +1,7 @@
 //! The nodes of an R*-tree, in an arena.
 //!
 //! - `Node` and the calls on a slab of nodes: each changes the one node that it names, and nothing else.
+//! - `Key` is the key of a node in the slab, a type of its own: no position and no count is taken for one.
 //! - A sound arena is said node by node: each clause speaks of a node, its parent and its children, so that a
 //!   change of one node is a matter of three.
 //!
