@@ -25,9 +25,10 @@ impl Interval {
         hi: i32::MAX,
     };
 
-    // Any `lo` above its `hi` would do.
+    /// No numbers. Any `lo` above its `hi` would do.
     pub(crate) const EMPTY: Interval = Interval { lo: 1, hi: 0 };
 
+    /// Whether there is a number in it.
     pub(crate) fn has_numbers(self) -> bool
         ensures { IsTrue result ↔ (self.lo ≤ℤ self.hi) }
     {
@@ -83,6 +84,7 @@ impl Interval {
         self.lo <= inner.lo && inner.hi <= self.hi
     }
 
+    /// Whether the number is in it.
     pub(crate) fn includes(self, number: i32) -> bool
         ensures { IsTrue result ↔ Includes self number }
     {

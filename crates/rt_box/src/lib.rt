@@ -11,7 +11,7 @@
 //! No call takes memory, and none refuses but the two constructors that are themselves the test.
 //!
 //! Stands on nothing but std. Definitions: `specs/Interval.antt` and `Rect.antt` (boxes and measures),
-//! `Window.antt`, `Capacity.antt`, `Laws.antt`.
+//! `Window.antt`, `Operators.antt` (comparisons), `Capacity.antt`, `Laws.antt`.
 #![tactic(auto)]
 
 mod capacity;

@@ -3,6 +3,8 @@
 //! A count stops at 2, since the conditions only ask whether it is 1 (`specs/Tally.antt`).
 
 ghost use Rattle.std.specs.Prelude.{◌≡◌, ◌∷◌, [], ◌++◌, List, length, IfOk};
+ghost use Rattle.std.specs.Ordering.{int_eq};
+ghost use Rattle.indexmap.specs.IndexSet.{IsUnique};
 ghost use Rattle.rt_check.specs.declared.node.RawCell.{RawCell as Cell};
 ghost use Rattle.rt_check.specs.Tally.{tallies, listed, cells_naming};
 
@@ -32,6 +34,14 @@ impl Named {
     }
 }
 
+/// A law: no number stands twice in a set. The call does nothing.
+fn are_distinct(numbers: &IndexSet<i64, RandomState>)
+    ensures { IsUnique int_eq numbers.now }
+{
+    // The contract of `len` says so.
+    let _ = numbers.len();
+}
+
 /// Counts one cell more.
 fn count_cell<const D: usize>(
     counts: &mut [u8],
@@ -42,8 +52,7 @@ fn count_cell<const D: usize>(
     ensures { (cells : List (Cell D)) → counts.old ≡ tallies numbers.now.keys cells
         → counts.new ≡ tallies numbers.now.keys (cells ++ cell.now ∷ []) }
 {
-    // The contract of `len` says that no number stands twice in the set.
-    let _ = numbers.len();
+    are_distinct(numbers);
     if let Some(at) = numbers.get_index_of(&cell.number) {
         counts[at] = counts[at].saturating_add(1).min(2);
     }

@@ -21,27 +21,39 @@ pub enum Rule {
 /// A comparison: `=`, `<>`, `<`, `<=`, `>` or `>=`.
 #[derive(Clone, Copy, PartialEq, Eq, Debug)]
 pub enum Operator {
+    /// `=`.
     Eq,
+    /// `<>`.
     Ne,
+    /// `<`.
     Lt,
+    /// `<=`.
     Le,
+    /// `>`.
     Gt,
+    /// `>=`.
     Ge,
 }
 
 /// A column compared with a value.
 #[derive(Debug, Drop)]
 pub struct Compare {
+    /// The column, on the left side.
     pub column: Name,
+    /// The comparison.
     pub op: Operator,
+    /// The value, on the right side.
     pub value: Value,
 }
 
 /// One part of a condition.
 #[derive(Debug, Drop)]
 pub enum Test {
+    /// The comparison holds.
     Compare(Compare),
+    /// The column holds NULL.
     IsNull(Name),
+    /// The column holds another value than NULL.
     IsNotNull(Name),
 }
 
@@ -64,7 +76,9 @@ pub enum Source {
 /// A column of a CREATE; an auxiliary one is marked by `+`.
 #[derive(Debug, Drop)]
 pub struct ColumnDef {
+    /// The column's name.
     pub name: Name,
+    /// Whether the column is auxiliary.
     pub auxiliary: bool,
 }
 
@@ -73,16 +87,23 @@ pub struct ColumnDef {
 pub enum Edit {
     /// `INSERT` or `REPLACE`: a row for each list of values.
     Insert {
+        /// What becomes of a row whose id is taken.
         rule: Rule,
+        /// The columns that are listed, or `None` for all.
         columns: Option<Items<Name>>,
+        /// The values of each row, in the order of these columns.
         rows: Items<Items<Value>>,
     },
-    /// `UPDATE`: the columns that are set, each to what it is given.
+    /// `UPDATE`: the rows that the condition picks change.
     Update {
+        /// The columns that are set, and what each is given.
         sets: Items<(Name, Source)>,
+        /// Which rows change.
         cond: Cond,
     },
+    /// `DELETE`: the rows that the condition picks go.
     Delete {
+        /// Which rows go.
         cond: Cond,
     },
 }
@@ -92,47 +113,65 @@ pub enum Edit {
 pub enum Stmt {
     /// `CREATE VIRTUAL TABLE`; with `if_absent` a table of that name is no refusal.
     Create {
+        /// The table's name.
         table: Name,
+        /// Whether `IF NOT EXISTS` is written.
         if_absent: bool,
+        /// The columns, in their order.
         columns: Items<ColumnDef>,
     },
     /// `DROP TABLE`; with `if_there` a missing table is no refusal.
     Drop {
+        /// The table's name.
         table: Name,
+        /// Whether `IF EXISTS` is written.
         if_there: bool,
     },
     /// `INSERT`, `REPLACE`, `UPDATE` or `DELETE`.
     Edit {
+        /// The table whose rows change.
         table: Name,
+        /// What is done to them.
         edit: Edit,
     },
-    /// `SELECT`: the columns listed or `None` for all, and the column of `ORDER BY`.
+    /// `SELECT`: shows the rows that the condition picks.
     Select {
+        /// The columns that are listed, or `None` for all.
         columns: Option<Items<Name>>,
+        /// The table whose rows are shown.
         table: Name,
+        /// Which rows are shown.
         cond: Cond,
+        /// The column of `ORDER BY`, if that is written.
         order: Option<Name>,
     },
-    /// `SELECT rtreecheck('table')`.
+    /// `SELECT rtreecheck('table')`: checks a table's tree.
     Check {
+        /// The table whose tree is checked.
         table: Name,
     },
     /// `.watch`: names a view of the rows that the condition picks.
     Watch {
+        /// The view's name.
         view: Name,
+        /// The table whose rows it shows.
         table: Name,
+        /// Which rows it shows.
         cond: Cond,
     },
     /// `.unwatch`: forgets a view.
     Unwatch {
+        /// The view's name.
         view: Name,
     },
     /// `.view`: shows the rows of a view.
     View {
+        /// The view's name.
         view: Name,
     },
     /// `.nodes`: shows a table's tree.
     Nodes {
+        /// The table whose tree is shown.
         table: Name,
     },
 }

@@ -157,9 +157,13 @@ impl Eq for Blob {
 /// A value of a row, or one that a statement writes.
 #[derive(Debug, Drop)]
 pub enum Value {
+    /// NULL.
     Null,
+    /// An integer.
     Int(i64),
+    /// A text.
     Text(Text),
+    /// A blob.
     Blob(Blob),
 }
 

@@ -41,9 +41,9 @@ coordinate_at id b more place k z d behind h e =
     rw behind (ap Int e ∙ sym (get_or_append_left (map Int (coordinates b)) more d k mapped ∙ get_or-map Int (coordinates b) k z d long))
 
 -- and an auxiliary value behind the coordinates
-pub kept_at : (id : ℤ) (b : List Interval) (more : List Value) (place k : ℕ) (d : Value) → place ≡ suc (2 * length b + k) →
+pub auxiliary_at : (id : ℤ) (b : List Interval) (more : List Value) (place k : ℕ) (d : Value) → place ≡ suc (2 * length b + k) →
     get_or more k d ≡ get_or (Int id ∷ map Int (coordinates b) ++ more) place d
-kept_at id b more place k d behind =
+auxiliary_at id b more place k d behind =
     let long : length (map Int (coordinates b)) ≡ 2 * length b = rw length-map (length-coordinates b) in
     let less : 2 * length b + k - 2 * length b ≡ k = omega arith in
     rw behind (sym (get_or-append_right (map Int (coordinates b)) more (2 * length b) (2 * length b + k) d long (omega arith) ∙ ap (λ (i : ℕ). get_or more i d) less))

@@ -1,4 +1,4 @@
--- Rows whose numbers and further values stand in two lists, and one more behind them.
+-- Rows whose numbers and auxiliary values stand in two lists, and one more behind them.
 use Rattle.std.proofs.Common.{◌≡◌, ℤ, ◌-◌, List, [], ◌∷◌, ◌++◌, map, length, take, drop, All, arith, refl, ap, sym, ◌∙◌}
 use Rattle.std.proofs.lemmas.List.{length-append, length-drop, take_all, drop_at, drop-append-le, take-append-le}
 use Rattle.std.proofs.lemmas.List.Elements.{All-head, All-tail}

@@ -9,7 +9,7 @@ use Rattle.rt_sql_statement.specs.declared.value.Value.TheVariants.{Null, Int, T
 use Rattle.rt_sql_statement.specs.declared.refusal.Refusal.{Refusal}
 use Rattle.rt_sql_statement.specs.declared.refusal.Refusal.TheVariants.{WrongType, IntegerOutOfRange, MinimumAboveMaximum}
 
--- what a new row will be: its id, or none where a new one is asked for, its box, and its further values
+-- what a new row will be: its id, or none where a new one is asked for, its box, and its auxiliary values
 pub record Candidate : Type 0 where
   pub id : Option ℤ
   pub box : List Interval

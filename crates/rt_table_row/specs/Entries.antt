@@ -9,7 +9,7 @@ use Rattle.rt_table_row.specs.declared.entry.Step as declared
 use Rattle.rt_table_row.specs.declared.entry.Step.TheVariants as step
 use Rattle.rt_table_row.specs.declared.candidate.Candidate as made
 use Rattle.rt_table_row.specs.declared.entry.Field.{Field}
-use Rattle.rt_table_row.specs.declared.entry.Field.TheVariants.{Number, Kept, Missing}
+use Rattle.rt_table_row.specs.declared.entry.Field.TheVariants.{Number, Auxiliary, Missing}
 use Rattle.rt_table_row.specs.Rows.{TableRow}
 use Rattle.rt_table_row.specs.Candidates.{Candidate}
 use Rattle.rt_table_row.specs.Edits.{Step, Leaves, Comes, Becomes}
@@ -39,5 +39,5 @@ step_of (step.Becomes id entry) = Becomes id (row_of entry)
 -- the value that is looked at; NULL where no column has that place
 abbrev pub field_value : Field → Value
 field_value (Number n) = Int n
-field_value (Kept value) = value.now
+field_value (Auxiliary value) = value.now
 field_value Missing = Null

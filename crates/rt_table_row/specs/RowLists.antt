@@ -1,4 +1,4 @@
--- Rows whose numbers stand in one list, and their further values in another: where those of each row begin and end.
+-- Rows whose numbers stand in one list, and their auxiliary values in another: where those of each row begin and end.
 -- Source: own.
 use Rattle.std.specs.Prelude.{ℤ, ◌≤◌, List, ◌++◌, map, length, All, slice_range}
 use Rattle.rt_sql_statement.specs.declared.value.Value.{Value}

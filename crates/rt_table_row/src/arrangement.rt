@@ -107,7 +107,8 @@ impl Arrangement {
     pub fn whole(alloc: Global, schema: &Schema) -> Result<Arrangement, AllocError>
         ensures { IfOk result (IsArrangementOf schema.now schema.now.names) }
     {
-        // The contract of `len` says that no two columns have one name.
+        // No two columns have one name.
+        schema.facts();
         let width = schema.len();
         let places = own_places(alloc, schema.names())?;
         Ok(Arrangement { width, places })

@@ -18,6 +18,7 @@ fn is_id(value: &Value) -> bool
     matches!(value, Value::Null | Value::Int(_))
 }
 
+/// Whether the value is an integer.
 pub(crate) fn is_integer(value: &Value) -> bool
     ensures { result ≡ is_integer value.now }
 {
@@ -33,6 +34,7 @@ fn id_in(value: &Value) -> Option<i64>
     }
 }
 
+/// The value's number; 0 where it is no integer.
 pub(crate) fn number_in(value: &Value) -> i64
     ensures { result ≡ number_in value.now }
 {

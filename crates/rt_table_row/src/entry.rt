@@ -28,8 +28,8 @@ pub struct Entry<const D: usize> {
 pub enum Field<'a> {
     /// The id, or a coordinate.
     Number(i64),
-    /// The value of an auxiliary column.
-    Kept(&'a Value),
+    /// An auxiliary value.
+    Auxiliary(&'a Value),
     /// The row has no such column.
     Missing,
 }
@@ -41,7 +41,7 @@ impl Field<'_> {
     {
         Ok(match self {
             Field::Number(number) => Value::Int(number),
-            Field::Kept(value) => value.try_clone(alloc)?,
+            Field::Auxiliary(value) => value.try_clone(alloc)?,
             Field::Missing => Value::Null,
         })
     }
@@ -57,13 +57,21 @@ fn coordinate<const D: usize>(rect: &Rect<D>, place: usize) -> i32
 }
 
 /// The auxiliary value at that place among them.
-fn kept(auxiliary: &[Value], place: usize) -> Field<'_>
+fn auxiliary_at(auxiliary: &[Value], place: usize) -> Field<'_>
     ensures { field_value result ≡ slice_index_or auxiliary.now place Null }
 {
     if place >= auxiliary.len() {
         return Field::Missing;
     }
-    Field::Kept(&auxiliary[place])
+    Field::Auxiliary(&auxiliary[place])
+}
+
+/// A law: two boxes have as many axes. The call does nothing.
+fn have_as_many_axes<const D: usize>(left: &Rect<D>, right: &Rect<D>)
+    ensures { length left.now ≡ length right.now }
+{
+    // The contract of `axes` says how many each has.
+    let _ = (left.axes(), right.axes());
 }
 
 /// Appends the coordinates, for which there is room.
@@ -93,6 +101,7 @@ pub(crate) fn push_numbers<const D: usize>(
     Ok(())
 }
 
+/// Appends a copy of each auxiliary value.
 #[inline]
 pub(crate) fn push_copies(
     alloc: Global,
@@ -144,8 +153,7 @@ impl<'a, const D: usize> RowView<'a, D> {
     pub fn is_same(&self, other: &RowView<'_, D>) -> bool
         ensures { result ≡ same_row (view_row self.now) (view_row other.now) }
     {
-        // Says that both boxes have `D` axes.
-        let _ = (self.rect.axes(), other.rect.axes());
+        have_as_many_axes(&self.rect, &other.rect);
         self.id == other.id && self.rect == other.rect && self.auxiliary == other.auxiliary
     }
 
@@ -160,7 +168,7 @@ impl<'a, const D: usize> RowView<'a, D> {
         if place <= 2 * axes {
             return Field::Number(i64::from(coordinate(&self.rect, place - 1)));
         }
-        kept(self.auxiliary, place - 1 - 2 * axes)
+        auxiliary_at(self.auxiliary, place - 1 - 2 * axes)
     }
 
     /// A copy of the row's values, column by column.
@@ -177,7 +185,7 @@ impl<'a, const D: usize> RowView<'a, D> {
     }
 }
 
-/// A row looked at where it stands in a list: numbers first, and then further values.
+/// A row looked at where it stands in a list: numbers first, and then auxiliary values.
 #[derive(Clone, Copy)]
 pub struct ListedRow<'a> {
     /// The values of the first columns, which stand as numbers; there may be none.
@@ -196,7 +204,7 @@ impl<'a> ListedRow<'a> {
         if place < self.numbers.len() {
             return Field::Number(self.numbers[place]);
         }
-        kept(self.auxiliary, place - self.numbers.len())
+        auxiliary_at(self.auxiliary, place - self.numbers.len())
     }
 
     /// A copy of the row's values, column by column.

@@ -64,7 +64,7 @@ fn field_passes(field: Field<'_>, test: &Test) -> bool
 {
     match field {
         Field::Number(number) => number_passes(number, test),
-        Field::Kept(value) => value_passes(value, test),
+        Field::Auxiliary(value) => value_passes(value, test),
         Field::Missing => value_passes(&Value::Null, test),
     }
 }

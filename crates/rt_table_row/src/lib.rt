@@ -3,7 +3,7 @@
 //! - `Schema` is what a CREATE makes of its columns; names are compared without ASCII case.
 //! - `Entry` is a row as a table keeps it, and `RowView` a row looked at where it stands. `value_at` looks at
 //!   one of its values, and `values` copies them all, column by column.
-//! - `RowList` is rows one behind the other, whose numbers stand in one list and whose further values in another;
+//! - `RowList` is rows one behind the other, whose numbers stand in one list and whose auxiliary values in another;
 //!   `ListedRow` is one of them, looked at where it stands.
 //! - `Step` is one change of the rows of a table.
 //! - `Candidate` is what a new row will be, made of its values; `Arrangement` has the columns that an INSERT
@@ -16,9 +16,15 @@
 //! What inserting, deleting, updating and watching do to the rows of a table is defined in `specs/` over plain
 //! lists; the crates above carry them out.
 //!
-//! Stands on `rt_sql_statement` (statements, values, refusals) and `rt_box`. Definitions: `specs/Values.antt`,
-//! `Columns.antt`, `Conditions.antt`, `Windows.antt`, `Edits.antt` (what statements do to rows), `Views.antt`,
-//! `Tables.antt`; `Worked.antt` holds them against worked examples.
+//! Stands on `rt_sql_statement` (statements, values, refusals) and `rt_box`. Definitions:
+//!
+//! - of SQL: `specs/Values.antt` (how values compare), `Columns.antt`, `Rows.antt` (a row, and the rows of a table),
+//!   `Conditions.antt` (which rows a condition picks), `Windows.antt` (what it asks of boxes), `Candidates.antt` (what the
+//!   values of a new row have to be), `Edits.antt` (what statements do to rows), `Views.antt`, `Tables.antt`;
+//!   `Worked.antt` holds them against worked examples;
+//! - of what stands for them here: `Entries.antt` (the row that an `Entry` or a view of it is), `RowLists.antt`,
+//!   `Arrangements.antt`, `Settings.antt` and `Filters.antt` (columns looked up for an INSERT, an UPDATE and a condition),
+//!   `Answers.antt` (answers for which memory may run out).
 #![tactic(auto)]
 
 mod arrangement;

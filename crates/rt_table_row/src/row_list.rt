@@ -1,6 +1,6 @@
 //! Rows one behind the other.
 //!
-//! A row is two spans: one in the list of all numbers, one in the list of all further values. Contracts see a list
+//! A row is two spans: one in the list of all numbers, one in the list of all auxiliary values. Contracts see a list
 //! of rows (`specs/RowLists.antt`).
 
 ghost use Rattle.rt_table_row.specs.Rows.{values_of};
@@ -18,14 +18,14 @@ struct Span {
     end: usize,
 }
 
-/// Where the numbers of a row stand among those of all rows, and where its further values do.
+/// Where the numbers of a row stand among those of all rows, and where its auxiliary values do.
 #[derive(Clone, Copy, Debug)]
 struct Place {
     numbers: Span,
     auxiliary: Span,
 }
 
-/// Rows: of each its values, column by column, numbers first. The numbers of all rows stand in one list, and the further
+/// Rows: of each its values, column by column, numbers first. The numbers of all rows stand in one list, and the auxiliary
 /// values in another, so that no row takes memory by itself.
 #[derive(Debug)]
 pub struct RowList {
@@ -59,7 +59,7 @@ impl Model for RowList {
 impl RowList {
     ghost use Rattle.std.specs.Prelude.{◌≡◌, ◌<◌, ◌++◌, ◌∷◌, [], length, slice_index_or, IfOk, OnOk};
 
-    /// No rows, with room for so many rows, numbers and further values.
+    /// No rows, with room for so many rows, numbers and auxiliary values.
     ///
     /// # Errors
     ///

@@ -22,12 +22,14 @@ const MOST_COLUMNS: usize = 100;
 /// Up to so many names are compared each with each, which needs no memory.
 const FEW_NAMES: usize = 16;
 
+/// Where the name stands among the names; ASCII case doesn't matter.
 pub(crate) fn place_of(names: &[Name], name: &Name) -> Option<usize>
     ensures { result ≡ place_of names.now name.now }
 {
     names.iter().position(|other| name.is_same(other))
 }
 
+/// Whether the name is one of the names; ASCII case doesn't matter.
 pub(crate) fn has_name(names: &[Name], name: &Name) -> bool
     ensures { result ≡ has_name names.now name.now }
 {
@@ -159,6 +161,18 @@ impl Schema {
         }
         let axes = plain_columns(columns) / 2;
         Ok(Schema { axes, names })
+    }
+
+    /// A law: what holds of the columns of every table. There are one to three axes, a column for the ids and two for each
+    /// axis, and no two columns have one name. The call does nothing.
+    pub fn facts(&self)
+        ensures some { 1 ≤ self.now.axes }
+        ensures few { self.now.axes ≤ 3 }
+        ensures least { 1 + 2 * self.now.axes ≤ length self.now.names }
+        ensures distinct { are_distinct self.now.names ≡ true }
+    {
+        // The contracts of both say so.
+        let _ = (self.axes(), self.len());
     }
 
     /// The number of axes, from one to three.

@@ -122,7 +122,7 @@ fn is_field_integer(field: Field<'_>) -> bool
 {
     match field {
         Field::Number(_) => true,
-        Field::Kept(value) => is_integer(value),
+        Field::Auxiliary(value) => is_integer(value),
         Field::Missing => false,
     }
 }
@@ -132,7 +132,7 @@ fn field_number(field: Field<'_>) -> i64
 {
     match field {
         Field::Number(number) => number,
-        Field::Kept(value) => number_in(value),
+        Field::Auxiliary(value) => number_in(value),
         Field::Missing => 0,
     }
 }

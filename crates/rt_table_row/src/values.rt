@@ -9,6 +9,7 @@ ghost use Rattle.rt_table_row.specs.Values.{is_null, rank, value_cmp, keeps, com
 use rt_sql_statement::{Operator, Value};
 use std::cmp::Ordering;
 
+/// Whether the value is NULL.
 pub(crate) fn is_null(value: &Value) -> bool
     ensures { result ≡ is_null value.now }
 {
@@ -43,6 +44,7 @@ fn order(left: &Value, right: &Value) -> Ordering
     }
 }
 
+/// Whether the comparison holds of a left value that stands so to the right one.
 pub(crate) fn keeps(op: Operator, order: Ordering) -> bool
     ensures { result ≡ keeps op order }
 {

@@ -14,7 +14,7 @@
 //! from 0.
 //!
 //! Stands on `rt_box`. Definitions: `specs/Subtree.antt`, `Split.antt`, `Reinsertion.antt`, and what they cite,
-//! `Sorting.antt`, `Hull.antt`, `Keys.antt`. The other files of `specs/` are for proofs here.
+//! `Sorting.antt`, `Hull.antt`, `Keys.antt`; `Laws.antt` (the laws). The other files of `specs/` are for proofs here.
 #![tactic(auto)]
 
 mod hulls;

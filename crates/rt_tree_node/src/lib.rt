@@ -7,7 +7,8 @@
 //!
 //! Stands on `rt_box` and `rt_tree_choice`. Definitions: `specs/Node.antt`, `Sound.antt` and `Whole.antt` (a sound
 //! arena), `Open.antt` (one in the middle of a change), `Places.antt`, `Changes.antt`, `Homes.antt` (the map from
-//! ids to leaves).
+//! ids to leaves), `Path.antt` (the way down that best children lead), `Settles.antt` (what placing the waiting cells
+//! comes to).
 #![tactic(auto)]
 
 mod access;

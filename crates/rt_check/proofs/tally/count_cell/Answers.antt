@@ -16,7 +16,7 @@ returns-in-Some g c = λ cells counted.
     let was : get_or c.args.counts.now at 0 ≡ get_or (tallies keys cells) at 0 = ap (λ l. get_or l at 0) counted in
     let raised : c.min.result ≡ min 2 (get_or (tallies keys cells) at 0 + 1) = omega (arith, c.min.ensures, c.saturating_add.ensures, was) in
     ap (λ l. set l at c.min.result) counted ∙ ap (set (tallies keys cells) at) raised
-    ∙ tallies-raised keys cells c.args.cell.now at (pos 0) c.len.ensures.unique found.0 same
+    ∙ tallies-raised keys cells c.args.cell.now at (pos 0) c.are_distinct.ensures found.0 same
 
 pub returns-in_default : goal.returns-in_default
 returns-in_default g c = λ cells counted.

@@ -10,7 +10,7 @@ returns c =
     let names = c.args.schema.now.names in
     let places : c.in_ok-places.places.items ≡ map (place_of names) names = rw c.names.ensures at c.in_ok-places.ensures in
     record {
-      distinct = c.len-width.ensures.distinct;
+      distinct = c.facts.ensures.distinct;
       known = own_rest [] names;
       width_is = c.len-width.ensures.value;
       each = rw places (length-map names (place_of names));

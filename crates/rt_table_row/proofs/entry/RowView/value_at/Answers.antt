@@ -1,6 +1,6 @@
 use Rattle.std.proofs.Common.{rules, arith, FitsSigned, w32, w64, to_z-of_z, ◌-◌, ◌*◌, ◌∙◌}
 use Rattle.rt_sql_statement.specs.declared.value.Value.TheVariants.{Null}
-use Rattle.rt_table_row.proofs.Places.{coordinate_at, kept_at}
+use Rattle.rt_table_row.proofs.Places.{coordinate_at, auxiliary_at}
 use Rattle.rt_table_row.proofs.entry.RowView.value_at.Goals as goal
 
 pub returns-then-place-axes : goal.returns-then-place-axes
@@ -13,5 +13,5 @@ returns-then-place-axes g c =
 
 pub returns : goal.returns
 returns g c =
-    c.kept.ensures
-    ∙ kept_at c.args.self.now.id c.args.self.now.rect c.args.self.now.auxiliary.now c.args.place (c.args.place - 1 - 2 * c.axes-axes.result) Null (omega (arith, c.axes-axes.ensures.is_box.axes_are))
+    c.auxiliary_at.ensures
+    ∙ auxiliary_at c.args.self.now.id c.args.self.now.rect c.args.self.now.auxiliary.now c.args.place (c.args.place - 1 - 2 * c.axes-axes.result) Null (omega (arith, c.axes-axes.ensures.is_box.axes_are))
