@@ -187,6 +187,7 @@ impl Session {
             return Err(Refusal::NoSuchView);
         };
         let picked = self.tables[at].table.view(self.alloc, view)?;
+        // A view visits no node for its rows, so the number of visited nodes is 0 and says nothing.
         Ok(Reply::Rows(picked.rows))
     }
 

@@ -30,6 +30,7 @@ pub(crate) fn write_value<W: ByteWriter>(value: &Value, writer: &mut W) -> Resul
     }
 }
 
+/// Writes an integer in decimal. After a fault a front of that is written.
 pub(crate) fn write_integer<W: ByteWriter>(number: &i64, writer: &mut W) -> Result<(), WriteFault>
     ensures { WritesTo W.ByteWriter writer.old writer.new result (signed_decimal number.now) }
 {
@@ -45,6 +46,7 @@ fn write_text<W: ByteWriter>(text: &[u8], writer: &mut W) -> Result<(), WriteFau
     write_whole(writer, b"'")
 }
 
+/// Where the first `'` stands.
 pub(crate) fn first_quote(text: &[u8]) -> Option<usize>
     ensures { result ≡ position (λ byte. byte == 39) text.now }
 {

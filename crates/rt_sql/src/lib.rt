@@ -9,8 +9,9 @@
 //! or for want of memory.
 //!
 //! Stands on `rt_sql_cut` (pieces) and `rt_sql_statement`. Definitions: `specs/Grammar.antt` (which tokens spell which
-//! statement), `Tokens.antt` (the tokens of a text), `Parse.antt` (what a piece asks for); `Reading.antt` is how the
-//! parser goes about it.
+//! statement), `Word.antt` (its words), `Tokens.antt` (the tokens of a text), `Token.antt` (their characters),
+//! `Number.antt` (the number that digits write), `Parse.antt` (what a piece asks for); `Reading.antt` and `Lex.antt` are
+//! how the parser and the lexer go about it.
 #![tactic(auto)]
 
 mod grammar;

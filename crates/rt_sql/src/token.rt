@@ -39,20 +39,35 @@ impl<'a> Spelling<'a> {
 /// A sign of one character or two.
 #[derive(Clone, Copy, PartialEq, Eq, Debug)]
 pub enum Sign {
+    /// `(`.
     LeftParenthesis,
+    /// `)`.
     RightParenthesis,
+    /// `,`.
     Comma,
+    /// `;`.
     Semicolon,
+    /// `+`.
     Plus,
+    /// `-`.
     Minus,
+    /// `*`.
     Star,
+    /// `=`.
     Equal,
+    /// `==`.
     DoubleEqual,
+    /// `<>`.
     LessGreater,
+    /// `!=`.
     BangEqual,
+    /// `<`.
     Less,
+    /// `<=`.
     LessOrEqual,
+    /// `>`.
     Greater,
+    /// `>=`.
     GreaterOrEqual,
 }
 
@@ -69,6 +84,7 @@ pub enum Token<'a> {
     Text(Spelling<'a>),
     /// The hexadecimal digits of a blob.
     Blob(Spelling<'a>),
+    /// A sign.
     Sign(Sign),
     /// The word of a dot line, which may be empty.
     Dot(Spelling<'a>),

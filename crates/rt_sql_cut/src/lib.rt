@@ -9,8 +9,8 @@
 //! A cutter stands at the front of what it was fed, for every text and every way of feeding it, and a piece is
 //! ready exactly where one has ended. Only `Cutter::new` takes memory.
 //!
-//! Stands on nothing but std. Definitions: `specs/Pieces.antt` (the pieces of a whole text), `Text.antt`,
-//! `Cutter.antt` (where a cutter stands).
+//! Stands on nothing but std. Definitions: `specs/Pieces.antt` (the pieces of a whole text), `Piece.antt` (one
+//! piece), `Text.antt` (white space, quotes and comments), `Cutter.antt` (where a cutter stands).
 #![tactic(auto)]
 
 mod cutter;
