@@ -1,4 +1,4 @@
--- What a store keeps of its auxiliary values and its noted ids, where a row came or left.
+-- What stays true of a store's auxiliary values and of its ranked ids, where a row came or left.
 use Rattle.std.proofs.Common.{◌≡◌, ◌≢◌, ℕ, ◌+◌, ℤ, Bool, true, false, ◌||◌, List, length, Option, Some, None, IsSome, refl, sym, ap, subst, ◌∙◌, arith}
 use Rattle.std.specs.List.{list_any}
 use Rattle.std.specs.Ordering.{int_eq}
@@ -22,11 +22,11 @@ not-both P None none some = absurd (let stop : ⊥ = cc in stop)
 not-both P (Some x) none some = absurd (let stop : ⊥ = cc in stop)
 
 module _ {D : ℕ} (s t : ShadowLists D) (id : ℤ) (boxes : (other : ℤ) → other ≢ id → box_of t other ≡ box_of s other) where
-  -- auxiliary values are kept of rows that are there
-  pub noted-kept : {S : Type 0} (auxiliary more : IndexMap ℤ (List Value) S) → ((other : ℤ) → other ≢ id → get int_eq more other ≡ get int_eq auxiliary other) →
+  -- auxiliary values are stored of rows alone
+  pub auxiliary-kept : {S : Type 0} (auxiliary more : IndexMap ℤ (List Value) S) → ((other : ℤ) → other ≢ id → get int_eq more other ≡ get int_eq auxiliary other) →
       (IsSome (get int_eq more id) → IsSome (box_of t id)) → ((other : ℤ) → IsSome (get int_eq auxiliary other) → IsSome (box_of s other)) →
       (other : ℤ) → IsSome (get int_eq more other) → IsSome (box_of t other)
-  noted-kept auxiliary more values here old other some = by (int_eq other id) refl
+  auxiliary-kept auxiliary more values here old other some = by (int_eq other id) refl
     where
       by : (b : Bool) → int_eq other id ≡ b → IsSome (box_of t other)
       by true is =
@@ -46,17 +46,17 @@ module _ {D : ℕ} (s t : ShadowLists D) (id : ℤ) (boxes : (other : ℤ) → o
 
   module _ (ids new_ids : List ℤ) where
     module _ (came : (other : ℤ) → list_any (int_eq other) new_ids ≡ (int_eq other id || list_any (int_eq other) ids)) where
-      -- a row came: each row's id was noted
-      pub ranked-placed : ((other : ℤ) → IsSome (box_of s other) → list_any (int_eq other) ids ≡ true) → (other : ℤ) → IsSome (box_of t other) → list_any (int_eq other) new_ids ≡ true
-      ranked-placed old other some = came other ∙ by (int_eq other id) refl
+      -- a row came: each row's id is among the ranked ids
+      pub ranked-inserted : ((other : ℤ) → IsSome (box_of s other) → list_any (int_eq other) ids ≡ true) → (other : ℤ) → IsSome (box_of t other) → list_any (int_eq other) new_ids ≡ true
+      ranked-inserted old other some = came other ∙ by (int_eq other id) refl
         where
           by : (b : Bool) → int_eq other id ≡ b → (b || list_any (int_eq other) ids) ≡ true
           by true is = refl
           by false is = old other (subst IsSome (boxes other (differs other id is)) some)
 
       -- and the largest id is that of a row
-      pub top-placed : IsSome (box_of t id) → ((other : ℤ) → IsTop ids (Some other) → IsSome (box_of s other)) → (other : ℤ) → IsTop new_ids (Some other) → IsSome (box_of t other)
-      top-placed here old other is_top = by (int_eq other id) refl (sym (came other) ∙ is_top.0)
+      pub top-inserted : IsSome (box_of t id) → ((other : ℤ) → IsTop ids (Some other) → IsSome (box_of s other)) → (other : ℤ) → IsTop new_ids (Some other) → IsSome (box_of t other)
+      top-inserted here old other is_top = by (int_eq other id) refl (sym (came other) ∙ is_top.0)
         where
           by : (b : Bool) → int_eq other id ≡ b → (b || list_any (int_eq other) ids) ≡ true → IsSome (box_of t other)
           by true is there = subst (λ (z : ℤ). IsSome (box_of t z)) (sym (eq_from other id is)) here
@@ -65,9 +65,9 @@ module _ {D : ℕ} (s t : ShadowLists D) (id : ℤ) (boxes : (other : ℤ) → o
               subst IsSome (sym (boxes other (differs other id is))) (old other was_top)
 
     -- a row left
-    pub ranked-taken : box_of t id ≡ None → ((other : ℤ) → IsSome (box_of t other) → list_any (int_eq other) new_ids ≡ list_any (int_eq other) ids) →
+    pub ranked-removed : box_of t id ≡ None → ((other : ℤ) → IsSome (box_of t other) → list_any (int_eq other) new_ids ≡ list_any (int_eq other) ids) →
         ((other : ℤ) → IsSome (box_of s other) → list_any (int_eq other) ids ≡ true) → (other : ℤ) → IsSome (box_of t other) → list_any (int_eq other) new_ids ≡ true
-    ranked-taken gone live old other some = live other some ∙ by (int_eq other id) refl
+    ranked-removed gone live old other some = live other some ∙ by (int_eq other id) refl
       where
         by : (b : Bool) → int_eq other id ≡ b → list_any (int_eq other) ids ≡ true
         by true is =

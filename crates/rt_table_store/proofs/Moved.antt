@@ -1,4 +1,4 @@
--- What placing a row, taking one out, and exchanging one's auxiliary values make of the rows.
+-- What inserting a row, removing one, and replacing one make of the rows.
 use Rattle.std.proofs.Common.{◌≡◌, ◌≢◌, ℕ, ℤ, Bool, true, false, not, ◌||◌, cond, List, [], ◌∷◌, Option, Some, None, IsSome, inl, inr, refl, sym, ap, subst, ◌∙◌}
 use Rattle.std.specs.Option.{option_map, unwrap_or}
 use Rattle.std.specs.Ordering.{int_eq}
@@ -98,8 +98,8 @@ module _ {D : ℕ} (s t : ShadowLists D) (old : IsInShape s) (new : IsInShape t)
       row-at t new more row.id ∙ ap (option_map (boxed t new more row.id)) box ∙ ap (λ (vs : List Value). Some (with_more vs)) values
 
   -- a row came
-  pub rows-placed : (row : TableRow) → KeepOthers row.id → box_of t row.id ≡ Some row.box → unwrap_or (get int_eq more row.id) [] ≡ row.auxiliary → rows_in t more ≡ with_row (rows_in s auxiliary) row
-  rows-placed row keep box values =
+  pub rows-inserted : (row : TableRow) → KeepOthers row.id → box_of t row.id ≡ Some row.box → unwrap_or (get int_eq more row.id) [] ≡ row.auxiliary → rows_in t more ≡ with_row (rows_in s auxiliary) row
+  rows-inserted row keep box values =
       same_lists (λ (r : TableRow). r.id) (rows_in t more) (with_row (rows_in s auxiliary) row) (rows-rise t new more)
       (rises-placed (λ (r : TableRow). r.id) (rows_in s auxiliary) row (rows-rise s old auxiliary))
       (λ q. by q (int_eq q row.id) refl ∙ sym (at_key-placed (λ (r : TableRow). r.id) (rows_in s auxiliary) row q))
@@ -109,8 +109,8 @@ module _ {D : ℕ} (s t : ShadowLists D) (old : IsInShape s) (new : IsInShape t)
       by q false is = other-row row.id keep q (differs q row.id is)
 
   -- the row of an id left
-  pub rows-taken : (id : ℤ) → KeepOthers id → box_of t id ≡ None → rows_in t more ≡ without_id (rows_in s auxiliary) id
-  rows-taken id keep gone =
+  pub rows-removed : (id : ℤ) → KeepOthers id → box_of t id ≡ None → rows_in t more ≡ without_id (rows_in s auxiliary) id
+  rows-removed id keep gone =
       same_lists (λ (r : TableRow). r.id) (rows_in t more) (without_id (rows_in s auxiliary) id) (rows-rise t new more)
       (rises-taken (λ (r : TableRow). r.id) (rows_in s auxiliary) id (rows-rise s old auxiliary))
       (λ q. by q (int_eq id q) refl ∙ sym (at_key-taken (λ (r : TableRow). r.id) (rows_in s auxiliary) id q))
@@ -119,10 +119,10 @@ module _ {D : ℕ} (s t : ShadowLists D) (old : IsInShape s) (new : IsInShape t)
       by q true is = ap (row_at (rows_in t more)) (sym (eq_from id q is)) ∙ row-at t new more id ∙ ap (option_map (boxed t new more id)) gone
       by q false is = other-row id keep q (differs q id (turned id q is))
 
-  -- a row stands in the place of that of its id
-  pub rows-exchanged : (row : TableRow) → KeepOthers row.id → box_of t row.id ≡ Some row.box → unwrap_or (get int_eq more row.id) [] ≡ row.auxiliary →
+  -- a row replaced the one of its id
+  pub rows-replaced : (row : TableRow) → KeepOthers row.id → box_of t row.id ≡ Some row.box → unwrap_or (get int_eq more row.id) [] ≡ row.auxiliary →
       rows_in t more ≡ with_row (without_id (rows_in s auxiliary) row.id) row
-  rows-exchanged row keep box values =
+  rows-replaced row keep box values =
       same_lists (λ (r : TableRow). r.id) (rows_in t more) (with_row (without_id (rows_in s auxiliary) row.id) row) (rows-rise t new more)
       (rises-placed (λ (r : TableRow). r.id) (without_id (rows_in s auxiliary) row.id) row (rises-taken (λ (r : TableRow). r.id) (rows_in s auxiliary) row.id (rows-rise s old auxiliary)))
       (λ q. by q (int_eq q row.id) refl ∙ sym (at_key-placed (λ (r : TableRow). r.id) (without_id (rows_in s auxiliary) row.id) row q))

@@ -29,9 +29,9 @@ module _ {D : ℕ} where
   abbrev pub Loses : ℤ → ShadowLists D → ShadowLists D → Type 0
   Loses id old new = (rect : List Interval) × IsRemoval old new id rect
 
-  -- a row stands in the place of another one: that one left, and then it came
-  abbrev pub Exchanges : List TableRow → ℤ → TableRow → ShadowLists D → ShadowLists D → Type 0
-  Exchanges rows id row old new =
+  -- a row replaces the one of an id: that one left, and then it came
+  abbrev pub Replaces : List TableRow → ℤ → TableRow → ShadowLists D → ShadowLists D → Type 0
+  Replaces rows id row old new =
       (between : ShadowLists D) × Loses id old between × IsTreeOf (without_id rows id) between × Gains row between new
 
   -- A row that keeps its id and its box leaves the tree alone, whatever else of it changes.
@@ -39,7 +39,7 @@ module _ {D : ℕ} where
   TakesStep rows (Leaves id) old new = Loses id old new
   TakesStep rows (Comes row) old new = Gains row old new
   TakesStep rows (Becomes id row) old new =
-      (stays rows id row ≡ true → new ≡ old) × (stays rows id row ≡ false → Exchanges rows id row old new)
+      (stays rows id row ≡ true → new ≡ old) × (stays rows id row ≡ false → Replaces rows id row old new)
 
   -- one step after the other; between two of them the tree is one of the rows that are there then
   abbrev pub TakesEach : List TableRow → List Step → ShadowLists D → ShadowLists D → Type 0

@@ -28,13 +28,13 @@ stored s = record {
   auxiliary_room = spare s.auxiliary;
 }
 
--- one to three axes; auxiliary values are kept of rows that are there, and room for an id with each row; the largest of
--- the ids that were noted is that of a row, and each row's was
+-- one to three axes; auxiliary values are stored of rows alone; with the room for a row goes room for its id; each row's
+-- id is among the ranked ids, and the largest of these is that of a row
 pub record IsJoined (D : ℕ) (s : Inside D) : Type 0 where
   pub some : 1 ≤ D
   pub few : D ≤ 3
   pub most : length s.tree.lists.rows ≤ most_rows
-  pub noted : (id : ℤ) → IsSome (get int_eq s.auxiliary id) → IsSome (box_of s.tree.lists id)
+  pub auxiliary : (id : ℤ) → IsSome (get int_eq s.auxiliary id) → IsSome (box_of s.tree.lists id)
   pub room : s.tree.spare ≤ s.largest.room
   pub ranked : (id : ℤ) → IsSome (box_of s.tree.lists id) → list_any (int_eq id) s.largest.ids ≡ true
   pub top : (id : ℤ) → IsTop s.largest.ids (Some id) → IsSome (box_of s.tree.lists id)

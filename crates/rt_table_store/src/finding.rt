@@ -134,6 +134,8 @@ impl<const D: usize> Store<D> {
         ensures { IfOk result (λ rows. rows.items ≡ map leaf_row (filter (admits condition.now) self.now.rows)) }
     {
         self.facts();
+        // A search also counts the nodes that it visits. That number is for `select`; a statement that changes rows, and
+        // a view, ask for rows alone.
         if let Some(id) = condition.id() {
             return Ok(self.select_by_id(alloc, condition, &id)?.rows);
         }

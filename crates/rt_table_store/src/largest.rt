@@ -162,7 +162,7 @@ impl Largest {
         self.ids.reserve(more)
     }
 
-    /// Notes the id of a row that came. It takes no memory.
+    /// Adds the id of a row that came. It takes no memory.
     pub(crate) fn push(&mut self, id: &i64)
         requires { 1 ≤ self.old.room }
         ensures ids { (other : ℤ) → list_any (int_eq other) self.new.ids ≡ (int_eq other id.now || list_any (int_eq other) self.old.ids) }

@@ -14,7 +14,7 @@ ghost use Rattle.rt_table_row.specs.Rows.{TableRow, AreRising, row_at, has_id, w
 ghost use Rattle.rt_table_row.specs.Edits.{Becomes, most_rows};
 ghost use Rattle.rt_table_row.specs.Entries.{row_of, view_row};
 ghost use Rattle.rt_table_store.specs.Trees.{leaf_row, IsTreeOf};
-ghost use Rattle.rt_table_store.specs.Moves.{stays, Exchanges, TakesStep};
+ghost use Rattle.rt_table_store.specs.Moves.{stays, Replaces, TakesStep};
 
 use crate::largest::Largest;
 use indexmap::IndexMap;
@@ -35,7 +35,7 @@ pub struct Store<const D: usize> {
     largest: Largest,
     // No auxiliary values.
     nothing: Items<Value>,
-    // A row without auxiliary values is taken out with an empty list.
+    // A row without auxiliary values is removed with an empty list.
     alloc: Global,
 }
 
@@ -260,7 +260,7 @@ impl<const D: usize> Store<D> {
         Ok(())
     }
 
-    /// Places a row. It takes no memory.
+    /// Inserts a row. It takes no memory.
     pub fn insert(&mut self, row: Entry<D>)
         requires absent { has_id self.old.rows row.id ≡ false }
         requires few { length self.old.rows < most_rows }
@@ -280,13 +280,14 @@ impl<const D: usize> Store<D> {
             rect,
             auxiliary,
         } = row;
+        // The `Work` that it answers is for those who measure a tree; a table has no use for it.
         let _ = self.tree.insert(&id, &rect);
         self.tree.is_in_shape();
         self.largest.push(&id);
         set_auxiliary(&mut self.auxiliary, &id, auxiliary);
     }
 
-    /// Takes out the row of that id. It takes no memory.
+    /// Removes the row of that id. It takes no memory.
     pub fn remove(&mut self, id: &i64) -> Entry<D>
         requires { has_id self.old.rows id.now ≡ true }
         ensures row { Some (row_of result) ≡ row_at self.old.rows id.now }
@@ -344,7 +345,7 @@ impl<const D: usize> Store<D> {
         requires room { 1 ≤ self.old.room }
         requires auxiliary_room { (auxiliary ≡ []) ⊎ (1 ≤ self.old.auxiliary_room) }
         ensures rows { (row : TableRow) → row.id ≡ id.now → row.box ≡ rect.now → row.auxiliary ≡ auxiliary → self.new.rows ≡ with_row (without_id self.old.rows id.now) row }
-        ensures tree { (row : TableRow) → row.id ≡ id.now → row.box ≡ rect.now → Exchanges self.old.rows id.now row self.old.tree self.new.tree }
+        ensures tree { (row : TableRow) → row.id ≡ id.now → row.box ≡ rect.now → Replaces self.old.rows id.now row self.old.tree self.new.tree }
         ensures capacity { self.new.tree.capacity ≡ self.old.tree.capacity }
         ensures room { self.old.room ≤ self.new.room + 1 }
         ensures auxiliary_room { self.old.auxiliary_room ≤ self.new.auxiliary_room + 1 }
@@ -354,12 +355,13 @@ impl<const D: usize> Store<D> {
         self.tree.is_in_shape();
         let _ = self.tree.remove(id);
         self.tree.is_in_shape();
+        // A table has no use for the `Work` of it.
         let _ = self.tree.insert(id, rect);
         self.tree.is_in_shape();
         set_auxiliary(&mut self.auxiliary, id, auxiliary);
     }
 
-    /// Puts a row in the place of the one of that id. Where id and box stay, the tree is left alone, and where the id stays,
+    /// Replaces the row of that id by another. Where id and box stay, the tree is left alone, and where the id stays,
     /// so does what is known of the largest. It takes no memory.
     pub fn replace(&mut self, id: &i64, row: Entry<D>)
         requires there { has_id self.old.rows id.now ≡ true }

@@ -11,8 +11,8 @@ use Rattle.rt_table_row.specs.Rows.{has_id, with_row}
 use Rattle.rt_table_row.specs.Entries.{row_of}
 use Rattle.rt_table_store.specs.Stored.{Stored}
 use Rattle.rt_table_store.specs.StoreInside.{joined}
-use Rattle.rt_table_store.proofs.Moved.{no-box, rows-placed}
-use Rattle.rt_table_store.proofs.Kept.{noted-kept, ranked-placed, top-placed, longer}
+use Rattle.rt_table_store.proofs.Moved.{no-box, rows-inserted}
+use Rattle.rt_table_store.proofs.Kept.{auxiliary-kept, ranked-inserted, top-inserted, longer}
 use Rattle.rt_table_store.proofs.store.Store.insert.Goals as goal
 
 pub insert-requires : goal.insert-requires
@@ -45,10 +45,10 @@ invariant_of-self g c =
       some = k.some;
       few = k.few;
       most = omega (arith, longer old new c.is_in_shape.ensures c.is_in_shape-2.ensures i.auxiliary id c.args.row.rect gains, long, c.requires.few, length-map old.rows (λ (e : RowEntry). joined old i.auxiliary e.id));
-      noted = noted-kept old new id gains.others i.auxiliary c.set_auxiliary.new.auxiliary values (λ some. here) k.noted;
+      auxiliary = auxiliary-kept old new id gains.others i.auxiliary c.set_auxiliary.new.auxiliary values (λ some. here) k.auxiliary;
       room = omega (arith, k.room, c.push.ensures.room, c.insert.ensures.spare);
-      ranked = ranked-placed old new id gains.others i.largest.ids c.push.new.self.ids came k.ranked;
-      top = top-placed old new id gains.others i.largest.ids c.push.new.self.ids came here k.top;
+      ranked = ranked-inserted old new id gains.others i.largest.ids c.push.new.self.ids came k.ranked;
+      top = top-inserted old new id gains.others i.largest.ids c.push.new.self.ids came here k.top;
       nothing = k.nothing;
     }
 
@@ -63,5 +63,5 @@ returns-clause-rows g c =
     let gains : GainsRow old new id c.args.row.rect = subst (λ (z : ℤ). GainsRow old new z c.args.row.rect) same c.insert.ensures.rows in
     let values = subst (λ (z : ℤ). (other : ℤ) → other ≢ z → get int_eq c.set_auxiliary.new.auxiliary other ≡ get int_eq i.auxiliary other) same c.set_auxiliary.ensures.others in
     let more = subst (λ (z : ℤ). unwrap_or (get int_eq c.set_auxiliary.new.auxiliary z) [] ≡ c.args.row.auxiliary) same c.set_auxiliary.ensures.here in
-    rows-placed old new c.is_in_shape.ensures c.is_in_shape-2.ensures i.auxiliary c.set_auxiliary.new.auxiliary (row_of c.args.row) (gains.others, values) gains.here more
+    rows-inserted old new c.is_in_shape.ensures c.is_in_shape-2.ensures i.auxiliary c.set_auxiliary.new.auxiliary (row_of c.args.row) (gains.others, values) gains.here more
     ∙ ap (λ (v : Stored g.row.D). with_row v.rows (row_of c.args.row)) c.self.view_is

@@ -7,10 +7,10 @@ use Rattle.rt_table_row.specs.Rows.{TableRow, has_id, with_row, without_id}
 use Rattle.rt_table_store.specs.Stored.{Stored}
 use Rattle.rt_table_store.specs.StoreInside.{rows_in}
 use Rattle.rt_table_store.specs.Trees.{IsTreeOf}
-use Rattle.rt_table_store.specs.Moves.{Gains, Exchanges}
-use Rattle.rt_table_store.proofs.Moved.{a-box, rows-exchanged, rows-taken}
+use Rattle.rt_table_store.specs.Moves.{Gains, Replaces}
+use Rattle.rt_table_store.proofs.Moved.{a-box, rows-replaced, rows-removed}
 use Rattle.rt_table_store.proofs.Counted.{is-tree}
-use Rattle.rt_table_store.proofs.Kept.{noted-kept, still-there, longer, one-fewer}
+use Rattle.rt_table_store.proofs.Kept.{auxiliary-kept, still-there, longer, one-fewer}
 use Rattle.rt_table_store.proofs.store.Store.move_row.Goals as goal
 
 pub remove-requires : goal.remove-requires
@@ -51,7 +51,7 @@ invariant_of-self g c =
       some = k.some;
       few = k.few;
       most = omega (arith, k.most, one-fewer old between c.is_in_shape.ensures c.is_in_shape-2.ensures i.auxiliary id c.remove.result loses, longer between new c.is_in_shape-2.ensures c.is_in_shape-3.ensures i.auxiliary id c.args.rect.now gains);
-      noted = noted-kept old new id boxes i.auxiliary c.set_auxiliary.new.auxiliary c.set_auxiliary.ensures.others (λ some. here) k.noted;
+      auxiliary = auxiliary-kept old new id boxes i.auxiliary c.set_auxiliary.new.auxiliary c.set_auxiliary.ensures.others (λ some. here) k.auxiliary;
       room = omega (arith, k.room, c.remove.ensures.spare, c.insert.ensures.spare);
       ranked = λ other some. k.ranked other (still-there new old id (λ one ne. sym (boxes one ne)) was other some);
       top = λ other is_top. still-there old new id boxes here other (k.top other is_top);
@@ -71,7 +71,7 @@ returns-clause-rows g c row same box more =
     let here : box_of new row.id ≡ Some row.box = ap (box_of new) same ∙ gains.here ∙ ap Some (sym box) in
     let others = subst (λ (z : ℤ). (other : ℤ) → other ≢ z → get int_eq c.set_auxiliary.new.auxiliary other ≡ get int_eq i.auxiliary other) (sym same) c.set_auxiliary.ensures.others in
     let values : unwrap_or (get int_eq c.set_auxiliary.new.auxiliary row.id) [] ≡ row.auxiliary = ap (λ (z : ℤ). unwrap_or (get int_eq c.set_auxiliary.new.auxiliary z) []) same ∙ c.set_auxiliary.ensures.here ∙ sym more in
-    rows-exchanged old new c.is_in_shape.ensures c.is_in_shape-3.ensures i.auxiliary c.set_auxiliary.new.auxiliary row (boxes, others) here values
+    rows-replaced old new c.is_in_shape.ensures c.is_in_shape-3.ensures i.auxiliary c.set_auxiliary.new.auxiliary row (boxes, others) here values
     ∙ ap (λ (z : ℤ). with_row (without_id (rows_in old i.auxiliary) z) row) same
     ∙ ap (λ (v : Stored g.row.D). with_row (without_id v.rows id) row) c.self.view_is
 
@@ -83,9 +83,9 @@ returns-clause-tree g c row same box =
     let between = c.remove.new.self.lists in
     let loses = c.remove.ensures.rows in
     let rows : rows_in between i.auxiliary ≡ without_id (rows_in old i.auxiliary) id =
-    rows-taken old between c.is_in_shape.ensures c.is_in_shape-2.ensures i.auxiliary i.auxiliary id (loses.others, (λ other ne. refl)) loses.gone in
+    rows-removed old between c.is_in_shape.ensures c.is_in_shape-2.ensures i.auxiliary i.auxiliary id (loses.others, (λ other ne. refl)) loses.gone in
     let tree : IsTreeOf (without_id (rows_in old i.auxiliary) id) between =
     subst (λ (rs : List TableRow). IsTreeOf rs between) rows (is-tree between c.is_in_shape-2.ensures i.auxiliary) in
     let gains : Gains row between c.insert.new.self.lists = rw (same, box) (c.insert.result, c.insert.ensures.insertion) in
-    subst (λ (v : Stored g.row.D). Exchanges v.rows id row v.tree c.insert.new.self.lists) c.self.view_is
+    subst (λ (v : Stored g.row.D). Replaces v.rows id row v.tree c.insert.new.self.lists) c.self.view_is
     (between, (c.remove.result, c.remove.ensures.removal), tree, gains)

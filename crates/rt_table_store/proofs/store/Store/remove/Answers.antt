@@ -8,8 +8,8 @@ use Rattle.rt_tree.specs.Rows.{box_of}
 use Rattle.rt_table_row.specs.Rows.{TableRow, row_at, has_id, without_id}
 use Rattle.rt_table_store.specs.Stored.{Stored}
 use Rattle.rt_table_store.proofs.Joined.{boxed, row-at}
-use Rattle.rt_table_store.proofs.Moved.{a-box, rows-taken}
-use Rattle.rt_table_store.proofs.Kept.{not-both, noted-kept, ranked-taken, one-fewer}
+use Rattle.rt_table_store.proofs.Moved.{a-box, rows-removed}
+use Rattle.rt_table_store.proofs.Kept.{not-both, auxiliary-kept, ranked-removed, one-fewer}
 use Rattle.rt_table_store.proofs.store.Store.remove.Goals as goal
 
 pub remove-rect-requires : goal.remove-rect-requires
@@ -32,9 +32,9 @@ invariant_of-self g c =
       some = k.some;
       few = k.few;
       most = omega (arith, k.most, one-fewer old new c.is_in_shape.ensures c.is_in_shape-2.ensures i.auxiliary id c.remove-rect.result loses);
-      noted = noted-kept old new id loses.others i.auxiliary c.take_auxiliary-auxiliary.new.auxiliary c.take_auxiliary-auxiliary.ensures.others (λ some. not-both (IsSome (box_of new id)) (get int_eq c.take_auxiliary-auxiliary.new.auxiliary id) c.take_auxiliary-auxiliary.ensures.gone some) k.noted;
+      auxiliary = auxiliary-kept old new id loses.others i.auxiliary c.take_auxiliary-auxiliary.new.auxiliary c.take_auxiliary-auxiliary.ensures.others (λ some. not-both (IsSome (box_of new id)) (get int_eq c.take_auxiliary-auxiliary.new.auxiliary id) c.take_auxiliary-auxiliary.ensures.gone some) k.auxiliary;
       room = omega (arith, k.room, c.settle.ensures.room, c.remove-rect.ensures.spare);
-      ranked = ranked-taken old new id loses.others i.largest.ids c.settle.new.self.ids loses.gone c.settle.ensures.live k.ranked;
+      ranked = ranked-removed old new id loses.others i.largest.ids c.settle.new.self.ids loses.gone c.settle.ensures.live k.ranked;
       top = c.settle.ensures.top;
       nothing = k.nothing;
     }
@@ -56,6 +56,6 @@ pub returns-clause-rows : goal.returns-clause-rows
 returns-clause-rows g c =
     let i = c.self.inside in
     let loses = c.remove-rect.ensures.rows in
-    rows-taken i.tree.lists c.remove-rect.new.self.lists c.is_in_shape.ensures c.is_in_shape-2.ensures i.auxiliary c.take_auxiliary-auxiliary.new.auxiliary c.args.id.now
+    rows-removed i.tree.lists c.remove-rect.new.self.lists c.is_in_shape.ensures c.is_in_shape-2.ensures i.auxiliary c.take_auxiliary-auxiliary.new.auxiliary c.args.id.now
     (loses.others, c.take_auxiliary-auxiliary.ensures.others) loses.gone
     ∙ ap (λ (v : Stored g.row.D). without_id v.rows c.args.id.now) c.self.view_is

@@ -6,8 +6,8 @@ use Rattle.rt_tree.specs.Rows.{box_of}
 use Rattle.rt_table_row.specs.Rows.{TableRow, row_at, has_id, with_row, without_id}
 use Rattle.rt_table_store.specs.Stored.{Stored}
 use Rattle.rt_table_store.specs.StoreInside.{rows_in}
-use Rattle.rt_table_store.proofs.Moved.{a-box, its-box, rows-exchanged}
-use Rattle.rt_table_store.proofs.Kept.{noted-kept}
+use Rattle.rt_table_store.proofs.Moved.{a-box, its-box, rows-replaced}
+use Rattle.rt_table_store.proofs.Kept.{auxiliary-kept}
 use Rattle.rt_table_store.proofs.store.Store.replace_auxiliary.Goals as goal
 
 pub invariant_of-self : goal.invariant_of-self
@@ -20,7 +20,7 @@ invariant_of-self g c =
       some = k.some;
       few = k.few;
       most = k.most;
-      noted = noted-kept i.tree.lists i.tree.lists id (λ other ne. refl) i.auxiliary c.set_auxiliary.new.auxiliary c.set_auxiliary.ensures.others (λ some. there) k.noted;
+      auxiliary = auxiliary-kept i.tree.lists i.tree.lists id (λ other ne. refl) i.auxiliary c.set_auxiliary.new.auxiliary c.set_auxiliary.ensures.others (λ some. there) k.auxiliary;
       room = k.room;
       ranked = k.ranked;
       top = k.top;
@@ -36,6 +36,6 @@ returns-clause-rows g c row box same more =
     let here : box_of tree row.id ≡ Some row.box = ap (box_of tree) same ∙ in_box in
     let others = subst (λ (z : ℤ). (other : ℤ) → other ≢ z → get int_eq c.set_auxiliary.new.auxiliary other ≡ get int_eq i.auxiliary other) (sym same) c.set_auxiliary.ensures.others in
     let values : unwrap_or (get int_eq c.set_auxiliary.new.auxiliary row.id) [] ≡ row.auxiliary = ap (λ (z : ℤ). unwrap_or (get int_eq c.set_auxiliary.new.auxiliary z) []) same ∙ c.set_auxiliary.ensures.here ∙ sym more in
-    rows-exchanged tree tree c.is_in_shape.ensures c.is_in_shape.ensures i.auxiliary c.set_auxiliary.new.auxiliary row ((λ other ne. refl), others) here values
+    rows-replaced tree tree c.is_in_shape.ensures c.is_in_shape.ensures i.auxiliary c.set_auxiliary.new.auxiliary row ((λ other ne. refl), others) here values
     ∙ ap (λ (z : ℤ). with_row (without_id (rows_in tree i.auxiliary) z) row) same
     ∙ ap (λ (v : Stored g.row.D). with_row (without_id v.rows id) row) c.self.view_is
