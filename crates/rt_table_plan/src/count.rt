@@ -49,8 +49,8 @@ impl Count {
         }
     }
 
-    /// Counts what a step does.
-    pub(crate) fn note<const D: usize>(&mut self, step: &Step<D>)
+    /// Adds a step.
+    pub(crate) fn add<const D: usize>(&mut self, step: &Step<D>)
         ensures largest { self.new.largest ≡ largest_after self.old.largest (step_of step.now) }
         ensures room { self.new.room ≡ room_after self.old.room (step_of step.now) }
     {

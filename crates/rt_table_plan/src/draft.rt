@@ -16,7 +16,8 @@ use rt_table_store::Store;
 use std::alloc::{AllocError, Global};
 use std::hash::RandomState;
 
-/// The ids that the steps before the last one touched, and whether a row has each of them after those steps.
+/// The ids that the steps before the last one touched, and whether a row has each of them after those steps. The next
+/// step is planned by that. What a finished plan changes in the views is found from its steps, which have the rows.
 type Touched = IndexMap<i64, bool, RandomState>;
 
 /// The id that the last step left without a row, and the one that it gave a row. They go to the other ids that were
@@ -71,8 +72,8 @@ fn is_there<const D: usize>(store: &Store<D>, draft: &Draft<D>, id: &i64) -> boo
     }
 }
 
-/// Notes what the last step did to its ids.
-fn note(touched: &mut Touched, latest: &Latest) -> Result<(), AllocError>
+/// Inserts the ids of the last step, with what it did to them.
+fn insert_latest(touched: &mut Touched, latest: &Latest) -> Result<(), AllocError>
     ensures { OnOk result ((id : ℤ) → get int_eq touched.new id ≡ known (get int_eq touched.old) latest.now id) }
 {
     if let Some(id) = latest.left {
@@ -113,13 +114,13 @@ impl<const D: usize> Draft<D> {
         is_there(store, self, id)
     }
 
-    /// Adds a step.
-    pub(crate) fn add(&mut self, step: Step<D>) -> Result<(), AllocError>
+    /// Appends a step.
+    pub(crate) fn push(&mut self, step: Step<D>) -> Result<(), AllocError>
         requires { D ≤ 3 }
         ensures steps { OnOk result (map step_of self.new.steps.items ≡ map step_of self.old.steps.items ++ step_of step.entry ∷ []) }
         ensures known { OnOk result ((id : ℤ) → known_of self.new id ≡ touched_by (known_of self.old) (step_of step.entry) id) }
     {
-        note(&mut self.touched, &self.latest)?;
+        insert_latest(&mut self.touched, &self.latest)?;
         self.latest = Latest::of(&step);
         self.steps.push(step)?;
         Ok(())

@@ -17,7 +17,7 @@ ghost use Rattle.rt_table_plan.specs.Plans.{Plans};
 
 use crate::count::Count;
 use crate::draft::{Draft, entry_of};
-use crate::plan::{Plan, columns_suffice};
+use crate::plan::Plan;
 use rt_sql_statement::{Items, Name, Refusal, Rule, Value};
 use rt_table_row::{Arrangement, Candidate, Schema, Step};
 use rt_table_store::Store;
@@ -25,7 +25,7 @@ use std::alloc::Global;
 use std::hash::RandomState;
 
 /// How many rows a table has at most. The limit is own.
-const MOST_ROWS: usize = 1_048_576;
+const MOST_ROWS_OF_A_TABLE: usize = 1_048_576;
 
 /// Whether the refusal of a row is passed over.
 fn is_ignored(rule: Rule, refusal: &Refusal) -> bool
@@ -133,15 +133,15 @@ fn all_steps<const D: usize>(
     let mut draft = Draft::new(alloc, keys);
     let mut count = Count {
         largest: store.largest(),
-        room: MOST_ROWS.saturating_sub(store.len()),
+        room: MOST_ROWS_OF_A_TABLE.saturating_sub(store.len()),
     };
     for list in lists {
         let values = arrangement.values(alloc, list.as_slice())?;
         let Some(step) = step_or_none(store, &draft, &count, rule, values)? else {
             continue;
         };
-        count.note(&step);
-        draft.add(step)?;
+        count.add(&step);
+        draft.push(step)?;
     }
     Ok(draft.steps)
 }
@@ -177,7 +177,7 @@ pub(crate) fn plan_insert<const D: usize>(
 {
     // There are one to three axes, and columns enough for them.
     store.facts();
-    columns_suffice(schema);
+    schema.facts();
     let arrangement = arrangement_of(alloc, schema, listed)?;
     if !arrangement.fits(lists) {
         return Err(Refusal::WrongNumberOfValues);

@@ -2,8 +2,6 @@
 //!
 //! A plan is made before anything changes, so a refused statement has nothing to undo (`specs/Plans.antt`).
 
-ghost use Rattle.std.specs.Prelude.{◌≤◌, ◌+◌, ◌*◌, length};
-
 use crate::delete::plan_delete;
 use crate::insert::plan_insert;
 use crate::update::plan_update;
@@ -77,6 +75,7 @@ impl<const D: usize> Plan<D> {
         }
     }
 
+    /// The plan of these steps.
     pub(crate) fn of(steps: Vec<Step<D>>) -> Plan<D>
         ensures { result ≡ map step_of steps.entry.items }
     {
@@ -90,12 +89,4 @@ impl<const D: usize> Plan<D> {
         let Plan { steps } = self;
         steps
     }
-}
-
-/// A law: a table has a column for its ids, and two for each axis. The call does nothing.
-pub(crate) fn columns_suffice(schema: &Schema)
-    ensures { 1 + 2 * schema.now.axes ≤ length schema.now.names }
-{
-    // The contract of `len` says so.
-    let _ = schema.len();
 }

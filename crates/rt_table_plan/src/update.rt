@@ -14,7 +14,7 @@ ghost use Rattle.rt_table_plan.specs.Drafts.{Knows, known_of, one_step, row_of, 
 ghost use Rattle.rt_table_plan.specs.Plans.{Plans};
 
 use crate::draft::{Draft, entry_of};
-use crate::plan::{Plan, columns_suffice};
+use crate::plan::Plan;
 use rt_sql_statement::{Cond, Name, Refusal, Source};
 use rt_table_row::{Candidate, Filter, RowView, Schema, Settings, Step};
 use rt_table_store::Store;
@@ -78,7 +78,7 @@ fn all_steps<const D: usize>(
     let mut draft = Draft::new(alloc, keys);
     for row in rows {
         let step = row_step(alloc, store, &draft, settings, &store.view(row))?;
-        draft.add(step)?;
+        draft.push(step)?;
     }
     Ok(draft.steps)
 }
@@ -98,7 +98,7 @@ pub(crate) fn plan_update<const D: usize>(
 {
     // There are one to three axes, and columns enough for them.
     store.facts();
-    columns_suffice(schema);
+    schema.facts();
     let settings = Settings::new(alloc, schema, sets)?;
     let filter = Filter::new(alloc, schema, cond)?;
     let rows = store.picked_rows(alloc, &filter)?;

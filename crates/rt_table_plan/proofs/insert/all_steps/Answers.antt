@@ -46,18 +46,18 @@ loop-list-preserved g c =
     let lists = c.args.lists.now in
     let f = rearranged c.args.arrangement.now in
     let done = map step_of c.loop-list.draft.steps.items in
-    let next = map step_of c.add.new.self.steps.items in
+    let next = map step_of c.push.new.self.steps.items in
     let step = step_of c.in-Some.step in
     let within : c.loop-list.list-index < length lists = omega arith in
     let one = rw c.in-Some.is at c.in_ok-step.ensures (outcome rows done) c.loop-list.invariant.knows c.loop-list.invariant.counts in
     record {
-      knows = knows_more rows (known_of c.loop-list.draft) (known_of c.add.new.self) done next step c.loop-list.invariant.knows c.in_ok-add.ensures.steps c.in_ok-add.ensures.known;
-      counts = counts_step rows done next step c.loop-list.count.largest c.note.new.self.largest c.loop-list.count.room c.note.new.self.room c.loop-list.invariant.counts
-          (put_fits g.row.D c.args.rule (outcome rows done) c.in_ok-values.values.items step one) c.in_ok-add.ensures.steps c.note.ensures.largest c.note.ensures.room;
+      knows = knows_more rows (known_of c.loop-list.draft) (known_of c.push.new.self) done next step c.loop-list.invariant.knows c.in_ok-push.ensures.steps c.in_ok-push.ensures.known;
+      counts = counts_step rows done next step c.loop-list.count.largest c.add.new.self.largest c.loop-list.count.room c.add.new.self.room c.loop-list.invariant.counts
+          (put_fits g.row.D c.args.rule (outcome rows done) c.in_ok-values.values.items step one) c.in_ok-push.ensures.steps c.add.ensures.largest c.add.ensures.room;
       rest = put_more g.row.D c.args.rule rows (put_all g.row.D c.args.rule rows (map f lists)) done next (step ∷ []) c.in_ok-values.values.items
           (map f (drop c.loop-list.list-index lists)) (map f (drop (c.loop-list.list-index + 1) lists)) c.loop-list.invariant.rest
           (left_more f lists c.loop-list.list-index c.list-item.result c.in_ok-values.values.items within c.list-item.is (c.in_ok-values.ensures ∙ ap f c.as_slice.ensures))
-          one c.in_ok-add.ensures.steps;
+          one c.in_ok-push.ensures.steps;
     }
 
 pub returns : goal.returns

@@ -42,13 +42,13 @@ loop-row-preserved g c =
     let at = c.loop-row.row-index in
     let within : at < length found = omega arith in
     record {
-      knows = knows_more rows (known_of c.loop-row.draft) (known_of c.add.new.self) (map step_of c.loop-row.draft.steps.items)
-          (map step_of c.add.new.self.steps.items) (step_of c.in_ok-step.step) c.loop-row.invariant.knows c.in_ok-add.ensures.steps c.in_ok-add.ensures.known;
+      knows = knows_more rows (known_of c.loop-row.draft) (known_of c.push.new.self) (map step_of c.loop-row.draft.steps.items)
+          (map step_of c.push.new.self.steps.items) (step_of c.in_ok-step.step) c.loop-row.invariant.knows c.in_ok-push.ensures.steps c.in_ok-push.ensures.known;
       rest = set_more g.row.D c.args.settings.now rows (all_set g.row.D c.args.settings.now rows (filter_map (row_of rows) found)) (map step_of c.loop-row.draft.steps.items)
-          (map step_of c.add.new.self.steps.items) (step_of c.in_ok-step.step) (view_row c.view.result) (filter_map (row_of rows) (drop at found))
+          (map step_of c.push.new.self.steps.items) (step_of c.in_ok-step.step) (view_row c.view.result) (filter_map (row_of rows) (drop at found))
           (filter_map (row_of rows) (drop (at + 1) found)) c.loop-row.invariant.rest
           (left_some (row_of rows) found at c.row-item.result (view_row c.view.result) within (subst (λ (r : Row g.row.D). row_of rows r ≡ Some (view_row c.view.result)) c.row-item.is (sym c.view.ensures)))
-          (c.in_ok-step.ensures (outcome rows (map step_of c.loop-row.draft.steps.items)) c.loop-row.invariant.knows) c.in_ok-add.ensures.steps;
+          (c.in_ok-step.ensures (outcome rows (map step_of c.loop-row.draft.steps.items)) c.loop-row.invariant.knows) c.in_ok-push.ensures.steps;
     }
 
 pub returns : goal.returns
