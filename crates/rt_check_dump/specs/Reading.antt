@@ -107,6 +107,11 @@ read_rest (l ∷ m ∷ ms) p n =
     at_line n (after_line p l) (λ q.
     if is_end (due p) then (if is_nothing (m ∷ ms) then Ok q.shadow else Err (n + 1, BadLine)) else read_rest (m ∷ ms) q (n + 1))
 
+-- the fault of a text of which that line isn't taken
+abbrev pub fault_at : ℕ → StepFault → DumpFault
+fault_at line (Line fault) = At line fault
+fault_at line NoMemory = Memory
+
 -- what reading gives is what was wanted, or memory was missing
 abbrev pub IsDumpFaultOf : {S : Type 0} → Result S (ℕ × LineFault) → DumpFault → Type 0
 IsDumpFaultOf wanted (At line fault) = wanted ≡ Err (line, fault)

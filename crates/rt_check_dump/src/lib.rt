@@ -8,7 +8,8 @@
 //!
 //! Stands on `rt_check` (shadows) and `rt_bytes`. Definitions: `specs/Dump.antt` (the text of a shadow),
 //! `Reading.antt` (what a text is read as), `Faults.antt` (dumps and the five faults, with no word of how they
-//! are read), `InRange.antt`, `Lines.antt`, `Numbers.antt`, `Codes.antt`.
+//! are read), `InRange.antt`, `Lines.antt`, `Numbers.antt`, `Pieces.antt` (a text cut into lines, and a line into words),
+//! `Codes.antt`.
 #![tactic(auto)]
 
 mod dump;

@@ -3,9 +3,9 @@
 //! The counts in the lines before say which kind of line is due. `specs/Reading.antt` defines this reading step by
 //! step, and `specs/Faults.antt` what a dump is and what each fault of a text is.
 
-ghost use Rattle.std.specs.Prelude.{◌≡◌, ◌≤◌, ◌<◌, ◌-◌, ◌^◌, IfOk, length};
+ghost use Rattle.std.specs.Prelude.{◌≡◌, ◌≤◌, ◌<◌, ◌-◌, ◌^◌, Ok, Err, IfOk, length, if◌then◌else◌};
 ghost use Rattle.rt_check_dump.specs.Lines.{words, kind_of, node_head, row_entry, raw_cell, axes_of, capacity_of, header_of};
-ghost use Rattle.rt_check_dump.specs.Reading.{due, empty_node, after_head, after_cell, after_row, after_kind, after_line, Gives, is_nothing, is_end, read_rest, Reads, start, read_body, read_kind, read_text};
+ghost use Rattle.rt_check_dump.specs.Reading.{due, empty_node, after_head, after_cell, after_row, after_kind, after_line, Gives, is_nothing, is_end, read_rest, fault_at, Reads, start, read_body, read_kind, read_text};
 ghost use Rattle.rt_check_dump.specs.Faults.{IsTextOf};
 
 use crate::dump::AnyShadow;
@@ -23,6 +23,18 @@ use std::hash::RandomState;
 pub(crate) enum StepFault {
     Line(LineFault),
     Memory,
+}
+
+impl StepFault {
+    /// What is wrong with a dump of which this line isn't taken.
+    fn at(self, line: u64) -> DumpFault
+        ensures { result ≡ fault_at line self }
+    {
+        match self {
+            StepFault::Line(fault) => DumpFault::At { line, fault },
+            StepFault::Memory => DumpFault::Memory,
+        }
+    }
 }
 
 /// A shadow of which some lines are read, and how many lines of each kind are to come.
@@ -165,6 +177,23 @@ fn is_nothing(lines: &mut Pieces<'_>) -> bool
     }
 }
 
+/// The shadow, where the text has ended; else that line is one too many.
+fn read_end<const D: usize>(
+    shadow: Shadow<D>,
+    lines: &mut Pieces<'_>,
+    line: u64,
+) -> Result<Shadow<D>, DumpFault>
+    ensures { Reads (if is_nothing lines.old then Ok shadow.entry else Err (line, LineFault.BadLine)) result }
+{
+    if is_nothing(lines) {
+        return Ok(shadow);
+    }
+    Err(DumpFault::At {
+        line,
+        fault: LineFault::BadLine,
+    })
+}
+
 /// Reads the lines after the header.
 fn read_rest<const D: usize>(
     mut progress: Progress<D>,
@@ -184,24 +213,11 @@ fn read_rest<const D: usize>(
             });
         }
         let is_end = is_at_end(&progress);
-        match take_line(&mut progress, alloc, line) {
-            Ok(()) => {}
-            Err(StepFault::Line(fault)) => {
-                return Err(DumpFault::At {
-                    line: number,
-                    fault,
-                });
-            }
-            Err(StepFault::Memory) => return Err(DumpFault::Memory),
+        if let Err(fault) = take_line(&mut progress, alloc, line) {
+            return Err(fault.at(number));
         }
         if is_end {
-            if !is_nothing(lines) {
-                return Err(DumpFault::At {
-                    line: number + 1,
-                    fault: LineFault::BadLine,
-                });
-            }
-            return Ok(progress.shadow);
+            return read_end(progress.shadow, lines, number + 1);
         }
         number += 1;
     }
