@@ -1,6 +1,6 @@
 pub mod Picking
 pub mod Viewing
-pub mod Noting
+pub mod Fates
 pub mod Refreshing
 pub mod Deltas
 pub mod Readying

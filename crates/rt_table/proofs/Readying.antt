@@ -18,7 +18,7 @@ use Rattle.rt_table.specs.declared.watched.Watched.{Watched}
 use Rattle.rt_table.specs.declared.watched.Change.{Change}
 use Rattle.rt_table.specs.Held.{Held, Awaited}
 use Rattle.rt_table.specs.Watching.{view_of, change_of, awaited_of}
-use Rattle.rt_table.specs.Preparing.{ApplyTo, places_all, auxiliary_rows_all, IsAwaited, IsReady}
+use Rattle.rt_table.specs.Preparing.{ApplyTo, inserts_all, auxiliary_rows_all, IsAwaited, IsReady}
 
 -- ---- the ids of a map
 
@@ -58,7 +58,7 @@ made columns rows tree views room auxiliary_room awaited changes = record {
 }
 
 pub ready : {D : ℕ} (columns : Columns) (rows now : List TableRow) (tree : ShadowLists D) (views new : List Watched) (room auxiliary_room : ℕ) (changes : List Change) (steps : List Step) → now ≡ rows
-    → map view_of new ≡ map view_of views → ApplyTo columns rows steps → places_all steps ≤ room → auxiliary_rows_all steps ≤ auxiliary_room
+    → map view_of new ≡ map view_of views → ApplyTo columns rows steps → inserts_all steps ≤ room → auxiliary_rows_all steps ≤ auxiliary_room
     → All (IsAwaited columns rows (outcome rows steps)) (map awaited_of new)
     → map change_of changes ≡ deltas columns (map view_of views) rows (outcome rows steps)
     → IsReady (made columns now tree (map view_of new) room auxiliary_room (map awaited_of new) changes) steps

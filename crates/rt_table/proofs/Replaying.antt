@@ -15,7 +15,7 @@ use Rattle.rt_table_store.proofs.Sorted.{at_key, Rises, rises, rises-filter, at_
 use Rattle.rt_table_row.specs.Conditions.{holds, picked}
 use Rattle.rt_table_row.specs.Edits.{outcome}
 use Rattle.rt_table.specs.Laws.{printed_id, after_change, replayed, ChangesReplay}
-use Rattle.rt_table.proofs.Noting.{rising_outcome}
+use Rattle.rt_table.proofs.Fates.{rising_outcome}
 use Rattle.rt_table.proofs.Deltas.{own, any_own, in_both, rises-both}
 use Rattle.rt_table.proofs.Showing.{find_mapped}
 

@@ -25,6 +25,24 @@ shown_picked : (p : TableRow → Bool) (o : Option TableRow) → is_some (shown 
 shown_picked p None = refl
 shown_picked p (Some r) = some_picked (p r) r
 
+-- a view that has the ids of the rows that it shows needs no look at them
+
+chosen : (b : Bool) (r : TableRow) → b ≡ true → (if b then Some r else None) ≡ Some r
+chosen true r is = refl
+chosen false r is = cc
+
+not_chosen : (b : Bool) (r : TableRow) → b ≡ false → (if b then Some r else None) ≡ None
+not_chosen true r is = cc
+not_chosen false r is = refl
+
+pub shown_in : (p : TableRow → Bool) (o : Option TableRow) → is_picked p o ≡ true → shown p o ≡ o
+shown_in p None there = refl
+shown_in p (Some r) there = chosen (p r) r there
+
+pub shown_out : (p : TableRow → Bool) (o : Option TableRow) → is_picked p o ≡ false → shown p o ≡ None
+shown_out p None none = refl
+shown_out p (Some r) none = not_chosen (p r) r none
+
 all_of_both : {X : Type 0} (P : X → Type 0) (xs ys : List X) → AllByRecursion P xs → AllByRecursion P ys → AllByRecursion P (xs ++ ys)
 all_of_both P [] ys of more = more
 all_of_both P (x ∷ xs) ys of more = (of.0, all_of_both P xs ys of.1 more)

@@ -21,11 +21,11 @@ Fate = Option TableRow
 abbrev pub fate_of : {D : _} → Option (Option (Bor (Entry D))) → Option Fate
 fate_of fate = option_map (λ row. option_map (λ entry. row_of entry.now) row) fate
 
--- one step more
-abbrev pub noted : Step → ℤ → Option Fate → Option Fate
-noted (Leaves id) q fate = if int_eq q id then Some None else fate
-noted (Comes row) q fate = if int_eq q row.id then Some (Some row) else fate
-noted (Becomes id row) q fate = if int_eq q row.id then Some (Some row) else (if int_eq q id then Some None else fate)
+-- what is known of an id after one step more
+abbrev pub fate_after : Step → ℤ → Option Fate → Option Fate
+fate_after (Leaves id) q fate = if int_eq q id then Some None else fate
+fate_after (Comes row) q fate = if int_eq q row.id then Some (Some row) else fate
+fate_after (Becomes id row) q fate = if int_eq q row.id then Some (Some row) else (if int_eq q id then Some None else fate)
 
 -- what changes in a view at an id
 abbrev pub changes_at : Watched → List TableRow → (ℤ → Option TableRow) → ℤ → List ViewChange

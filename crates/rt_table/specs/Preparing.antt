@@ -21,7 +21,7 @@ abbrev pub ApplyInTurn : List TableRow → List Step → Type 0
 ApplyInTurn rows [] = Unit {0}
 ApplyInTurn rows (step ∷ steps) = Applies rows step × ApplyInTurn (after_step rows step) steps
 
--- the row that a step places has a value for each auxiliary column, which stand behind the id and the coordinates
+-- the row that a step inserts has a value for each auxiliary column, which stand behind the id and the coordinates
 abbrev pub FitsColumns : Columns → Step → Type 0
 FitsColumns columns (Leaves id) = Unit {0}
 FitsColumns columns (Comes row) = length row.auxiliary ≡ length (drop (1 + 2 * columns.axes) columns.names)
@@ -31,17 +31,17 @@ FitsColumns columns (Becomes id row) = length row.auxiliary ≡ length (drop (1 
 abbrev pub ApplyTo : Columns → List TableRow → List Step → Type 0
 ApplyTo columns rows steps = ApplyInTurn rows steps × All (FitsColumns columns) steps
 
--- how many rows a step places
-abbrev pub places : Step → ℕ
-places (Leaves id) = 0
-places (Comes row) = 1
-places (Becomes id row) = 1
+-- how many rows a step inserts
+abbrev pub inserts : Step → ℕ
+inserts (Leaves id) = 0
+inserts (Comes row) = 1
+inserts (Becomes id row) = 1
 
-abbrev pub places_all : List Step → ℕ
-places_all [] = 0
-places_all (step ∷ steps) = places step + places_all steps
+abbrev pub inserts_all : List Step → ℕ
+inserts_all [] = 0
+inserts_all (step ∷ steps) = inserts step + inserts_all steps
 
--- how many rows with auxiliary values a step places
+-- how many rows with auxiliary values a step inserts
 abbrev pub auxiliary_rows : TableRow → ℕ
 auxiliary_rows row = if length row.auxiliary == 0 then 0 else 1
 
@@ -63,11 +63,11 @@ pub record IsAwaited (columns : Columns) (before after : List TableRow) (a : Awa
   pub shifts : AreShifts (holds columns a.view.cond) before after a.shifts
   pub room : length a.shifts ≤ a.room
 
--- the steps apply, there is room for the rows that they place, each view awaits them, and the changes of the views lie
+-- the steps apply, there is room for the rows that they insert, each view awaits them, and the changes of the views lie
 -- ready
 pub record IsReady {D : ℕ} (held : Held D) (steps : List Step) : Type 0 where
   pub apply : ApplyTo held.lists.columns held.lists.rows steps
-  pub room : places_all steps ≤ held.room
+  pub room : inserts_all steps ≤ held.room
   pub auxiliary_room : auxiliary_rows_all steps ≤ held.auxiliary_room
   pub awaited : All (IsAwaited held.lists.columns held.lists.rows (outcome held.lists.rows steps)) held.awaited
   pub staged : held.staged ≡ deltas held.lists.columns held.lists.views held.lists.rows (outcome held.lists.rows steps)

@@ -12,7 +12,7 @@ ghost use Rattle.rt_table_row.specs.Rows.{TableRow};
 ghost use Rattle.rt_table_row.specs.Edits.{after_step, outcome};
 ghost use Rattle.rt_table_row.specs.Entries.{step_of};
 ghost use Rattle.rt_table_store.specs.Moves.{TakesStep, TakesEach};
-ghost use Rattle.rt_table.specs.Preparing.{Applies, ApplyInTurn, places, places_all, auxiliary_rows_of, auxiliary_rows_all, IsAwaited};
+ghost use Rattle.rt_table.specs.Preparing.{Applies, ApplyInTurn, inserts, inserts_all, auxiliary_rows_of, auxiliary_rows_all, IsAwaited};
 ghost use Rattle.rt_table.specs.declared.watched.Watched.{Watched};
 ghost use Rattle.rt_table.specs.Watching.{view_of, awaited_of, IsKept, IsRefreshed};
 
@@ -26,12 +26,12 @@ use std::mem;
 
 fn apply_step<const D: usize>(store: &mut Store<D>, step: Step<D>)
     requires applies { Applies store.old.rows (step_of step) }
-    requires room { places (step_of step) ≤ store.old.room }
+    requires room { inserts (step_of step) ≤ store.old.room }
     requires auxiliary_room { auxiliary_rows_of (step_of step) ≤ store.old.auxiliary_room }
     ensures rows { store.new.rows ≡ after_step store.old.rows (step_of step.entry) }
     ensures tree { TakesStep store.old.rows (step_of step.entry) store.old.tree store.new.tree }
     ensures capacity { store.new.tree.capacity ≡ store.old.tree.capacity }
-    ensures room { store.old.room ≤ store.new.room + places (step_of step.entry) }
+    ensures room { store.old.room ≤ store.new.room + inserts (step_of step.entry) }
     ensures auxiliary_room { store.old.auxiliary_room ≤ store.new.auxiliary_room + auxiliary_rows_of (step_of step.entry) }
 {
     store.facts();
@@ -47,7 +47,7 @@ fn apply_step<const D: usize>(store: &mut Store<D>, step: Step<D>)
 /// Carries the steps out one after the other.
 pub(crate) fn apply<const D: usize>(store: &mut Store<D>, plan: Vec<Step<D>>)
     requires apply { ApplyInTurn store.old.rows (map step_of plan.items) }
-    requires room { places_all (map step_of plan.items) ≤ store.old.room }
+    requires room { inserts_all (map step_of plan.items) ≤ store.old.room }
     requires auxiliary_room { auxiliary_rows_all (map step_of plan.items) ≤ store.old.auxiliary_room }
     ensures rows { store.new.rows ≡ outcome store.old.rows (map step_of plan.entry.items) }
     ensures tree { TakesEach store.old.rows (map step_of plan.entry.items) store.old.tree store.new.tree }

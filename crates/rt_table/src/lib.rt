@@ -5,12 +5,15 @@
 //!   the plan takes and stages what it changes in the views. `commit` then carries the plan out, with no memory and no
 //!   refusal, and hands out the changes. `edit` does all three at once.
 //! - `AnyTable` is a table whatever its number of axes.
-//! - `laws`: the changes of a view turn the rows that it showed into those that it shows.
+//! - `laws`: the changes of a view turn the rows that it showed into those that it shows, and the steps of each statement
+//!   apply to the rows.
 //!
 //! A view keeps the ids of its rows; a plan looks again at the ids that it touches, and at no others.
 //!
-//! Stands on `rt_table_plan` and `rt_table_store`. Definitions: `specs/Held.antt` (what a table holds), `Preparing.antt`,
-//! `AnyAxes.antt`, `AnyTrees.antt`, `Replies.antt`, `Laws.antt`; what a statement does to rows and views is in
+//! Stands on `rt_table_plan` and `rt_table_store`. Definitions: `specs/Held.antt` (what a table holds), `Preparing.antt`
+//! (when it is ready for a plan), `Watching.antt` (a view with the ids of its rows), `Fates.antt` (what steps leave of the
+//! ids that they touch), `Replies.antt` (answers for which memory may run out), `AnyAxes.antt` and `AnyTrees.antt` (tables
+//! of any number of axes), `Applying.antt` and `Laws.antt` (the laws); what a statement does to rows and views is in
 //! `rt_table_row`.
 #![tactic(auto)]
 

@@ -1,7 +1,11 @@
 //! What a plan changes in the views.
 //!
-//! All of it is found before anything changes. At each touched id a view's filter looks at the row that is there, and at
-//! the one that has the id after the plan (`specs/Fates.antt`).
+//! All of it is found before anything changes. At each touched id the view's own ids say whether it shows the row that is
+//! there, and its filter looks at the one that has the id after the plan (`specs/Fates.antt`).
+//!
+//! The draft of a plan gathers touched ids too, to answer another question: whether a row has an id after the steps so far.
+//! It knows no rows and no order, and is gone once the plan is made. Here each id goes with the row that has it in the end,
+//! by rising id, as changes are shown; and where no view is, nothing is gathered.
 
 ghost use Rattle.std.specs.Prelude.{◌≡◌, ◌≤◌, ◌<◌, ◌++◌, ◌∷◌, [], ℕ, ℤ, List, All, AllPairs, ◌<ℤ◌, is_some, slice_index_or, length, map, OnOk, IfOk};
 ghost use Rattle.std.specs.Ordering.{int_eq, int_cmp};
@@ -17,8 +21,8 @@ ghost use Rattle.rt_table_row.specs.Views.{change_at, deltas};
 ghost use Rattle.rt_table_row.specs.Columns.{Columns};
 ghost use Rattle.rt_table.specs.declared.watched.Watched.{Watched};
 ghost use Rattle.rt_table.specs.Preparing.{IsAwaited};
-ghost use Rattle.rt_table.specs.Watching.{view_of, change_of, awaited_of, shown, IsKept, IsRoomier};
-ghost use Rattle.rt_table.specs.Fates.{fate_of, noted, rows_after, changes_at, shift, shifts_at};
+ghost use Rattle.rt_table.specs.Watching.{view_of, change_of, awaited_of, shown, KeepsIds, IsKept, IsRoomier};
+ghost use Rattle.rt_table.specs.Fates.{fate_of, fate_after, rows_after, changes_at, shift, shifts_at};
 
 use crate::watched::{Change, Shift, Watched};
 use rt_sql_statement::Name;
@@ -27,12 +31,12 @@ use rt_table_store::Store;
 use std::alloc::{AllocError, Global};
 use std::collections::BTreeMap;
 
-/// Notes which row has the ids of a step after it.
-fn note<'a, const D: usize>(
+/// Inserts the ids of a step, each with the row that has it after the step.
+fn insert_fates<'a, const D: usize>(
     rows: &mut BTreeMap<i64, Option<&'a Entry<D>>>,
     step: &'a Step<D>,
 ) -> Result<(), AllocError>
-    ensures { OnOk result ((q : ℤ) → fate_of (get int_cmp rows.new q) ≡ noted (step_of step.now) q (fate_of (get int_cmp rows.old q))) }
+    ensures { OnOk result ((q : ℤ) → fate_of (get int_cmp rows.new q) ≡ fate_after (step_of step.now) q (fate_of (get int_cmp rows.old q))) }
 {
     match step {
         Step::Leaves(id) => {
@@ -60,9 +64,17 @@ fn fates<'a, const D: usize>(
 {
     let mut rows = BTreeMap::new(alloc);
     for step in plan {
-        note(&mut rows, step)?;
+        insert_fates(&mut rows, step)?;
     }
     Ok(rows)
+}
+
+/// A law: the ids of an ordered map rise. The call does nothing.
+fn ids_rise<'a, const D: usize>(fates: &BTreeMap<i64, Option<&'a Entry<D>>>)
+    ensures { AllPairs ◌<ℤ◌ (keys fates.now) }
+{
+    // The contract of `len` says so.
+    let _ = fates.len();
 }
 
 fn ids_of<'a, const D: usize>(
@@ -82,8 +94,7 @@ fn rising_ids<'a, const D: usize>(
     ensures rising { IfOk result (λ ids. AllPairs ◌<ℤ◌ ids.items) }
     ensures all { IfOk result (λ ids. (q : ℤ) → list_any (int_eq q) ids.items ≡ is_some (get int_cmp fates.now q)) }
 {
-    // The contract of `len` says that the ids rise.
-    let _ = fates.len();
+    ids_rise(fates);
     let ids = ids_of(alloc, fates)?;
     Ok(ids)
 }
@@ -104,22 +115,20 @@ fn row_after<'a, const D: usize>(
     }
 }
 
-/// The row of that id, where the filter holds of it.
+/// The row of that id, where the view shows it. The view has the ids of the rows that it shows, so its filter isn't asked.
 fn shown_before<'a, const D: usize>(
     store: &'a Store<D>,
-    condition: &Filter,
+    view: &Watched,
     id: &i64,
 ) -> Option<RowView<'a, D>>
-    ensures { option_map view_row result ≡ shown (admits condition.now) (row_at store.now.rows id.now) }
+    requires { KeepsIds (admits view.now.filter) store.now.rows view.now.ids.keys }
+    ensures { option_map view_row result ≡ shown (admits view.now.filter) (row_at store.now.rows id.now) }
 {
     store.facts();
-    let Some(row) = store.get(id) else {
-        return None;
-    };
-    if !condition.holds(&row) {
+    if !view.ids.contains(id) {
         return None;
     }
-    Some(row)
+    store.get(id)
 }
 
 /// The row that has the id after the plan, where the filter holds of it.
@@ -203,13 +212,14 @@ fn stage_changes<'a, const D: usize>(
     fates: &BTreeMap<i64, Option<&'a Entry<D>>>,
     ids: &[i64],
 ) -> Result<Vec<Shift>, AllocError>
+    requires { KeepsIds (admits view.now.filter) store.now.rows view.now.ids.keys }
     ensures changes { OnOk result (map change_of staged.new.items ≡ map change_of staged.old.items ++ flat_map (changes_at view.now store.now.rows (rows_after store.now.rows fates.now)) ids.now) }
     ensures shifts { IfOk result (λ shifts. shifts.items ≡ flat_map (shifts_at view.now store.now.rows (rows_after store.now.rows fates.now)) ids.now) }
 {
     store.facts();
     let mut shifts = Vec::new(alloc);
     for id in ids {
-        let before = shown_before(store, &view.filter, id);
+        let before = shown_before(store, view, id);
         let after = shown_after(store, fates, &view.filter, id);
         push_shift(&mut shifts, id, before.is_some(), after.is_some())?;
         push_changes(alloc, staged, &view.name, &before, &after)?;
@@ -226,6 +236,7 @@ fn stage_view<'a, const D: usize>(
     fates: &BTreeMap<i64, Option<&'a Entry<D>>>,
     ids: &[i64],
 ) -> Result<(), AllocError>
+    requires { KeepsIds (admits view.old.filter) store.now.rows view.old.ids.keys }
     ensures same { IsRoomier view.old view.new }
     ensures changes { OnOk result (map change_of staged.new.items ≡ map change_of staged.old.items ++ flat_map (changes_at view.old store.now.rows (rows_after store.now.rows fates.now)) ids.now) }
     ensures shifts { OnOk result (view.new.shifts.items ≡ flat_map (shifts_at view.old store.now.rows (rows_after store.now.rows fates.now)) ids.now) }
@@ -246,6 +257,7 @@ fn stage_each<'a, const D: usize>(
     fates: &BTreeMap<i64, Option<&'a Entry<D>>>,
     ids: &[i64],
 ) -> Result<Vec<Change>, AllocError>
+    requires { All (λ w. KeepsIds (admits w.filter) store.now.rows w.ids.keys) views.old }
     ensures same { (k : ℕ) (w : Watched) → k < length views.old → IsRoomier (slice_index_or views.old k w) (slice_index_or views.new k w) }
     ensures changes { IfOk result (λ staged. map change_of staged.items ≡ flat_map (λ w. flat_map (changes_at w store.now.rows (rows_after store.now.rows fates.now)) ids.now) views.old) }
     ensures shifts { OnOk result ((k : ℕ) (w : Watched) → k < length views.old
@@ -267,6 +279,7 @@ pub(crate) fn stage<'a, const D: usize>(
     store: &'a Store<D>,
     plan: &'a [Step<D>],
 ) -> Result<Vec<Change>, AllocError>
+    requires { All (λ w. KeepsIds (admits w.filter) store.now.rows w.ids.keys) views.old.items }
     ensures views { map view_of views.new.items ≡ map view_of views.old.items }
     ensures kept { (columns : Columns) (rows : List TableRow) → All (IsKept columns rows) views.old.items → All (IsKept columns rows) views.new.items }
     ensures changes { IfOk result (λ staged. (columns : Columns) → All (IsKept columns store.now.rows) views.old.items

@@ -5,13 +5,13 @@
 
 ghost use Rattle.std.specs.Prelude.{◌≡◌, map};
 ghost use Rattle.rt_table_row.specs.Entries.{row_of, step_of};
-ghost use Rattle.rt_table.specs.Preparing.{places, places_all, auxiliary_rows, auxiliary_rows_of, auxiliary_rows_all};
+ghost use Rattle.rt_table.specs.Preparing.{inserts, inserts_all, auxiliary_rows, auxiliary_rows_of, auxiliary_rows_all};
 
 use rt_table_row::{Entry, Step};
 
-/// How many rows a step places.
-fn places<const D: usize>(step: &Step<D>) -> usize
-    ensures { result ≡ places (step_of step.now) }
+/// How many rows a step inserts.
+fn inserts<const D: usize>(step: &Step<D>) -> usize
+    ensures { result ≡ inserts (step_of step.now) }
 {
     match step {
         Step::Leaves(_) => 0,
@@ -19,13 +19,13 @@ fn places<const D: usize>(step: &Step<D>) -> usize
     }
 }
 
-/// How many rows a plan places.
-pub(crate) fn places_all<const D: usize>(plan: &[Step<D>]) -> usize
-    ensures { result ≡ places_all (map step_of plan.now) }
+/// How many rows a plan inserts.
+pub(crate) fn inserts_all<const D: usize>(plan: &[Step<D>]) -> usize
+    ensures { result ≡ inserts_all (map step_of plan.now) }
 {
     let mut count = 0;
     for step in plan {
-        count += places(step);
+        count += inserts(step);
     }
     count
 }
@@ -37,7 +37,7 @@ fn auxiliary_rows<const D: usize>(row: &Entry<D>) -> usize
     if row.auxiliary.is_empty() { 0 } else { 1 }
 }
 
-/// How many rows with auxiliary values a step places.
+/// How many rows with auxiliary values a step inserts.
 fn auxiliary_rows_of<const D: usize>(step: &Step<D>) -> usize
     ensures { result ≡ auxiliary_rows_of (step_of step.now) }
 {
@@ -47,7 +47,7 @@ fn auxiliary_rows_of<const D: usize>(step: &Step<D>) -> usize
     }
 }
 
-/// How many rows with auxiliary values a plan places.
+/// How many rows with auxiliary values a plan inserts.
 pub(crate) fn auxiliary_rows_all<const D: usize>(plan: &[Step<D>]) -> usize
     ensures { result ≡ auxiliary_rows_all (map step_of plan.now) }
 {

@@ -10,7 +10,7 @@ ghost use Rattle.rt_sql_statement.specs.Name.{same_name};
 
 use crate::carrying::{apply, refresh_all};
 use crate::preparing::stage;
-use crate::room::{auxiliary_rows_all, places_all};
+use crate::room::{auxiliary_rows_all, inserts_all};
 use crate::watched::{Change, Picked, Watched, pick, rows_of, rows_picked, watch};
 use rt_box::Capacity;
 use rt_check::{Problem, Shadow, check};
@@ -108,8 +108,8 @@ impl<const D: usize> Table<D> {
         ensures lists { IfOk result (λ table. table.lists ≡ new_table columns) }
         ensures tree { IfOk result (λ table. table.tree ≡ empty_lists capacity) }
     {
-        // The contract of `axes` says that there are one to three.
-        let _ = columns.axes();
+        // There are one to three axes.
+        columns.facts();
         let store = Store::new(alloc, keys, capacity)?;
         Ok(Table {
             alloc,
@@ -251,7 +251,7 @@ impl<const D: usize> Table<D> {
     {
         let staged = stage(alloc, &mut self.views, &self.store, plan)?;
         self.store
-            .reserve(alloc, places_all(plan), auxiliary_rows_all(plan))?;
+            .reserve(alloc, inserts_all(plan), auxiliary_rows_all(plan))?;
         self.staged = staged;
         Ok(())
     }

@@ -174,14 +174,21 @@ fn ids_of(alloc: Global, set: &BTreeSet<i64>) -> Result<Vec<i64>, AllocError>
     set.iter().copied().collect(alloc)
 }
 
+/// A law: the ids of an ordered set rise. The call does nothing.
+fn ids_rise(set: &BTreeSet<i64>)
+    ensures { AllPairs ◌<ℤ◌ set.now.keys }
+{
+    // The contract of `len` says so.
+    let _ = set.len();
+}
+
 /// The ids of the set, rising.
 fn rising(alloc: Global, ids: &IndexSet<i64, RandomState>) -> Result<Vec<i64>, AllocError>
     ensures rising { IfOk result (λ listed. AllPairs ◌<ℤ◌ listed.items) }
     ensures all { IfOk result (λ listed. (q : ℤ) → list_any (int_eq q) listed.items ≡ list_any (int_eq q) ids.now.keys) }
 {
     let set = ordered(alloc, ids.as_slice())?;
-    // The contract of `len` says that the ids rise.
-    let _ = set.len();
+    ids_rise(&set);
     let listed = ids_of(alloc, &set)?;
     Ok(listed)
 }

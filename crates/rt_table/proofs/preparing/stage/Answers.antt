@@ -1,4 +1,4 @@
-use Rattle.std.proofs.Common.{◌≡◌, map, ap, refl, ◌∙◌, arith, Option, Some, None}
+use Rattle.std.proofs.Common.{◌≡◌, map, ap, refl, ◌∙◌, arith, lit<, Option, Some, None}
 use Rattle.std.specs.Prelude.{is_some}
 use Rattle.std.specs.Borrow.{Bor}
 use Rattle.std.specs.Ordering.{int_cmp}
@@ -10,7 +10,7 @@ use Rattle.rt_table_row.specs.Entries.{step_of}
 use Rattle.rt_table.specs.Fates.{fate_of, rows_after}
 use Rattle.rt_table.specs.Preparing.{DifferAt}
 use Rattle.rt_table.specs.Watching.{view_of}
-use Rattle.rt_table.proofs.Noting.{differ_known, rising_outcome}
+use Rattle.rt_table.proofs.Fates.{differ_known, rising_outcome}
 use Rattle.rt_table.proofs.Deltas.{deltas_staged}
 use Rattle.rt_table.proofs.Refreshing.{same_views, still_kept, all_await}
 use Rattle.rt_table.proofs.preparing.stage.Goals as goal
@@ -18,6 +18,9 @@ use Rattle.rt_table.proofs.preparing.stage.Goals as goal
 some_fate : {D : _} (f : Option (Option (Bor (Entry D)))) → is_some f ≡ is_some (fate_of f)
 some_fate None = refl
 some_fate (Some r) = refl
+
+pub stage_each-requires : goal.stage_each-requires
+stage_each-requires g c = (lit< tt, (omega arith, rw c.as_mut_slice.ensures.value c.requires))
 
 pub returns-in_err-staged-clause-views : goal.returns-in_err-staged-clause-views
 returns-in_err-staged-clause-views g c =

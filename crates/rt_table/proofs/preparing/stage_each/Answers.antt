@@ -1,11 +1,19 @@
-use Rattle.std.proofs.Common.{◌≡◌, ◌≤◌, ◌<◌, ℕ, length, get_or, sym, ap, rules, arith, ◌∙◌, ◌++◌, map, subst}
+use Rattle.std.proofs.Common.{◌≡◌, ◌≤◌, ◌<◌, ℕ, length, get_or, sym, ap, rules, arith, lit<, ◌∙◌, ◌++◌, map, subst}
 use Rattle.std.specs.List.{flat_map}
 use Rattle.std.proofs.lemmas.List.{get_or_default}
 use Rattle.rt_table.specs.declared.watched.Watched.{Watched}
-use Rattle.rt_table.specs.Watching.{change_of, IsRoomier}
+use Rattle.rt_table_row.specs.Filters.{admits}
+use Rattle.rt_table.specs.Watching.{change_of, KeepsIds, IsRoomier}
 use Rattle.rt_table.specs.Fates.{rows_after, changes_at, shifts_at}
 use Rattle.rt_table.proofs.Touching.{flat_map_more, set_each}
 use Rattle.rt_table.proofs.preparing.stage_each.Goals as goal
+
+pub stage_view-requires : goal.stage_view-requires
+stage_view-requires g c =
+    let at = c.loop-at.at in
+    let old = c.index-views-at.result in
+    let here : get_or c.loop-at.views at old ≡ get_or c.args.views.now at old = c.loop-at.invariant.rest at old (omega arith) in
+    (lit< tt, (omega arith, subst (λ (w : Watched). KeepsIds (admits w.filter) c.args.store.now.rows w.ids.keys) (sym here) (c.requires at old (omega arith))))
 
 pub loop-at-preserved : goal.loop-at-preserved
 loop-at-preserved g c =

@@ -1,5 +1,4 @@
-use Rattle.rt_table.proofs.Readying.{rising_sorted}
 use Rattle.rt_table.proofs.watched.rising.Goals as goal
 
 pub returns-clause-rising : goal.returns-clause-rising
-returns-clause-rising c = rw c.in_ok-listed.ensures (rising_sorted c.in_ok-set.set.keys c.len.ensures.ordered)
+returns-clause-rising c = rw c.in_ok-listed.ensures c.ids_rise.ensures

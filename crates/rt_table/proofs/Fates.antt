@@ -9,7 +9,7 @@ use Rattle.std.specs.List.{list_any}
 use Rattle.rt_table_row.specs.Rows.{TableRow, AreRising, row_at, with_row, without_id}
 use Rattle.rt_table_row.specs.Edits.{Step, Leaves, Comes, Becomes, after_step, outcome}
 use Rattle.rt_table_store.proofs.Sorted.{at_key-placed, at_key-taken, Rises, rises, rising, rises-placed, rises-taken}
-use Rattle.rt_table.specs.Fates.{Fate, noted}
+use Rattle.rt_table.specs.Fates.{Fate, fate_after}
 use Rattle.rt_table.specs.Preparing.{DifferAt}
 
 -- the test of an id is the same either way round
@@ -34,11 +34,11 @@ at_with : (rows : List TableRow) (r : TableRow) (q : ℤ) (f : Option Fate) (bef
 at_with rows r q f before same = at_key-placed (λ s. s.id) rows r q ∙ placed_by (int_eq q r.id) r (row_at rows q) f before same
 
 -- one step more
-pub after_noted : (rows : List TableRow) (step : Step) (q : ℤ) (f : Option Fate) (before : Option TableRow) → row_at rows q ≡ unwrap_or f before
-    → row_at (after_step rows step) q ≡ unwrap_or (noted step q f) before
-after_noted rows (Leaves id) q f before same = at_without rows id q f before same
-after_noted rows (Comes r) q f before same = at_with rows r q f before same
-after_noted rows (Becomes id r) q f before same =
+pub row_at-after_step : (rows : List TableRow) (step : Step) (q : ℤ) (f : Option Fate) (before : Option TableRow) → row_at rows q ≡ unwrap_or f before
+    → row_at (after_step rows step) q ≡ unwrap_or (fate_after step q f) before
+row_at-after_step rows (Leaves id) q f before same = at_without rows id q f before same
+row_at-after_step rows (Comes r) q f before same = at_with rows r q f before same
+row_at-after_step rows (Becomes id r) q f before same =
     at_with (without_id rows id) r q (if int_eq q id then Some None else f) before (at_without rows id q f before same)
 
 pub outcome-append : (rows : List TableRow) (steps more : List Step) → outcome rows (steps ++ more) ≡ outcome (outcome rows steps) more
