@@ -139,8 +139,8 @@ struct Times {
     nodes: usize,
 }
 
-/// The rows that a tree may have.
-const MOST_ROWS: usize = 1 << 20;
+/// How many rows a tree has at most.
+const MOST_ROWS_OF_A_TREE: usize = 1 << 20;
 
 /// How rows are drawn, and how many.
 #[derive(Clone, Copy)]
@@ -169,7 +169,7 @@ pub(crate) fn time_insertions<R: Clock, const D: usize>(
             continue;
         };
         tree.reserve(1)?;
-        if tree.get(&id).is_none() && tree.spare() > 0 && tree.len() < MOST_ROWS {
+        if tree.get(&id).is_none() && tree.spare() > 0 && tree.len() < MOST_ROWS_OF_A_TREE {
             let _ = tree.insert(&id, &rect);
         }
     }

@@ -14,7 +14,7 @@ use std::process::Abort;
 use std::test::Fail;
 
 /// A table of one axis without rows, of the least capacity.
-fn table(alloc: Global, keys: RandomState) -> Result<Table<1>, Fail> {
+fn table_of_one_axis(alloc: Global, keys: RandomState) -> Result<Table<1>, Fail> {
     let create = b"CREATE VIRTUAL TABLE t USING rtree_i32(id,minX,maxX,+n TEXT);";
     let schema = schema(alloc, create)?;
     if schema.axes() != 1 {
@@ -99,7 +99,7 @@ fn expect_changes(
 
 #[test]
 fn plans_are_carried_out(rt: HostRuntime) -> Result<(), Fail> {
-    let mut table = table(rt.alloc(), RandomState::new(&rt)?)?;
+    let mut table = table_of_one_axis(rt.alloc(), RandomState::new(&rt)?)?;
     watch(rt.alloc(), &mut table)?;
     expect_changes(&rt, &mut table)
 }

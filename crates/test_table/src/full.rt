@@ -10,7 +10,8 @@ use std::hash::RandomState;
 use std::process::Abort;
 use std::test::Fail;
 
-const MOST_ROWS: i64 = 1_048_576;
+/// How many rows a table has at most.
+const MOST_ROWS_OF_A_TABLE: i64 = 1_048_576;
 
 /// Rows of these ids, each at the point 0.
 fn rows(alloc: Global, first: i64, count: i64) -> Result<Items<Items<Value>>, AllocError> {
@@ -72,8 +73,8 @@ fn expect(
 
 /// A table that wants one row more takes no two, and a full one takes a row in the place of its own alone.
 fn expect_the_last(rt: &(impl Abort + AllocGlobal), table: &mut AnyTable) -> Result<(), Fail> {
-    expect(rt, table, Rule::Abort, MOST_ROWS, 2, false)?;
-    expect(rt, table, Rule::Abort, MOST_ROWS, 1, true)?;
+    expect(rt, table, Rule::Abort, MOST_ROWS_OF_A_TABLE, 2, false)?;
+    expect(rt, table, Rule::Abort, MOST_ROWS_OF_A_TABLE, 1, true)?;
     expect(rt, table, Rule::Abort, 0, 1, false)?;
     expect(rt, table, Rule::Replace, 7, 1, true)?;
     assert!(rt; table.len() == 1_048_576);

@@ -13,8 +13,8 @@ use std::hash::RandomState;
 use std::process::Abort;
 use std::test::Fail;
 
-/// The rows that a tree may have.
-const MOST_ROWS: usize = 1 << 20;
+/// How many rows a tree has at most.
+const MOST_ROWS_OF_A_TREE: usize = 1 << 20;
 
 /// A box of the first axes.
 fn rect_of<const D: usize>(spans: &Spans) -> Option<Rect<D>>
@@ -56,7 +56,7 @@ pub(crate) fn insert_reserved<const D: usize>(
     requires some { 1 ≤ D }
     requires few { D ≤ 3 }
 {
-    if tree.get(&id).is_some() || tree.spare() == 0 || tree.len() >= MOST_ROWS {
+    if tree.get(&id).is_some() || tree.spare() == 0 || tree.len() >= MOST_ROWS_OF_A_TREE {
         return Err(Fail::from("a row that can't be inserted"));
     }
     Ok(tree.insert(&id, rect))
