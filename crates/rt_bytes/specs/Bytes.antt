@@ -15,7 +15,7 @@ abbrev pub PassesOn : {T E F : Type 0} → Result T E → F → ℕ → ℕ → 
 PassesOn (Ok given) fault old new r = (r ≡ Ok given) × (new ≡ old)
 PassesOn (Err reason) fault old new r = (r ≡ Err fault) × (new ≡ one_more old)
 
--- a write of so many bytes took none, though there was one
+-- a write of so many bytes took none of them, though there were some
 abbrev pub TookNone : {E : Type 0} → ℕ → Result ℕ E → Type 0
 TookNone len answer = (0 < len) × (answer ≡ Ok 0)
 
