@@ -5,13 +5,15 @@
 //!
 //! Each lies over another reader or writer, passes on what that one gives and takes, and keeps the contract of
 //! `ByteReader` or `ByteWriter`. Its clauses also say which calls fail. A test lays them over the reader and the
-//! writer in memory, and over each other.
+//! writer in memory, and over each other. The crate's own tests do so, and test the readers and writers of `rt_bytes` too.
 //!
 //! Stands on `rt_bytes`, whose `specs/Bytes.antt` has the definitions.
 #![tactic(auto)]
 
 mod failing;
 mod partial;
+#[cfg(test)]
+mod tests;
 
 pub use failing::{FailingReader, FailingWriter};
 pub use partial::{OneByteWriter, UnflushableWriter};

@@ -1,7 +1,8 @@
-//! Readers and writers, and the faults that some of them have.
+//! Tests of the readers and writers of `rt_bytes`, and of those of this crate over them.
 //!
 //! After each call the test compares the bytes and the counts, of which the contracts speak.
 
+use crate::{FailingReader, FailingWriter, OneByteWriter, UnflushableWriter};
 use rt_bytes::{
     ByteReader, ByteWriter, OverRead, OverWrite, ReadFault, RunFault, Sink, SliceReader,
     WriteFault, write_parts, write_whole,
@@ -9,7 +10,6 @@ use rt_bytes::{
 use std::alloc::AllocError;
 use std::io::Cursor;
 use std::test::Fail;
-use test_devices::{FailingReader, FailingWriter, OneByteWriter, UnflushableWriter};
 
 #[test]
 fn a_slice_is_read_in_small_reads(rt: HostRuntime) {
