@@ -1,9 +1,10 @@
 """Injects faults into the proved program, and gives it hard devices: see scripts/faults."""
 
+import os
 import subprocess
 import sys
 import time
-from concurrent.futures import ThreadPoolExecutor
+from concurrent.futures import ProcessPoolExecutor
 from pathlib import Path
 
 import calls
@@ -12,8 +13,6 @@ import devices
 import rows
 import tests
 from program import Outcome, Program, Report
-
-AT_ONCE = 4
 
 CALLS = {
     "each allocation refused": calls.growths_refused,
@@ -45,18 +44,21 @@ def check_devices(report, program):
         report.add(name, tried(check, program))
 
 
-def check_calls(report, program, worked):
-    """One check for each worked script or dump and each way to fail."""
-    with ThreadPoolExecutor(AT_ONCE) as pool:
-        started = [
-            (f"{case.name}: {how}", pool.submit(tried, check, program, case))
-            for how, check in CALLS.items()
-            for case in worked
-        ]
-        for name, checked in started:
-            answer = checked.result()
-            wrong, note = answer if isinstance(answer, tuple) else (answer, "")
-            report.add(f"{name} ({note})", wrong)
+def start_calls(pool, program, worked):
+    """Starts a check for each worked script or dump and each way to fail."""
+    return [
+        (f"{case.name}: {how}", pool.submit(tried, check, program, case))
+        for how, check in CALLS.items()
+        for case in worked
+    ]
+
+
+def end_calls(report, started):
+    """Reports these checks once each has ended."""
+    for name, checked in started:
+        answer = checked.result()
+        wrong, note = answer if isinstance(answer, tuple) else (answer, "")
+        report.add(f"{name} ({note})", wrong)
 
 
 def check_tests(report, root, library):
@@ -77,17 +79,18 @@ def all_statements(root):
 
 
 def main(root, library, *paths):
-    """Checks each program of these paths."""
-    report, root = Report(), Path(root)
-    worked = cases.cases(root / "crates" / "test_cases" / "data")
-    for path in paths:
-        began = time.monotonic()
-        program = Program(path, library)
-        print(f"== {path}", flush=True)
-        check_devices(report, program)
-        check_calls(report, program, [*worked, all_statements(root)])
-        print(f"took {time.monotonic() - began:.0f} s", flush=True)
+    """Checks each program of these paths. Devices are tried beside the calls, which take the processors of a pool."""
+    report, root, began = Report(), Path(root), time.monotonic()
+    worked = [*cases.cases(root / "crates" / "test_cases" / "data"), all_statements(root)]
+    programs = [Program(path, library) for path in paths]
+    with ProcessPoolExecutor(len(os.sched_getaffinity(0))) as pool:
+        started = [start_calls(pool, program, worked) for program in programs]
+        for program, calls in zip(programs, started):
+            print(f"== {program.path}", flush=True)
+            check_devices(report, program)
+            end_calls(report, calls)
     check_tests(report, root, library)
+    print(f"took {time.monotonic() - began:.0f} s", flush=True)
     print(f"{report.passed} passed, {report.failed} failed")
     return 1 if report.failed or not paths else 0
 
