@@ -4,7 +4,7 @@
 # make        proves rtsh and the crates that it stands on, and builds bin/rtsh
 # make check  proves what changed in all crates
 # make gate   proves everything from nothing, tries the edits that must fail, runs the tests and programs that were proved, and
-#             then injects faults into the built program, and gives it hard devices
+#             then injects faults into the built program, gives it hard devices, and holds its trees against plain ones
 # make bench  prints how long the choices of the R*-tree take, and the calls of whole trees, beside Boost's where that is installed,
 #             and whole scripts through bin/rtsh, beside sqlite3's shell where that is installed
 

@@ -1,4 +1,4 @@
-"""Injects faults into the proved program, and gives it hard devices: see scripts/faults."""
+"""Injects faults into the proved program, gives it hard devices, and holds its trees against a plain one: see scripts/faults."""
 
 import os
 import subprocess
@@ -10,6 +10,7 @@ from pathlib import Path
 import calls
 import cases
 import devices
+import follow
 import rows
 import tests
 from program import Outcome, Program, Report
@@ -61,6 +62,18 @@ def end_calls(report, started):
         report.add(f"{name} ({note})", wrong)
 
 
+def printed_as_wanted(program, case):
+    """What is wrong, unless the run gave just what it must and said nothing."""
+    outcome = program.run(case.words, case.given)
+    return None if outcome == case.wanted and not outcome.complained else str(outcome)
+
+
+def check_trees(report, program, followed):
+    """One check for each script that dumps its tree after each statement, beside a second program."""
+    for case in followed:
+        report.add(f"{case.name}: the plain tree's dumps", tried(printed_as_wanted, program, case))
+
+
 def check_tests(report, root, library):
     """One check for each of the tests, where the gate has left it."""
     for crate, name, check in TESTS:
@@ -82,12 +95,14 @@ def main(root, library, *paths):
     """Checks each program of these paths. Devices are tried beside the calls, which take the processors of a pool."""
     report, root, began = Report(), Path(root), time.monotonic()
     worked = [*cases.cases(root / "crates" / "test_cases" / "data"), all_statements(root)]
+    followed = follow.cases()
     programs = [Program(path, library) for path in paths]
     with ProcessPoolExecutor(len(os.sched_getaffinity(0))) as pool:
         started = [start_calls(pool, program, worked) for program in programs]
         for program, calls in zip(programs, started):
             print(f"== {program.path}", flush=True)
             check_devices(report, program)
+            check_trees(report, program, followed)
             end_calls(report, calls)
     check_tests(report, root, library)
     print(f"took {time.monotonic() - began:.0f} s", flush=True)

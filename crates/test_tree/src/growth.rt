@@ -1,7 +1,7 @@
 //! A tree whose memory is refused: with each growth refused in turn (`rt try --test --fail-alloc`), nothing has changed
 //! after the refusal, and between a `reserve` that was granted and the last insertion none is asked for.
 
-use crate::following::{insert_reserved, remove};
+use crate::rows::{insert_reserved, remove};
 use rt_box::{Capacity, Rect, Window};
 use rt_tree::Tree;
 use std::hash::RandomState;

@@ -1,15 +1,11 @@
-//! Tests of the R*-tree: dumps after worked calls, and a plain model of its rules beside it, call by call.
+//! Tests of the R*-tree: dumps after worked calls, and a tree whose memory is refused.
 //!
-//! The model in `plain` shares no code with the tree.
+//! Scripts hold the tree against a plain one, call by call: see `faults/follow.py`.
 #![tactic(auto)]
 
 #[cfg(test)]
-mod following;
-#[cfg(test)]
 mod growth;
 #[cfg(test)]
-mod outside;
-#[cfg(test)]
-mod plain;
+mod rows;
 #[cfg(test)]
 mod worked;

@@ -2,7 +2,7 @@
 //!
 //! The trees have one axis and nodes of at most 5 cells, so each can be followed by hand.
 
-use crate::following::{insert, remove};
+use crate::rows::{insert, remove};
 use rt_box::{Capacity, Operator, Rect, Window};
 use rt_bytes::Sink;
 use rt_check_dump::{AnyShadow, write_dump};
