@@ -32,6 +32,10 @@ rest_left t ends = rest-put t.next (tokens_of t.text.now) (no_tokens t ends)
 pub first_lexed : (next : Option Token) (left text : Text) → tokens_of left ≡ put next (tokens_of text) → (next ≡ None → text ≡ []) → first (tokens_of left) ≡ next
 first_lexed next left text e ends = rw e (first-put next (tokens_of text) (λ n. ap tokens_of (ends n) ∙ tokens_of-nil))
 
+pub after_one : (ts : List Token) → rest (token.Bad ∷ ts) ≡ ts
+unfolding rest
+after_one ts = refl
+
 -- ---- a piece of a script
 
 other_byte : (x y : ℕ) → x ≢ y → (x == y) ≡ false

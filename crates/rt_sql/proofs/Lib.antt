@@ -4,6 +4,8 @@ mod Comments
 mod Cursor
 mod Cuts
 mod Doubling
+mod KindTable
+mod Lexemes
 mod Lexing
 mod Numbers
 mod PieceLists
@@ -14,6 +16,7 @@ mod Separated
 mod Shorter
 mod TokenLists
 mod Transfer
+mod Values
 mod Words
 pub mod Complete
 pub mod CompleteForms

@@ -75,8 +75,11 @@ signed (Some sign) len other = (Some (token.Sign sign), len)
 unfoldable pub sign : ℕ → ℕ → Lexeme
 sign b c = signed (long_sign b c) 2 (signed (short_sign b) 1 bad)
 
+abbrev pub begins_comment : ℕ → ℕ → Bool
+begins_comment b c = (b == 45 && c == 45) || (b == 47 && c == 42)
+
 abbrev pub is_gap : ℕ → ℕ → Bool
-is_gap b c = is_white b || (b == 45 && c == 45) || (b == 47 && c == 42)
+is_gap b c = is_white b || begins_comment b c
 
 unfoldable pub gap : ℕ → Text → Lexeme
 gap b z =

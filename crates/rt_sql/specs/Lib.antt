@@ -1,6 +1,7 @@
 pub mod Class
 pub mod Cursor
 pub mod Grammar
+pub mod Kind
 pub mod Lex
 pub mod Number
 pub mod Parse

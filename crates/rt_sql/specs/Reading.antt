@@ -152,6 +152,13 @@ sees_literal ts = passes is_literal (first ts)
 unfoldable pub not_null : Read → Parser Value
 not_null read = λ ts. if sees_literal ts then literal ts else (do n ← integer read; pure (value.Int n)) ts
 
+abbrev pub is_digits : Token → Bool
+is_digits (token.Digits d) = true
+is_digits _ = false
+
+unfoldable pub sees_digits : List Token → Bool
+sees_digits ts = passes is_digits (first ts)
+
 unfoldable pub a_value : Read → Parser Value
 a_value read = do
   is_null ← eat_word (codes "NULL")

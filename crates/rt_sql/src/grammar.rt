@@ -3,7 +3,7 @@
 //! Each function takes the tokens that it reads from the front, and its contract names the rule of `specs/Reading.antt` that
 //! it follows. No token is looked at twice, but for the one after the next in `IF NOT EXISTS` and `rtreecheck(`.
 
-ghost use Rattle.std.specs.Prelude.{◌≡◌};
+ghost use Rattle.std.specs.Prelude.{◌≡◌, true, false, MatchResult};
 ghost use Rattle.std.specs.Option.{is_some};
 ghost use Rattle.rt_sql.specs.Number.{number_by};
 ghost use Rattle.rt_sql.specs.Reading as reading;
@@ -60,19 +60,18 @@ fn statement(alloc: Global, tokens: &mut Tokens<'_>, numbers: Numbers) -> Result
     change(alloc, tokens, numbers)
 }
 
-/// What was asked, where no token is left.
-#[tactic(auto, unfolding(crate::specs::Reading::finish))]
-fn finish(tokens: &Tokens<'_>, asked: Stmt) -> Result<Stmt, Refusal>
-    ensures { Reads (reading.finish asked tokens.now) result tokens.now }
+/// Checks that no token is left.
+fn finish(tokens: &Tokens<'_>) -> Result<(), Refusal>
+    ensures { MatchResult result (λ _. is_some (reading.first tokens.now) ≡ false) (λ _. is_some (reading.first tokens.now) ≡ true) }
 {
     if tokens.peek().is_some() {
         return Err(Refusal::SyntaxError);
     }
-    Ok(asked)
+    Ok(())
 }
 
 /// A dot line of that word to its end.
-#[tactic(auto, unfolding(crate::specs::Reading::whole_command))]
+#[tactic(auto, unfolding(crate::specs::Reading::whole_command, crate::specs::Reading::finish))]
 fn whole_command(
     alloc: Global,
     tokens: &mut Tokens<'_>,
@@ -83,11 +82,12 @@ fn whole_command(
 {
     let asked = command(alloc, tokens, numbers, word)?;
     tokens.eat_sign(Sign::Semicolon);
-    finish(tokens, asked)
+    finish(tokens)?;
+    Ok(asked)
 }
 
 /// A statement to its end, with its semicolon.
-#[tactic(auto, unfolding(crate::specs::Reading::whole_statement))]
+#[tactic(auto, unfolding(crate::specs::Reading::whole_statement, crate::specs::Reading::finish))]
 fn whole_statement(
     alloc: Global,
     tokens: &mut Tokens<'_>,
@@ -97,15 +97,8 @@ fn whole_statement(
 {
     let asked = statement(alloc, tokens, numbers)?;
     tokens.expect_sign(Sign::Semicolon)?;
-    finish(tokens, asked)
-}
-
-/// Whether a dot line comes next.
-#[tactic(auto, unfolding(crate::specs::Reading::dot_in))]
-fn sees_dot(tokens: &Tokens<'_>) -> bool
-    ensures { result ≡ is_some (reading.dot_in (reading.first tokens.now)) }
-{
-    matches!(tokens.peek(), Some(Token::Dot(_)))
+    finish(tokens)?;
+    Ok(asked)
 }
 
 /// The statement that all of the tokens spell.
@@ -117,11 +110,10 @@ pub(crate) fn whole(
 ) -> Result<Stmt, Refusal>
     ensures { Reads (reading.whole (number_by numbers) tokens.old) result tokens.new }
 {
-    if !sees_dot(tokens) {
+    let Some(Token::Dot(word)) = tokens.peek() else {
         return whole_statement(alloc, tokens, numbers);
-    }
-    match tokens.take() {
-        Some(Token::Dot(word)) => whole_command(alloc, tokens, numbers, word.as_str()),
-        _ => Err(Refusal::SyntaxError),
-    }
+    };
+    let word = word.as_str();
+    tokens.skip();
+    whole_command(alloc, tokens, numbers, word)
 }

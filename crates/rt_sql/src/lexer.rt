@@ -3,16 +3,17 @@
 //! A token is as long as it can be. A character that begins no token is one of its own, `Bad`, so every text has a
 //! list of tokens. `specs/Lex.antt` has this code as functions; `specs/Tokens.antt` says which tokens a text has.
 
-ghost use Rattle.std.specs.Prelude.{◌≡◌, ◌≢◌, ◌<◌, ◌≤◌, ◌+◌, [], length, slice_index, true, drop, None, IfSome, ◌⊎◌};
+ghost use Rattle.std.specs.Prelude.{◌≡◌, ◌≢◌, ◌<◌, ◌≤◌, ◌+◌, [], length, slice_index, true, false, drop, None, IfSome, ◌⊎◌};
 ghost use Rattle.std.specs.Char.{is_ascii_digit};
 ghost use Rattle.std.specs.List.{prefix_len};
 ghost use Rattle.std.specs.Str.{IsCharBoundary};
+ghost use Rattle.rt_sql_cut.specs.Text.{is_white};
 ghost use Rattle.rt_sql.specs.Token as spec;
 ghost use Rattle.rt_sql.specs.Class.{is_in};
 ghost use Rattle.rt_sql.specs.Lex as lexing;
 
+use crate::kind::{Kind, kind_of};
 use crate::token::{Sign, Spelling, Token};
-use rt_sql_cut::text::is_white;
 
 /// Kinds of characters, by their bytes.
 #[derive(Clone, Copy, Debug)]
@@ -26,18 +27,16 @@ enum Class {
 /// A token, or none for white space and a comment, and its length in bytes.
 type Lexeme<'a> = (Option<Token<'a>>, usize);
 
-#[tactic(auto, unfolding(crate::specs::Token::begins_word))]
 fn begins_word(b: u8) -> bool
     ensures { result ≡ spec.begins_word b }
 {
-    b.is_ascii_alphabetic() || b == b'_' || 128 <= b
+    matches!(kind_of(b), Kind::Letter)
 }
 
-#[tactic(auto, unfolding(crate::specs::Token::is_in_word))]
 fn is_in_word(b: u8) -> bool
     ensures { result ≡ spec.is_in_word b }
 {
-    b.is_ascii_alphanumeric() || b == b'_' || b == b'$' || 128 <= b
+    matches!(kind_of(b), Kind::Letter | Kind::Digit | Kind::Dollar)
 }
 
 #[tactic(auto, unfolding(crate::specs::Token::is_in_line))]
@@ -218,19 +217,17 @@ fn blob(text: &str) -> Lexeme<'_>
     }
 }
 
-/// The length of the white space or the comment that the text begins with.
-#[tactic(auto, using(crate::proofs::Cuts::cut_after_first, crate::proofs::Cuts::ascii_from_white), unfolding(crate::specs::Lex::gap, crate::specs::Lex::line_len))]
-fn gap_len(first: u8, text: &str) -> usize
+/// The length of the comment that the text begins with.
+#[tactic(auto, using(crate::proofs::Cuts::cut_after_first), unfolding(crate::specs::Lex::gap, crate::specs::Lex::line_len))]
+fn comment_len(first: u8, text: &str) -> usize
     requires some { 0 < length text.now }
     requires first { first ≡ slice_index text.now 0 }
-    requires gap { lexing.is_gap first (slice_index text.now 1) ≡ true }
+    requires comment { lexing.is_gap first (slice_index text.now 1) ≡ true }
+    requires white { is_white first ≡ false }
     ensures value { lexing.gap first text.now ≡ (None, result) }
     ensures cut { IsCharBoundary text.now result }
     ensures moves { 0 < result }
 {
-    if is_white(first) {
-        return 1;
-    }
     let rest = &text[2..];
     2 + if first == b'-' {
         front_len(Class::InLine, rest.as_bytes())
@@ -239,22 +236,48 @@ fn gap_len(first: u8, text: &str) -> usize
     }
 }
 
-/// The token that begins with this byte.
-#[tactic(auto, using(crate::proofs::Cuts::cut_after_first, crate::proofs::Cuts::ascii_before_word), unfolding(crate::specs::Lex::spelled))]
-fn spelled(first: u8, text: &str) -> Lexeme<'_>
+/// A word, or a blob where a quote follows its first letter.
+#[tactic(auto, using(crate::proofs::Lexemes::letter_lexeme))]
+fn lettered(first: u8, text: &str) -> Lexeme<'_>
     requires some { 0 < length text.now }
     requires first { first ≡ slice_index text.now 0 }
-    ensures value { result ≡ lexing.spelled first (slice_index text.now 1) text.now }
+    requires letter { spec.begins_word first ≡ true }
+    ensures value { result ≡ lexing.lexeme first text.now }
+    ensures cut { IsCharBoundary text.now result.1 }
+    ensures moves { 0 < result.1 }
+{
+    if (first == b'X' || first == b'x') && byte(text.as_bytes(), 1) == b'\'' {
+        blob(text)
+    } else {
+        word(text)
+    }
+}
+
+/// These two bytes begin a comment.
+fn begins_comment(b: u8, next: u8) -> bool
+    ensures { result ≡ lexing.begins_comment b next }
+{
+    match b {
+        b'-' => next == b'-',
+        b'/' => next == b'*',
+        _ => false,
+    }
+}
+
+/// A sign, a comment, or what stands in quotes.
+fn marked(first: u8, text: &str) -> Lexeme<'_>
+    requires some { 0 < length text.now }
+    requires first { first ≡ slice_index text.now 0 }
+    requires word { spec.begins_word first ≡ false }
+    requires digit { is_ascii_digit first ≡ false }
+    requires white { is_white first ≡ false }
+    ensures value { result ≡ lexing.lexeme first text.now }
     ensures cut { IsCharBoundary text.now result.1 }
     ensures moves { 0 < result.1 }
 {
     let next = byte(text.as_bytes(), 1);
-    if (first == b'X' || first == b'x') && next == b'\'' {
-        blob(text)
-    } else if begins_word(first) {
-        word(text)
-    } else if first.is_ascii_digit() {
-        digits(text)
+    if begins_comment(first, next) {
+        (None, comment_len(first, text))
     } else if first == b'\'' || first == b'"' {
         in_quotes(first, text)
     } else {
@@ -262,7 +285,8 @@ fn spelled(first: u8, text: &str) -> Lexeme<'_>
     }
 }
 
-#[tactic(auto, unfolding(crate::specs::Lex::lexeme))]
+/// The token, the white space or the comment that the text begins with.
+#[tactic(auto, using(crate::proofs::Lexemes::white_lexeme, crate::proofs::Lexemes::digit_lexeme))]
 fn lexeme(first: u8, text: &str) -> Lexeme<'_>
     requires some { 0 < length text.now }
     requires first { first ≡ slice_index text.now 0 }
@@ -270,15 +294,16 @@ fn lexeme(first: u8, text: &str) -> Lexeme<'_>
     ensures cut { IsCharBoundary text.now result.1 }
     ensures moves { 0 < result.1 }
 {
-    let next = byte(text.as_bytes(), 1);
-    if is_white(first) || (first == b'-' && next == b'-') || (first == b'/' && next == b'*') {
-        (None, gap_len(first, text))
-    } else {
-        spelled(first, text)
+    match kind_of(first) {
+        Kind::White => (None, 1),
+        Kind::Digit => digits(text),
+        Kind::Letter => lettered(first, text),
+        Kind::Dollar | Kind::Mark => marked(first, text),
     }
 }
 
 /// The first token, or none where the text has none, and the text after it.
+#[inline(always)]
 pub fn lex(text: &str) -> (Option<Token<'_>>, &str)
     ensures tokens { lexing.tokens_of text.now ≡ lexing.put result.0 (lexing.tokens_of result.1.now) }
     ensures end { result.0 ≡ None → result.1.now ≡ [] }

@@ -32,7 +32,7 @@ fn as_text(bytes: &[u8]) -> Option<&str>
 fn is_unknown_command(text: &str) -> bool
     ensures { result ≡ reading.unknown_in (reading.first (piece_tokens text.now)) }
 {
-    match Tokens::new(text).take() {
+    match Tokens::new(text).peek() {
         Some(Token::Dot(word)) => !is_command(word.as_str()),
         _ => false,
     }

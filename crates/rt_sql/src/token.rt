@@ -113,7 +113,8 @@ impl<'a> Token<'a> {
         ensures { result ≡ reading.is_word word.now self.now }
     {
         match self {
-            Token::Word(own) => own.as_str().eq_ignore_ascii_case(word),
+            // Most scripts write keywords in capitals, which are compared faster.
+            Token::Word(own) => { own.as_str() == word || own.as_str().eq_ignore_ascii_case(word) }
             _ => false,
         }
     }

@@ -7,7 +7,6 @@ use crate::lexer::{dot_len, lex};
 use crate::token::{Sign, Spelling, Token};
 use rt_sql_statement::Refusal;
 use std::marker::Model;
-use std::mem;
 
 /// The tokens of a text from a place on. Each is cut as it is reached.
 #[derive(Debug, Drop)]
@@ -33,7 +32,7 @@ impl<'a> Model for Tokens<'a> {
 impl<'a> Tokens<'a> {
     ghost use Rattle.std.specs.Prelude.{◌≡◌, if◌then◌else◌};
     ghost use Rattle.std.specs.Option.{option_copied};
-    ghost use Rattle.rt_sql.specs.Lex.{piece_tokens};
+    ghost use Rattle.rt_sql.specs.Lex.{piece_tokens, tokens_of};
     ghost use Rattle.rt_sql.specs.Reading as reading;
     ghost use Rattle.rt_sql.specs.Reading.{Reads};
 
@@ -44,8 +43,7 @@ impl<'a> Tokens<'a> {
     {
         let bytes = piece.as_bytes();
         if bytes.is_empty() || bytes[0] != b'.' {
-            let (next, text) = lex(piece);
-            return Tokens { next, text };
+            return Tokens::of(piece);
         }
         let line = &piece[1..];
         let (word, text) = line.split_at(dot_len(line));
@@ -53,6 +51,31 @@ impl<'a> Tokens<'a> {
             next: Some(Token::Dot(Spelling::new(word))),
             text,
         }
+    }
+
+    /// The tokens of a text that is no dot line.
+    #[tactic(auto, using(crate::proofs::Cursor::after_one))]
+    fn of(text: &'a str) -> Tokens<'a>
+        ensures { result ≡ tokens_of text.now }
+    {
+        // Behind a token that is passed over, so that the lexer stands in `skip` alone.
+        let mut tokens = Tokens {
+            next: Some(Token::Bad),
+            text,
+        };
+        tokens.skip();
+        tokens
+    }
+
+    /// Passes over the next token.
+    #[inline(never)]
+    #[tactic(auto, using(crate::proofs::Cursor::rest_left))]
+    pub fn skip(&mut self)
+        ensures { self.new ≡ reading.rest self.old }
+    {
+        let (next, text) = lex(self.text);
+        self.next = next;
+        self.text = text;
     }
 
     /// The next token, which isn't taken.
@@ -63,23 +86,12 @@ impl<'a> Tokens<'a> {
         self.next.as_ref()
     }
 
-    /// Takes the next token.
-    #[tactic(auto, using(crate::proofs::Cursor::first_left, crate::proofs::Cursor::rest_left))]
-    pub fn take(&mut self) -> Option<Token<'a>>
-        ensures first { result ≡ reading.first self.old }
-        ensures rest { self.new ≡ reading.rest self.old }
-    {
-        let (next, text) = lex(self.text);
-        self.text = text;
-        mem::replace(&mut self.next, next)
-    }
-
     /// The token after the next.
     #[tactic(auto, using(crate::proofs::Cursor::rest_left, crate::proofs::Cursor::first_lexed))]
     pub fn second(&self) -> Option<Token<'a>>
         ensures { result ≡ reading.first (reading.rest self.now) }
     {
-        lex(self.text).0
+        Tokens::of(self.text).next
     }
 
     /// The sign is the next token.
@@ -111,7 +123,7 @@ impl<'a> Tokens<'a> {
     {
         let found = self.sees_sign(sign);
         if found {
-            self.take();
+            self.skip();
         }
         found
     }
@@ -123,7 +135,7 @@ impl<'a> Tokens<'a> {
     {
         let found = self.sees_word(word);
         if found {
-            self.take();
+            self.skip();
         }
         found
     }

@@ -19,15 +19,17 @@ use std::alloc::Global;
 fn operator(tokens: &mut Tokens<'_>) -> Result<Operator, Refusal>
     ensures { Reads (reading.operator tokens.old) result tokens.new }
 {
-    match tokens.take() {
-        Some(Token::Sign(Sign::Equal | Sign::DoubleEqual)) => Ok(Operator::Eq),
-        Some(Token::Sign(Sign::LessGreater | Sign::BangEqual)) => Ok(Operator::Ne),
-        Some(Token::Sign(Sign::Less)) => Ok(Operator::Lt),
-        Some(Token::Sign(Sign::LessOrEqual)) => Ok(Operator::Le),
-        Some(Token::Sign(Sign::Greater)) => Ok(Operator::Gt),
-        Some(Token::Sign(Sign::GreaterOrEqual)) => Ok(Operator::Ge),
-        _ => Err(Refusal::SyntaxError),
-    }
+    let op = match tokens.peek() {
+        Some(Token::Sign(Sign::Equal | Sign::DoubleEqual)) => Operator::Eq,
+        Some(Token::Sign(Sign::LessGreater | Sign::BangEqual)) => Operator::Ne,
+        Some(Token::Sign(Sign::Less)) => Operator::Lt,
+        Some(Token::Sign(Sign::LessOrEqual)) => Operator::Le,
+        Some(Token::Sign(Sign::Greater)) => Operator::Gt,
+        Some(Token::Sign(Sign::GreaterOrEqual)) => Operator::Ge,
+        _ => return Err(Refusal::SyntaxError),
+    };
+    tokens.skip();
+    Ok(op)
 }
 
 /// A test for NULL from what follows `IS` on.

@@ -29,7 +29,7 @@ fn skip_words(tokens: &mut Tokens<'_>)
     ensures { tokens.new ≡ reading.skip_words tokens.old }
 {
     'words: while sees_any_word(tokens) {
-        tokens.take();
+        tokens.skip();
     }
 }
 
@@ -115,8 +115,8 @@ fn if_not_exists(alloc: Global, tokens: &mut Tokens<'_>) -> Result<(bool, Name),
     if !(tokens.sees_word("IF") && then_word(tokens, "NOT")) {
         return table(alloc, tokens, false);
     }
-    tokens.take();
-    tokens.take();
+    tokens.skip();
+    tokens.skip();
     tokens.expect_word("EXISTS")?;
     table(alloc, tokens, true)
 }
@@ -129,8 +129,8 @@ fn if_exists(alloc: Global, tokens: &mut Tokens<'_>) -> Result<(bool, Name), Ref
     if !(tokens.sees_word("IF") && then_word(tokens, "EXISTS")) {
         return table(alloc, tokens, false);
     }
-    tokens.take();
-    tokens.take();
+    tokens.skip();
+    tokens.skip();
     table(alloc, tokens, true)
 }
 

@@ -13,6 +13,9 @@ use crate::tokens::Tokens;
 use rt_sql_statement::{Items, Refusal};
 use std::alloc::Global;
 
+/// How many items a list is given room for at once.
+const LIKELY: usize = 8;
+
 /// What lists are of.
 pub(crate) trait Item: Drop {
     // The rule that reads one.
@@ -51,7 +54,7 @@ pub(crate) fn separated<T: Item>(
     requires { TakesTokens (T.rule (number_by numbers)) }
     ensures { Reads (reading.separated (reading.sees separator) (T.rule (number_by numbers)) tokens.old) result tokens.new }
 {
-    let mut items = Items::new(alloc);
+    let mut items = Items::from_vec(Vec::with_capacity(alloc, LIKELY)?);
     'items: loop {
         items.push(T::read(alloc, tokens, numbers)?)?;
         if !eat(tokens, separator) {

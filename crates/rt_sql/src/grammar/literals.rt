@@ -22,12 +22,16 @@ use std::alloc::Global;
 pub(crate) fn name(alloc: Global, tokens: &mut Tokens<'_>) -> Result<Name, Refusal>
     ensures { Reads (reading.name tokens.old) result tokens.new }
 {
-    match tokens.take() {
+    match tokens.peek() {
         Some(Token::Word(word)) if !is_reserved(word.as_str()) => {
-            Ok(Name::new(alloc, word.as_str())?)
+            let word = word.as_str();
+            tokens.skip();
+            Ok(Name::new(alloc, word)?)
         }
         Some(Token::Quoted(quoted)) => {
-            Ok(Name::from_string(undoubled(alloc, b'"', quoted.as_str())?))
+            let quoted = quoted.as_str();
+            tokens.skip();
+            Ok(Name::from_string(undoubled(alloc, b'"', quoted)?))
         }
         _ => Err(Refusal::SyntaxError),
     }
@@ -52,12 +56,14 @@ pub(crate) fn digits(
 ) -> Result<i64, Refusal>
     ensures { Reads (reading.number (number_by numbers) is_negative tokens.old) result tokens.new }
 {
-    match tokens.take() {
-        Some(Token::Digits(digits)) => match number(numbers, is_negative, digits.as_str()) {
-            Some(number) => Ok(number),
-            None => Err(Refusal::IntegerOutOfRange),
-        },
-        _ => Err(Refusal::SyntaxError),
+    let Some(Token::Digits(digits)) = tokens.peek() else {
+        return Err(Refusal::SyntaxError);
+    };
+    let digits = digits.as_str();
+    tokens.skip();
+    match number(numbers, is_negative, digits) {
+        Some(number) => Ok(number),
+        None => Err(Refusal::IntegerOutOfRange),
     }
 }
 
@@ -78,13 +84,17 @@ fn integer(tokens: &mut Tokens<'_>, numbers: Numbers) -> Result<i64, Refusal>
 fn literal(alloc: Global, tokens: &mut Tokens<'_>) -> Result<Value, Refusal>
     ensures { Reads (reading.literal tokens.old) result tokens.new }
 {
-    match tokens.take() {
+    match tokens.peek() {
         Some(Token::Text(text)) => {
-            let text = undoubled(alloc, b'\'', text.as_str())?;
+            let text = text.as_str();
+            tokens.skip();
+            let text = undoubled(alloc, b'\'', text)?;
             Ok(Value::Text(Text::from_string(text)))
         }
         Some(Token::Blob(digits)) => {
-            let bytes = hex_bytes(alloc, digits.as_str())?;
+            let digits = digits.as_str();
+            tokens.skip();
+            let bytes = hex_bytes(alloc, digits)?;
             Ok(Value::Blob(Blob::from_vec(bytes)))
         }
         _ => Err(Refusal::SyntaxError),
@@ -111,19 +121,29 @@ fn not_null(alloc: Global, tokens: &mut Tokens<'_>, numbers: Numbers) -> Result<
     }
 }
 
+/// Whether an integer without a sign comes next, as most values are.
+#[tactic(auto, unfolding(crate::specs::Reading::sees_digits))]
+fn sees_digits(tokens: &Tokens<'_>) -> bool
+    ensures { result ≡ reading.sees_digits tokens.now }
+{
+    matches!(tokens.peek(), Some(Token::Digits(_)))
+}
+
 /// A value: `NULL`, a text, a blob or an integer.
 impl Item for Value {
     ghost use Rattle.rt_sql.specs.Reading.{a_value};
 
     ghost rule = { a_value };
 
-    #[tactic(auto, unfolding(crate::specs::Reading::a_value))]
+    #[tactic(auto, using(crate::proofs::Values::digits_value), unfolding(crate::specs::Reading::a_value))]
     fn read(alloc: Global, tokens: &mut Tokens<'_>, numbers: Numbers) -> Result<Value, Refusal> {
-        if tokens.eat_word("NULL") {
-            Ok(Value::Null)
-        } else {
-            not_null(alloc, tokens, numbers)
+        if sees_digits(tokens) {
+            return Ok(Value::Int(digits(tokens, numbers, false)?));
         }
+        if tokens.eat_word("NULL") {
+            return Ok(Value::Null);
+        }
+        not_null(alloc, tokens, numbers)
     }
 }
 
@@ -151,10 +171,10 @@ impl Item for Items<Value> {
 pub(crate) fn text(alloc: Global, tokens: &mut Tokens<'_>) -> Result<Name, Refusal>
     ensures { Reads (reading.text tokens.old) result tokens.new }
 {
-    match tokens.take() {
-        Some(Token::Text(text)) => {
-            Ok(Name::from_string(undoubled(alloc, b'\'', text.as_str())?))
-        }
-        _ => Err(Refusal::SyntaxError),
-    }
+    let Some(Token::Text(text)) = tokens.peek() else {
+        return Err(Refusal::SyntaxError);
+    };
+    let text = text.as_str();
+    tokens.skip();
+    Ok(Name::from_string(undoubled(alloc, b'\'', text)?))
 }

@@ -97,7 +97,7 @@ pub(crate) fn select(
     ensures { Reads (reading.select (number_by numbers) tokens.old) result tokens.new }
 {
     if tokens.sees_word("RTREECHECK") && then_sign(tokens, Sign::LeftParenthesis) {
-        tokens.take();
+        tokens.skip();
         check(alloc, tokens)
     } else {
         select_rows(alloc, tokens, numbers)

@@ -1,7 +1,30 @@
-use Rattle.std.proofs.Common.{rules}
-use Rattle.rt_sql.specs.Lex.{lexeme}
+use Rattle.std.proofs.Common.{sym, ◌∙◌}
+use Rattle.rt_sql.proofs.Cuts.{cut_after_first, ascii_from_white}
+use Rattle.rt_sql.proofs.Lexemes.{of_kind, no_mark, white_lexeme, digit_lexeme}
 use Rattle.rt_sql.proofs.lexer.lexeme.Goals as goal
 
-pub returns-else-next-eq42-clause-value : goal.returns-else-next-eq42-clause-value
-unfolding lexeme
-returns-else-next-eq42-clause-value c = search rules
+pub digits-requires : goal.digits-requires
+digits-requires c = rw (← c.requires.first) (of_kind c.args.first _ c.in-Digit.ensures).0
+
+pub lettered-requires-clause-letter : goal.lettered-requires-clause-letter
+lettered-requires-clause-letter c = of_kind c.args.first _ c.in-Letter.ensures
+
+pub marked-requires-clause-word : goal.marked-requires-clause-word
+marked-requires-clause-word c = (no_mark c.args.first _ c.kind_of.ensures c.in-Dollar.is).0
+
+pub marked-requires-clause-digit : goal.marked-requires-clause-digit
+marked-requires-clause-digit c = (no_mark c.args.first _ c.kind_of.ensures c.in-Dollar.is).1
+
+pub marked-requires-clause-white : goal.marked-requires-clause-white
+marked-requires-clause-white c = (no_mark c.args.first _ c.kind_of.ensures c.in-Dollar.is).2
+
+pub returns-in-White-clause-value : goal.returns-in-White-clause-value
+returns-in-White-clause-value c = sym (white_lexeme c.args.first c.args.text.now (of_kind c.args.first _ c.in-White.ensures).0)
+
+pub returns-in-White-clause-cut : goal.returns-in-White-clause-cut
+returns-in-White-clause-cut c = cut_after_first c.args.text.now c.utf8.text c.requires.some (rw (← c.requires.first) (ascii_from_white c.args.first (of_kind c.args.first _ c.in-White.ensures).0))
+
+pub returns-in-Digit-clause-value : goal.returns-in-Digit-clause-value
+returns-in-Digit-clause-value c =
+    let is = of_kind c.args.first _ c.in-Digit.ensures in
+    c.digits.ensures.value ∙ sym (digit_lexeme c.args.first c.args.text.now is.0 is.1)
