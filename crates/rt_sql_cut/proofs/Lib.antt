@@ -3,3 +3,4 @@ pub mod CutterRuns
 pub mod CutterFront
 pub mod CutterLaws
 pub mod CutterHolds
+mod CutterBlocks

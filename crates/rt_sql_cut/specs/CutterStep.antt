@@ -75,6 +75,10 @@ front_after f b =
 abbrev pub is_mark : ℕ → Bool
 is_mark b = b == 59 || b == 45 || b == 47 || is_quote b
 
+-- how many bytes at the front are none of these
+abbrev pub unmarked_len : List ℕ → ℕ
+unmarked_len bytes = prefix_len (λ b. not (is_mark b)) bytes
+
 -- the byte is of the piece, and leaves the place as it is
 abbrev pub stays : Place → ℕ → Bool
 stays (In Gap spot) b = false

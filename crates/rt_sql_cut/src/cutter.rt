@@ -3,10 +3,11 @@
 //! Beside these bytes it has to remember one `Place`. `StandsAt` in `specs/Cutter.antt` says which bytes lead to
 //! which place.
 
-ghost use Rattle.std.specs.Prelude.{◌≡◌, ℕ, ◌+◌, ◌<◌, ◌≤◌, ◌⊎◌, List, [], ◌∷◌, ◌++◌, length, take, IsTrue, IsSome, IsNone, IfSome, IfOk, MatchOption, Some};
+ghost use Rattle.std.specs.Prelude.{◌≡◌, ℕ, ◌+◌, ◌<◌, ◌≤◌, ◌⊎◌, List, [], ◌∷◌, ◌++◌, length, take, drop, IsTrue, IsSome, IsNone, IfSome, IfOk, MatchOption, Some};
 ghost use Rattle.rt_sql_cut.specs.Piece.{PieceText};
 ghost use Rattle.rt_sql_cut.specs.Pieces.{is_gap_byte, IsGap, IsWholePiece, IsLastPiece};
-ghost use Rattle.rt_sql_cut.specs.CutterStep.{is_mark};
+ghost use Rattle.std.specs.List.{list_any};
+ghost use Rattle.rt_sql_cut.specs.CutterStep.{is_mark, unmarked_len};
 
 use crate::piece::{Ending, Piece};
 use crate::text::is_white;
@@ -15,6 +16,9 @@ use std::marker::Model;
 
 /// The most bytes that a piece may have.
 const LONGEST_PIECE: usize = 65_536;
+
+/// How many bytes are tested at once.
+const BLOCK: usize = 16;
 
 /// A gap between pieces, or a statement.
 #[derive(Clone, Copy, PartialEq, Eq, Debug)]
@@ -100,7 +104,10 @@ impl Place {
         ensures value { result ≡ run_len self bytes.now }
         ensures within { result ≤ length bytes.now }
     {
-        let mut end = 0;
+        let mut end = match self {
+            Place::In(Part::Statement, Spot::Between) => unmarked_blocks(bytes),
+            Place::In(_, _) | Place::Quoted(_) | Place::DotLine | Place::End => 0,
+        };
         while end < bytes.len() && self.stays(bytes[end]) {
             end += 1;
         }
@@ -148,11 +155,35 @@ impl Place {
     }
 }
 
-/// The byte ends a statement, opens a quote, or may begin a comment.
+/// The byte ends a statement, opens a quote, or may begin a comment. No branch is in it, so that the bytes of a block
+/// are tested all at once.
 fn is_mark(byte: u8) -> bool
     ensures { result ≡ is_mark byte }
 {
-    matches!(byte, b';' | b'-' | b'/' | b'\'' | b'"')
+    (byte == b';') | (byte == b'-') | (byte == b'/') | (byte == b'\'') | (byte == b'"')
+}
+
+/// Such a byte is among these.
+fn has_mark(block: &[u8]) -> bool
+    ensures { result ≡ list_any is_mark block.now }
+{
+    let mut found = false;
+    for byte in block {
+        found |= is_mark(*byte);
+    }
+    found
+}
+
+/// The length of the blocks at the front in which no such byte is.
+fn unmarked_blocks(bytes: &[u8]) -> usize
+    ensures value { result + unmarked_len (drop result bytes.now) ≡ unmarked_len bytes.now }
+    ensures within { result ≤ length bytes.now }
+{
+    let mut end = 0;
+    while bytes.len() - end >= BLOCK && !has_mark(&bytes[end..end + BLOCK]) {
+        end += BLOCK;
+    }
+    end
 }
 
 fn is_gap_byte(byte: u8) -> bool
@@ -242,15 +273,12 @@ impl Cutter {
         }
         let mut taken = 0;
         'taken: while taken < bytes.len() {
-            let run = self.take_run(&bytes[taken..]);
-            taken += run;
-            if run == 0 {
-                self.take_byte(bytes[taken]);
-                taken += 1;
-                if self.place == Place::End {
-                    return taken;
-                }
+            self.take_byte(bytes[taken]);
+            taken += 1;
+            if self.place == Place::End {
+                return taken;
             }
+            taken += self.take_run(&bytes[taken..]);
         }
         taken
     }
