@@ -233,6 +233,7 @@ fn time_searches<R: Clock, const D: usize>(
     requires few { D ≤ 3 }
 {
     let grow = reach(D, load.shape, load.rows, target);
+    let mut rows = Vec::new(alloc);
     let mut found = 0u64;
     let start = Instant::now(rt)?;
     for round in 0..windows {
@@ -241,7 +242,9 @@ fn time_searches<R: Clock, const D: usize>(
             .unwrap_or(0)
             .wrapping_add(1);
         let window = window_of(load.shape, row, grow);
-        found = found.wrapping_add(tree.search(alloc, &window)?.rows.len() as u64);
+        rows.clear();
+        tree.search_into(alloc, &window, &mut rows)?;
+        found = found.wrapping_add(rows.len() as u64);
     }
     Ok((share(rt, &start, windows)?, found))
 }

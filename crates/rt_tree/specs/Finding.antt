@@ -1,5 +1,5 @@
 -- Searches by windows (Guttman 1984, section 3.1).
-use Rattle.std.specs.Prelude.{◌≡◌, ℕ, suc, ◌<◌, Bool, ℤ, List, length, Some, All, Contains, count_by}
+use Rattle.std.specs.Prelude.{◌≡◌, ℕ, suc, ◌<◌, Bool, ℤ, List, ◌++◌, length, Some, All, Contains, count_by}
 use Rattle.std.specs.Ordering.{int_eq}
 use Rattle.rt_box.specs.declared.interval.Interval.{Interval}
 use Rattle.rt_box.specs.Window.{Admits, MayHold}
@@ -27,3 +27,9 @@ module _ {D : ℕ} where
     pub once : (number : ℤ) → IsReachedIn s window number → count_by (int_eq number) numbers ≡ 1
     pub only : (number : ℤ) → 0 < count_by (int_eq number) numbers → IsReachedIn s window number
     pub counted : visited ≡ length numbers
+
+  -- behind the rows that a list held stand those that the search found
+  pub record FindsInAfter (s : ShadowLists D) (window : List Interval) (old new : List (Row D)) (visited : ℕ) : Type 0 where
+    pub more : List (Row D)
+    pub is : new ≡ old ++ more
+    pub finds : FindsIn s window more visited

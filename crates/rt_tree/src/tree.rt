@@ -3,13 +3,14 @@
 //! Rows come and go without taking memory: `reserve` makes room for the nodes of any tree with so many rows.
 //! Between two calls no cell waits and no node is out of shape (`IsKept` in `specs/TreeInside.antt`).
 
-ghost use Rattle.std.specs.Prelude.{◌≡◌, ◌<◌, ◌≤◌, ◌+◌, ◌-◌, ◌*◌, ◌/◌, ◌^◌, max, length, Some, None, IsSome, IfOk, OnOk};
+ghost use Rattle.std.specs.Prelude.{◌≡◌, ◌<◌, ◌≤◌, ◌+◌, ◌-◌, ◌*◌, ◌/◌, ◌^◌, max, length, Some, None, IsSome, IfOk, OnOk, OnErr};
 ghost use Rattle.rt_box.specs.Capacity.{least_fill};
 ghost use Rattle.rt_tree.specs.Lists.{root_level, empty_lists, IsInShape};
 ghost use Rattle.rt_tree.specs.Rows.{box_of, GainsRow, LosesRow};
 ghost use Rattle.rt_tree.specs.Boxes.{HasBoxes};
 ghost use Rattle.rt_tree.specs.Changes.{IsInsertion, IsRemoval};
-ghost use Rattle.rt_tree.specs.Finding.{FindsIn};
+ghost use Rattle.rt_tree.specs.Finding.{FindsIn, FindsInAfter};
+ghost use Rattle.rt_tree_walk.specs.Search.{StaysInFront};
 
 use indexmap::IndexMap;
 use rt_box::{Capacity, Rect, Window};
@@ -17,7 +18,7 @@ use rt_check::Shadow;
 use rt_tree_insert::{insert_row, levels_are_few, nodes_are_few};
 use rt_tree_node::{Arena, Node, Work, add_node, leaves_facts, node_at};
 use rt_tree_remove::remove_row;
-use rt_tree_walk::{Found, search, shadow_of};
+use rt_tree_walk::{Found, Row, search, search_into, shadow_of};
 use slab::Slab;
 use std::alloc::{AllocError, Global};
 use std::hash::RandomState;
@@ -246,6 +247,25 @@ impl<const D: usize> Tree<D> {
         ensures { IfOk result (λ found. FindsIn self.now.lists window.now found.rows.items found.visited) }
     {
         search(alloc, &self.arena, window)
+    }
+
+    /// Appends the rows whose boxes the window admits, and answers the number of nodes that the search went into. A list
+    /// that is kept between searches asks for memory a few times only.
+    ///
+    /// # Errors
+    ///
+    /// `AllocError` where no memory is left for what is found or is still to be visited. Some of the rows that were found
+    /// may stand in the list then.
+    pub fn search_into(
+        &self,
+        alloc: Global,
+        window: &Window<D>,
+        rows: &mut Vec<Row<D>>,
+    ) -> Result<u64, AllocError>
+        ensures ok { IfOk result (λ visited. FindsInAfter self.now.lists window.now rows.old.items rows.new.items visited) }
+        ensures err { OnErr result (StaysInFront rows.old.items rows.new.items) }
+    {
+        search_into(alloc, &self.arena, window, rows)
     }
 
     /// Makes room for so many further rows. The room grows by as many rows as there are, but for those that a tree may not

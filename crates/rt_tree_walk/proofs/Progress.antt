@@ -1,5 +1,5 @@
 -- How far a search has come.
-use Rattle.std.proofs.Common.{◌≡◌, ◌≢◌, ℕ, suc, ◌+◌, ◌<◌, ◌≤◌, Bool, true, false, List, [], ◌∷◌, ◌++◌, length, Contains, Option, Some, None, is_some, IsSome, cond, nat_eq, arith, refl, ap, sym, ◌∙◌, subst, inl, inr}
+use Rattle.std.proofs.Common.{◌≡◌, ◌≢◌, ℕ, suc, ◌+◌, ◌<◌, ◌≤◌, Bool, true, false, List, [], ◌∷◌, ◌++◌, length, Contains, Option, Some, None, is_some, IsSome, cond, nat_eq, arith, refl, ap, sym, ◌∙◌, subst, inl, inr, append-nil, append_assoc}
 use Rattle.std.specs.List.{All, count_by, sum_by}
 use Rattle.std.proofs.lemmas.Bool.{cases_lt}
 use Rattle.std.proofs.lemmas.Option.{same_Some, none-some}
@@ -20,7 +20,7 @@ use Rattle.rt_tree_node.proofs.Counts.{count-append}
 use Rattle.rt_tree_node.proofs.Links.{above-some}
 use Rattle.rt_tree_node.proofs.Places.{inner-at_inner}
 use Rattle.rt_tree_walk.specs.declared.searching.Row.{Row}
-use Rattle.rt_tree_walk.specs.Search.{times, row_of, LeadsInto, AsksAdmitted, IsReached, Finds}
+use Rattle.rt_tree_walk.specs.Search.{times, row_of, LeadsInto, AsksAdmitted, IsReached, Finds, FindsAfter}
 use Rattle.rt_tree_walk.specs.Visits.{Visits}
 use Rattle.rt_tree_walk.proofs.Totals.{times-append, times-one, times-is, upto, sum-listed, sum-listed_le, upto-le, upto-list}
 use Rattle.rt_tree_walk.proofs.Reaching.{All_contained, inner-level, leaf-level, hull-contained, counted-contained, reached-up}
@@ -253,3 +253,35 @@ module _ {D : ℕ} where
       only = λ k some. so.reached k (omega arith);
       counted = so.counted;
     }
+
+  -- ---- a search that appends to a list
+  pub record ProgressAfter (t : Arena D) (window : List Interval) (keys : List ℕ) (old rows : List (Row D)) (visited : ℕ) : Type 0 where
+    pub more : List (Row D)
+    pub is : rows ≡ old ++ more
+    pub so : Progress t window keys more visited
+
+  -- the visit, but for the rows that stood there before
+  visits-behind : (a : Slab (NodeCells D)) (window : List Interval) (key : ℕ) (rows rows1 front : List (Row D)) (keys keys1 : List ℕ)
+      (went : Visits a window key rows rows1 keys keys1) → Visits a window key front (front ++ went.rows_are.more) keys keys1
+  visits-behind a window key rows rows1 front keys keys1 went = record {
+    rows_are = record { more = went.rows_are.more; is = refl; admitted = went.rows_are.admitted; each = went.rows_are.each };
+    children_are = went.children_are;
+  }
+
+  pub After-start : (t : Arena D) (window : List Interval) (keys : List ℕ) (rows : List (Row D)) → IsSettled t → keys ≡ t.root ∷ [] →
+      ProgressAfter t window keys rows rows 0
+  After-start t window keys rows s e = record { more = []; is = sym (append-nil rows); so = Progress-start t window keys s e }
+
+  pub After-step : (t : Arena D) (window : List Interval) (s : IsSettled t) (keys rest : List ℕ) (key : ℕ) (old rows : List (Row D)) (visited : ℕ)
+      (so : ProgressAfter t window keys old rows visited) → keys ≡ rest ++ key ∷ [] → (rows1 : List (Row D)) (keys1 : List ℕ) →
+      Visits t.nodes window key rows rows1 rest keys1 → ProgressAfter t window keys1 old rows1 (visited + 1)
+  After-step t window s keys rest key old rows visited so e rows1 keys1 went = record {
+    more = so.more ++ went.rows_are.more;
+    is = went.rows_are.is ∙ ap (λ rs. rs ++ went.rows_are.more) so.is ∙ append_assoc old so.more went.rows_are.more;
+    so = Progress-step t window s keys rest key so.more visited so.so e (so.more ++ went.rows_are.more) keys1
+        (visits-behind t.nodes window key rows rows1 so.more rest keys1 went);
+  }
+
+  pub After-end : (t : Arena D) (window : List Interval) (s : IsSettled t) (old rows : List (Row D)) (visited : ℕ) →
+      ProgressAfter t window [] old rows visited → FindsAfter t window old rows visited
+  After-end t window s old rows visited so = record { more = so.more; is = so.is; finds = Progress-end t window s so.more visited so.so }

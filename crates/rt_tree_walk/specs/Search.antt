@@ -1,5 +1,5 @@
 -- Searches by windows (Guttman 1984, section 3.1: a search descends into each child whose rectangle may hold what it looks for).
-use Rattle.std.specs.Prelude.{◌≡◌, ℕ, suc, ◌<◌, Bool, true, List, length, Some, All, count_by, nat_eq, Contains}
+use Rattle.std.specs.Prelude.{◌≡◌, ℕ, suc, ◌<◌, Bool, true, List, ◌++◌, length, Some, All, count_by, nat_eq, Contains}
 use Rattle.rt_box.specs.declared.interval.Interval.{Interval}
 use Rattle.rt_box.specs.Window.{Admits, MayHold}
 use Rattle.rt_tree_node.specs.declared.arena.Arena.{Arena}
@@ -40,3 +40,13 @@ module _ {D : ℕ} where
     pub once : (key : ℕ) → IsReached t window key → times key nodes ≡ 1
     pub only : (key : ℕ) → 0 < times key nodes → IsReached t window key
     pub counted : visited ≡ length nodes
+
+  -- behind the rows that a list held stand those that the search found
+  pub record FindsAfter (t : Arena D) (window : List Interval) (old new : List (Row D)) (visited : ℕ) : Type 0 where
+    pub more : List (Row D)
+    pub is : new ≡ old ++ more
+    pub finds : Finds t window more visited
+
+  -- the rows that a list held are the first ones
+  abbrev pub StaysInFront : List (Row D) → List (Row D) → Type 0
+  StaysInFront old new = (more : List (Row D)) × (new ≡ old ++ more)

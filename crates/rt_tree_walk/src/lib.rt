@@ -1,6 +1,7 @@
 //! Walks over the nodes of an R*-tree.
 //!
-//! - `search`: the rows whose boxes a window admits, each once, and the number of nodes that it went into.
+//! - `search`: the rows whose boxes a window admits, each once, and the number of nodes that it went into;
+//!   `search_into` appends them to a list that is at hand.
 //! - `shadow_of`: the tree from outside, as the checker takes it: nodes in preorder, numbered from 1, and row
 //!   entries by rising id.
 //! - `laws`: the checker finds no problem in it, its nodes are in preorder, and its leaves' cells are the rows.
@@ -19,4 +20,4 @@ mod outside;
 mod searching;
 
 pub use outside::shadow_of;
-pub use searching::{Found, Row, search};
+pub use searching::{Found, Row, search, search_into};

@@ -3,12 +3,12 @@
 //! A stack of keys takes the place of recursion. Rows are tested by the window, and children by its reach. Tests
 //! without branches are there for speed alone, and so is `ahead` (`specs/Search.antt`).
 
-ghost use Rattle.std.specs.Prelude.{◌≡◌, ◌≤◌, ◌<◌, ◌++◌, [], All, length, take, IfOk, OnOk};
+ghost use Rattle.std.specs.Prelude.{◌≡◌, ◌≤◌, ◌<◌, ◌++◌, [], All, length, take, IfOk, OnOk, OnErr};
 ghost use Rattle.slab.specs.Slab.{ContainsKey};
 ghost use Rattle.rt_box.specs.Window.{IsReach};
 ghost use Rattle.rt_tree_node.specs.Whole.{IsWhole};
 ghost use Rattle.rt_tree_node.specs.Places.{key_of};
-ghost use Rattle.rt_tree_walk.specs.Search.{row_of, Finds};
+ghost use Rattle.rt_tree_walk.specs.Search.{row_of, Finds, FindsAfter, StaysInFront};
 ghost use Rattle.rt_tree_walk.specs.Visits.{rows_at, TakesRows, TakesChildren, Visits};
 
 use crate::ahead::look_ahead;
@@ -95,7 +95,8 @@ fn push_rows<const D: usize>(
     positions: &[usize],
 ) -> Result<(), AllocError>
     requires { All (λ at. at < length node.now.cells) positions.now }
-    ensures { OnOk result (rows.new.items ≡ rows.old.items ++ rows_at node.now.cells positions.now) }
+    ensures ok { OnOk result (rows.new.items ≡ rows.old.items ++ rows_at node.now.cells positions.now) }
+    ensures err { OnErr result (rows.new.items ≡ rows.old.items) }
 {
     rows.reserve(positions.len())?;
     for at in positions {
@@ -110,7 +111,8 @@ fn take_rows<const D: usize>(
     node: &Node<D>,
     window: &Window<D>,
 ) -> Result<(), AllocError>
-    ensures { OnOk result (TakesRows window.now node.now.cells rows.old.items rows.new.items) }
+    ensures ok { OnOk result (TakesRows window.now node.now.cells rows.old.items rows.new.items) }
+    ensures err { OnErr result (rows.new.items ≡ rows.old.items) }
 {
     node.facts();
     let mut positions = [0; MOST_CELLS];
@@ -156,7 +158,8 @@ fn visit<const D: usize>(
     requires present { ContainsKey tree.now.nodes key }
     requires few { D ≤ 3 }
     requires reach { IsReach D asked.now.window asked.now.reach }
-    ensures { OnOk result (Visits tree.now.nodes asked.now.window key rows.old.items rows.new.items keys.old.items keys.new.items) }
+    ensures ok { OnOk result (Visits tree.now.nodes asked.now.window key rows.old.items rows.new.items keys.old.items keys.new.items) }
+    ensures err { OnErr result (rows.new.items ≡ rows.old.items) }
 {
     let node = node_at(&tree.nodes, key);
     if node.level() == 0 {
@@ -170,10 +173,44 @@ fn visit<const D: usize>(
     Ok(())
 }
 
-/// Finds the rows whose boxes the window admits.
+/// Appends the rows whose boxes the window admits, and answers the number of nodes that the search went into. A list
+/// that is kept between searches asks for memory a few times only.
 ///
 /// The search goes into the root, and from a node into each child in whose box one may lie that the
 /// window admits.
+///
+/// # Errors
+///
+/// `AllocError` where no memory is left for what is found or is still to be visited. Some of the rows that were found may
+/// stand in the list then.
+pub fn search_into<const D: usize>(
+    alloc: Global,
+    tree: &Arena<D>,
+    window: &Window<D>,
+    rows: &mut Vec<Row<D>>,
+) -> Result<u64, AllocError>
+    requires whole { IsWhole tree.now }
+    requires settled { tree.now.waiting.items ≡ [] }
+    requires few { D ≤ 3 }
+    ensures ok { IfOk result (λ visited. FindsAfter tree.now window.now rows.old.items rows.new.items visited) }
+    ensures err { OnErr result (StaysInFront rows.old.items rows.new.items) }
+{
+    let mut keys = Vec::with_capacity(alloc, 2 * MOST_CELLS)?;
+    keys.push(tree.root)?;
+    slab_facts(&tree.nodes);
+    let asked = Asked {
+        window: *window,
+        reach: window.reach(),
+    };
+    let (mut seen, mut visited) = (0, 0);
+    while let Some(key) = keys.pop() {
+        visit(rows, &mut keys, &mut seen, tree, key, &asked)?;
+        visited += 1;
+    }
+    Ok(visited)
+}
+
+/// Finds the rows whose boxes the window admits: `search_into` a list of its own.
 ///
 /// # Errors
 ///
@@ -188,19 +225,7 @@ pub fn search<const D: usize>(
     requires few { D ≤ 3 }
     ensures { IfOk result (λ found. Finds tree.now window.now found.rows.items found.visited) }
 {
-    let rows = Vec::with_capacity(alloc, FIRST_ROOM)?;
-    let mut found = Found { rows, visited: 0 };
-    let mut keys = Vec::with_capacity(alloc, 2 * MOST_CELLS)?;
-    keys.push(tree.root)?;
-    slab_facts(&tree.nodes);
-    let asked = Asked {
-        window: *window,
-        reach: window.reach(),
-    };
-    let mut seen = 0;
-    while let Some(key) = keys.pop() {
-        visit(&mut found.rows, &mut keys, &mut seen, tree, key, &asked)?;
-        found.visited += 1;
-    }
-    Ok(found)
+    let mut rows = Vec::with_capacity(alloc, FIRST_ROOM)?;
+    let visited = search_into(alloc, tree, window, &mut rows)?;
+    Ok(Found { rows, visited })
 }
