@@ -15,6 +15,7 @@ use crate::ahead::look_ahead;
 use rt_box::{Rect, Window};
 use rt_tree_node::{Arena, Cell, Key, MOST_CELLS, Node, key_of, node_at, slab_facts};
 use std::alloc::{AllocError, Global};
+use std::mem;
 
 /// How many rows a search has room for before it finds the first one.
 const FIRST_ROOM: usize = 32;
@@ -68,11 +69,7 @@ pub(crate) fn child_of<const D: usize>(cell: &Cell<D>) -> Key
 // pass: the end of what is taken moves by what the test gave, with no branch.
 
 /// Puts the positions of a leaf's cells that the window admits in front, and answers how many there are.
-fn put_admitted<const D: usize>(
-    positions: &mut [usize],
-    node: &Node<D>,
-    window: &Window<D>,
-) -> usize
+fn put_admitted<const D: usize>(positions: &mut [u8], node: &Node<D>, window: &Window<D>) -> usize
     requires { length node.now.cells ≤ length positions.old }
     ensures some { result ≤ length positions.new }
     ensures within { All (λ at. at < length node.now.cells) (take result positions.new) }
@@ -80,9 +77,10 @@ fn put_admitted<const D: usize>(
 {
     // A copy, which nothing that is written can change, stays in registers.
     let (boxes, window) = (node.boxes(), *window);
+    node.facts();
     let mut count = 0;
     for at in 0..boxes.len() {
-        positions[count] = at;
+        positions[count] = at as u8;
         count += usize::from(window.admits(&boxes[at]));
     }
     count
@@ -92,16 +90,20 @@ fn put_admitted<const D: usize>(
 fn push_rows<const D: usize>(
     rows: &mut Vec<Row<D>>,
     node: &Node<D>,
-    positions: &[usize],
+    positions: &[u8],
 ) -> Result<(), AllocError>
     requires { All (λ at. at < length node.now.cells) positions.now }
     ensures ok { OnOk result (rows.new.items ≡ rows.old.items ++ rows_at node.now.cells positions.now) }
     ensures err { OnErr result (rows.new.items ≡ rows.old.items) }
 {
     rows.reserve(positions.len())?;
+    // While nothing else names the list, where it ends stays in a register.
+    let alloc = *rows.allocator();
+    let mut list = mem::replace(rows, Vec::new(alloc));
     for at in positions {
-        rows.push_reserved(row_of(&node.cell(*at)));
+        list.push_reserved(row_of(&node.cell(usize::from(*at))));
     }
+    *rows = list;
     Ok(())
 }
 
@@ -131,13 +133,16 @@ fn take_children<const D: usize>(
 {
     let (boxes, reach) = (node.boxes(), asked.reach);
     keys.reserve(boxes.len())?;
+    let alloc = *keys.allocator();
+    let mut list = mem::replace(keys, Vec::new(alloc));
     for at in 0..boxes.len() {
         let rect = &boxes[at];
-        let kept = keys.len() + usize::from(reach.admits(rect));
+        let kept = list.len() + usize::from(reach.admits(rect));
         rect.facts();
-        keys.push_reserved(child_of(&node.cell(at)));
-        keys.truncate(kept);
+        list.push_reserved(child_of(&node.cell(at)));
+        list.truncate(kept);
     }
+    *keys = list;
     Ok(())
 }
 
@@ -150,7 +155,7 @@ fn take_children<const D: usize>(
 fn visit<const D: usize>(
     rows: &mut Vec<Row<D>>,
     keys: &mut Vec<Key>,
-    seen: &mut usize,
+    seen: &mut i64,
     tree: &Arena<D>,
     key: Key,
     asked: &Asked<D>,

@@ -5,4 +5,4 @@ use Rattle.rt_tree_walk.proofs.searching.take_children.Given as goal
 -- what the cells so far gave, and the room for the rest
 abbrev pub invariant-loop-at : goal.invariant-loop-at
 invariant-loop-at g l =
-    TakesChildren l.asked.window (take l.at l.node.cells) l.fn.keys.items l.keys.items × (vec_len l.keys + length l.node.cells ≤ vec_capacity l.keys + l.at)
+    TakesChildren l.asked.window (take l.at l.node.cells) l.fn.keys.items l.list.items × (vec_len l.list + length l.node.cells ≤ vec_capacity l.list + l.at)
