@@ -5,5 +5,6 @@ pub mod Covering
 pub mod Keys
 pub mod Lists
 pub mod Outliers
+pub mod Areas
 pub mod Partings
 pub mod Sorted

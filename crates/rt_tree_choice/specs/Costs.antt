@@ -2,6 +2,7 @@
 use Rattle.std.specs.Prelude.{◌≡◌, ℕ, ◌+◌, ◌≤◌, Bool, true, false, List, [], ◌∷◌, sum_by}
 use Rattle.rt_box.specs.declared.interval.Interval.{Interval}
 use Rattle.rt_box.specs.Rect.{area, overlap}
+use Rattle.rt_tree_choice.specs.declared.plane.Growth.{Growth}
 use Rattle.rt_tree_choice.specs.declared.subtree.Cost.{Cost}
 use Rattle.rt_tree_choice.specs.Hull.{box_at}
 use Rattle.rt_tree_choice.specs.Subtree.{overlap_enlargement, area_enlargement}
@@ -23,3 +24,10 @@ costs above_leaves boxes new position =
 abbrev pub IsGrowthWithin : List (List Interval) → List Interval → List Interval → ℕ → ℕ → Type 0
 IsGrowthWithin others own widened limit growth =
     (growth ≤ limit) × (growth + sum_by (overlap own) others ≡ sum_by (overlap widened) others)
+
+-- what a cell's area costs: by how much it grows, and how large it is
+abbrev pub growth_numbers : Growth → List ℕ
+growth_numbers g = g.enlargement ∷ g.area ∷ []
+
+abbrev pub growths : List (List Interval) → List Interval → ℕ → List ℕ
+growths boxes new position = area_enlargement (box_at boxes position) new ∷ area (box_at boxes position) ∷ []

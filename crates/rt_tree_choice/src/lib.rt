@@ -19,6 +19,7 @@
 
 mod hulls;
 pub mod laws;
+mod plane;
 mod reinsertion;
 mod sorting;
 mod split;

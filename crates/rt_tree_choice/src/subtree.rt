@@ -3,13 +3,14 @@
 //! Where the children are leaves, overlap counts first. The search begins with a likely cell and gives each other
 //! one up as soon as it costs more; the choice is that of the costs in full (`specs/Subtree.antt`).
 
-ghost use Rattle.std.specs.Prelude.{◌≡◌, ◌+◌, ◌*◌, ◌^◌, ◌<◌, ◌≤◌, ◌≢◌, ◌↔◌, length, sum_by, IsTrue, IfSome, MatchOption, true};
+ghost use Rattle.std.specs.Prelude.{◌≡◌, ◌+◌, ◌*◌, ◌^◌, ◌<◌, ◌≤◌, ◌≢◌, ◌↔◌, length, sum_by, IsTrue, IfSome, MatchOption, true, false};
 ghost use Rattle.rt_box.specs.Rect.{area, overlap, union_box, Holds};
 ghost use Rattle.rt_tree_choice.specs.Hull.{box_at};
 ghost use Rattle.rt_tree_choice.specs.Keys.{Less};
 ghost use Rattle.rt_tree_choice.specs.Subtree.{overlap_enlargement, area_enlargement, IsBestChild};
 ghost use Rattle.rt_tree_choice.specs.Costs.{numbers, costs, IsGrowthWithin};
 
+use crate::plane::least_growth;
 use rt_box::Rect;
 
 /// What a cell costs that takes in the new box.
@@ -105,6 +106,19 @@ pub(super) fn least_cost<const D: usize>(
     best
 }
 
+/// The position of the cell whose area grows least.
+fn least_enlargement<const D: usize>(boxes: &[Rect<D>], new_box: &Rect<D>) -> usize
+    requires some { 0 < length boxes.now }
+    requires few { length boxes.now ≤ 52 }
+    ensures { IsBestChild false boxes.now new_box.now result }
+{
+    if D <= 2 {
+        least_growth(boxes, new_box)
+    } else {
+        least_cost(boxes, false, new_box)
+    }
+}
+
 /// The growth as `common_growth` gives it, unless it is above the limit: no term is negative, so it is as soon
 /// as a part of the sum is.
 fn common_growth_within<const D: usize>(
@@ -170,7 +184,7 @@ fn least_overlap_growth<const D: usize>(boxes: &[Rect<D>], new_box: &Rect<D>) ->
     requires few { length boxes.now ≤ 52 }
     ensures { IsBestChild true boxes.now new_box.now result }
 {
-    let start = least_cost(boxes, false, new_box);
+    let start = least_enlargement(boxes, new_box);
     if boxes[start].contains(new_box) {
         return start; // it doesn't grow at all
     }
@@ -228,6 +242,6 @@ pub fn choose_subtree<const D: usize>(
     if above_leaves {
         least_overlap_growth(boxes, new_box)
     } else {
-        least_cost(boxes, false, new_box)
+        least_enlargement(boxes, new_box)
     }
 }
