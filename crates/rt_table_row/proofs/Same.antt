@@ -1,5 +1,5 @@
 -- Two rows are the same where their ids, boxes and auxiliary values are.
-use Rattle.std.proofs.Common.{◌≡◌, Bool, true, false, ◌&&◌, List, [], ◌∷◌, ◌++◌, map, length, refl, ap, ◌∙◌, arith}
+use Rattle.std.proofs.Common.{◌≡◌, Bool, true, false, ◌&&◌, List, [], ◌∷◌, ◌++◌, map, length, refl, ap, arith}
 use Rattle.std.specs.Cmp.Lexicographic.{pointwise}
 use Rattle.std.specs.Ordering.{int_eq}
 use Rattle.rt_box.specs.declared.interval.Interval.{Interval}
@@ -8,7 +8,7 @@ use Rattle.rt_box.proofs.Equality.{interval_eq}
 use Rattle.rt_sql_statement.specs.declared.value.Value.{Value}
 use Rattle.rt_sql_statement.specs.declared.value.Value.TheVariants.{Int}
 use Rattle.rt_sql_statement.specs.Value.{same_value}
-use Rattle.rt_table_row.specs.Rows.{TableRow, values_of}
+use Rattle.rt_table_row.specs.Rows.{TableRow}
 use Rattle.rt_table_row.specs.Views.{same_row}
 
 grouped : (p q r s t : Bool) → t ≡ (r && s) → (p && (q && t)) ≡ (((p && q) && r) && s)

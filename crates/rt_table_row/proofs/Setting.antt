@@ -1,6 +1,6 @@
 -- What a row becomes by its looked-up sets.
-use Rattle.std.proofs.Common.{◌≡◌, ℕ, suc, ◌+◌, ◌*◌, ◌≤◌, ◌+ℤ◌, ◌-ℤ◌, Bool, true, false, not, ◌&&◌, ◌||◌, nat_lt, List, [], ◌∷◌, ◌++◌, append_assoc, get_or, map, length, take, cond, position, Option, Some, None, Err, arith, refl, sym, ap, subst, ◌∙◌}
-use Rattle.std.specs.List.{list_all, position_or_len, find}
+use Rattle.std.proofs.Common.{◌≡◌, ℕ, suc, ◌+◌, ◌*◌, ◌<◌, ◌≤◌, ◌+ℤ◌, ◌-ℤ◌, Bool, true, false, not, ◌&&◌, ◌||◌, nat_lt, List, [], ◌∷◌, ◌++◌, append_assoc, get_or, map, length, take, cond, position, Option, Some, None, Err, arith, refl, sym, ap, subst, ◌∙◌}
+use Rattle.std.specs.List.{list_all, list_any, position_or_len, find}
 use Rattle.std.specs.Option.{option_map, option_map_or}
 use Rattle.std.proofs.lemmas.List.{take-map}
 use Rattle.std.proofs.lemmas.List.Folds.{list_all-map}
@@ -17,10 +17,11 @@ use Rattle.rt_table_row.specs.declared.settings.Reading.TheVariants.{Literal, Co
 use Rattle.rt_table_row.specs.declared.settings.Fill.{Fill}
 use Rattle.rt_table_row.specs.declared.settings.Fill.TheVariants.{Kept, Set}
 use Rattle.rt_table_row.specs.Candidates.{is_integer, number_in, fits_bits, id_value, coordinate_values, candidate_of}
-use Rattle.rt_table_row.specs.Columns.{place_of, has_name}
+use Rattle.rt_table_row.specs.Columns.{place_of, has_name, are_distinct}
+use Rattle.rt_table_row.proofs.Names.{own_place}
 use Rattle.rt_table_row.specs.Conditions.{value_in}
 use Rattle.rt_table_row.specs.Edits.{Setting, columns_read, given, is_summable, sum_fits, new_value}
-use Rattle.rt_table_row.specs.Settings.{LookedUp, read, reads_integer, reading_fits, filled, values_set, candidate_set, reading_of, AreReadings, fill_of, reads_columns}
+use Rattle.rt_table_row.specs.Settings.{LookedUp, set_names, read, reads_integer, reading_fits, filled, values_set, candidate_set, reading_of, AreReadings, fill_of, reads_columns}
 use Rattle.rt_table_row.proofs.Filters.{absent, present, value_there, less, first}
 use Rattle.rt_table_row.proofs.Boxes.{head, tail}
 
@@ -212,3 +213,18 @@ own_rest before (name ∷ rest) =
 pub settings_same : (names : List (List ℕ)) (values : List Value) (sets : List Setting) (readings : List Reading) → AreReadings names sets readings →
     map (filled readings values) (map (fill_of names sets) names) ≡ map (new_value names values sets) names
 settings_same names values sets readings e = news_there names values sets readings names e (own_rest [] names)
+
+-- where no two columns have one name, a column's own place is that of its name
+pub own_fill : (names : List (List ℕ)) (sets : List Setting) (k : ℕ) (name : List ℕ) → are_distinct names ≡ true → k < length names → name ≡ get_or names k name →
+    option_map_or (λ at. Set at) (position (λ (set : Setting). same_name name set.0) sets) (Kept k) ≡ fill_of names sets (get_or names k name)
+own_fill names sets k name distinct within is =
+    let place : place_of names name ≡ Some k = ap (place_of names) is ∙ own_place names k name distinct within in
+    subst (λ (other : List ℕ). option_map_or (λ at. Set at) (position (λ (set : Setting). same_name name set.0) sets) (Kept k) ≡ fill_of names sets other) is (rw place refl)
+
+-- a test of the names of sets is a test of the sets
+pub set_among : (sets : List Setting) (name : List ℕ) → list_any (λ (set : Setting). same_name name set.0) sets ≡ has_name (set_names sets) name
+set_among [] name = refl
+set_among (set ∷ sets) name = ap (λ (later : Bool). same_name name set.0 || later) (set_among sets name)
+
+pub sets_among : (names : List (List ℕ)) (sets : List Setting) → list_all (λ (set : Setting). has_name names set.0) sets ≡ list_all (has_name names) (set_names sets)
+sets_among names sets = sym (list_all-map (has_name names) (λ (set : Setting). set.0) sets)

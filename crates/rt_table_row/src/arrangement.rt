@@ -15,7 +15,7 @@ use std::alloc::{AllocError, Global};
 use std::marker::Model;
 
 /// Whether each of the names is among the columns.
-pub(crate) fn are_known(columns: &[Name], names: &[Name]) -> bool
+fn are_known(columns: &[Name], names: &[Name]) -> bool
     ensures { result ≡ list_all (has_name columns.now) names.now }
 {
     names.iter().all(

@@ -20,7 +20,7 @@ use std::marker::Model;
 const MOST_COLUMNS: usize = 100;
 
 /// Up to so many names are compared each with each, which needs no memory.
-const FEW_NAMES: usize = 16;
+pub(crate) const FEW_NAMES: usize = 16;
 
 /// Where the name stands among the names; ASCII case doesn't matter.
 pub(crate) fn place_of(names: &[Name], name: &Name) -> Option<usize>

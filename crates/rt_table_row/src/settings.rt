@@ -4,19 +4,20 @@
 //! looked for over all columns before the next (`update_row` in `specs/Edits.antt`; `specs/Settings.antt`).
 
 ghost use Rattle.std.specs.Prelude.{◌≡◌, ◌⊎◌, ◌≤◌, ◌+◌, ◌*◌, true, false, length, map, position, IfOk, MatchResult};
-ghost use Rattle.std.specs.List.{list_all};
+ghost use Rattle.std.specs.List.{list_all, list_any};
 ghost use Rattle.rt_sql_statement.specs.declared.value.Value.TheVariants.{Null};
 ghost use Rattle.rt_table_row.specs.Rows.{values_of};
 ghost use Rattle.rt_table_row.specs.Entries.{view_row, field_value, candidate_as};
 ghost use Rattle.rt_table_row.specs.Candidates.{is_integer, number_in, id_value, coordinate_values};
+ghost use Rattle.std.specs.Option.{option_map_or};
+ghost use Rattle.rt_table_row.specs.Columns.{are_distinct, has_name};
 ghost use Rattle.rt_table_row.specs.Settings.{read, reads_integer, reading_fits, filled, candidate_set, set_names, reading_of, AreReadings, fill_of, reads_columns};
 ghost use Rattle.rt_sql_statement.specs.Name.{same_name};
 ghost use Rattle.rt_table_row.specs.Answers.{GivesAs};
 
-use crate::arrangement::are_known;
 use crate::candidate::{Candidate, is_integer, number_in};
 use crate::entry::{Field, RowView};
-use crate::schema::{Schema, are_listed_once, place_of};
+use crate::schema::{FEW_NAMES, Schema, are_listed_once, has_name, place_of};
 use rt_sql_statement::{Name, Refusal, Source, Value};
 use std::alloc::{AllocError, Global};
 use std::marker::Model;
@@ -57,6 +58,52 @@ fn names_of(alloc: Global, sets: &[(Name, Source)]) -> Result<Vec<Name>, AllocEr
     Ok(names)
 }
 
+/// Whether a set is of that column.
+fn is_set(sets: &[(Name, Source)], name: &Name) -> bool
+    ensures { result ≡ list_any (λ set. same_name name.now set.0) sets.now }
+{
+    sets.iter().any(|set| name.is_same(&set.0))
+}
+
+/// Whether the name is among those of the sets.
+fn is_among(sets: &[(Name, Source)], name: &Name) -> bool
+    ensures { result ≡ has_name (set_names sets.now) name.now }
+{
+    is_set(sets, name)
+}
+
+/// Whether no two of a few sets are of one column. No name is copied.
+fn are_few_distinct(sets: &[(Name, Source)]) -> bool
+    ensures { result ≡ are_distinct (set_names sets.now) }
+{
+    let mut rest = sets;
+    while let Some((set, later)) = rest.split_first() {
+        if is_among(later, &set.0) {
+            return false;
+        }
+        rest = later;
+    }
+    true
+}
+
+/// Whether no two sets are of one column.
+fn are_set_once(alloc: Global, sets: &[(Name, Source)]) -> Result<bool, AllocError>
+    ensures { IfOk result (λ distinct. distinct ≡ are_distinct (set_names sets.now)) }
+{
+    if sets.len() <= FEW_NAMES {
+        return Ok(are_few_distinct(sets));
+    }
+    let names = names_of(alloc, sets)?;
+    are_listed_once(alloc, names.as_slice())
+}
+
+/// Whether each set is of a column of the table.
+fn are_of_columns(columns: &[Name], sets: &[(Name, Source)]) -> bool
+    ensures { result ≡ list_all (λ set. has_name columns.now set.0) sets.now }
+{
+    sets.iter().all(|set| has_name(columns, &set.0))
+}
+
 /// What a set gives; none where it reads no column of the table.
 fn reading_of(
     alloc: Global,
@@ -94,25 +141,28 @@ fn readings_of(
     Ok(readings)
 }
 
-fn fill_of(columns: &[Name], sets: &[(Name, Source)], name: &Name) -> Fill
-    ensures { result ≡ fill_of columns.now sets.now name.now }
+/// What the column at that place holds afterwards.
+fn fill_of(sets: &[(Name, Source)], name: &Name, place: usize) -> Fill
+    ensures { result ≡ option_map_or (λ at. Fill.Set at) (position (λ set. same_name name.now set.0) sets.now) (Fill.Kept place) }
 {
     match set_of(sets, name) {
         Some(at) => Fill::Set(at),
-        None => Fill::Kept(place_of(columns, name).unwrap_or(0)),
+        None => Fill::Kept(place),
     }
 }
 
+/// What each column holds afterwards. No two have one name, so a column's own place is that of its name.
 fn fills_of(
     alloc: Global,
     columns: &[Name],
     sets: &[(Name, Source)],
 ) -> Result<Vec<Fill>, AllocError>
+    requires { are_distinct columns.now ≡ true }
     ensures { IfOk result (λ fills. fills.items ≡ map (fill_of columns.now sets.now) columns.now) }
 {
     let mut fills = Vec::with_capacity(alloc, columns.len())?;
-    for column in columns {
-        fills.push(fill_of(columns, sets, column))?;
+    for place in 0..columns.len() {
+        fills.push(fill_of(sets, &columns[place], place))?;
     }
     Ok(fills)
 }
@@ -332,13 +382,14 @@ impl Settings {
     pub fn new(alloc: Global, schema: &Schema, sets: &[(Name, Source)]) -> Result<Settings, Refusal>
         ensures { MatchResult result (IsSettingsOf schema.now sets.now) (IsBadSettings schema.now sets.now) }
     {
-        let names = names_of(alloc, sets)?;
-        if !are_listed_once(alloc, names.as_slice())? {
+        if !are_set_once(alloc, sets)? {
             return Err(Refusal::BadColumnList);
         }
-        if !are_known(schema.names(), names.as_slice()) {
+        if !are_of_columns(schema.names(), sets) {
             return Err(Refusal::NoSuchColumn);
         }
+        // No two columns have one name.
+        schema.facts();
         let readings = readings_of(alloc, schema.names(), sets)?;
         let fills = fills_of(alloc, schema.names(), sets)?;
         Ok(Settings { readings, fills })
