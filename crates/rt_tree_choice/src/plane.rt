@@ -73,7 +73,10 @@ fn is_less(growth: &Growth, other: &Growth) -> bool
     growth.enlargement < other.enlargement || growth.area < other.area
 }
 
+// By itself, so that the new box stays in registers.
+
 /// The position of the cell whose area grows least; of those the one of least area, and of those the first.
+#[inline(never)]
 pub(super) fn least_growth<const D: usize>(boxes: &[Rect<D>], new_box: &Rect<D>) -> usize
     requires plane { D ≤ 2 }
     requires some { 0 < length boxes.now }

@@ -43,7 +43,11 @@ fn common_growth<const D: usize>(others: &[Rect<D>], own: &Rect<D>, widened: &Re
 {
     let mut growth = 0;
     for other in others {
-        growth += widened.overlap(other) - own.overlap(other);
+        let common = widened.overlap(other);
+        if common == 0 {
+            continue; // as with most of them
+        }
+        growth += common - own.overlap(other);
     }
     growth
 }

@@ -2,11 +2,12 @@ use Rattle.std.proofs.Common.{◌+◌, ◌≤◌, take, sum_by, arith, ap, ◌�
 use Rattle.std.proofs.lemmas.List.Sums.{sum_by_more}
 use Rattle.rt_box.specs.Rect.{overlap}
 use Rattle.rt_box.proofs.Holding.{overlap-le_left}
+use Rattle.rt_tree_choice.proofs.Growth.{growth-none}
 use Rattle.rt_tree_choice.proofs.subtree.common_growth.Given.{Over}
 use Rattle.rt_tree_choice.proofs.subtree.common_growth.Goals as goal
-use Rattle.rt_tree_choice.proofs.subtree.common_growth.Goals.{After-overlap-in-loop-other}
+use Rattle.rt_tree_choice.proofs.subtree.common_growth.Goals.{After-overlap}
 
-grows : (g : Over) (c : After-overlap-in-loop-other g) → c.overlap-in-loop-other.result ≤ c.overlap.result
+grows : (g : Over) (c : After-overlap g) → c.overlap.result ≤ c.overlap-common.result
 grows g c =
     omega (arith, overlap-le_left c.args.widened.now c.args.own.now c.other-item.result c.requires.wider)
 
@@ -14,7 +15,14 @@ pub overflow_sub-growth : goal.overflow_sub-growth
 overflow_sub-growth g c = grows g c
 
 pub overflow_add-growth : goal.overflow_add-growth
-overflow_add-growth g c = omega (arith, c.overlap.ensures.bound, c.loop-other.invariant.bound, c.requires.few)
+overflow_add-growth g c = omega (arith, c.overlap-common.ensures.bound, c.loop-other.invariant.bound, c.requires.few)
+
+pub loop-other-preserved-then-common-eq0 : goal.loop-other-preserved-then-common-eq0
+loop-other-preserved-then-common-eq0 g c = record {
+  value = growth-none c.args.others.now c.args.own.now c.args.widened.now c.other-item.result c.loop-other.other-index c.loop-other.growth _
+      c.loop-other-test.true c.other-item.is c.requires.wider c.overlap-common.ensures.value c.if-common-eq0.true c.loop-other.invariant.value;
+  bound = omega (arith, c.loop-other.invariant.bound);
+}
 
 pub loop-other-preserved : goal.loop-other-preserved
 loop-other-preserved g c =
@@ -25,6 +33,6 @@ loop-other-preserved g c =
     let widened_more = sum_by_more (overlap widened) c.args.others.now c.loop-other.other-index c.other-item.result c.loop-other-test.true
     ∙ ap (λ x. sum_by (overlap widened) (take c.loop-other.other-index c.args.others.now) + overlap widened x) (sym c.other-item.is) in
     record {
-      value = omega (arith, grows g c, own_more, widened_more, c.overlap.ensures.value, c.overlap-in-loop-other.ensures.value, c.loop-other.invariant.value);
-      bound = omega (arith, c.overlap.ensures.bound, c.loop-other.invariant.bound);
+      value = omega (arith, grows g c, own_more, widened_more, c.overlap-common.ensures.value, c.overlap.ensures.value, c.loop-other.invariant.value);
+      bound = omega (arith, c.overlap-common.ensures.bound, c.loop-other.invariant.bound);
     }
