@@ -3,9 +3,8 @@ use Rattle.std.proofs.Common.{◌≡◌, ℕ, ◌+◌, ◌<◌, List, [], ◌∷
 use Rattle.std.specs.Prelude.{slice_get, Some}
 use Rattle.std.specs.List.{count_by}
 use Rattle.std.specs.Option.{option_to_list}
-use Rattle.std.proofs.Math.Seq.{take-append_seam, take-length}
 use Rattle.std.proofs.lemmas.Bool.{cases_Bool, cases_eq}
-use Rattle.std.proofs.lemmas.List.{take_more, get_or_default, get_or-map, length-append}
+use Rattle.std.proofs.lemmas.List.{take_more, get_or_default, get_or-map}
 use Rattle.std.proofs.lemmas.List.Elements.{All-nil, All-push, Contains-append_left, Contains-push, Contains-push_cases}
 use Rattle.rt_box.specs.declared.interval.Interval.{Interval}
 use Rattle.rt_box.specs.Window.{Admits, MayHold}
@@ -15,18 +14,8 @@ use Rattle.rt_tree_node.proofs.Counts.{count-append, count-one_no}
 use Rattle.rt_tree_node.proofs.Places.{names_key}
 use Rattle.rt_tree_walk.specs.declared.searching.Row.{Row}
 use Rattle.rt_tree_walk.specs.Search.{times, row_of, LeadsInto}
-use Rattle.rt_tree_walk.specs.Visits.{rows_at, TakesRows, TakesChildren}
+use Rattle.rt_tree_walk.specs.Visits.{rows_at, keys_at, TakesRows, TakesChildren}
 use Rattle.rt_tree_walk.proofs.Totals.{times-append, times-one, times-other}
-
--- what was appended is taken back
-pub taken-back : {A : Type 0} (xs ys : List A) (x : A) (n : ℕ) → n ≡ length xs → ys ≡ take n (xs ++ x ∷ []) → ys ≡ xs
-taken-back xs ys x n n_is e = e ∙ ap (λ k. take k (xs ++ x ∷ [])) n_is ∙ take-append_seam xs (x ∷ [])
-
--- what was appended stays
-pub taken-stays : {A : Type 0} (xs ys : List A) (x : A) (n : ℕ) → n ≡ length xs + 1 → ys ≡ take n (xs ++ x ∷ []) → ys ≡ xs ++ x ∷ []
-taken-stays xs ys x n n_is e =
-    let all : n ≡ length (xs ++ x ∷ []) = omega (arith, length-append xs (x ∷ []), n_is) in
-    e ∙ ap (λ k. take k (xs ++ x ∷ [])) all ∙ take-length (xs ++ x ∷ [])
 
 module _ {D : ℕ} where
   -- the cell whose box was read
@@ -54,6 +43,13 @@ module _ {D : ℕ} where
   rows_at-push cells (p ∷ positions) at c e =
       ap (λ rs. map row_of (option_to_list (slice_get cells p)) ++ rs) (rows_at-push cells positions at c e)
       ∙ sym (append_assoc (map row_of (option_to_list (slice_get cells p))) (rows_at cells positions) (row_of c ∷ []))
+
+  pub keys_at-push : (cells : List (Cell D)) (positions : List ℕ) (at : ℕ) (c : Cell D) → slice_get cells at ≡ Some c →
+      keys_at cells (positions ++ at ∷ []) ≡ keys_at cells positions ++ key_of c ∷ []
+  keys_at-push cells [] at c e = rw e refl
+  keys_at-push cells (p ∷ positions) at c e =
+      ap (λ ks. map key_of (option_to_list (slice_get cells p)) ++ ks) (keys_at-push cells positions at c e)
+      ∙ sym (append_assoc (map key_of (option_to_list (slice_get cells p))) (keys_at cells positions) (key_of c ∷ []))
 
   rows-taken : (window : List Interval) (xs : List (Cell D)) (c : Cell D) (old new1 : List (Row D)) → TakesRows window xs old new1 →
       (new2 : List (Row D)) → Admits window c.rect → new2 ≡ new1 ++ row_of c ∷ [] → TakesRows window (xs ++ c ∷ []) old new2
@@ -155,3 +151,9 @@ module _ {D : ℕ} where
   TakesChildren-keeps window cells at rect c old new1 next so refuses =
       let P : List (Cell D) → Type 0 = λ xs. TakesChildren window xs old new1 in
       subst P (sym next.taken) (children-kept window (take at cells) c old new1 so (λ admits. refuses (subst (MayHold D window) (sym next.rect_is) admits)))
+
+  -- behind the keys that were there before
+  pub TakesChildren-behind : (window : List Interval) (cells : List (Cell D)) (old new more : List ℕ) → TakesChildren window cells [] more →
+      new ≡ old ++ more → TakesChildren window cells old new
+  TakesChildren-behind window cells old new keys so e =
+      record { more = so.more; is = e ∙ ap (λ ks. old ++ ks) so.is; each = so.each; named = so.named; all = so.all }

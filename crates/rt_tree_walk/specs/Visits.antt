@@ -7,7 +7,7 @@ use Rattle.rt_box.specs.declared.interval.Interval.{Interval}
 use Rattle.rt_box.specs.Window.{Admits}
 use Rattle.rt_tree_node.specs.declared.cell.Cell.{Cell}
 use Rattle.rt_tree_node.specs.Node.{NodeCells}
-use Rattle.rt_tree_node.specs.Places.{times_named, leaf_cells_at, inner_cells_at}
+use Rattle.rt_tree_node.specs.Places.{key_of, times_named, leaf_cells_at, inner_cells_at}
 use Rattle.rt_tree_walk.specs.declared.searching.Row.{Row}
 use Rattle.rt_tree_walk.specs.Search.{times, row_of, LeadsInto, AsksAdmitted}
 
@@ -22,6 +22,10 @@ module _ {D : ℕ} where
   -- the rows of the cells at these positions
   abbrev pub rows_at : List (Cell D) → List ℕ → List (Row D)
   rows_at cells positions = flat_map (λ at. map row_of (option_to_list (slice_get cells at))) positions
+
+  -- the keys in the cells at these positions
+  abbrev pub keys_at : List (Cell D) → List ℕ → List ℕ
+  keys_at cells positions = flat_map (λ at. map key_of (option_to_list (slice_get cells at))) positions
 
   -- the keys came last of those cells in which the window may hold a box
   pub record TakesChildren (window : List Interval) (cells : List (Cell D)) (old new : List ℕ) : Type 0 where

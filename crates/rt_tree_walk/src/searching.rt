@@ -3,13 +3,14 @@
 //! A stack of keys takes the place of recursion. Rows are tested by the window, and children by its reach. Tests
 //! without branches are there for speed alone, and so is `ahead` (`specs/Search.antt`).
 
-ghost use Rattle.std.specs.Prelude.{◌≡◌, ◌≤◌, ◌<◌, ◌++◌, [], All, length, take, IfOk, OnOk, OnErr};
+ghost use Rattle.std.specs.Prelude.{◌≡◌, ◌≤◌, ◌<◌, ◌++◌, [], All, length, take, List, IfOk, OnOk, OnErr};
+ghost use Rattle.rt_box.specs.declared.interval.Interval.{Interval};
 ghost use Rattle.slab.specs.Slab.{ContainsKey};
 ghost use Rattle.rt_box.specs.Window.{IsReach};
 ghost use Rattle.rt_tree_node.specs.Whole.{IsWhole};
 ghost use Rattle.rt_tree_node.specs.Places.{key_of};
 ghost use Rattle.rt_tree_walk.specs.Search.{row_of, Finds, FindsAfter, StaysInFront};
-ghost use Rattle.rt_tree_walk.specs.Visits.{rows_at, TakesRows, TakesChildren, Visits};
+ghost use Rattle.rt_tree_walk.specs.Visits.{rows_at, keys_at, TakesRows, TakesChildren, Visits};
 
 use crate::ahead::look_ahead;
 use rt_box::{Rect, Window};
@@ -68,20 +69,24 @@ pub(crate) fn child_of<const D: usize>(cell: &Cell<D>) -> Key
 // Which cells pass a window's test can't be foreseen. So each is taken, and the next one in its place where it doesn't
 // pass: the end of what is taken moves by what the test gave, with no branch.
 
-/// Puts the positions of a leaf's cells that the window admits in front, and answers how many there are.
+/// Puts the positions of the cells whose boxes the window admits in front, and answers how many there are. Where the
+/// window is the reach of another one, these cells name the children that a search by the other one goes into.
 fn put_admitted<const D: usize>(positions: &mut [u8], node: &Node<D>, window: &Window<D>) -> usize
     requires { length node.now.cells ≤ length positions.old }
     ensures some { result ≤ length positions.new }
     ensures within { All (λ at. at < length node.now.cells) (take result positions.new) }
     ensures rows { TakesRows window.now node.now.cells [] (rows_at node.now.cells (take result positions.new)) }
+    ensures keys { (outer : List Interval) → IsReach D outer window.now → TakesChildren outer node.now.cells [] (keys_at node.now.cells (take result positions.new)) }
 {
     // A copy, which nothing that is written can change, stays in registers.
     let (boxes, window) = (node.boxes(), *window);
     node.facts();
     let mut count = 0;
     for at in 0..boxes.len() {
+        let rect = &boxes[at];
+        rect.facts();
         positions[count] = at as u8;
-        count += usize::from(window.admits(&boxes[at]));
+        count += usize::from(window.admits(rect));
     }
     count
 }
@@ -122,6 +127,25 @@ fn take_rows<const D: usize>(
     push_rows(rows, node, &positions[..count])
 }
 
+/// Takes the keys in a node's cells at these positions.
+fn push_keys<const D: usize>(
+    keys: &mut Vec<Key>,
+    node: &Node<D>,
+    positions: &[u8],
+) -> Result<(), AllocError>
+    requires { All (λ at. at < length node.now.cells) positions.now }
+    ensures { OnOk result (keys.new.items ≡ keys.old.items ++ keys_at node.now.cells positions.now) }
+{
+    keys.reserve(positions.len())?;
+    let alloc = *keys.allocator();
+    let mut list = mem::replace(keys, Vec::new(alloc));
+    for at in positions {
+        list.push_reserved(child_of(&node.cell(usize::from(*at))));
+    }
+    *keys = list;
+    Ok(())
+}
+
 /// Takes the children in which a box may lie that the window admits.
 fn take_children<const D: usize>(
     keys: &mut Vec<Key>,
@@ -131,19 +155,10 @@ fn take_children<const D: usize>(
     requires { IsReach D asked.now.window asked.now.reach }
     ensures { OnOk result (TakesChildren asked.now.window node.now.cells keys.old.items keys.new.items) }
 {
-    let (boxes, reach) = (node.boxes(), asked.reach);
-    keys.reserve(boxes.len())?;
-    let alloc = *keys.allocator();
-    let mut list = mem::replace(keys, Vec::new(alloc));
-    for at in 0..boxes.len() {
-        let rect = &boxes[at];
-        let kept = list.len() + usize::from(reach.admits(rect));
-        rect.facts();
-        list.push_reserved(child_of(&node.cell(at)));
-        list.truncate(kept);
-    }
-    *keys = list;
-    Ok(())
+    node.facts();
+    let mut positions = [0; MOST_CELLS];
+    let count = put_admitted(&mut positions, node, &asked.reach);
+    push_keys(keys, node, &positions[..count])
 }
 
 // By itself, so that the numbers of a window are read as vectors from where they stand: those of two windows don't fit
