@@ -29,6 +29,7 @@ use rt_sql_statement::{Refusal, Rule, Stmt};
 use std::alloc::Global;
 
 /// An UPDATE, a DELETE, a CREATE or a DROP.
+#[inline(never)]
 #[tactic(auto, unfolding(crate::specs::Reading::change))]
 fn change(alloc: Global, tokens: &mut Tokens<'_>, numbers: Numbers) -> Result<Stmt, Refusal>
     ensures { Reads (reading.change (number_by numbers) tokens.old) result tokens.new }
@@ -71,6 +72,7 @@ fn finish(tokens: &Tokens<'_>) -> Result<(), Refusal>
 }
 
 /// A dot line of that word to its end.
+#[inline(never)]
 #[tactic(auto, unfolding(crate::specs::Reading::whole_command, crate::specs::Reading::finish))]
 fn whole_command(
     alloc: Global,
@@ -87,6 +89,7 @@ fn whole_command(
 }
 
 /// A statement to its end, with its semicolon.
+#[inline]
 #[tactic(auto, unfolding(crate::specs::Reading::whole_statement, crate::specs::Reading::finish))]
 fn whole_statement(
     alloc: Global,

@@ -121,7 +121,7 @@ fn not_null(alloc: Global, tokens: &mut Tokens<'_>, numbers: Numbers) -> Result<
     }
 }
 
-/// Whether an integer without a sign comes next, as most values are.
+/// Whether an integer without a sign comes next.
 #[tactic(auto, unfolding(crate::specs::Reading::sees_digits))]
 fn sees_digits(tokens: &Tokens<'_>) -> bool
     ensures { result ≡ reading.sees_digits tokens.now }
@@ -130,20 +130,32 @@ fn sees_digits(tokens: &Tokens<'_>) -> bool
 }
 
 /// A value: `NULL`, a text, a blob or an integer.
+#[inline(never)]
+#[tactic(auto, unfolding(crate::specs::Reading::a_value))]
+fn any_value(alloc: Global, tokens: &mut Tokens<'_>, numbers: Numbers) -> Result<Value, Refusal>
+    ensures { Reads (reading.a_value (number_by numbers) tokens.old) result tokens.new }
+{
+    if tokens.eat_word("NULL") {
+        Ok(Value::Null)
+    } else {
+        not_null(alloc, tokens, numbers)
+    }
+}
+
+/// A value, which mostly is an integer without a sign.
 impl Item for Value {
     ghost use Rattle.rt_sql.specs.Reading.{a_value};
 
     ghost rule = { a_value };
 
-    #[tactic(auto, using(crate::proofs::Values::digits_value), unfolding(crate::specs::Reading::a_value))]
+    #[inline]
+    #[tactic(auto, using(crate::proofs::Values::digits_value))]
     fn read(alloc: Global, tokens: &mut Tokens<'_>, numbers: Numbers) -> Result<Value, Refusal> {
         if sees_digits(tokens) {
-            return Ok(Value::Int(digits(tokens, numbers, false)?));
+            Ok(Value::Int(digits(tokens, numbers, false)?))
+        } else {
+            any_value(alloc, tokens, numbers)
         }
-        if tokens.eat_word("NULL") {
-            return Ok(Value::Null);
-        }
-        not_null(alloc, tokens, numbers)
     }
 }
 

@@ -66,6 +66,7 @@ fn select_rows(alloc: Global, tokens: &mut Tokens<'_>, numbers: Numbers) -> Resu
 }
 
 /// A call of `rtreecheck` from its parenthesis on.
+#[inline(never)]
 #[tactic(auto, unfolding(crate::specs::Reading::check))]
 fn check(alloc: Global, tokens: &mut Tokens<'_>) -> Result<Stmt, Refusal>
     ensures { Reads (reading.check tokens.old) result tokens.new }
