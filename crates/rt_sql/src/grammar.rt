@@ -3,7 +3,7 @@
 //! Each function takes the tokens that it reads from the front, and its contract names the rule of `specs/Reading.antt` that
 //! it follows. No token is looked at twice, but for the one after the next in `IF NOT EXISTS` and `rtreecheck(`.
 
-ghost use Rattle.std.specs.Prelude.{◌≡◌, true, false, MatchResult};
+ghost use Rattle.std.specs.Prelude.{◌≡◌, true, false, Err, MatchResult};
 ghost use Rattle.std.specs.Option.{is_some};
 ghost use Rattle.rt_sql.specs.Number.{number_by};
 ghost use Rattle.rt_sql.specs.Reading as reading;
@@ -71,6 +71,15 @@ fn finish(tokens: &Tokens<'_>) -> Result<(), Refusal>
     Ok(())
 }
 
+/// Refuses a statement that something follows. It stands apart, since its drop is long.
+#[cold]
+#[inline(never)]
+fn refused(_asked: Stmt) -> Result<Stmt, Refusal>
+    ensures { result ≡ Err Refusal.SyntaxError }
+{
+    Err(Refusal::SyntaxError)
+}
+
 /// A dot line of that word to its end.
 #[inline(never)]
 #[tactic(auto, unfolding(crate::specs::Reading::whole_command, crate::specs::Reading::finish))]
@@ -90,7 +99,7 @@ fn whole_command(
 
 /// A statement to its end, with its semicolon.
 #[inline]
-#[tactic(auto, unfolding(crate::specs::Reading::whole_statement, crate::specs::Reading::finish))]
+#[tactic(auto, unfolding(crate::specs::Reading::whole_statement, crate::specs::Reading::sign, crate::specs::Reading::finish))]
 fn whole_statement(
     alloc: Global,
     tokens: &mut Tokens<'_>,
@@ -99,8 +108,12 @@ fn whole_statement(
     ensures { Reads (reading.whole_statement (number_by numbers) tokens.old) result tokens.new }
 {
     let asked = statement(alloc, tokens, numbers)?;
-    tokens.expect_sign(Sign::Semicolon)?;
-    finish(tokens)?;
+    if !tokens.eat_sign(Sign::Semicolon) {
+        return refused(asked);
+    }
+    if finish(tokens).is_err() {
+        return refused(asked);
+    }
     Ok(asked)
 }
 

@@ -40,6 +40,8 @@ fn is_unknown_command(text: &str) -> bool
 
 /// Why a text spells no statement whose integers are within 64 bits: a second reading takes
 /// integers of any size.
+#[cold]
+#[inline(never)]
 fn refusal(alloc: Global, text: &str) -> Refusal
     requires { reading.whole (number_by Numbers.Within64Bits) (piece_tokens text.now) ≡ None }
     ensures { (result ≡ Refusal.OutOfMemory) ⊎ ParsesText text.now (Err result) }
