@@ -5,8 +5,7 @@
 use rt_check::Problem;
 use rt_check_dump::AnyShadow;
 use rt_sql_statement::Items;
-use rt_table::Change;
-use rt_table_row::RowList;
+use rt_table::{AnyRows, Change};
 
 /// What a statement that was carried out shows.
 #[derive(Drop)]
@@ -14,7 +13,7 @@ pub enum Reply {
     /// Of a table or a view that was made or dropped.
     Nothing,
     /// The rows selected, or those of a view, by rising id: their values, column by column.
-    Rows(RowList),
+    Rows(AnyRows),
     /// What an INSERT, UPDATE or DELETE changed in the views of its table.
     Changes(Items<Change>),
     /// The problems that the checker finds in a table's tree.

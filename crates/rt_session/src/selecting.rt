@@ -1,17 +1,15 @@
 //! What a SELECT shows of a table.
 //!
-//! Column names are looked up before the table is searched. Rows are copied a second time only where columns are
-//! listed.
+//! Column names are looked up before the table is searched. Values are copied only where columns are listed.
 
-ghost use Rattle.std.specs.Prelude.{◌≡◌, map, IfOk, IfErr};
-ghost use Rattle.rt_table_row.specs.Entries.{listed_values};
+ghost use Rattle.std.specs.Prelude.{◌≡◌, ◌<◌, [], map, length, slice_index_or, IfOk, IfErr};
 ghost use Rattle.rt_session.specs.Session.{is_by_id, selected};
 ghost use Rattle.rt_session.specs.Selecting.{ArePlaces, IsMissing, values_at};
 ghost use Rattle.rt_session.specs.Steps.{ShowsRows};
 
 use rt_sql_statement::{Cond, Items, Name, Refusal, Value};
-use rt_table::AnyTable;
-use rt_table_row::{ListedRow, RowList, Schema};
+use rt_table::{AnyRows, AnyTable};
+use rt_table_row::{RowList, Schema};
 use std::alloc::{AllocError, Global};
 
 /// Whether rows by rising id are in the order that is asked for.
@@ -43,24 +41,30 @@ fn places_of(alloc: Global, schema: &Schema, names: &[Name]) -> Result<Vec<usize
 }
 
 /// Copies of the values at these places, NULL past the last one.
-fn values_at(alloc: Global, row: &ListedRow<'_>, places: &[usize]) -> Result<Vec<Value>, AllocError>
-    ensures { IfOk result (λ values. values.items ≡ values_at places.now (listed_values row.now)) }
+fn values_at(
+    alloc: Global,
+    rows: &AnyRows,
+    at: usize,
+    places: &[usize],
+) -> Result<Vec<Value>, AllocError>
+    requires { at < length rows.now }
+    ensures { IfOk result (λ values. values.items ≡ values_at places.now (slice_index_or rows.now at [])) }
 {
     let mut values = Vec::with_capacity(alloc, places.len())?;
     for place in places {
-        values.push(row.value_at(*place).try_clone(alloc)?)?;
+        values.push(rows.value_at(at, *place).try_clone(alloc)?)?;
     }
     Ok(values)
 }
 
 /// Of each row, copies of the values at these places.
-fn columns_of(alloc: Global, rows: &RowList, places: &[usize]) -> Result<RowList, AllocError>
+fn columns_of(alloc: Global, rows: &AnyRows, places: &[usize]) -> Result<RowList, AllocError>
     ensures { IfOk result (λ columns. columns ≡ map (values_at places.now) rows.now) }
 {
     let values = rows.len().saturating_mul(places.len());
     let mut columns = RowList::with_capacity(alloc, rows.len(), 0, values)?;
     for at in 0..rows.len() {
-        columns.push_values(values_at(alloc, &rows.row(at), places)?)?;
+        columns.push_values(values_at(alloc, rows, at, places)?)?;
     }
     Ok(columns)
 }
@@ -72,7 +76,7 @@ pub(crate) fn select(
     columns: &Option<Items<Name>>,
     cond: Cond,
     order: &Option<Name>,
-) -> Result<RowList, Refusal>
+) -> Result<AnyRows, Refusal>
     ensures { ShowsRows (λ state. selected state columns.now cond order.now table.now.lists) result }
 {
     if !is_by_id(table.schema(), order) {
@@ -85,5 +89,5 @@ pub(crate) fn select(
     let places = places_of(alloc, table.schema(), names.as_slice())?;
     let picked = table.rows(alloc, cond)?;
     let rows = columns_of(alloc, &picked, places.as_slice())?;
-    Ok(rows)
+    Ok(AnyRows::listed(rows))
 }

@@ -13,7 +13,7 @@ use crate::selecting::select;
 use crate::tables::{Named, have_views, place_of, place_of_view};
 use rt_box::Capacity;
 use rt_sql_statement::{ColumnDef, Cond, Edit, Items, Name, Refusal, Stmt};
-use rt_table::AnyTable;
+use rt_table::{AnyRows, AnyTable};
 use rt_table_row::Schema;
 use std::alloc::Global;
 use std::hash::RandomState;
@@ -188,7 +188,7 @@ impl Session {
         };
         let picked = self.tables[at].table.view(self.alloc, view)?;
         // A view visits no node for its rows, so the number of visited nodes is 0 and says nothing.
-        Ok(Reply::Rows(picked.rows))
+        Ok(Reply::Rows(AnyRows::listed(picked.rows)))
     }
 
     fn select(

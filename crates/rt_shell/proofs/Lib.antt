@@ -2,6 +2,8 @@ pub mod Alike
 pub mod EngineLemmas
 pub mod Groups
 pub mod Listed
+pub mod Numbers
+pub mod Parts
 pub mod Pumping
 pub mod Quotes
 pub mod Sequences

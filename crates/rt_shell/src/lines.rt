@@ -1,29 +1,108 @@
 //! The lines of rows put together, so that they are written at once.
 //!
-//! A call returns `None` where the room is used up, or where a value takes more than a copy. `reply` then writes
-//! that row value by value.
+//! A row without auxiliary values has a line of few bytes, so some of them always fit. Of other rows a call returns
+//! `None` where the room is used up, or where a value takes more than a copy. `reply` then writes that row value by
+//! value.
 
-ghost use Rattle.std.specs.Prelude.{◌≡◌, ◌≤◌, ◌++◌, ◌∷◌, ℕ, List, [], IfSome, codes, drop, length, take};
+ghost use Rattle.std.specs.Prelude.{◌≡◌, ◌+◌, ◌*◌, ◌≤◌, ◌++◌, ◌∷◌, ℕ, List, [], IfSome, codes, drop, length, take};
 ghost use Rattle.std.specs.Fmt.{signed_decimal};
 ghost use Rattle.std.specs.List.{flat_map, join_by};
 ghost use Rattle.rt_sql.specs.Token.{doubled};
 ghost use Rattle.rt_table_row.specs.Entries.{listed_values};
+ghost use Rattle.rt_table.specs.AnyRows.{box_values};
 ghost use Rattle.rt_shell.specs.Lines.{value_text, row_line};
 
 use crate::value::first_quote;
 use itoa::write_digits;
 use rt_sql_statement::Value;
 use rt_table_row::{ListedRow, RowList};
+use rt_tree::Row;
 use std::marker::Model;
 
 /// The most bytes of lines that are put together; a longer line is written value by value.
-const MOST_BYTES: usize = 1024;
+const MOST_BYTES: usize = 2048;
 
 /// The most bytes of a text in a line that is put together.
 const MOST_TEXT: usize = 128;
 
 /// The most digits of an integer of 64 bits.
 const MOST_DIGITS: usize = 20;
+
+/// The most bytes of a coordinate of 32 bits: a bar, a sign and ten digits.
+const MOST_COORDINATE: usize = 12;
+
+/// The most bytes of the line of a row without auxiliary values: six coordinates, an id, and the line's end.
+const MOST_BOX_LINE: usize = 93;
+
+/// How many such lines always fit.
+pub(crate) const BOXES_AT_ONCE: usize = 22;
+
+/// Puts a number so that it ends there, and answers where it starts.
+#[inline]
+fn put_number(bytes: &mut [u8], end: usize, number: i64) -> usize
+    requires room { length (signed_decimal number) ≤ end }
+    requires within { end ≤ length bytes.old }
+    ensures put { drop result bytes.new ≡ signed_decimal number ++ drop end bytes.old }
+    ensures long { result + length (signed_decimal number) ≡ end }
+{
+    let start = write_digits(number.unsigned_abs(), bytes, end);
+    if number >= 0 {
+        return start;
+    }
+    bytes[start - 1] = b'-';
+    start - 1
+}
+
+/// Puts a coordinate behind a bar, so that it ends there, and answers where the bar is.
+#[inline]
+fn put_coordinate(bytes: &mut [u8], end: usize, number: i32) -> usize
+    requires room { MOST_COORDINATE ≤ end }
+    requires within { end ≤ length bytes.old }
+    ensures put { drop result bytes.new ≡ (codes "|" ++ signed_decimal number) ++ drop end bytes.old }
+    ensures few { end ≤ result + MOST_COORDINATE }
+    ensures start { result ≤ end }
+{
+    let start = put_number(bytes, end, i64::from(number));
+    bytes[start - 1] = b'|';
+    start - 1
+}
+
+/// Puts the line of a row without auxiliary values, so that it ends there, and answers where it starts.
+#[inline]
+fn put_box<const D: usize>(bytes: &mut [u8], end: usize, row: &Row<D>) -> usize
+    requires room { MOST_BOX_LINE ≤ end }
+    requires within { end ≤ length bytes.old }
+    ensures put { drop result bytes.new ≡ row_line (box_values row.now) ++ drop end bytes.old }
+    ensures few { end ≤ result + MOST_BOX_LINE }
+    ensures start { result ≤ end }
+{
+    let mut start = end - 1;
+    bytes[start] = b'\n';
+    let mut axis = row.rect.axes();
+    while axis > 0 {
+        axis -= 1;
+        let range = row.rect.range(axis);
+        start = put_coordinate(bytes, start, range.hi);
+        start = put_coordinate(bytes, start, range.lo);
+    }
+    put_number(bytes, start, row.id)
+}
+
+/// Puts the lines of rows without auxiliary values, so that they end there, and answers where they start.
+fn put_boxes<const D: usize>(bytes: &mut [u8], end: usize, rows: &[Row<D>]) -> usize
+    requires room { MOST_BOX_LINE * length rows.now ≤ end }
+    requires within { end ≤ length bytes.old }
+    ensures put { drop result bytes.new ≡ flat_map (λ row. row_line (box_values row)) rows.now ++ drop end bytes.old }
+    ensures start { result ≤ end }
+{
+    let mut start = end;
+    let mut rest = rows;
+    while let Some((last, before)) = rest.split_last() {
+        start = put_box(bytes, start, last);
+        rest = before;
+    }
+    start
+}
 
 /// The last part of some lines. They are put together from their end to their beginning: of a number's digits the last is
 /// found first, so that each is put where it stays.
@@ -39,7 +118,7 @@ impl Model for Lines {
 
     ghost view = { λ lines. drop lines.start lines.bytes };
 
-    ghost invariant = { λ lines. (lines.start ≤ 1024) × (length lines.bytes ≡ 1024) };
+    ghost invariant = { λ lines. (lines.start ≤ 2048) × (length lines.bytes ≡ 2048) };
 }
 
 impl Lines {
@@ -65,6 +144,14 @@ impl Lines {
         ensures { result.now ≡ self.now }
     {
         &self.bytes[self.start..]
+    }
+
+    /// The lines of rows without auxiliary values, in the place of what was put so far.
+    pub(crate) fn set_boxes<const D: usize>(&mut self, rows: &[Row<D>])
+        requires { length rows.now ≤ BOXES_AT_ONCE }
+        ensures { self.new ≡ flat_map (λ row. row_line (box_values row)) rows.now }
+    {
+        self.start = put_boxes(&mut self.bytes, MOST_BYTES, rows);
     }
 
     /// Puts the bytes before the rest, where there is room for them.

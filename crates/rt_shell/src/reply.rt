@@ -1,7 +1,7 @@
 //! What is printed of an answer. Printing takes no memory, so no line is ever cut off by a want of it.
 //!
 //! Rows are written in two ways with the same bytes: short ones are put together by `lines` and written some at a
-//! time, others value by value. `specs/Lines.antt` names the bytes.
+//! time, as are all without auxiliary values, and others value by value. `specs/Lines.antt` names the bytes.
 
 ghost use Rattle.std.specs.Prelude.{◌≡◌, ◌<◌, ◌≤◌, ◌++◌, if◌then◌else◌, codes, map, length, take, drop, IfOk, OnErr};
 ghost use Rattle.rt_bytes.specs.Bytes.{WritesAll, WritesFront};
@@ -10,9 +10,10 @@ ghost use Rattle.std.specs.List.{flat_map, join_by};
 ghost use Rattle.rt_bytes.specs.Devices.{WritesTo};
 ghost use Rattle.rt_sql_statement.specs.declared.value.Value.TheVariants.{Int};
 ghost use Rattle.rt_table_row.specs.Entries.{listed_values};
+ghost use Rattle.rt_table.specs.AnyRows.{box_values};
 ghost use Rattle.rt_shell.specs.Lines.{value_text, row_line, change_line, reply_lines, refusal_line};
 
-use crate::lines::Lines;
+use crate::lines::{BOXES_AT_ONCE, Lines};
 use crate::value::{write_integer, write_value};
 use itoa::Buffer;
 use rt_bytes::{ByteWriter, WriteFault, write_parts, write_whole};
@@ -20,7 +21,9 @@ use rt_check_dump::write_dump;
 use rt_check_report::write_verdict;
 use rt_session::{Change, Reply};
 use rt_sql_statement::{Refusal, Value};
+use rt_table::{AnyRows, RowsView};
 use rt_table_row::{ListedRow, RowList};
+use rt_tree::Row;
 
 /// The most rows whose lines are written at once.
 const ROWS_AT_ONCE: usize = 8;
@@ -43,10 +46,39 @@ pub fn write_reply<W: ByteWriter>(reply: &Reply, writer: &mut W) -> Result<(), W
     }
 }
 
-fn write_rows<W: ByteWriter>(rows: &RowList, writer: &mut W) -> Result<(), WriteFault>
+fn write_rows<W: ByteWriter>(rows: &AnyRows, writer: &mut W) -> Result<(), WriteFault>
     ensures { WritesTo W.ByteWriter writer.old writer.new result (flat_map row_line rows.now) }
 {
+    match rows.view() {
+        RowsView::One(rows) => write_boxes(rows, writer),
+        RowsView::Two(rows) => write_boxes(rows, writer),
+        RowsView::Three(rows) => write_boxes(rows, writer),
+        RowsView::Listed(rows) => write_list(rows, writer),
+    }
+}
+
+/// Writes the lines of rows without auxiliary values, so many at a time as always fit.
+fn write_boxes<W: ByteWriter, const D: usize>(
+    rows: &[Row<D>],
+    writer: &mut W,
+) -> Result<(), WriteFault>
+    ensures { WritesTo W.ByteWriter writer.old writer.new result (flat_map (λ row. row_line (box_values row)) rows.now) }
+{
     // One place for all lines, since making it costs as much as filling it.
+    let mut lines = Lines::new();
+    let mut rest = rows;
+    while !rest.is_empty() {
+        let (few, later) = rest.split_at(rest.len().min(BOXES_AT_ONCE));
+        lines.set_boxes(few);
+        write_whole(writer, lines.as_slice())?;
+        rest = later;
+    }
+    Ok(())
+}
+
+fn write_list<W: ByteWriter>(rows: &RowList, writer: &mut W) -> Result<(), WriteFault>
+    ensures { WritesTo W.ByteWriter writer.old writer.new result (flat_map row_line rows.now) }
+{
     let mut lines = Lines::new();
     let (mut from, mut at_once) = (0, ROWS_AT_ONCE);
     while from < rows.len() {

@@ -10,3 +10,4 @@ pub mod Replaying
 pub mod Applying
 pub mod Moving
 pub mod Counting
+pub mod Bare

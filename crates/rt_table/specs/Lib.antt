@@ -1,6 +1,7 @@
 pub mod Held
 pub mod Watching
 pub mod Replies
+pub mod AnyRows
 pub mod TableInside
 pub mod Preparing
 pub mod Fates

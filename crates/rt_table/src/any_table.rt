@@ -6,13 +6,14 @@
 ghost use Rattle.std.specs.Prelude.{◌≡◌, ◌<◌, List, [], map, length, nat_lt, Ok, IfOk, IfErr, OnOk, OnErr};
 ghost use Rattle.rt_box.specs.declared.interval.Interval.{Interval};
 
+use crate::any_rows::AnyRows;
 use crate::table::Table;
 use crate::watched::{Change, Picked};
 use rt_box::Capacity;
 use rt_check::Problem;
 use rt_check_dump::AnyShadow;
 use rt_sql_statement::{Cond, Edit, Name, Refusal};
-use rt_table_row::{RowList, Schema};
+use rt_table_row::Schema;
 use std::alloc::{AllocError, Global};
 use std::hash::RandomState;
 use std::marker::Model;
@@ -157,14 +158,14 @@ impl AnyTable {
     /// # Errors
     ///
     /// Those of `select`.
-    pub fn rows(&self, alloc: Global, cond: Cond) -> Result<RowList, Refusal>
+    pub fn rows(&self, alloc: Global, cond: Cond) -> Result<AnyRows, Refusal>
         ensures ok { IfOk result (Shows (select self.now.lists cond)) }
         ensures err { IfErr result (Refuses (select self.now.lists cond)) }
     {
         match &self.axes {
-            Axes::One(table) => table.rows(alloc, cond),
-            Axes::Two(table) => table.rows(alloc, cond),
-            Axes::Three(table) => table.rows(alloc, cond),
+            Axes::One(table) => Ok(AnyRows::one(table.rows(alloc, cond)?)),
+            Axes::Two(table) => Ok(AnyRows::two(table.rows(alloc, cond)?)),
+            Axes::Three(table) => Ok(AnyRows::three(table.rows(alloc, cond)?)),
         }
     }
 

@@ -8,6 +8,7 @@ ghost use Rattle.std.specs.List.{list_any};
 ghost use Rattle.rt_box.specs.declared.interval.Interval.{Interval};
 ghost use Rattle.rt_sql_statement.specs.Name.{same_name};
 
+use crate::any_rows::Rows;
 use crate::carrying::{apply, refresh_all};
 use crate::preparing::stage;
 use crate::room::{auxiliary_rows_all, inserts_all};
@@ -16,7 +17,7 @@ use rt_box::Capacity;
 use rt_check::{Problem, Shadow, check};
 use rt_sql_statement::{Cond, Edit, Name, Refusal};
 use rt_table_plan::Plan;
-use rt_table_row::{Filter, RowList, Schema, Step};
+use rt_table_row::{Filter, Schema, Step};
 use rt_table_store::Store;
 use std::alloc::{AllocError, Global};
 use std::hash::RandomState;
@@ -89,6 +90,7 @@ impl<const D: usize> Table<D> {
     ghost use Rattle.rt_table_row.specs.Tables.{edited};
     ghost use Rattle.rt_table_plan.specs.Plans.{Plans};
     ghost use Rattle.rt_table.specs.Replies.{Refuses, Shows};
+    ghost use Rattle.rt_table.specs.AnyRows.{values_of_rows};
     ghost use Rattle.rt_table.specs.Preparing.{ApplyTo, IsReady};
     ghost use Rattle.rt_table.specs.Watching.{change_of};
     ghost use Rattle.rt_table_row.specs.Windows.{IsWindowOf};
@@ -176,8 +178,8 @@ impl<const D: usize> Table<D> {
     /// # Errors
     ///
     /// Those of `select`.
-    pub fn rows(&self, alloc: Global, cond: Cond) -> Result<RowList, Refusal>
-        ensures ok { IfOk result (Shows (select self.now.lists cond)) }
+    pub fn rows(&self, alloc: Global, cond: Cond) -> Result<Rows<D>, Refusal>
+        ensures ok { IfOk result (λ rows. Shows (select self.now.lists cond) (values_of_rows rows)) }
         ensures err { IfErr result (Refuses (select self.now.lists cond)) }
     {
         let condition = Filter::new(alloc, &self.columns, cond)?;

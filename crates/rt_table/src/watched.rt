@@ -13,9 +13,11 @@ ghost use Rattle.rt_table_row.specs.Rows.{TableRow, AreRising, row_at, values_of
 ghost use Rattle.rt_table_row.specs.Filters.{admits, IsUnknown};
 ghost use Rattle.rt_table_row.specs.Windows.{IsWindowAt};
 ghost use Rattle.rt_table_store.specs.Trees.{leaf_row, Visits};
+ghost use Rattle.rt_table.specs.AnyRows.{values_of_rows};
 ghost use Rattle.rt_table.specs.Watching.{view_of, KeepsIds, IsKept};
 ghost use Rattle.rt_table.specs.declared.watched.Watched.{Watched};
 
+use crate::any_rows::Rows;
 use indexmap::IndexSet;
 use rt_sql_statement::{Cond, Items, Name, Refusal, Value};
 use rt_table_row::{Filter, RowList, Schema};
@@ -148,13 +150,16 @@ pub(crate) fn rows_picked<const D: usize>(
     alloc: Global,
     store: &Store<D>,
     condition: &Filter,
-) -> Result<RowList, AllocError>
-    ensures { IfOk result (λ lists. lists ≡ map values_of (filter (admits condition.now) store.now.rows)) }
+) -> Result<Rows<D>, AllocError>
+    ensures { IfOk result (λ rows. values_of_rows rows ≡ map values_of (filter (admits condition.now) store.now.rows)) }
 {
     store.facts();
     let found = store.picked_rows(alloc, condition)?;
+    if !store.has_auxiliary() {
+        return Ok(Rows::Boxes(found));
+    }
     let rows = rows_found(alloc, store, found.as_slice())?;
-    Ok(rows)
+    Ok(Rows::Listed(rows))
 }
 
 /// The same ids in an ordered set.

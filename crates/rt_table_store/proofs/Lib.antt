@@ -17,3 +17,4 @@ pub mod Alike
 pub mod Admitted
 pub mod Found
 pub mod Windows
+pub mod Bare

@@ -3,7 +3,7 @@
 //! No list of the rows is kept: the tree has ids and boxes, and a map by id has the auxiliary values. Contracts
 //! put both together as the list of rows (`specs/StoreInside.antt`).
 
-ghost use Rattle.std.specs.Prelude.{◌≡◌, ◌≢◌, ◌⊎◌, ◌≤◌, ◌<◌, ◌+◌, ℤ, [], None, Some, true, false, length, IfOk, OnOk};
+ghost use Rattle.std.specs.Prelude.{◌≡◌, ◌≢◌, ◌⊎◌, ◌≤◌, ◌<◌, ◌+◌, ℤ, [], All, None, Some, true, false, length, IfOk, OnOk};
 ghost use Rattle.std.specs.Option.{option_map, unwrap_or};
 ghost use Rattle.std.specs.Ordering.{int_eq};
 ghost use Rattle.indexmap.specs.IndexMap.{get, spare};
@@ -193,6 +193,13 @@ impl<const D: usize> Store<D> {
             rect: row.rect,
             auxiliary: auxiliary_of(&self.auxiliary, &self.nothing, &row.id),
         }
+    }
+
+    /// Whether a row may have auxiliary values: where none has, its id and its box are all of it.
+    pub fn has_auxiliary(&self) -> bool
+        ensures { result ≡ false → All (λ row. row.auxiliary ≡ []) self.now.rows }
+    {
+        !self.auxiliary.is_empty()
     }
 
     /// The largest id.

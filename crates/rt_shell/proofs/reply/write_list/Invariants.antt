@@ -2,7 +2,7 @@ use Rattle.std.proofs.Common.{◌≤◌, ◌-◌, take, length}
 use Rattle.std.specs.List.{flat_map}
 use Rattle.rt_bytes.specs.Bytes.{WritesAll}
 use Rattle.rt_shell.specs.Lines.{row_line}
-use Rattle.rt_shell.proofs.reply.write_rows.Given as goal
+use Rattle.rt_shell.proofs.reply.write_list.Given as goal
 
 -- the lines of the rows before this one are written
 abbrev pub invariant-loop-from : goal.invariant-loop-from
