@@ -14,12 +14,12 @@ use Rattle.rt_sql_cut.proofs.CutterFront.{nothing_ready}
 use Rattle.rt_sql_cut.proofs.CutterLaws.{cut_somehow}
 use Rattle.rt_bytes.specs.declared.device.WriteFault.{WriteFault}
 use Rattle.rt_session.specs.declared.reply.Reply.{Reply}
-use Rattle.rt_shell.specs.declared.runner.Engine.{Engine}
+use Rattle.rt_shell.specs.declared.engine.Engine.{Engine}
 use Rattle.rt_bytes.specs.declared.outcome.Status.{Status}
 use Rattle.rt_bytes.specs.declared.outcome.Status.TheVariants.{Refused}
-use Rattle.rt_shell.specs.declared.runner.Flow.{Flow}
-use Rattle.rt_shell.specs.declared.runner.Flow.TheVariants.{Goes, Stops}
-use Rattle.rt_shell.specs.declared.runner.Options.{Options}
+use Rattle.rt_shell.specs.declared.engine.Flow.{Flow}
+use Rattle.rt_shell.specs.declared.engine.Flow.TheVariants.{Goes, Stops}
+use Rattle.rt_shell.specs.declared.engine.Options.{Options}
 use Rattle.rt_session.specs.Session.{State, Outcome}
 use Rattle.rt_shell.specs.Lines.{answer_lines}
 use Rattle.rt_shell.specs.Transcript.{Marks, Progress, MayGive, after, Prints, PrintsText, lines_of, status_of}

@@ -6,8 +6,8 @@ use Rattle.rt_bytes.specs.Bytes.{WritesAll}
 use Rattle.rt_bytes.specs.declared.device.WriteFault.{WriteFault}
 use Rattle.rt_bytes.proofs.Writing.{WritesAll-trans, WritesAll-nil, WritesFront-after}
 use Rattle.rt_sql_cut.specs.Cutter.{Front, StandsAt, ready_piece}
-use Rattle.rt_shell.specs.declared.runner.Engine.{Engine}
-use Rattle.rt_shell.specs.declared.runner.Flow.TheVariants.{Goes, Stops}
+use Rattle.rt_shell.specs.declared.engine.Engine.{Engine}
+use Rattle.rt_shell.specs.declared.engine.Flow.TheVariants.{Goes, Stops}
 use Rattle.rt_shell.specs.Engine.{ready_lines, Moves, AnswersReady, TakesAll}
 use Rattle.rt_shell.proofs.EngineLemmas.{moves_nowhere, moves_step, stops_step, reaches_step, idle_after, pieces_grow}
 

@@ -6,7 +6,9 @@ use Rattle.std.specs.Result.{is_err}
 use Rattle.rt_bytes.specs.declared.outcome.Status.{Status}
 use Rattle.rt_bytes.specs.declared.outcome.Status.TheVariants.{Clean, Refused}
 use Rattle.rt_sql_cut.specs.Piece.{PieceText}
+use Rattle.rt_sql_cut.specs.Pieces.{EndedPieces}
 use Rattle.rt_sql_cut.proofs.CutterLaws.{cut_one_way, cut_somehow}
+use Rattle.rt_sql_cut.proofs.CutterRuns.{first_of, first_gap, first_whole, first_last}
 use Rattle.rt_check_dump.specs.declared.dump.AnyShadow.{AnyShadow}
 use Rattle.rt_check_dump.specs.Dump.{any_text}
 use Rattle.rt_sql.proofs.Parses.{one_answer, some_answer}
@@ -17,10 +19,10 @@ use Rattle.rt_table_row.specs.Tables.{TableLists}
 use Rattle.rt_table.specs.AnyTrees.{StandsFor}
 use Rattle.rt_session.specs.declared.reply.Reply.{Reply}
 use Rattle.rt_session.specs.Session.{State, NamedTable, Outcome, table_of, is_named, state_after, answer, Answers}
-use Rattle.rt_shell.specs.declared.runner.Options.{Options}
+use Rattle.rt_shell.specs.declared.engine.Options.{Options}
 use Rattle.rt_shell.specs.Lines.{reply_lines, refusal_line}
 use Rattle.rt_shell.specs.Transcript.{Marks, Progress, start, AnswersParsed, MayGive, after, lines_of, status_of, Prints}
-use Rattle.rt_shell.specs.Laws.{EqualButDumps, AreDumps, HaveSameRows, TranscriptIsDetermined, no_tree, PlainlyAnswersParsed, PlainlyGives, PlainlyPrints, AnyTrees, EveryScriptHasAPlainTranscript}
+use Rattle.rt_shell.specs.Laws.{EqualButDumps, AreDumps, HaveSameRows, TranscriptIsDetermined, TranscriptSoFarIsDetermined, no_tree, PlainlyAnswersParsed, PlainlyGives, PlainlyPrints, AnyTrees, EveryScriptHasAPlainTranscript}
 use Rattle.rt_shell.proofs.Alike.{FoundAlike, SameTables, table_alike, SameAnswer, FoundRelated, AreRelated, both_answer}
 use Rattle.rt_shell.proofs.Standing.{IsStanding, found_stands, stands_after}
 
@@ -172,6 +174,36 @@ same_transcript options marks script one other first second (pieces, cut, prints
     let same : others ≡ pieces = cut_one_way script others pieces parted cut in
     same_print options marks (start options) (start options) (at_start options) tt tt pieces one other first second prints
     (subst (λ ps. Prints options marks (start options) ps other second) same printed)
+
+-- ---- a script that may go on
+
+-- which pieces have ended in a text is determined
+ended_one_way : (x : List ℕ) (ps qs : List PieceText) → EndedPieces x ps → EndedPieces x qs → ps ≡ qs
+ended_one_way x [] [] h k = refl
+ended_one_way x [] (q ∷ qs) (inl gap) k =
+    let a = first_gap x gap in
+    let b = ap first_of k.2 ∙ first_whole k.0 k.1 q k.3 in cc
+ended_one_way x [] (q ∷ qs) (inr last) k =
+    let a = first_last x last.0 last.1 in
+    let b = ap first_of k.2 ∙ first_whole k.0 k.1 q k.3 in cc
+ended_one_way x (p ∷ ps) [] h (inl gap) =
+    let a = first_gap x gap in
+    let b = ap first_of h.2 ∙ first_whole h.0 h.1 p h.3 in cc
+ended_one_way x (p ∷ ps) [] h (inr last) =
+    let a = first_last x last.0 last.1 in
+    let b = ap first_of h.2 ∙ first_whole h.0 h.1 p h.3 in cc
+ended_one_way x (p ∷ ps) (q ∷ qs) h k =
+    let a = ap first_of h.2 ∙ first_whole h.0 h.1 p h.3 in
+    let b = ap first_of k.2 ∙ first_whole k.0 k.1 q k.3 in
+    let same_piece : p ≡ q = cc in
+    let same_rest : h.1 ≡ k.1 = cc in
+    let same_pieces = ended_one_way h.1 ps qs h.4 (subst (λ l. EndedPieces l qs) (sym same_rest) k.4) in cc
+
+pub same_so_far : TranscriptSoFarIsDetermined
+same_so_far options marks read one other (pieces, ended, first, prints) (others, parted, second, printed) =
+    let same : others ≡ pieces = ended_one_way read others pieces parted ended in
+    (same_print options marks (start options) (start options) (at_start options) tt tt pieces one other first second prints
+    (subst (λ ps. Prints options marks (start options) ps other second) same printed)).0
 
 -- ---- over plain lists
 

@@ -8,12 +8,12 @@ use Rattle.rt_sql_cut.specs.Pieces.{IsGap, IsWholePiece, IsLastPiece, Pieces, En
 use Rattle.rt_sql_cut.specs.Cutter.{StandsAt, FinishedAt, ready_piece}
 use Rattle.rt_sql_statement.specs.declared.refusal.Refusal.{Refusal}
 use Rattle.rt_session.specs.declared.reply.Reply.{Reply}
-use Rattle.rt_shell.specs.declared.runner.Engine.{Engine}
-use Rattle.rt_shell.specs.declared.runner.Flow.{Flow}
-use Rattle.rt_shell.specs.declared.runner.Flow.TheVariants.{Goes, Stops}
+use Rattle.rt_shell.specs.declared.engine.Engine.{Engine}
+use Rattle.rt_shell.specs.declared.engine.Flow.{Flow}
+use Rattle.rt_shell.specs.declared.engine.Flow.TheVariants.{Goes, Stops}
 use Rattle.rt_bytes.specs.declared.outcome.Status.{Status}
 use Rattle.rt_bytes.specs.declared.outcome.Status.TheVariants.{Refused}
-use Rattle.rt_shell.specs.declared.runner.Options.{Options}
+use Rattle.rt_shell.specs.declared.engine.Options.{Options}
 use Rattle.rt_session.specs.Session.{State, Outcome, state_after}
 use Rattle.rt_shell.specs.Lines.{answer_lines}
 use Rattle.rt_shell.specs.Transcript.{Marks, Progress, start, MayGive, after, PrintsText}

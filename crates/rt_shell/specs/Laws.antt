@@ -1,11 +1,12 @@
 -- What holds of every script, over the definitions that the contracts cite (own).
 use Rattle.std.specs.Prelude.{◌≡◌, ◌⊎◌, ℕ, ◌+◌, Bool, true, false, ◌&&◌, List, [], ◌∷◌, Result, Ok, Err}
 use Rattle.std.specs.Bool.{MatchBool}
+use Rattle.std.specs.List.{concat}
 use Rattle.std.specs.Result.{is_err}
 use Rattle.rt_bytes.specs.declared.outcome.Status.{Status}
 use Rattle.rt_bytes.specs.declared.outcome.Status.TheVariants.{Refused}
 use Rattle.rt_sql_cut.specs.Piece.{PieceText}
-use Rattle.rt_sql_cut.specs.Pieces.{Pieces}
+use Rattle.rt_sql_cut.specs.Pieces.{Pieces, EndedPieces}
 use Rattle.rt_check_dump.specs.declared.dump.AnyShadow.{AnyShadow}
 use Rattle.rt_check_dump.specs.declared.dump.AnyShadow.TheVariants.{One}
 use Rattle.rt_check_dump.specs.Dump.{any_text}
@@ -18,8 +19,10 @@ use Rattle.rt_table_row.specs.Columns.{Columns}
 use Rattle.rt_table_row.specs.Rows.{TableRow}
 use Rattle.rt_table.specs.AnyTrees.{StandsFor}
 use Rattle.rt_session.specs.Session.{State, Outcome, answer}
-use Rattle.rt_shell.specs.declared.runner.Options.{Options}
-use Rattle.rt_shell.specs.Transcript.{Marks, Progress, start, after, lines_of, status_of, IsTranscriptByPieces}
+use Rattle.rt_shell.specs.declared.engine.Options.{Options}
+use Rattle.rt_shell.specs.Transcript.{Marks, Progress, start, after, Prints, lines_of, status_of, IsTranscriptByPieces}
+use Rattle.rt_shell.specs.declared.shell.Shell.{Shell}
+use Rattle.rt_shell.specs.Shell.{HasPrinted}
 
 -- the one is the dump of a tree, and the other that of a tree that is related to it
 pub record AreDumps (Related : AnyShadow → AnyShadow → Type 0) (one other : List ℕ) : Type 0 where
@@ -48,6 +51,24 @@ TranscriptIsDetermined =
     (options : Options) (marks : Marks) (script : List ℕ) (one other : List (List ℕ)) (first second : Status)
     → IsTranscriptByPieces options marks script one first → IsTranscriptByPieces options marks script other second
     → EqualButDumps HaveSameRows one other × (first ≡ second)
+
+-- of the pieces that have ended in what was read of a script, each prints its part
+abbrev pub IsTranscriptSoFarByPieces : Options → Marks → List ℕ → List (List ℕ) → Type 0
+IsTranscriptSoFarByPieces options marks read parts =
+    (pieces : List PieceText) × EndedPieces read pieces × (status : Status) × Prints options marks (start options) pieces parts status
+
+-- the same of a script that may go on: whoever reads it in whatever parts, prints one thing at most but for dumps
+abbrev pub TranscriptSoFarIsDetermined : Type 0
+TranscriptSoFarIsDetermined =
+    (options : Options) (marks : Marks) (read : List ℕ) (one other : List (List ℕ))
+    → IsTranscriptSoFarByPieces options marks read one → IsTranscriptSoFarByPieces options marks read other
+    → EqualButDumps HaveSameRows one other
+
+-- after each feed a shell has printed the transcript so far of all that it was fed, in whatever parts that came
+abbrev pub ShellPrintsTheTranscriptSoFar : Type 0
+ShellPrintsTheTranscriptSoFar =
+    (options : Options) (shell : Shell) (fed out : List ℕ) → HasPrinted options shell fed out
+    → (marks : Marks) × (parts : List (List ℕ)) × IsTranscriptSoFarByPieces options marks fed parts × (out ≡ concat parts)
 
 -- ---- plain lists alone: no table's tree is looked at
 

@@ -1,5 +1,6 @@
 pub mod Lines
 pub mod Engine
+pub mod Shell
 pub mod Transcript
 pub mod Run
 pub mod Laws

@@ -7,7 +7,7 @@ use Rattle.rt_bytes.specs.declared.outcome.Status.{Status}
 use Rattle.rt_bytes.specs.declared.outcome.RunFault.{RunFault}
 use Rattle.rt_bytes.specs.declared.outcome.RunFault.TheVariants.{Read, Write, Memory}
 use Rattle.rt_shell.specs.Transcript.{MayPrint, MayPrintSoFar}
-use Rattle.rt_shell.specs.declared.runner.Options.{Options}
+use Rattle.rt_shell.specs.declared.engine.Options.{Options}
 
 -- the script that the reader held was run, and what was written is its transcript
 pub record RunsScript (options : Options) (old new : Devices) (status : Status) : Type 0 where

@@ -11,7 +11,7 @@ use Rattle.rt_sql.specs.Parse.{Parses}
 use Rattle.rt_sql_statement.specs.declared.statement.Stmt.{Stmt}
 use Rattle.rt_sql_statement.specs.declared.refusal.Refusal.{Refusal}
 use Rattle.rt_sql_statement.specs.declared.refusal.Refusal.TheVariants.{OutOfMemory}
-use Rattle.rt_shell.specs.declared.runner.Options.{Options}
+use Rattle.rt_shell.specs.declared.engine.Options.{Options}
 use Rattle.rt_session.specs.Session.{State, empty, Outcome, state_after, Answers}
 use Rattle.rt_shell.specs.Lines.{reply_lines, refusal_line}
 

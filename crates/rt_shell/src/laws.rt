@@ -1,7 +1,7 @@
 //! What holds of every script, as laws of the definitions that the contracts cite. Each function does
 //! nothing: its contract is the law.
 
-ghost use Rattle.rt_shell.specs.Laws.{TranscriptIsDetermined, EveryScriptHasAPlainTranscript};
+ghost use Rattle.rt_shell.specs.Laws.{TranscriptIsDetermined, TranscriptSoFarIsDetermined, ShellPrintsTheTranscriptSoFar, EveryScriptHasAPlainTranscript};
 
 /// Given the options and the pieces that memory refuses, each piece of a script prints one thing at most, and the run ends
 /// in one status; but a piece that prints the dump of a tree may print that of another tree of the same rows.
@@ -13,4 +13,16 @@ pub fn transcript_is_determined()
 /// each run prints just that, piece by piece, but for the dumps of trees.
 pub fn every_script_has_a_plain_transcript()
     ensures { EveryScriptHasAPlainTranscript }
+{}
+
+/// After each feed a shell has printed the transcript so far of all that it was fed: the lines of the pieces that have
+/// ended in it, in whatever parts it came.
+pub fn shell_prints_the_transcript_so_far()
+    ensures { ShellPrintsTheTranscriptSoFar }
+{}
+
+/// Given the options and the pieces that memory refuses, the transcript so far is determined as that of a whole script is.
+/// So two shells that were fed the same bytes printed the same, however these were parted, but for the dumps of trees.
+pub fn transcript_so_far_is_determined()
+    ensures { TranscriptSoFarIsDetermined }
 {}

@@ -24,11 +24,15 @@
 //! ```
 #![tactic(auto)]
 
+mod engine;
 pub mod laws;
 mod lines;
 mod reply;
 mod runner;
+mod shell;
 mod value;
 
+pub use engine::{Flow, Options};
 pub use reply::write_reply;
-pub use runner::{Options, run};
+pub use runner::run;
+pub use shell::{FeedFault, Shell};

@@ -1,6 +1,6 @@
 use Rattle.std.proofs.lemmas.Result.{err_from_is_err_and}
 use Rattle.rt_shell.proofs.EngineLemmas.{finishes_ok, finishes_err}
-use Rattle.rt_shell.proofs.runner.Engine.finish.Goals as goal
+use Rattle.rt_shell.proofs.engine.Engine.finish.Goals as goal
 
 pub returns-in_err-answer_ready : goal.returns-in_err-answer_ready
 returns-in_err-answer_ready g c =

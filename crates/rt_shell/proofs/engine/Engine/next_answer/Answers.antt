@@ -1,6 +1,6 @@
 use Rattle.rt_shell.proofs.EngineLemmas.{after-outcome_of}
 use Rattle.rt_shell.specs.Engine.{progress_of}
-use Rattle.rt_shell.proofs.runner.Engine.next_answer.Goals as goal
+use Rattle.rt_shell.proofs.engine.Engine.next_answer.Goals as goal
 
 pub returns : goal.returns
 returns c = record {

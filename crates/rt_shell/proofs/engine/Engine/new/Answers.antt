@@ -1,7 +1,7 @@
 use Rattle.std.proofs.Common.{false, ap, refl}
 use Rattle.rt_session.specs.Session.{State}
 use Rattle.rt_shell.specs.Transcript.{Progress}
-use Rattle.rt_shell.proofs.runner.Engine.new.Goals as goal
+use Rattle.rt_shell.proofs.engine.Engine.new.Goals as goal
 
 pub returns : goal.returns
 returns c =

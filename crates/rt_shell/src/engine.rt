@@ -1,0 +1,161 @@
+//! Cuts a script, and answers its pieces.
+//!
+//! The contract of a step holds for whatever bytes follow those that it took, so no loop speaks of the script's
+//! end (`Moves` in `specs/Engine.antt`).
+
+ghost use Rattle.std.specs.Prelude.{◌≡◌, ℕ, ◌+◌, ◌-◌, ◌<◌, ◌≤◌, ◌^◌, length, None, IfOk};
+ghost use Rattle.rt_shell.specs.Engine.{IsFresh, GivesAnswer, AnswersNext, AnswersReady, TakesAll, Finishes, flow_of};
+ghost use Rattle.rt_sql_cut.specs.Cutter.{ready_piece};
+ghost use Rattle.rt_bytes.specs.Devices.{WritesTo};
+ghost use Rattle.rt_shell.specs.Lines.{answer_lines};
+
+use crate::reply::{write_refusal, write_reply};
+use rt_box::Capacity;
+use rt_bytes::{ByteWriter, Status, WriteFault};
+use rt_session::{Reply, Session};
+use rt_sql::parse;
+use rt_sql_cut::{Cutter, Piece};
+use rt_sql_statement::Refusal;
+use std::alloc::{AllocError, Global};
+use std::hash::RandomState;
+
+/// How a script is run.
+#[derive(Clone, Copy, PartialEq, Eq, Debug)]
+pub struct Options {
+    /// The capacity of the tables' nodes.
+    pub capacity: Capacity,
+    /// The run ends after the first refusal.
+    pub bail: bool,
+}
+
+/// Whether a run goes on.
+#[derive(Clone, Copy, PartialEq, Eq, Debug)]
+pub enum Flow {
+    /// More of the script may come.
+    Goes,
+    /// With bail a piece was refused, and what comes after it isn't run.
+    Stops,
+}
+
+/// Cuts a script, and answers its pieces.
+#[derive(Drop)]
+pub struct Engine {
+    alloc: Global,
+    cutter: Cutter,
+    session: Session,
+    // How many pieces came, and whether one was refused.
+    pub pieces: u64,
+    refused: bool,
+    options: Options,
+}
+
+fn answer_to(alloc: Global, session: &mut Session, piece: &Piece<'_>) -> Result<Reply, Refusal>
+    ensures { GivesAnswer session.old piece.now result session.new }
+{
+    let statement = parse(alloc, piece)?;
+    session.step(statement)
+}
+
+/// Writes the lines of an answer to the piece of this number.
+fn write_answer<W: ByteWriter>(
+    number: &u64,
+    answer: &Result<Reply, Refusal>,
+    writer: &mut W,
+) -> Result<(), WriteFault>
+    ensures { WritesTo W.ByteWriter writer.old writer.new result (answer_lines number.now answer.now) }
+{
+    match answer {
+        Ok(reply) => write_reply(reply, writer),
+        Err(refusal) => write_refusal(number, *refusal, writer),
+    }
+}
+
+/// With bail a run stops at a refusal.
+fn flow_after(bail: bool, answer: &Result<Reply, Refusal>) -> Flow
+    ensures { result ≡ flow_of bail (Some answer.now) }
+{
+    if bail && answer.is_err() {
+        Flow::Stops
+    } else {
+        Flow::Goes
+    }
+}
+
+impl Engine {
+    /// An engine at the start of a script.
+    pub fn new(alloc: Global, keys: RandomState, options: &Options) -> Result<Engine, AllocError>
+        ensures { IfOk result (λ engine. IsFresh engine options.now) }
+    {
+        Ok(Engine {
+            alloc,
+            cutter: Cutter::new(alloc)?,
+            session: Session::new(alloc, keys, options.capacity),
+            pieces: 0,
+            refused: false,
+            options: *options,
+        })
+    }
+
+    // Answers the piece that the cutter has ready, and drops it.
+    fn next_answer(&mut self) -> Option<Result<Reply, Refusal>>
+        requires { self.old.pieces < 2 ^ 64 - 1 }
+        ensures { AnswersNext self.old result self.new }
+    {
+        let piece = self.cutter.ready()?;
+        let answer = answer_to(self.alloc, &mut self.session, &piece);
+        self.cutter.clear();
+        self.pieces += 1;
+        self.refused |= answer.is_err();
+        Some(answer)
+    }
+
+    // Answers the piece that the cutter has ready, if it has one, and writes the lines.
+    fn answer_ready<W: ByteWriter>(&mut self, writer: &mut W) -> Result<Flow, WriteFault>
+        requires { self.old.pieces < 2 ^ 64 - 1 }
+        ensures { AnswersReady self.old self.new (W.written writer.old) (W.written writer.new) (W.faults writer.old) (W.faults writer.new) result }
+    {
+        let Some(answer) = self.next_answer() else {
+            return Ok(Flow::Goes);
+        };
+        write_answer(&self.pieces, &answer, writer)?;
+        Ok(flow_after(self.options.bail, &answer))
+    }
+
+    /// Takes all of the bytes and answers the pieces that end in them.
+    pub fn take_all<W: ByteWriter>(
+        &mut self,
+        bytes: &[u8],
+        writer: &mut W,
+    ) -> Result<Flow, WriteFault>
+        requires few { self.old.pieces + length bytes.now ≤ 2 ^ 63 }
+        requires idle { ready_piece self.old.cutter ≡ None }
+        ensures takes { TakesAll self.old bytes.now self.new (W.written writer.old) (W.written writer.new) (W.faults writer.old) (W.faults writer.new) result }
+        ensures few { self.new.pieces ≤ self.old.pieces + length bytes.now }
+        ensures idle { ready_piece self.new.cutter ≡ None }
+    {
+        let mut rest = bytes;
+        while !rest.is_empty() {
+            let taken = self.cutter.feed(rest);
+            rest = &rest[taken..];
+            match self.answer_ready(writer)? {
+                Flow::Goes => {}
+                Flow::Stops => return Ok(Flow::Stops),
+            }
+        }
+        Ok(Flow::Goes)
+    }
+
+    /// The input has ended: answers the piece that it ends, if it does.
+    pub fn finish<W: ByteWriter>(&mut self, writer: &mut W) -> Result<Status, WriteFault>
+        requires { self.old.pieces < 2 ^ 64 - 1 }
+        ensures { Finishes self.old (W.written writer.old) (W.written writer.new) (W.faults writer.old) (W.faults writer.new) result }
+    {
+        self.cutter.finish();
+        self.answer_ready(writer)?;
+        Ok(if self.refused {
+            Status::Refused
+        } else {
+            Status::Clean
+        })
+    }
+}
