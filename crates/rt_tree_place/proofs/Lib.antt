@@ -12,6 +12,7 @@ pub mod Arrived
 pub mod Divides
 pub mod GivenUp
 pub mod Relieved
+pub mod Held
 pub mod Lifted
 pub mod Shapes
 pub mod Risen

@@ -1,6 +1,6 @@
 -- What the parts of a placement do.
-use Rattle.std.specs.Prelude.{◌≡◌, ◌≢◌, ◌⊎◌, ℕ, suc, ◌+◌, ◌≤◌, Bool, List, [], ◌∷◌, ◌++◌, Some, None, length, slice_get, slice_set, slice_index_or, map, All, Contains, vec_capacity, IsSome, ℤ, pos, ◌<◌}
-use Rattle.rt_box.specs.Rect.{IsBox}
+use Rattle.std.specs.Prelude.{◌≡◌, ◌≢◌, ◌⊎◌, ℕ, suc, ◌+◌, ◌≤◌, Bool, List, [], ◌∷◌, ◌++◌, Some, None, length, slice_get, slice_set, slice_index_or, All, Contains, vec_capacity, IsSome, ℤ, pos, ◌<◌}
+use Rattle.rt_box.specs.Rect.{IsBox, Holds}
 use Rattle.rt_box.specs.Capacity.{least_fill, reinsertion_share}
 use Rattle.slab.specs.Slab.{Slab, get, slab_len, Updates}
 use Rattle.rt_tree_choice.specs.declared.split.Cut.{Cut}
@@ -65,6 +65,11 @@ module _ {D : ℕ} where
     pub within : at < length (cells_at a parent)
     pub names : (d : Cell D) → key_of (slice_index_or (cells_at a parent) at d) ≡ key
     pub rect : (d : Cell D) → (slice_index_or (cells_at a parent) at d).rect ≡ hull_at a key
+
+  -- where the parent's cell that names the node holds the box, it has the least box around the node's cells
+  abbrev pub HasLeastWhereHeld : Slab (NodeCells D) → ℕ → List Interval → Type 0
+  HasLeastWhereHeld a key rect = (parent at : ℕ) → parent_at a key ≡ Some parent → IsNamedAt (cells_at a parent) at key →
+      Holds (slice_index_or (cells_at a parent) at no_cell).rect rect → HasLeastBox a key parent
 
   -- the parent's cell that names the node has the least box around the node's cells
   pub record Refits (old new : Slab (NodeCells D)) (key parent : ℕ) (n : NodeCells D) : Type 0 where

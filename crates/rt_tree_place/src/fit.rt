@@ -2,10 +2,11 @@
 //!
 //! It is to be the least box around the node's cells (`HasLeastBox` and `Refits` in `specs/Steps.antt`).
 
-ghost use Rattle.std.specs.Prelude.{◌≡◌, ℕ, ◌^◌, ◌<◌, ◌≤◌, ◌↔◌, Some, IsTrue, pos, length};
+ghost use Rattle.std.specs.Prelude.{◌≡◌, ℕ, ◌^◌, ◌<◌, ◌≤◌, ◌↔◌, Some, IsTrue, true, pos, length, slice_index_or};
+ghost use Rattle.rt_box.specs.Rect.{Holds};
 ghost use Rattle.slab.specs.Slab.{get, ContainsKey};
 ghost use Rattle.rt_tree_node.specs.Node.{NodeCells};
-ghost use Rattle.rt_tree_node.specs.Places.{times_named, cells_at};
+ghost use Rattle.rt_tree_node.specs.Places.{times_named, cells_at, no_cell};
 ghost use Rattle.rt_tree_place.specs.Steps.{IsNamedAt, HasLeastBox, Refits};
 
 use rt_box::Rect;
@@ -41,6 +42,27 @@ pub fn has_least_box<const D: usize>(nodes: &Slab<Node<D>>, key: Key, parent: Ke
     let node = node_at(nodes, parent);
     let at = node.position(&cell.number);
     node.cell(at).rect == cell.rect
+}
+
+/// Whether the parent's cell that names the node holds the box.
+pub(crate) fn is_held<const D: usize>(
+    nodes: &Slab<Node<D>>,
+    key: Key,
+    parent: Key,
+    rect: &Rect<D>,
+) -> bool
+    requires few { D ≤ 3 }
+    requires keys { nodes.now.capacity ≤ 2 ^ 62 }
+    requires present { ContainsKey nodes.now key }
+    requires above { ContainsKey nodes.now parent }
+    requires named { (at : ℕ) × IsNamedAt (cells_at nodes.now parent) at key }
+    ensures { result ≡ true → (at : ℕ) × IsNamedAt (cells_at nodes.now parent) at key × Holds (slice_index_or (cells_at nodes.now parent) at no_cell).rect rect.now }
+{
+    slab_facts(nodes);
+    let cell = cell_for(key, rect);
+    let node = node_at(nodes, parent);
+    let at = node.position(&cell.number);
+    node.cell(at).rect.contains(rect)
 }
 
 /// Gives the parent's cell that names the node the least box around the node's cells.

@@ -51,7 +51,7 @@ pub fn place_last<const D: usize>(tree: &mut Arena<D>, marks: &mut u8, work: &mu
 {
     let entry = tree.waiting.pop().unwrap();
     let key = enter(tree, &entry);
-    rise(tree, key, marks, work);
+    rise(tree, key, &entry.cell.rect, marks, work);
     grow(tree, work);
     work.placements += 1;
 }

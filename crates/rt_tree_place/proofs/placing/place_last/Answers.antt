@@ -2,6 +2,8 @@ use Rattle.std.proofs.Common.{◌≡◌, [], ◌∷◌, ◌++◌, arith, refl, r
 use Rattle.std.specs.Option.{option_to_list}
 use Rattle.rt_tree_node.specs.declared.arena.Arena.{Arena}
 use Rattle.rt_tree_place.specs.Rise.{IsAwaited}
+use Rattle.rt_tree_place.specs.Steps.{HasLeastWhereHeld}
+use Rattle.rt_tree_place.proofs.Held.{held-before}
 use Rattle.rt_tree_place.proofs.Placed.{awaited-from, placed}
 use Rattle.rt_tree_place.proofs.placing.place_last.Goals as goal
 
@@ -13,6 +15,16 @@ enter-key-requires g c =
     let popped : Arena g.row.D = record old { waiting = c.pop.new.self } in
     let was : old.waiting.items ≡ c.pop.new.self.items ++ entry ∷ [] = c.pop.ensures.items ∙ ap (λ o. c.pop.new.self.items ++ option_to_list o) c.unwrap-entry.ensures in
     let awaited : IsAwaited popped entry = awaited-from old popped entry c.requires.whole was in
+    search rules
+
+pub rise-requires : goal.rise-requires
+rise-requires g c =
+    let few = c.requires.few in
+    let old = c.args.tree.now in
+    let entry = c.unwrap-entry.result in
+    let popped : Arena g.row.D = record old { waiting = c.pop.new.self } in
+    let held : HasLeastWhereHeld c.enter-key.new.tree.nodes c.enter-key.result entry.cell.rect =
+    held-before popped c.enter-key.new.tree entry c.enter-key.result old.waiting.items c.requires.whole.fitted c.enter-key.ensures in
     search rules
 
 pub returns : goal.returns

@@ -13,6 +13,17 @@ loop-parent-init g c = record {
   steps = ClimbsTo.none;
 }
 
+pub returns-then-is_settled-clause-risen : goal.returns-then-is_settled-clause-risen
+returns-then-is_settled-clause-risen g c =
+    let t = c.args.tree.now in
+    let rests = c.is_settled.ensures c.if-is_settled.true in
+    risen-rests t t c.args.from c.args.from rests.0 c.args.marks.now c.args.marks.now c.args.work.now c.args.work.now
+    (risen-start t c.args.from c.args.marks.now c.args.work.now c.requires.rising) rests.1 rests.2
+
+pub returns-then-is_settled-clause-ascends : goal.returns-then-is_settled-clause-ascends
+returns-then-is_settled-clause-ascends g c =
+    record { last = c.args.from; steps = ClimbsTo.none; ends = inr (c.is_settled.ensures c.if-is_settled.true) }
+
 pub lift-requires : goal.lift-requires
 lift-requires g c =
     let s = c.args.tree.now in
