@@ -2,22 +2,25 @@
 //!
 //! - `Session`: the tables under their names. `step` carries a statement out, or refuses it, and a
 //!   refusal leaves the tables as they were.
-//! - `Reply`, `Change`: what a statement answers.
+//! - `Reply`, `Change`: what a statement answers. `Shown` is the rows of a reply with the columns that it shows of them,
+//!   and `TreeDump` a tree.
 //! - `laws`: whatever statements are carried out, the rows of a table stand by rising id, and its tree is one of its rows
 //!   in which the checker finds no problem.
 //!
 //! Any statement may be refused for want of memory, and that refusal too leaves the tables.
 //!
 //! Stands on `rt_table`. Definitions: `specs/Session.antt` (the answer to each statement), `Selecting.antt`,
-//! `Laws.antt`; `Worked.antt` holds them against worked examples.
+//! `Shown.antt`, `Laws.antt`; `Worked.antt` holds them against worked examples.
 #![tactic(auto)]
 
 pub mod laws;
 mod reply;
 mod selecting;
 mod session;
+mod shown;
 mod tables;
 
-pub use reply::Reply;
+pub use reply::{Reply, TreeDump};
 pub use rt_table::Change;
 pub use session::Session;
+pub use shown::{Shown, ShownView};

@@ -8,8 +8,9 @@ ghost use Rattle.rt_table_row.specs.Edits.{steps_of};
 ghost use Rattle.rt_session.specs.Session.{empty, CarriesOut, MayChooseFor, created, dropped, carried_out, on_table, table_of, now_watched, on_watched, watched_by, now_unwatched, viewed, selected, checked, dumped};
 ghost use Rattle.rt_session.specs.Steps.{AnswersUnlessMemory, AnswersByTree};
 
-use crate::reply::Reply;
+use crate::reply::{Reply, TreeDump};
 use crate::selecting::select;
+use crate::shown::Shown;
 use crate::tables::{Named, have_views, place_of, place_of_view};
 use rt_box::Capacity;
 use rt_sql_statement::{ColumnDef, Cond, Edit, Items, Name, Refusal, Stmt};
@@ -188,7 +189,7 @@ impl Session {
         };
         let picked = self.tables[at].table.view(self.alloc, view)?;
         // A view visits no node for its rows, so the number of visited nodes is 0 and says nothing.
-        Ok(Reply::Rows(AnyRows::listed(picked.rows)))
+        Ok(Reply::Rows(Shown::whole(AnyRows::listed(picked.rows))))
     }
 
     fn select(
@@ -224,6 +225,7 @@ impl Session {
             return Err(Refusal::NoSuchTable);
         };
         let shadow = self.tables[at].table.nodes(self.alloc)?;
-        Ok(Reply::Dump(shadow))
+        let dump = TreeDump::new(self.alloc, shadow)?;
+        Ok(Reply::Dump(dump))
     }
 }

@@ -1,4 +1,5 @@
 pub mod Alike
+pub mod Columns
 pub mod EngineLemmas
 pub mod Groups
 pub mod Listed

@@ -1,6 +1,6 @@
 -- The lines that a script's run prints (own; values as SQLite's documentation has them of quote(), Built-In Scalar SQL
 -- Functions).
-use Rattle.std.specs.Prelude.{ℕ, ◌/◌, ◌%◌, true, if◌then◌else◌, List, [], ◌∷◌, ◌++◌, codes, decimal, Result, Ok, Err}
+use Rattle.std.specs.Prelude.{ℕ, ◌/◌, ◌%◌, true, if◌then◌else◌, List, [], ◌∷◌, ◌++◌, codes, decimal, slice_index_or, Result, Ok, Err}
 use Rattle.std.specs.Fmt.{digit_glyph, signed_decimal}
 use Rattle.std.specs.List.{flat_map, join_by}
 use Rattle.rt_sql.specs.Token.{doubled}
@@ -24,6 +24,10 @@ value_text Null = codes "NULL"
 value_text (Int n) = signed_decimal n
 value_text (Text t) = codes "'" ++ doubled 39 t ++ codes "'"
 value_text (Blob bytes) = codes "X'" ++ flat_map hex_pair bytes ++ codes "'"
+
+-- the value of a row at that place; NULL past the last one
+abbrev pub column_text : List Value → ℕ → List ℕ
+column_text row place = value_text (slice_index_or row place Null)
 
 -- a row's values with bars between them
 abbrev pub row_line : List Value → List ℕ

@@ -4,18 +4,21 @@
 //! `None` where the room is used up, or where a value takes more than a copy. `reply` then writes that row value by
 //! value.
 
-ghost use Rattle.std.specs.Prelude.{◌≡◌, ◌+◌, ◌*◌, ◌≤◌, ◌++◌, ◌∷◌, ℕ, List, [], IfSome, codes, drop, length, take};
+ghost use Rattle.std.specs.Prelude.{◌≡◌, ◌+◌, ◌*◌, ◌<◌, ◌≤◌, ◌++◌, ◌∷◌, ℕ, List, [], IfSome, codes, drop, length, slice_index_or, take};
 ghost use Rattle.std.specs.Fmt.{signed_decimal};
 ghost use Rattle.std.specs.List.{flat_map, join_by};
 ghost use Rattle.rt_sql.specs.Token.{doubled};
 ghost use Rattle.rt_table_row.specs.Entries.{listed_values};
+ghost use Rattle.rt_table_row.specs.Entries.{field_value};
 ghost use Rattle.rt_table.specs.AnyRows.{box_values};
-ghost use Rattle.rt_shell.specs.Lines.{value_text, row_line};
+ghost use Rattle.rt_session.specs.Selecting.{values_at};
+ghost use Rattle.rt_shell.specs.Lines.{value_text, column_text, row_line};
 
 use crate::value::first_quote;
 use itoa::write_digits;
 use rt_sql_statement::Value;
-use rt_table_row::{ListedRow, RowList};
+use rt_table::AnyRows;
+use rt_table_row::{Field, ListedRow, RowList};
 use rt_tree::Row;
 use std::marker::Model;
 
@@ -214,6 +217,54 @@ impl Lines {
             Value::Text(text) => self.put_text(text.as_str().as_bytes()),
             Value::Blob(_) => None,
         }
+    }
+
+    /// Puts a value that is looked at, where there is room for it and it takes no more than a copy.
+    #[inline]
+    fn put_field(&mut self, field: Field<'_>) -> Option<()>
+        ensures { IfSome result (λ _. self.new ≡ value_text (field_value field.entry) ++ self.old) }
+    {
+        match field {
+            Field::Number(number) => self.put_integer(number),
+            Field::Auxiliary(value) => self.put_value(value),
+            Field::Missing => self.put(b"NULL"),
+        }
+    }
+
+    /// Puts the columns of a row that follow a first one, each behind a bar.
+    fn put_more_columns(&mut self, rows: &AnyRows, at: usize, places: &[usize]) -> Option<()>
+        requires { at < length rows.now }
+        ensures { IfSome result (λ _. self.new ≡ flat_map (λ place. codes "|" ++ column_text (slice_index_or rows.now at []) place) places.now ++ self.old) }
+    {
+        let mut rest = places;
+        while let Some((last, before)) = rest.split_last() {
+            self.put_field(rows.value_at(at, *last))?;
+            self.put_byte(b'|')?;
+            rest = before;
+        }
+        Some(())
+    }
+
+    /// Puts the columns of a row with bars between them.
+    fn put_each_column(&mut self, rows: &AnyRows, at: usize, places: &[usize]) -> Option<()>
+        requires { at < length rows.now }
+        ensures { IfSome result (λ _. self.new ≡ join_by (column_text (slice_index_or rows.now at [])) (codes "|") places.now ++ self.old) }
+    {
+        if let Some((first, rest)) = places.split_first() {
+            self.put_more_columns(rows, at, rest)?;
+            self.put_field(rows.value_at(at, *first))?;
+        }
+        Some(())
+    }
+
+    /// Puts the line of the columns of a row, where there is room for it and no value takes more than a copy.
+    pub(crate) fn put_columns(&mut self, rows: &AnyRows, at: usize, places: &[usize]) -> Option<()>
+        requires { at < length rows.now }
+        ensures { IfSome result (λ _. self.new ≡ row_line (values_at places.now (slice_index_or rows.now at [])) ++ self.old) }
+    {
+        self.put_byte(b'\n')?;
+        self.put_each_column(rows, at, places)?;
+        Some(())
     }
 
     /// Puts values that follow a first one, each behind a bar.

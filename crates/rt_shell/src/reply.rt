@@ -3,15 +3,17 @@
 //! Rows are written in two ways with the same bytes: short ones are put together by `lines` and written some at a
 //! time, as are all without auxiliary values, and others value by value. `specs/Lines.antt` names the bytes.
 
-ghost use Rattle.std.specs.Prelude.{◌≡◌, ◌<◌, ◌≤◌, ◌++◌, if◌then◌else◌, codes, map, length, take, drop, IfOk, OnErr};
+ghost use Rattle.std.specs.Prelude.{◌≡◌, ◌<◌, ◌≤◌, ◌++◌, [], if◌then◌else◌, codes, map, length, slice_index_or, take, drop, IfOk, OnErr};
 ghost use Rattle.rt_bytes.specs.Bytes.{WritesAll, WritesFront};
 ghost use Rattle.std.specs.Fmt.{signed_decimal};
 ghost use Rattle.std.specs.List.{flat_map, join_by};
 ghost use Rattle.rt_bytes.specs.Devices.{WritesTo};
 ghost use Rattle.rt_sql_statement.specs.declared.value.Value.TheVariants.{Int};
 ghost use Rattle.rt_table_row.specs.Entries.{listed_values};
+ghost use Rattle.rt_table_row.specs.Entries.{field_value};
 ghost use Rattle.rt_table.specs.AnyRows.{box_values};
-ghost use Rattle.rt_shell.specs.Lines.{value_text, row_line, change_line, reply_lines, refusal_line};
+ghost use Rattle.rt_session.specs.Selecting.{values_at};
+ghost use Rattle.rt_shell.specs.Lines.{value_text, column_text, row_line, change_line, reply_lines, refusal_line};
 
 use crate::lines::{BOXES_AT_ONCE, Lines};
 use crate::value::{write_integer, write_value};
@@ -19,10 +21,10 @@ use itoa::Buffer;
 use rt_bytes::{ByteWriter, WriteFault, write_parts, write_whole};
 use rt_check_dump::write_dump;
 use rt_check_report::write_verdict;
-use rt_session::{Change, Reply};
+use rt_session::{Change, Reply, Shown, ShownView};
 use rt_sql_statement::{Refusal, Value};
 use rt_table::{AnyRows, RowsView};
-use rt_table_row::{ListedRow, RowList};
+use rt_table_row::{Field, ListedRow, RowList};
 use rt_tree::Row;
 
 /// The most rows whose lines are written at once.
@@ -39,10 +41,127 @@ pub fn write_reply<W: ByteWriter>(reply: &Reply, writer: &mut W) -> Result<(), W
 {
     match reply {
         Reply::Nothing => Ok(()),
-        Reply::Rows(rows) => write_rows(rows, writer),
+        Reply::Rows(shown) => write_shown(shown, writer),
         Reply::Changes(changes) => write_changes(changes.as_slice(), writer),
         Reply::Verdict(problems) => write_verdict(problems.as_slice(), writer),
-        Reply::Dump(tree) => write_dump(tree, writer),
+        Reply::Dump(dump) => write_dump(dump.tree(), writer),
+    }
+}
+
+fn write_shown<W: ByteWriter>(shown: &Shown, writer: &mut W) -> Result<(), WriteFault>
+    ensures { WritesTo W.ByteWriter writer.old writer.new result (flat_map row_line shown.now) }
+{
+    match shown.view() {
+        ShownView::Whole(rows) => write_rows(rows, writer),
+        ShownView::Columns(rows, places) => write_columns(rows, places, writer),
+    }
+}
+
+/// Writes the lines of the columns at these places, row by row.
+fn write_columns<W: ByteWriter>(
+    rows: &AnyRows,
+    places: &[usize],
+    writer: &mut W,
+) -> Result<(), WriteFault>
+    ensures { WritesTo W.ByteWriter writer.old writer.new result (flat_map (λ row. row_line (values_at places.now row)) rows.now) }
+{
+    let mut lines = Lines::new();
+    for at in 0..rows.len() {
+        write_columns_of(&mut lines, rows, at, places, writer)?;
+    }
+    Ok(())
+}
+
+/// Writes the line of a row's columns, which is put together in `lines` where it is short.
+fn write_columns_of<W: ByteWriter>(
+    lines: &mut Lines,
+    rows: &AnyRows,
+    at: usize,
+    places: &[usize],
+    writer: &mut W,
+) -> Result<(), WriteFault>
+    requires { at < length rows.now }
+    ensures { WritesTo W.ByteWriter writer.old writer.new result (row_line (values_at places.now (slice_index_or rows.now at []))) }
+{
+    lines.clear();
+    match lines.put_columns(rows, at, places) {
+        Some(()) => write_whole(writer, lines.as_slice()),
+        None => write_long_columns(rows, at, places, writer),
+    }
+}
+
+/// Writes the line of a row's columns value by value.
+fn write_long_columns<W: ByteWriter>(
+    rows: &AnyRows,
+    at: usize,
+    places: &[usize],
+    writer: &mut W,
+) -> Result<(), WriteFault>
+    requires { at < length rows.now }
+    ensures { WritesTo W.ByteWriter writer.old writer.new result (row_line (values_at places.now (slice_index_or rows.now at []))) }
+{
+    write_each_column(rows, at, places, writer)?;
+    write_line_end(writer)
+}
+
+fn write_each_column<W: ByteWriter>(
+    rows: &AnyRows,
+    at: usize,
+    places: &[usize],
+    writer: &mut W,
+) -> Result<(), WriteFault>
+    requires { at < length rows.now }
+    ensures { WritesTo W.ByteWriter writer.old writer.new result (join_by (column_text (slice_index_or rows.now at [])) (codes "|") places.now) }
+{
+    let Some((first, rest)) = places.split_first() else {
+        return Ok(());
+    };
+    write_field(rows.value_at(at, *first), writer)?;
+    write_more_columns(rows, at, rest, writer)
+}
+
+/// Writes the columns that follow a first one.
+fn write_more_columns<W: ByteWriter>(
+    rows: &AnyRows,
+    at: usize,
+    places: &[usize],
+    writer: &mut W,
+) -> Result<(), WriteFault>
+    requires { at < length rows.now }
+    ensures { WritesTo W.ByteWriter writer.old writer.new result (flat_map (λ place. codes "|" ++ column_text (slice_index_or rows.now at []) place) places.now) }
+{
+    for place in places {
+        write_column_after_bar(rows, at, *place, writer)?;
+    }
+    Ok(())
+}
+
+fn write_line_end<W: ByteWriter>(writer: &mut W) -> Result<(), WriteFault>
+    ensures { WritesTo W.ByteWriter writer.old writer.new result (codes "\n") }
+{
+    write_whole(writer, b"\n")
+}
+
+fn write_column_after_bar<W: ByteWriter>(
+    rows: &AnyRows,
+    at: usize,
+    place: usize,
+    writer: &mut W,
+) -> Result<(), WriteFault>
+    requires { at < length rows.now }
+    ensures { WritesTo W.ByteWriter writer.old writer.new result (codes "|" ++ column_text (slice_index_or rows.now at []) place) }
+{
+    write_bar(writer)?;
+    write_field(rows.value_at(at, place), writer)
+}
+
+fn write_field<W: ByteWriter>(field: Field<'_>, writer: &mut W) -> Result<(), WriteFault>
+    ensures { WritesTo W.ByteWriter writer.old writer.new result (value_text (field_value field.entry)) }
+{
+    match field {
+        Field::Number(number) => write_integer(&number, writer),
+        Field::Auxiliary(value) => write_value(value, writer),
+        Field::Missing => write_whole(writer, b"NULL"),
     }
 }
 
@@ -171,7 +290,7 @@ fn write_long_row<W: ByteWriter>(row: &ListedRow<'_>, writer: &mut W) -> Result<
     ensures { WritesTo W.ByteWriter writer.old writer.new result (row_line (listed_values row.now)) }
 {
     write_listed(row, writer)?;
-    write_whole(writer, b"\n")
+    write_line_end(writer)
 }
 
 fn write_listed<W: ByteWriter>(row: &ListedRow<'_>, writer: &mut W) -> Result<(), WriteFault>

@@ -14,5 +14,5 @@ returns c = λ state.
     let placed : ArePlaces t.columns.names names c.in_ok-places.places.items =
     subst (λ (s : Columns). ArePlaces s.names names c.in_ok-places.places.items) c.schema-2.ensures c.in_ok-places.ensures.ok in
     let listed : c.args.columns.now ≡ Some names = search (rules, c.in-Some.is, c.as_slice.ensures) in
-    rw (listed, c.listed.ensures, c.in_ok-rows.ensures, c.as_slice-2.ensures.value)
+    rw (listed, c.columns.ensures)
     (selected_columns state t names c.args.cond c.args.order.now c.in_ok-places.places.items c.in_ok-picked-2.picked placed by_id c.in_ok-picked-2.ensures.ok)

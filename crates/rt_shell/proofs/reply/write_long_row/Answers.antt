@@ -7,4 +7,4 @@ use Rattle.rt_shell.proofs.reply.write_long_row.Goals as goal
 
 pub returns : goal.returns
 returns g c =
-    Writes-after _ _ _ _ _ _ _ (join_by value_text (codes "|") (listed_values c.args.row.now)) (codes "\n") c.in_ok-write_listed.ensures c.write_whole.ensures
+    Writes-after _ _ _ _ _ _ _ (join_by value_text (codes "|") (listed_values c.args.row.now)) (codes "\n") c.in_ok-write_listed.ensures c.write_line_end.ensures

@@ -17,4 +17,4 @@ returns c =
     let place = placed (λ (n : Named). same_name c.args.name.now n.name) c.self.inside.tables.items _ _ _ c.as_slice.ensures.value c.place_of.ensures c.in-Some.is in
     let t = c.index.result.now in
     let there : table_of c.args.self.now c.args.name.now ≡ Some (named_of t) = found c.args.self.now _ _ c.self.view_is (is_named c.args.name.now) c.in-Some.at t place c.index.ensures in
-    rw (there, c.in_ok-shadow.ensures) refl
+    rw (there, c.in_ok-dump.ensures, c.in_ok-shadow.ensures) refl

@@ -26,4 +26,4 @@ returns c =
     let place = placed (λ (n : Named). has_view n.table.lists c.args.view.now) c.self.inside.tables.items _ _ _ c.as_slice.ensures.value c.place_of_view.ensures c.in-Some.is in
     let t = c.index.result.now in
     let there : watched_by c.args.self.now c.args.view.now ≡ Some (named_of t) = found c.args.self.now _ _ c.self.view_is (λ t. has_view t.table c.args.view.now) c.in-Some.at t place c.index.ensures in
-    rw (there, c.listed.ensures) (viewed_as c.args.self.now c.args.view.now (named_of t) _ c.in_ok-picked.ensures.ok)
+    rw (there, c.whole.ensures, c.listed.ensures) (viewed_as c.args.self.now c.args.view.now (named_of t) _ c.in_ok-picked.ensures.ok)
