@@ -1,5 +1,5 @@
 -- What two runs of one script print, is equal but for dumps, and over plain lists there is a transcript for all marks.
-use Rattle.std.proofs.Common.{◌≡◌, ◌∙◌, ◌⊎◌, inl, inr, ℕ, ◌+◌, Bool, true, false, List, [], ◌∷◌, ◌++◌, Option, Some, None, Result, Ok, Err, refl, sym, ap, subst}
+use Rattle.std.proofs.Common.{◌≡◌, ◌∙◌, ◌⊎◌, inl, inr, ℕ, ◌+◌, ◌≤◌, Bool, true, false, List, [], ◌∷◌, ◌++◌, Option, Some, None, Result, Ok, Err, length, arith, refl, sym, ap, subst}
 use Rattle.std.specs.Prelude.{◌&&◌, ◌||◌, if◌then◌else◌}
 use Rattle.std.specs.Bool.{MatchBool}
 use Rattle.std.specs.Result.{is_err}
@@ -199,11 +199,30 @@ ended_one_way x (p ∷ ps) (q ∷ qs) h k =
     let same_rest : h.1 ≡ k.1 = cc in
     let same_pieces = ended_one_way h.1 ps qs h.4 (subst (λ l. EndedPieces l qs) (sym same_rest) k.4) in cc
 
+-- only the marks of pieces that print matter
+remarked_as_far : (options : Options) (marks others : Marks) (p : Progress) (pieces : List PieceText) (parts : List (List ℕ)) (status : Status)
+    → ((n : ℕ) → n ≤ p.pieces + length parts → marks n ≡ others n) → Prints options marks p pieces parts status → Prints options others p pieces parts status
+remarked_as_far options marks others p [] parts status agree prints = prints
+remarked_as_far options marks others p (piece ∷ pieces) parts status agree (outcome, gives, later, lines, more) =
+    let counted : length parts ≡ length later + 1 = rw lines (omega arith) in (
+      outcome,
+      rw (agree (p.pieces + 1) (omega arith)) at gives,
+      later,
+      lines,
+      elim (options.bail && is_err outcome) as
+          (λ b. MatchBool b ((later ≡ []) × (status ≡ Refused)) (Prints options marks (after p outcome) pieces later status)
+          → MatchBool b ((later ≡ []) × (status ≡ Refused)) (Prints options others (after p outcome) pieces later status)) [
+            | true ↦ λ ends. ends
+            | false ↦ λ goes. remarked_as_far options marks others (after p outcome) pieces later status (λ n le. agree n (omega arith)) goes
+          ] more,
+    )
+
 pub same_so_far : TranscriptSoFarIsDetermined
-same_so_far options marks read one other (pieces, ended, first, prints) (others, parted, second, printed) =
-    let same : others ≡ pieces = ended_one_way read others pieces parted ended in
-    (same_print options marks (start options) (start options) (at_start options) tt tt pieces one other first second prints
-    (subst (λ ps. Prints options marks (start options) ps other second) same printed)).0
+same_so_far options marks others read one other (pieces, ended, first, prints) (parts, parted, second, printed) agree =
+    let same : parts ≡ pieces = ended_one_way read parts pieces parted ended in
+    (same_print options others (start options) (start options) (at_start options) tt tt pieces one other first second
+    (remarked_as_far options marks others (start options) pieces one first (λ n le. agree n (omega (arith, le))) prints)
+    (subst (λ ps. Prints options others (start options) ps other second) same printed)).0
 
 -- ---- over plain lists
 

@@ -1,5 +1,5 @@
 -- What holds of every script, over the definitions that the contracts cite (own).
-use Rattle.std.specs.Prelude.{◌≡◌, ◌⊎◌, ℕ, ◌+◌, Bool, true, false, ◌&&◌, List, [], ◌∷◌, Result, Ok, Err}
+use Rattle.std.specs.Prelude.{◌≡◌, ◌⊎◌, ℕ, ◌+◌, Bool, true, false, ◌&&◌, ◌≤◌, List, [], ◌∷◌, length, Result, Ok, Err}
 use Rattle.std.specs.Bool.{MatchBool}
 use Rattle.std.specs.List.{concat}
 use Rattle.std.specs.Result.{is_err}
@@ -57,11 +57,13 @@ abbrev pub IsTranscriptSoFarByPieces : Options → Marks → List ℕ → List (
 IsTranscriptSoFarByPieces options marks read parts =
     (pieces : List PieceText) × EndedPieces read pieces × (status : Status) × Prints options marks (start options) pieces parts status
 
--- the same of a script that may go on: whoever reads it in whatever parts, prints one thing at most but for dumps
+-- whoever reads or is fed the same bytes, in whatever parts, prints one thing at most of each piece but for dumps, as far as
+-- memory refuses the same pieces
 abbrev pub TranscriptSoFarIsDetermined : Type 0
 TranscriptSoFarIsDetermined =
-    (options : Options) (marks : Marks) (read : List ℕ) (one other : List (List ℕ))
-    → IsTranscriptSoFarByPieces options marks read one → IsTranscriptSoFarByPieces options marks read other
+    (options : Options) (marks others : Marks) (read : List ℕ) (one other : List (List ℕ))
+    → IsTranscriptSoFarByPieces options marks read one → IsTranscriptSoFarByPieces options others read other
+    → ((n : ℕ) → n ≤ length one → marks n ≡ others n)
     → EqualButDumps HaveSameRows one other
 
 -- after each feed a shell has printed the transcript so far of all that it was fed, in whatever parts that came

@@ -21,8 +21,8 @@ pub fn shell_prints_the_transcript_so_far()
     ensures { ShellPrintsTheTranscriptSoFar }
 {}
 
-/// Given the options and the pieces that memory refuses, the transcript so far is determined as that of a whole script is.
-/// So two shells that were fed the same bytes printed the same, however these were parted, but for the dumps of trees.
+/// The transcript so far is determined as that of a whole script is. So two shells that were fed the same bytes printed the
+/// same but for the dumps of trees, however these bytes were parted, if memory refused the same pieces of those that printed.
 pub fn transcript_so_far_is_determined()
     ensures { TranscriptSoFarIsDetermined }
 {}

@@ -1,18 +1,22 @@
-//! A script shell over the tables of a session: it reads a script, carries out its pieces one by one, and
+//! A script shell over the tables of a session: it takes a script, carries out its pieces one by one, and
 //! writes what they print.
 //!
 //! - `write_reply`: the lines that an answer prints.
-//! - `run`: its contract names the transcript of the script: the lines of its pieces in order, each
+//! - `Shell`: is fed a script in whatever parts. After each of them it has printed the transcript so far of all
+//!   that it was fed, and after the last the transcript of the script.
+//! - `run`: reads a script into a shell. Its contract names the transcript of the script: the lines of its pieces in order, each
 //!   answered from the tables that those before it left. It says so however the reader parts the
 //!   bytes, and of a failed read or write how much of the transcript was written.
 //! - `laws`: a script, its options and the pieces that memory refuses have one transcript, but that the
-//!   dump of a tree may be that of another tree of the same rows.
+//!   dump of a tree may be that of another tree of the same rows. So have the pieces that have ended in the bytes
+//!   that a shell was fed.
 //!
 //! Any piece may be refused for want of memory, and that refusal too leaves the tables.
 //!
 //! Stands on `rt_session` (answers), `rt_sql_cut` and `rt_sql` (pieces and their statements), `rt_check_report` and `rt_check_dump`
 //! (verdicts and dumps) and `rt_bytes`. Definitions: `specs/Transcript.antt` (what a whole script prints),
-//! `Lines.antt` (what an answer prints), `Run.antt` (what a run does to its reader and writer), `Laws.antt`;
+//! `Lines.antt` (what an answer prints), `Shell.antt` (what a shell has printed of what it was fed), `Run.antt`
+//! (what a run does to its reader and writer), `Laws.antt`;
 //! `Engine.antt` says how steps of a run join.
 //!
 //! ```text
@@ -21,6 +25,11 @@
 //! let mut reader = SliceReader::new(b"SELECT * FROM shops;", 4096);
 //! let mut writer = OverWrite::new(io::writer(&rt));
 //! let status = run(rt.alloc(), keys, &mut reader, &mut writer, &options)?;
+//!
+//! let mut shell = Shell::new(rt.alloc(), keys, &options)?;
+//! shell.feed(b"SELECT * FROM sh", &mut writer)?;
+//! shell.feed(b"ops;", &mut writer)?;
+//! let status = shell.finish(&mut writer)?;
 //! ```
 #![tactic(auto)]
 

@@ -11,8 +11,9 @@ use std::alloc::{AllocError, Global};
 use std::hash::RandomState;
 use thiserror::Error;
 
-/// How many bytes a shell takes at most. Its pieces are counted in 64 bits, and each has a byte.
-const MOST_BYTES: u64 = 1 << 63;
+/// How many pieces may come so that the shell can count them. Each has a byte at least, so in a script of so many
+/// bytes there are no more.
+const MOST_PIECES: u64 = 1 << 63;
 
 /// Why a shell didn't take what it was fed.
 #[derive(Clone, Copy, PartialEq, Eq, Debug, Error)]
@@ -20,7 +21,7 @@ pub enum FeedFault {
     /// A write failed or took no byte, now or before.
     #[error("write fault")]
     Write,
-    /// The script would be longer than 2^63 bytes.
+    /// The script is longer than 2^63 bytes.
     #[error("script too long")]
     TooLong,
 }
@@ -50,7 +51,7 @@ impl From<FeedFault> for RunFault {
     }
 }
 
-/// A script shell that is fed its script, in whatever parts. What it prints doesn't depend on them.
+/// A script shell that is fed its script, in whatever parts: what it prints doesn't depend on them (`laws`).
 ///
 /// It holds a piece of the script beside the tables. It is over once a write failed, and with bail after
 /// the first refusal: then it takes and writes nothing more, and answers the same again.
@@ -73,7 +74,7 @@ impl Shell {
     ///
     /// # Errors
     ///
-    /// There is no memory for the longest piece. Where memory runs out later, a piece is refused.
+    /// There is no memory for the longest piece. If memory runs out later, a piece is refused.
     pub fn new(alloc: Global, keys: RandomState, options: &Options) -> Result<Shell, AllocError>
         ensures { IfOk result (λ shell. HasPrinted options.now shell [] []) }
     {
@@ -91,9 +92,9 @@ impl Shell {
     /// # Errors
     ///
     /// - `Write`: a write failed or took no byte, and the shell is over. What was written is a front of what the
-    ///   script prints. A shell that is over by a write answers this again.
-    /// - `TooLong`: with these bytes the script would be longer than 2^63 bytes. They aren't taken, nothing is
-    ///   written, and the shell stays as it was.
+    ///   script prints. The shell answers this to all that it is fed from then on.
+    /// - `TooLong`: with these bytes the script is longer than 2^63 bytes. They aren't taken, nothing is written,
+    ///   and the shell stays as it was.
     pub fn feed<W: ByteWriter>(&mut self, bytes: &[u8], writer: &mut W) -> Result<Flow, FeedFault>
         ensures feeds { Feeds self.old bytes.now self.new (W.written writer.old) (W.written writer.new) (W.faults writer.old) (W.faults writer.new) result }
         ensures over { IsOver self.old → FeedsNoMore self.old self.new (W.written writer.old) (W.written writer.new) (W.faults writer.old) (W.faults writer.new) result }
@@ -102,7 +103,7 @@ impl Shell {
             Flow::Goes => {}
             Flow::Stops => return Ok(Flow::Stops),
         }
-        if bytes.len() as u64 > MOST_BYTES - self.engine.pieces {
+        if bytes.len() as u64 > MOST_PIECES - self.engine.pieces {
             return Err(FeedFault::TooLong);
         }
         self.flow = self.engine.take_all(bytes, writer);
