@@ -71,7 +71,7 @@ fn finish(tokens: &Tokens<'_>) -> Result<(), Refusal>
     Ok(())
 }
 
-/// Refuses a statement that something follows. It stands apart, since its drop is long.
+/// Refuses a statement that doesn't end where it should. It stands apart, since to drop a statement takes long code.
 #[cold]
 #[inline(never)]
 fn refused(_asked: Stmt) -> Result<Stmt, Refusal>

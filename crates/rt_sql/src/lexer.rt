@@ -286,7 +286,6 @@ fn marked(first: u8, text: &str) -> Lexeme<'_>
 }
 
 /// The token, the white space or the comment that the text begins with.
-#[tactic(auto, using(crate::proofs::Lexemes::white_lexeme, crate::proofs::Lexemes::digit_lexeme))]
 fn lexeme(first: u8, text: &str) -> Lexeme<'_>
     requires some { 0 < length text.now }
     requires first { first ≡ slice_index text.now 0 }

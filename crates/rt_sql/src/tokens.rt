@@ -67,7 +67,7 @@ impl<'a> Tokens<'a> {
         tokens
     }
 
-    /// Passes over the next token.
+    /// Passes over the next token. It is no part of its callers, so that the lexer stands in the program once.
     #[inline(never)]
     #[tactic(auto, using(crate::proofs::Cursor::rest_left))]
     pub fn skip(&mut self)
