@@ -13,6 +13,22 @@ use rt_box::Rect;
 use rt_tree_node::{Cell, Key, Node, hull_at, node_at, number_of, set_cell, slab_facts};
 use slab::Slab;
 
+/// What a cell that names a node has as its number.
+#[derive(Clone, Copy, Debug)]
+struct Name {
+    number: i64,
+}
+
+/// The number of the cells that name a node.
+fn node_name(key: Key) -> Name
+    requires { key < 2 ^ 63 }
+    ensures { result.number ≡ pos key }
+{
+    Name {
+        number: number_of(key),
+    }
+}
+
 /// The cell that names a node and has this box.
 pub(crate) fn cell_for<const D: usize>(key: Key, rect: &Rect<D>) -> Cell<D>
     requires { key < 2 ^ 63 }
@@ -44,6 +60,22 @@ pub fn has_least_box<const D: usize>(nodes: &Slab<Node<D>>, key: Key, parent: Ke
     node.cell(at).rect == cell.rect
 }
 
+/// The box of the parent's cell that names the node.
+pub fn box_above<const D: usize>(nodes: &Slab<Node<D>>, key: Key, parent: Key) -> Rect<D>
+    requires few { D ≤ 3 }
+    requires keys { nodes.now.capacity ≤ 2 ^ 62 }
+    requires present { ContainsKey nodes.now key }
+    requires above { ContainsKey nodes.now parent }
+    requires named { (at : ℕ) × IsNamedAt (cells_at nodes.now parent) at key }
+    ensures { (at : ℕ) × IsNamedAt (cells_at nodes.now parent) at key × (result ≡ (slice_index_or (cells_at nodes.now parent) at no_cell).rect) }
+{
+    slab_facts(nodes);
+    let node = node_at(nodes, parent);
+    let cell = node_name(key);
+    let at = node.position(&cell.number);
+    node.cell(at).rect
+}
+
 /// Whether the parent's cell that names the node holds the box.
 pub(crate) fn is_held<const D: usize>(
     nodes: &Slab<Node<D>>,
@@ -58,11 +90,7 @@ pub(crate) fn is_held<const D: usize>(
     requires named { (at : ℕ) × IsNamedAt (cells_at nodes.now parent) at key }
     ensures { result ≡ true → (at : ℕ) × IsNamedAt (cells_at nodes.now parent) at key × Holds (slice_index_or (cells_at nodes.now parent) at no_cell).rect rect.now }
 {
-    slab_facts(nodes);
-    let cell = cell_for(key, rect);
-    let node = node_at(nodes, parent);
-    let at = node.position(&cell.number);
-    node.cell(at).rect.contains(rect)
+    box_above(nodes, key, parent).contains(rect)
 }
 
 /// Gives the parent's cell that names the node the least box around the node's cells.

@@ -23,5 +23,5 @@ mod rise;
 mod split;
 
 pub use descent::choose_node;
-pub use fit::{has_least_box, refit};
+pub use fit::{box_above, has_least_box, refit};
 pub use placing::place_last;

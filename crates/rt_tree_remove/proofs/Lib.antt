@@ -6,6 +6,7 @@ pub mod Climbs
 pub mod Condenses
 pub mod WayGiven
 pub mod Taken
+pub mod Inside
 pub mod Placed
 pub mod Reordered
 pub mod Removed

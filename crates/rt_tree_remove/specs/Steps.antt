@@ -1,18 +1,17 @@
 -- The steps of a removal, and the trees between them: a cell leaves its leaf, nodes that are too thin then leave
 -- the tree and their cells wait, and a root with one child gives way (Guttman 1984, section 3.3; that the waiting
 -- cells are placed before the root gives way is own).
-use Rattle.std.specs.Prelude.{◌≡◌, ◌≢◌, ℕ, suc, ◌+◌, ◌-◌, ◌*◌, ◌<◌, ◌≤◌, Bool, ℤ, List, length, take, remove, slice_get, slice_set, slice_index_or, if◌then◌else◌, None, Some, All, Contains, vec_len, vec_capacity}
+use Rattle.std.specs.Prelude.{◌≡◌, ◌≢◌, ℕ, suc, ◌+◌, ◌-◌, ◌*◌, ◌<◌, ◌≤◌, Bool, ℤ, List, length, take, remove, slice_get, slice_index_or, if◌then◌else◌, None, Some, All, Contains, vec_len, vec_capacity, ◌<ℤ◌}
+use Rattle.std.specs.List.{AllZip}
 use Rattle.std.specs.Ordering.{int_eq}
 use Rattle.slab.specs.Slab.{Slab, get}
 use Rattle.indexmap.specs.IndexMap.{IndexMap, get as leaf_of, spare, index_map_len}
 use Rattle.rt_box.specs.declared.interval.Interval.{Interval}
 use Rattle.rt_box.specs.Capacity.{least_fill}
-use Rattle.rt_box.specs.Rect.{IsBox}
 use Rattle.rt_tree_node.specs.declared.arena.Arena.{Arena}
 use Rattle.rt_tree_node.specs.declared.cell.Cell.{Cell}
-use Rattle.rt_tree_node.specs.declared.cell.Waiting.{Waiting}
 use Rattle.rt_tree_node.specs.Node.{NodeCells}
-use Rattle.rt_tree_node.specs.Places.{key_of, cells_at, level_at, parent_at, hull_at, count_rows}
+use Rattle.rt_tree_node.specs.Places.{key_of, no_cell, cells_at, level_at, parent_at, count_rows}
 use Rattle.rt_tree_node.specs.Whole.{IsSound, IsWhole, IsBranched}
 use Rattle.rt_tree_node.specs.Changes.{Changes}
 use Rattle.rt_tree_node.specs.Homes.{KeepsIds}
@@ -20,6 +19,10 @@ use Rattle.rt_tree_node.specs.Path.{KeepsShape}
 use Rattle.rt_tree_place.specs.Steps.{HasLeastBox}
 use Rattle.rt_tree_insert.specs.Settling.{PlacesInTurn}
 use Rattle.rt_tree_remove.specs.Above.{way_up}
+
+-- the box touches no side of the other one, in which it lies
+abbrev pub LiesInside : List Interval → List Interval → Type 0
+LiesInside outer inner = AllZip (λ o i. (o.lo <ℤ i.lo) × (i.hi <ℤ o.hi)) outer inner
 
 module _ {S : Type 0} where
   -- the map lost the id, and leads each other one to where it led
@@ -34,6 +37,11 @@ module _ {D : ℕ} where
   pub record IsNamedAt (cells : List (Cell D)) (key at : ℕ) : Type 0 where
     pub within : at < length cells
     pub names : (d : Cell D) → key_of (slice_index_or cells at d) ≡ key
+
+  -- where the box lies inside that of the parent's cell that names the node, that one is the least around the node's cells
+  abbrev pub HasLeastWhereInside : Slab (NodeCells D) → ℕ → List Interval → Type 0
+  HasLeastWhereInside a key rect = (parent at : ℕ) → parent_at a key ≡ Some parent → IsNamedAt (cells_at a parent) key at →
+      LiesInside (slice_index_or (cells_at a parent) at no_cell).rect rect → HasLeastBox a key parent
 
   -- the node left the slab, and its cell left the parent
   pub record Dissolves (old new : Slab (NodeCells D)) (key parent at : ℕ) : Type 0 where

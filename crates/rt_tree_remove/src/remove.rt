@@ -39,7 +39,7 @@ pub fn remove_row<const D: usize>(tree: &mut Arena<D>, id: &i64) -> Rect<D>
     ensures { Removes tree.old tree.new id.now result }
 {
     let Taken { leaf, rect } = take_row(tree, id);
-    condense(tree, leaf);
+    condense(tree, leaf, &rect);
     turn_round(&mut tree.waiting);
     place_waiting(tree);
     give_way(tree);

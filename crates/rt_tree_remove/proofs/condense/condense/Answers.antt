@@ -7,6 +7,12 @@ use Rattle.rt_tree_remove.proofs.Climbs.{key-there}
 use Rattle.rt_tree_remove.proofs.Condenses.{climbing-start, climbing-more, climbing-end, climbing-condensed}
 use Rattle.rt_tree_remove.proofs.condense.condense.Goals as goal
 
+pub returns-then-stays_condensed : goal.returns-then-stays_condensed
+returns-then-stays_condensed g c =
+    let t = c.args.tree.now in
+    let condensed = c.stays_condensed.ensures c.if-stays_condensed.true in
+    climbing-condensed t t c.args.leaf c.args.leaf condensed.0 (climbing-start t c.args.leaf c.requires.but c.requires.bottom) condensed.1 condensed.2
+
 pub loop-parent-init : goal.loop-parent-init
 loop-parent-init g c = climbing-start c.args.tree.now c.args.leaf c.requires.but c.requires.bottom
 

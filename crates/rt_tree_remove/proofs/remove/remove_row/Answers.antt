@@ -3,9 +3,10 @@ use Rattle.rt_box.specs.Capacity.{least_fill}
 use Rattle.rt_tree_node.specs.declared.arena.Arena.{Arena}
 use Rattle.rt_tree_node.specs.Places.{level_at}
 use Rattle.rt_tree_node.specs.Whole.{IsWhole, HasRoom, row_count}
-use Rattle.rt_tree_remove.specs.Steps.{IsSoundBut}
+use Rattle.rt_tree_remove.specs.Steps.{IsSoundBut, HasLeastWhereInside}
 use Rattle.rt_tree_remove.proofs.Climbs.{node-there}
 use Rattle.rt_tree_remove.proofs.Removed.{removes, axes-known, whole-reversed, fewer-rows, ready-room, ready-waiting}
+use Rattle.rt_tree_remove.proofs.Inside.{inside-before}
 use Rattle.rt_tree_remove.proofs.Taken.{leaf-level}
 use Rattle.rt_tree_remove.proofs.remove.remove_row.Goals as goal
 
@@ -28,6 +29,8 @@ condense-requires g c =
     let product : (least_fill s1.capacity - 1) * s1.level ≡ (least_fill s0.capacity - 1) * s0.level =
     ap (λ m. (least_fill m - 1) * s1.level) takes.capacity ∙ ap (λ l. (least_fill s0.capacity - 1) * l) takes.level in
     let room : (least_fill s1.capacity - 1) * s1.level ≤ vec_capacity s1.waiting = omega (arith, product, ap vec_capacity takes.waiting, c.requires.waiting_room) in
+    let inside : HasLeastWhereInside s1.nodes leaf c.take_row-leaf.result.rect =
+    inside-before s0 s1 c.args.id.now leaf c.take_row-leaf.ensures.0 c.take_row-leaf.result.rect there.0 there.1 c.requires.whole takes in
     search rules
 
 pub place_waiting-requires : goal.place_waiting-requires
