@@ -1,8 +1,7 @@
 -- Rows without auxiliary values: an id and a box are all of them.
-use Rattle.std.proofs.Common.{◌≡◌, ℕ, Bool, true, false, List, [], ◌∷◌, map, filter, sym, ap, refl, ◌∙◌}
+use Rattle.std.proofs.Common.{◌≡◌, ℕ, Bool, List, [], ◌∷◌, map, filter, sym, ap, refl, ◌∙◌}
 use Rattle.std.specs.List.{All, AllByRecursion}
 use Rattle.std.proofs.lemmas.List.Elements.{All-filter, recursion_from_All}
-use Rattle.rt_box.specs.declared.interval.Interval.{Interval}
 use Rattle.rt_tree_walk.specs.declared.searching.Row.{Row}
 use Rattle.rt_sql_statement.specs.declared.value.Value.{Value}
 use Rattle.rt_table_row.specs.Rows.{TableRow, values_of}

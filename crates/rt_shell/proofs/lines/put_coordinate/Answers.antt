@@ -1,5 +1,4 @@
-use Rattle.std.proofs.Common.{◌≡◌, ◌≤◌, ◌+◌, ◌-◌, ℤ, ℕ, List, ◌∷◌, ◌++◌, drop, ap, ◌∙◌, arith, rules, length, FitsSigned, w32, w64, to_z-of_z}
-use Rattle.std.specs.Fmt.{signed_decimal}
+use Rattle.std.proofs.Common.{◌≡◌, ◌≤◌, ◌+◌, ◌-◌, ℕ, List, ◌∷◌, drop, ap, ◌∙◌, arith, rules, FitsSigned, w64, to_z-of_z}
 use Rattle.std.proofs.lemmas.List.{drop-set}
 use Rattle.rt_shell.proofs.Numbers.{length_coordinate}
 use Rattle.rt_shell.proofs.lines.put_coordinate.Goals as goal

@@ -1,4 +1,4 @@
-use Rattle.std.proofs.Common.{◌≡◌, ◌≤◌, arith, length, to_z-of_z, decimal}
+use Rattle.std.proofs.Common.{arith, to_z-of_z}
 use Rattle.std.specs.Prelude.{unsigned_abs}
 use Rattle.rt_shell.proofs.Numbers.{digits_fit}
 use Rattle.rt_shell.proofs.lines.put_number.Goals as goal

@@ -1,4 +1,4 @@
-use Rattle.std.proofs.Common.{[], ◌++◌, codes, slice_index_or, sym, ap, refl}
+use Rattle.std.proofs.Common.{[], ◌++◌, codes, slice_index_or, sym, ap}
 use Rattle.std.specs.List.{flat_map, join_by}
 use Rattle.rt_bytes.proofs.Writing.{Writes-both, Writes-first}
 use Rattle.rt_shell.specs.Lines.{column_text}

@@ -1,8 +1,8 @@
-use Rattle.std.proofs.Common.{◌≡◌, ℕ, List, [], ◌++◌, codes, arith, get_or, slice_index_or, sym, ap, subst}
+use Rattle.std.proofs.Common.{[], ◌++◌, codes, arith, get_or, slice_index_or}
 use Rattle.std.proofs.lemmas.List.{get_or_default}
 use Rattle.rt_bytes.proofs.Writing.{Writes-failed}
 use Rattle.rt_shell.proofs.Sequences.{WritesAll-item, WritesFront-item}
-use Rattle.rt_shell.specs.Lines.{column_text, value_text}
+use Rattle.rt_shell.specs.Lines.{column_text}
 use Rattle.rt_shell.proofs.reply.write_more_columns.Goals as goal
 
 pub returns-in_err-write_column_after_bar : goal.returns-in_err-write_column_after_bar

@@ -1,4 +1,4 @@
-use Rattle.std.proofs.Common.{◌≡◌, ℕ, List, [], ◌∷◌, ◌++◌, codes, slice_index_or, ap, ◌∙◌}
+use Rattle.std.proofs.Common.{ℕ, List, [], ◌++◌, codes, slice_index_or, ap, ◌∙◌}
 use Rattle.std.specs.List.{join_by}
 use Rattle.rt_shell.specs.Lines.{column_text}
 use Rattle.rt_shell.proofs.Columns.{columns-put}

@@ -1,4 +1,4 @@
-use Rattle.std.proofs.Common.{◌≡◌, true, false, [], arith, subst}
+use Rattle.std.proofs.Common.{◌≡◌, true, [], arith, subst}
 use Rattle.std.specs.Prelude.{All}
 use Rattle.indexmap.specs.IndexMap.{index_map_len}
 use Rattle.rt_table_store.specs.Stored.{Stored}
