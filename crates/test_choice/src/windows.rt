@@ -19,27 +19,24 @@ fn answers(coordinate: usize, op: Operator, value: i64) -> Option<(bool, bool)>
 
 #[test]
 fn compares_each_way(rt: HostRuntime) {
-    assert_eq!(rt; answers(1, Operator::Ge, 5), Some((true, true)));
-    assert_eq!(rt; answers(1, Operator::Gt, 5), Some((false, false)));
-    assert_eq!(rt; answers(0, Operator::Le, 0), Some((true, true)));
-    assert_eq!(rt; answers(0, Operator::Lt, 0), Some((false, false)));
-    assert_eq!(rt; answers(0, Operator::Eq, 3), Some((false, true)));
-    assert_eq!(rt; answers(0, Operator::Ne, 0), Some((true, true)));
-    assert_eq!(rt; answers(1, Operator::Le, 4), Some((false, true)));
-    assert_eq!(rt; answers(1, Operator::Lt, 0), Some((false, false)));
+    assert!(rt; answers(1, Operator::Ge, 5) == Some((true, true)));
+    assert!(rt; answers(1, Operator::Gt, 5) == Some((false, false)));
+    assert!(rt; answers(0, Operator::Le, 0) == Some((true, true)));
+    assert!(rt; answers(0, Operator::Lt, 0) == Some((false, false)));
+    assert!(rt; answers(0, Operator::Eq, 3) == Some((false, true)));
+    assert!(rt; answers(0, Operator::Ne, 0) == Some((true, true)));
+    assert!(rt; answers(1, Operator::Le, 4) == Some((false, true)));
+    assert!(rt; answers(1, Operator::Lt, 0) == Some((false, false)));
 }
 
 #[test]
 fn compares_with_the_ends_of_64_bits(rt: HostRuntime) {
-    assert_eq!(rt; answers(0, Operator::Gt, i64::MIN), Some((true, true)));
-    assert_eq!(rt; answers(0, Operator::Lt, i64::MIN), Some((false, false)));
-    assert_eq!(rt; answers(1, Operator::Lt, i64::MAX), Some((true, true)));
-    assert_eq!(rt; answers(1, Operator::Gt, i64::MAX), Some((false, false)));
-    assert_eq!(rt; answers(0, Operator::Eq, i64::MAX), Some((false, false)));
-    assert_eq!(rt;
-        answers(0, Operator::Ge, i64::from(i32::MIN)),
-        Some((true, true))
-    );
+    assert!(rt; answers(0, Operator::Gt, i64::MIN) == Some((true, true)));
+    assert!(rt; answers(0, Operator::Lt, i64::MIN) == Some((false, false)));
+    assert!(rt; answers(1, Operator::Lt, i64::MAX) == Some((true, true)));
+    assert!(rt; answers(1, Operator::Gt, i64::MAX) == Some((false, false)));
+    assert!(rt; answers(0, Operator::Eq, i64::MAX) == Some((false, false)));
+    assert!(rt; answers(0, Operator::Ge, i64::from(i32::MIN)) == Some((true, true)));
 }
 
 #[test]

@@ -35,8 +35,8 @@ fn add_node(
         let Err(fault) = shadow.add_node(node) else {
             return;
         };
-        assert_eq!(rt; fault, ShadowFault::Memory);
-        assert_eq!(rt; shadow.nodes().len(), nodes);
+        assert!(rt; fault == ShadowFault::Memory);
+        assert!(rt; shadow.nodes().len() == nodes);
         assert!(rt; shadow.node(number).is_none());
     }
     assert!(rt; false, "two growths were refused");
@@ -60,7 +60,7 @@ fn add_cell(
         if shadow.add_cell(cell).is_ok() {
             return;
         }
-        assert_eq!(rt; count_cells(shadow), cells);
+        assert!(rt; count_cells(shadow) == cells);
     }
     assert!(rt; false, "two growths were refused");
 }
@@ -77,8 +77,8 @@ fn add_row(rt: &(impl Abort + AllocGlobal), shadow: &mut Shadow<1>, id: i64, lea
         let Err(fault) = shadow.add_row(RowEntry { id, leaf }) else {
             return;
         };
-        assert_eq!(rt; fault, ShadowFault::Memory);
-        assert_eq!(rt; shadow.rows().len(), rows);
+        assert!(rt; fault == ShadowFault::Memory);
+        assert!(rt; shadow.rows().len() == rows);
         assert!(rt; shadow.row(id).is_none());
     }
     assert!(rt; false, "two growths were refused");
@@ -134,7 +134,7 @@ fn a_dump_is_read_or_memory_is_wanting(rt: HostRuntime) -> Result<(), Fail> {
     let keys = RandomState::new(&rt)?;
     let read = match read_dump(rt.alloc(), keys, DUMP) {
         Err(fault) => {
-            assert_eq!(rt; fault, DumpFault::Memory);
+            assert!(rt; fault == DumpFault::Memory);
             read_dump(rt.alloc(), keys, DUMP)
         }
         read => read,

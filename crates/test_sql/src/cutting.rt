@@ -20,12 +20,12 @@ fn shows(cutter: &Cutter, text: &[u8], ending: Ending) -> bool {
 #[test]
 fn takes_bytes_up_to_the_end_of_a_piece(rt: HostRuntime) -> Result<(), AllocError> {
     let mut cutter = Cutter::new(rt.alloc())?;
-    assert_eq!(rt; cutter.feed(b"SELECT 1;x"), 9);
+    assert!(rt; cutter.feed(b"SELECT 1;x") == 9);
     assert!(rt; shows(&cutter, b"SELECT 1;", Ending::Whole));
-    assert_eq!(rt; cutter.feed(b"x"), 0);
+    assert!(rt; cutter.feed(b"x") == 0);
     cutter.clear();
     assert!(rt; cutter.ready().is_none());
-    assert_eq!(rt; cutter.feed(b"x"), 1);
+    assert!(rt; cutter.feed(b"x") == 1);
     assert!(rt; cutter.ready().is_none());
     cutter.finish();
     assert!(rt; shows(&cutter, b"x", Ending::Incomplete));
@@ -102,7 +102,7 @@ fn cuts_wherever_a_read_ends(rt: HostRuntime) -> Result<(), AllocError> {
 fn finds_no_piece_between_pieces(rt: HostRuntime) -> Result<(), AllocError> {
     for script in [&b""[..], b" ;\n", b"-- x", b"/* x", b"/*/", b"/* x *"] {
         let mut cutter = Cutter::new(rt.alloc())?;
-        assert_eq!(rt; cutter.feed(script), script.len());
+        assert!(rt; cutter.feed(script) == script.len());
         cutter.finish();
         assert!(rt; cutter.ready().is_none());
     }
@@ -114,14 +114,14 @@ fn passes_over_a_piece_that_is_too_long(rt: HostRuntime) -> Result<(), AllocErro
     let mut longest = vec![in rt.alloc(); b'a'; LONGEST_PIECE - 1]?;
     longest.push(b';')?;
     let mut cutter = Cutter::new(rt.alloc())?;
-    assert_eq!(rt; cutter.feed(&longest), LONGEST_PIECE);
+    assert!(rt; cutter.feed(&longest) == LONGEST_PIECE);
     assert!(rt; shows(&cutter, &longest, Ending::Whole));
     cutter.clear();
-    assert_eq!(rt; cutter.feed(b"a"), 1);
-    assert_eq!(rt; cutter.feed(&longest), LONGEST_PIECE);
+    assert!(rt; cutter.feed(b"a") == 1);
+    assert!(rt; cutter.feed(&longest) == LONGEST_PIECE);
     assert!(rt; shows(&cutter, b"", Ending::TooLong));
     cutter.clear();
-    assert_eq!(rt; cutter.feed(b"b;"), 2);
+    assert!(rt; cutter.feed(b"b;") == 2);
     assert!(rt; shows(&cutter, b"b;", Ending::Whole));
     Ok(())
 }

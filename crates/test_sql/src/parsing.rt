@@ -44,7 +44,7 @@ fn each_line_of_the_grammar_is_taken(rt: HostRuntime) {
         ".nodes t",
     ];
     for text in taken.iter() {
-        assert_eq!(&rt; code(rt.alloc(), text), 0, "{text}");
+        assert!(&rt; code(rt.alloc(), text) == 0, "{text}");
     }
 }
 
@@ -79,7 +79,7 @@ fn other_texts_are_refused(rt: HostRuntime) {
         (4, "SELECT \0"),
     ];
     for (code_of_text, text) in refused.iter() {
-        assert_eq!(&rt; code(rt.alloc(), text), *code_of_text, "{text}");
+        assert!(&rt; code(rt.alloc(), text) == *code_of_text, "{text}");
     }
 }
 
@@ -93,7 +93,7 @@ fn a_piece_is_refused_in_order(rt: HostRuntime) {
     for (ending, code) in endings.iter() {
         match parse(rt.alloc(), &Piece::new(b"\xFF;", *ending)) {
             Ok(_) => assert!(&rt; false),
-            Err(refusal) => assert_eq!(&rt; refusal.code(), *code),
+            Err(refusal) => assert!(&rt; refusal.code() == *code),
         }
     }
 }
@@ -112,19 +112,18 @@ fn an_insert_has_its_values(rt: HostRuntime) {
                 },
             },
         ) => {
-            assert_eq!(&rt; *rule, Rule::Replace);
-            assert_eq!(&rt; table.as_str(), "T");
+            assert!(&rt; *rule == Rule::Replace);
+            assert!(&rt; table.as_str() == "T");
             assert!(&rt; columns.is_some());
-            assert_eq!(&rt; rows.len(), 2);
+            assert!(&rt; rows.len() == 2);
             for row in rows.as_slice() {
                 for value in row.as_slice() {
                     match value {
                         Value::Null => {}
-                        Value::Int(number) => assert_eq!(&rt; *number, -5),
-                        Value::Text(text) => assert_eq!(&rt; text.as_str(), "it's"),
-                        Value::Blob(blob) => assert_eq!(&rt;
-                            blob.as_slice(),
-                            b"\x00\xFF".as_slice()
+                        Value::Int(number) => assert!(&rt; *number == -5),
+                        Value::Text(text) => assert!(&rt; text.as_str() == "it's"),
+                        Value::Blob(blob) => assert!(&rt;
+                            blob.as_slice() == b"\x00\xFF".as_slice()
                         ),
                     }
                 }

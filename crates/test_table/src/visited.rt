@@ -34,12 +34,12 @@ fn expect(
     let Ok(picked) = table.select(rt.alloc(), cond) else {
         return Err(Fail::from("refused"));
     };
-    assert_eq!(rt; picked.rows.len(), ids.len());
+    assert!(rt; picked.rows.len() == ids.len());
     for (at, id) in ids.iter().enumerate() {
         assert!(rt; at < picked.rows.len());
         assert!(rt; picked.rows.row(at).numbers.first() == Some(id));
     }
-    assert_eq!(rt; picked.visited, visited);
+    assert!(rt; picked.visited == visited);
     Ok(())
 }
 

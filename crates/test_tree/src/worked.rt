@@ -60,13 +60,10 @@ fn the_root_splits_three_and_three(rt: HostRuntime) -> Result<(), Fail> {
     let keys = RandomState::new(&rt)?;
     let (tree, work) = points(rt.alloc(), keys, &[0, 1, 2, 10, 11, 12])?;
     expect_dump(&rt, keys, &tree, SIX_POINTS)?;
-    assert_eq!(rt; (tree.len(), tree.depth(), tree.node_count()), (6, 2, 3));
-    assert_eq!(rt;
-        (work.placements, work.splits, work.reinsertions),
-        (1, 1, 0)
-    );
-    assert_eq!(rt; tree.get(&5), Rect::new([11], [11]));
-    assert_eq!(rt; tree.get(&7), None);
+    assert!(rt; (tree.len(), tree.depth(), tree.node_count()) == (6, 2, 3));
+    assert!(rt; (work.placements, work.splits, work.reinsertions) == (1, 1, 0));
+    assert!(rt; tree.get(&5) == Rect::new([11], [11]));
+    assert!(rt; tree.get(&7) == None);
     Ok(())
 }
 
@@ -79,7 +76,7 @@ fn found_from(
     let mut window = Window::<1>::all();
     window.narrow(0, Operator::Ge, least);
     let found = tree.search(rt.alloc(), &window)?;
-    assert_eq!(rt; found.visited, 2);
+    assert!(rt; found.visited == 2);
     let mut ids = Vec::new(rt.alloc());
     for row in found.rows.iter() {
         ids.push(row.id)?;
@@ -93,16 +90,10 @@ fn a_point_comes_back_and_splits_its_leaf(rt: HostRuntime) -> Result<(), Fail> {
     let keys = RandomState::new(&rt)?;
     let (mut tree, work) = points(rt.alloc(), keys, &[0, 1, 2, 10, 11, 12, 3, 4, 5])?;
     expect_dump(&rt, keys, &tree, NINE_POINTS)?;
-    assert_eq!(rt;
-        (work.placements, work.splits, work.reinsertions),
-        (2, 1, 1)
-    );
-    assert_eq!(rt;
-        found_from(&rt, &tree, 10)?.as_slice(),
-        [4, 5, 6].as_slice()
-    );
-    assert_eq!(rt; tree.get(&99), None);
-    assert_eq!(rt; remove(&mut tree, 1)?, Rect::new([0], [0]).ok_or("no box")?);
+    assert!(rt; (work.placements, work.splits, work.reinsertions) == (2, 1, 1));
+    assert!(rt; found_from(&rt, &tree, 10)?.as_slice() == [4, 5, 6].as_slice());
+    assert!(rt; tree.get(&99) == None);
+    assert!(rt; remove(&mut tree, 1)? == Rect::new([0], [0]).ok_or("no box")?);
     for id in [4, 5] {
         remove(&mut tree, id)?;
     }
@@ -111,7 +102,7 @@ fn a_point_comes_back_and_splits_its_leaf(rt: HostRuntime) -> Result<(), Fail> {
         remove(&mut tree, id)?;
     }
     expect_dump(&rt, keys, &tree, NO_POINTS)?;
-    assert_eq!(rt; (tree.len(), tree.depth(), tree.node_count()), (0, 1, 1));
+    assert!(rt; (tree.len(), tree.depth(), tree.node_count()) == (0, 1, 1));
     Ok(())
 }
 
@@ -133,14 +124,10 @@ fn leaves(alloc: Global, keys: RandomState, tree: &Tree<1>) -> Result<Vec<i64>, 
 fn a_point_taken_out_goes_to_the_other_leaf(rt: HostRuntime) -> Result<(), Fail> {
     let keys = RandomState::new(&rt)?;
     let (tree, work) = points(rt.alloc(), keys, &[0, 1, 2, 10, 11, 12, 7, 4, 13, 15])?;
-    assert_eq!(rt;
-        (work.placements, work.splits, work.reinsertions),
-        (2, 0, 1)
-    );
-    assert_eq!(rt; tree.node_count(), 3);
-    assert_eq!(rt;
-        leaves(rt.alloc(), keys, &tree)?.as_slice(),
-        [1, 2, 3, 8, 7, 4, 5, 6, 9, 10].as_slice()
+    assert!(rt; (work.placements, work.splits, work.reinsertions) == (2, 0, 1));
+    assert!(rt; tree.node_count() == 3);
+    assert!(rt;
+        leaves(rt.alloc(), keys, &tree)?.as_slice() == [1, 2, 3, 8, 7, 4, 5, 6, 9, 10].as_slice()
     );
     Ok(())
 }
