@@ -1,5 +1,5 @@
 -- What a shell has printed, and how it comes on.
-use Rattle.std.proofs.Common.{◌≡◌, ◌∙◌, ℕ, ◌+◌, ◌≤◌, Bool, true, false, List, [], ◌++◌, length, Option, Some, None, Result, Ok, Err, refl, sym, ap, subst, inl, inr, arith, append_assoc, append-nil, length-append}
+use Rattle.std.proofs.Common.{◌≡◌, ◌∙◌, ℕ, ◌+◌, ◌≤◌, Bool, true, false, List, [], ◌++◌, length, Option, Some, None, Result, Ok, Err, refl, sym, ap, subst, arith, append_assoc, append-nil, length-append}
 use Rattle.std.specs.Prelude.{is_some}
 use Rattle.rt_bytes.specs.Bytes.{WritesAll, WritesFront}
 use Rattle.rt_bytes.specs.declared.device.WriteFault.{WriteFault}
@@ -14,7 +14,7 @@ use Rattle.rt_shell.specs.declared.engine.Flow.{Flow}
 use Rattle.rt_shell.specs.declared.engine.Flow.TheVariants.{Goes, Stops}
 use Rattle.rt_shell.specs.declared.engine.Options.{Options}
 use Rattle.rt_shell.specs.Transcript.{Marks, Progress, start, status_of, MayPrint, MayPrintSoFar}
-use Rattle.rt_shell.specs.Engine.{IsFresh, progress_of, Gives, Moves, TakesAll, Finishes}
+use Rattle.rt_shell.specs.Engine.{IsFresh, progress_of, Gives, TakesAll, Finishes}
 use Rattle.rt_shell.specs.Shell.{IsCutShort, HasCome, HasPrintedAt, EndsWith}
 use Rattle.rt_shell.proofs.EngineLemmas.{moves_nowhere, moves_on}
 

@@ -1,4 +1,4 @@
-use Rattle.std.proofs.Common.{◌≡◌, ℕ, false, ap, arith}
+use Rattle.std.proofs.Common.{◌≡◌, ap, arith}
 use Rattle.std.specs.Prelude.{is_some}
 use Rattle.rt_sql_cut.proofs.CutterFront.{nothing_ready}
 use Rattle.rt_shell.specs.Transcript.{Progress}
