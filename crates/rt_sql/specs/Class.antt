@@ -1,4 +1,4 @@
--- Kinds of characters.
+-- Kinds of characters (own).
 use Rattle.std.specs.Prelude.{ℕ, Bool}
 use Rattle.std.specs.Char.{is_ascii_digit, is_ascii_hexdigit}
 use Rattle.rt_sql.specs.declared.lexer.Class.{Class}

@@ -1,4 +1,4 @@
--- What a byte is to the lexer.
+-- What a byte is to the lexer (own).
 use Rattle.std.specs.Prelude.{ℕ, ◌==◌, if◌then◌else◌}
 use Rattle.std.specs.Char.{is_ascii_digit}
 use Rattle.rt_sql_cut.specs.Text.{is_white}

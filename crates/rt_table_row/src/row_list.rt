@@ -124,27 +124,4 @@ impl RowList {
         self.places.push(Place { numbers, auxiliary })?;
         Ok(())
     }
-
-    /// Appends a row of these values, which aren't copied.
-    ///
-    /// # Errors
-    ///
-    /// `AllocError` where no memory is left.
-    pub fn push_values(&mut self, row: Vec<Value>) -> Result<(), AllocError>
-        ensures { OnOk result (self.new ≡ self.old ++ row.items ∷ []) }
-    {
-        let (first, start) = (self.numbers.len(), self.values.len());
-        let mut row = row;
-        self.values.append(&mut row)?;
-        let numbers = Span {
-            start: first,
-            end: first,
-        };
-        let auxiliary = Span {
-            start,
-            end: self.values.len(),
-        };
-        self.places.push(Place { numbers, auxiliary })?;
-        Ok(())
-    }
 }

@@ -13,18 +13,19 @@ use rt_box::Rect;
 use rt_tree_node::{Cell, Key, Node, hull_at, node_at, number_of, set_cell, slab_facts};
 use slab::Slab;
 
-/// What a cell that names a node has as its number.
+// A struct, since proofs follow a borrowed field of a value, and not a borrowed integer.
+
+/// The number of the cells that name a node.
 #[derive(Clone, Copy, Debug)]
-struct Name {
+struct NodeNumber {
     number: i64,
 }
 
-/// The number of the cells that name a node.
-fn node_name(key: Key) -> Name
+fn node_number(key: Key) -> NodeNumber
     requires { key < 2 ^ 63 }
     ensures { result.number ≡ pos key }
 {
-    Name {
+    NodeNumber {
         number: number_of(key),
     }
 }
@@ -71,8 +72,8 @@ pub fn box_above<const D: usize>(nodes: &Slab<Node<D>>, key: Key, parent: Key) -
 {
     slab_facts(nodes);
     let node = node_at(nodes, parent);
-    let cell = node_name(key);
-    let at = node.position(&cell.number);
+    let wanted = node_number(key);
+    let at = node.position(&wanted.number);
     node.cell(at).rect
 }
 
