@@ -14,3 +14,4 @@ pub mod Entries
 pub mod Leads
 pub mod Exact
 pub mod Low
+pub mod Nearby

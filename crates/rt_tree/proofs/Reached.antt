@@ -15,7 +15,7 @@ use Rattle.rt_tree_node.specs.Places.{key_of, cells_at, level_at}
 use Rattle.rt_tree_node.specs.Sound.{NamesChild}
 use Rattle.rt_tree_node.proofs.Counts.{count-some}
 use Rattle.rt_tree_walk.specs.declared.searching.Row.{Row}
-use Rattle.rt_tree_walk.specs.Search.{times, IsReached, Finds}
+use Rattle.rt_tree_walk.specs.Search.{times, IsReached, Finds, Counts}
 use Rattle.rt_tree_walk.specs.Outside.{cell_row, outside}
 use Rattle.rt_tree_walk.specs.InOrder.{cells_of_number}
 use Rattle.rt_tree_walk.proofs.Reaching.{All_contained, counted-contained}
@@ -24,7 +24,7 @@ use Rattle.rt_tree_walk.proofs.Progress.{IsSettled}
 use Rattle.rt_tree_walk.proofs.Flawless.{numbering}
 use Rattle.rt_tree.specs.Lists.{level_of_number}
 use Rattle.rt_tree.specs.Rows.{box_in}
-use Rattle.rt_tree.specs.Finding.{IsReachedIn, FindsIn}
+use Rattle.rt_tree.specs.Finding.{IsReachedIn, FindsIn, CountsIn}
 use Rattle.rt_tree.proofs.Members.{contains-map, contains-mapped}
 use Rattle.rt_tree.proofs.Rows.{intervals-back, rows-counted}
 use Rattle.rt_tree.proofs.Reading.{number, level-read, cells-read}
@@ -94,3 +94,6 @@ module _ {D : ℕ} (t : Arena D) (s : IsSettled t) (window : List Interval) wher
         subst (IsReachedIn (outside t) window) same (reached-in k.0 (f.only k.0 listed));
     counted = f.counted ∙ sym (length-map f.nodes (number t));
   }
+
+  pub counts-in : (count : ℕ) → Counts t window count → CountsIn (outside t) window count
+  counts-in count f = record { rows = f.rows; admitted = f.admitted; each = λ test asks. f.each test asks ∙ sym (rows-counted t s test); counted = f.counted }

@@ -28,6 +28,13 @@ module _ {D : ℕ} where
     pub only : (number : ℤ) → 0 < count_by (int_eq number) numbers → IsReachedIn s window number
     pub counted : visited ≡ length numbers
 
+  -- the number of the rows that the window admits: they are listed as a search finds them, and the list is as long
+  pub record CountsIn (s : ShadowLists D) (window : List Interval) (count : ℕ) : Type 0 where
+    pub rows : List (Row D)
+    pub admitted : All (λ r. Admits window r.rect) rows
+    pub each : (test : Row D → Bool) → AsksAdmitted window test → count_by test rows ≡ count_by test (rows_of s)
+    pub counted : count ≡ length rows
+
   -- behind the rows that a list held stand those that the search found
   pub record FindsInAfter (s : ShadowLists D) (window : List Interval) (old new : List (Row D)) (visited : ℕ) : Type 0 where
     pub more : List (Row D)

@@ -10,11 +10,12 @@
 //! - `is_in_shape`, `has_boxes` and `is_small` hold of each tree, whatever was done to it: the checker finds no problem,
 //!   each cell has a box, and there are few nodes and few levels.
 //! - `search` lists the rows that a window admits, and counts the nodes that it went into; `search_into` appends them to a
-//!   list that is at hand.
+//!   list that is at hand, and `count` says how many they are.
+//! - `nearest` lists the rows whose boxes are nearest to a point.
 //!
-//! Stands on `rt_tree_node`, `rt_tree_walk`, `rt_tree_insert` and `rt_tree_remove`, and on `rt_check` for the tree from outside.
-//! Definitions: `specs/Lists.antt` (a tree from outside), `Rows.antt`, `Boxes.antt`, `Changes.antt` (insertion and
-//! removal), `Finding.antt`, `Way.antt`.
+//! Stands on `rt_tree_node`, `rt_tree_walk`, `rt_tree_nearest`, `rt_tree_insert` and `rt_tree_remove`, and on `rt_check` for
+//! the tree from outside. Definitions: `specs/Lists.antt` (a tree from outside), `Rows.antt`, `Boxes.antt`, `Changes.antt`
+//! (insertion and removal), `Finding.antt`, `Way.antt`, and `specs/Nearest.antt` of `rt_tree_nearest`.
 #![tactic(auto)]
 
 mod tree;

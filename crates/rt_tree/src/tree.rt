@@ -6,19 +6,21 @@
 ghost use Rattle.std.specs.Prelude.{◌≡◌, ◌<◌, ◌≤◌, ◌+◌, ◌-◌, ◌*◌, ◌/◌, ◌^◌, max, length, Some, None, IsSome, IfOk, OnOk, OnErr};
 ghost use Rattle.rt_box.specs.Capacity.{least_fill};
 ghost use Rattle.rt_tree.specs.Lists.{root_level, empty_lists, IsInShape};
-ghost use Rattle.rt_tree.specs.Rows.{box_of, GainsRow, LosesRow};
+ghost use Rattle.rt_tree.specs.Rows.{box_of, rows_of, GainsRow, LosesRow};
 ghost use Rattle.rt_tree.specs.Boxes.{HasBoxes};
 ghost use Rattle.rt_tree.specs.Changes.{IsInsertion, IsRemoval};
-ghost use Rattle.rt_tree.specs.Finding.{FindsIn, FindsInAfter};
+ghost use Rattle.rt_tree.specs.Finding.{FindsIn, FindsInAfter, CountsIn};
 ghost use Rattle.rt_tree_walk.specs.Search.{StaysInFront};
+ghost use Rattle.rt_tree_nearest.specs.Nearest.{nearest_rows};
 
 use indexmap::IndexMap;
 use rt_box::{Capacity, Rect, Window};
 use rt_check::Shadow;
 use rt_tree_insert::{insert_row, levels_are_few, nodes_are_few};
+use rt_tree_nearest::nearest;
 use rt_tree_node::{Arena, Node, Work, add_node, leaves_facts, node_at};
 use rt_tree_remove::remove_row;
-use rt_tree_walk::{Found, Row, search, search_into, shadow_of};
+use rt_tree_walk::{Found, Row, count, search, search_into, shadow_of};
 use slab::Slab;
 use std::alloc::{AllocError, Global};
 use std::hash::RandomState;
@@ -266,6 +268,36 @@ impl<const D: usize> Tree<D> {
         ensures err { OnErr result (StaysInFront rows.old.items rows.new.items) }
     {
         search_into(alloc, &self.arena, window, rows)
+    }
+
+    /// Counts the rows whose boxes the window admits: as many as `search` would find, without a list of them.
+    ///
+    /// # Errors
+    ///
+    /// `AllocError` where no memory is left for what is still to be visited.
+    pub fn count(&self, alloc: Global, window: &Window<D>) -> Result<usize, AllocError>
+        ensures { IfOk result (λ count. CountsIn self.now.lists window.now count) }
+    {
+        count(alloc, &self.arena, window)
+    }
+
+    /// The `k` rows whose boxes are nearest to the point, by squared distance and then by id; all rows where there are fewer.
+    /// A point in a box, or on its edge, has the distance 0.
+    ///
+    /// What is nearest is looked at first, so few nodes are gone into where `k` is small.
+    ///
+    /// # Errors
+    ///
+    /// `AllocError` where no memory is left for what is answered or seen.
+    pub fn nearest(
+        &self,
+        alloc: Global,
+        point: &[i32; D],
+        k: usize,
+    ) -> Result<Vec<Row<D>>, AllocError>
+        ensures { IfOk result (λ rows. rows.items ≡ nearest_rows point.now k (rows_of self.now.lists)) }
+    {
+        nearest(alloc, &self.arena, point, k)
     }
 
     /// Makes room for so many further rows. The room grows by as many rows as there are, but for those that a tree may not

@@ -87,7 +87,7 @@ module _ {D : ℕ} where
       All-weaker (NamesChild t.nodes l key) (λ c. level_at t.nodes (key_of c) ≡ Some l) (λ c is. is.names.level_is) (cells_at t.nodes key) (linked.children key l e)
 
   -- a node's keys begin with its own
-  below-next : (t : Arena D) → IsSettled t → (key l : ℕ) → level_at t.nodes key ≡ Some l →
+  pub below-next : (t : Arena D) → IsSettled t → (key l : ℕ) → level_at t.nodes key ≡ Some l →
       below t.nodes key ≡ key ∷ flat_map (below t.nodes) (map key_of (inner_cells_at t.nodes key))
   below-next t s key zero e =
       below-at t.nodes 0 key e ∙ ap (λ cells. key ∷ flat_map (below t.nodes) (map key_of cells)) (sym (inner-at_leaf t.nodes key e))

@@ -3,6 +3,7 @@ pub mod Taking
 pub mod Reaching
 pub mod Progress
 pub mod Due
+pub mod Counted
 pub mod Numbering
 pub mod Listed
 pub mod Ints

@@ -41,6 +41,14 @@ module _ {D : ℕ} where
     pub only : (key : ℕ) → 0 < times key nodes → IsReached t window key
     pub counted : visited ≡ length nodes
 
+  -- the number of the rows that the window admits: they are listed as a search finds them, and the list is as long
+  pub record Counts (t : Arena D) (window : List Interval) (count : ℕ) : Type 0 where
+    pub rows : List (Row D)
+    pub admitted : All (λ r. Admits window r.rect) rows
+    pub each : (test : Row D → Bool) → AsksAdmitted window test →
+        count_by test rows ≡ count_rows (λ c. test (row_of c)) t.nodes t.waiting.items
+    pub counted : count ≡ length rows
+
   -- behind the rows that a list held stand those that the search found
   pub record FindsAfter (t : Arena D) (window : List Interval) (old new : List (Row D)) (visited : ℕ) : Type 0 where
     pub more : List (Row D)

@@ -1,5 +1,5 @@
 -- What a search takes from one node.
-use Rattle.std.specs.Prelude.{◌≡◌, ℕ, ◌≤◌, ◌<◌, Bool, List, ◌++◌, map, All, count_by, slice_get}
+use Rattle.std.specs.Prelude.{◌≡◌, ℕ, ◌≤◌, ◌<◌, Bool, List, [], ◌++◌, length, map, All, count_by, slice_get}
 use Rattle.std.specs.List.{flat_map}
 use Rattle.std.specs.Option.{option_to_list}
 use Rattle.slab.specs.Slab.{Slab}
@@ -38,4 +38,15 @@ module _ {D : ℕ} where
   -- both, at a leaf and at another node
   pub record Visits (a : Slab (NodeCells D)) (window : List Interval) (key : ℕ) (rows rows1 : List (Row D)) (keys keys1 : List ℕ) : Type 0 where
     pub rows_are : TakesRows window (leaf_cells_at a key) rows rows1
+    pub children_are : TakesChildren window (inner_cells_at a key) keys keys1
+
+  -- as many as the rows of those cells that the window admits
+  pub record CountsRows (window : List Interval) (cells : List (Cell D)) (count : ℕ) : Type 0 where
+    pub rows : List (Row D)
+    pub takes : TakesRows window cells [] rows
+    pub counted : count ≡ length rows
+
+  -- both: a leaf's rows are counted, and another node's children come
+  pub record VisitsCounting (a : Slab (NodeCells D)) (window : List Interval) (key count : ℕ) (keys keys1 : List ℕ) : Type 0 where
+    pub rows_are : CountsRows window (leaf_cells_at a key) count
     pub children_are : TakesChildren window (inner_cells_at a key) keys keys1

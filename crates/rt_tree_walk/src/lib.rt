@@ -2,11 +2,12 @@
 //!
 //! - `search`: the rows whose boxes a window admits, each once, and the number of nodes that it went into;
 //!   `search_into` appends them to a list that is at hand.
+//! - `count`: how many rows a search would find, without a list of them.
 //! - `shadow_of`: the tree from outside, as the checker takes it: nodes in preorder, numbered from 1, and row
 //!   entries by rising id.
 //! - `laws`: the checker finds no problem in it, its nodes are in preorder, and its leaves' cells are the rows.
 //!
-//! Both ask for a whole tree in which no cell waits, and take memory for what they answer and for a stack of
+//! All of them ask for a whole tree in which no cell waits, and take memory for what they answer and for a stack of
 //! keys.
 //!
 //! Stands on `rt_tree_node`, and on `rt_check` for the tree from outside. Definitions: `specs/Search.antt`,
@@ -14,10 +15,12 @@
 #![tactic(auto)]
 
 mod ahead;
+mod counting;
 pub mod laws;
 mod listing;
 mod outside;
 mod searching;
 
+pub use counting::count;
 pub use outside::shadow_of;
 pub use searching::{Found, Row, search, search_into};

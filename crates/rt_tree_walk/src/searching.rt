@@ -42,9 +42,9 @@ pub struct Found<const D: usize> {
 /// What a search asks of the boxes that it meets: of rows by its window, and of children by the window's reach, which
 /// is made once.
 #[derive(Drop)]
-struct Asked<const D: usize> {
-    window: Window<D>,
-    reach: Window<D>,
+pub(crate) struct Asked<const D: usize> {
+    pub(crate) window: Window<D>,
+    pub(crate) reach: Window<D>,
 }
 
 /// The row of a leaf's cell.
@@ -161,6 +161,28 @@ fn take_children<const D: usize>(
     push_keys(keys, node, &positions[..count])
 }
 
+/// Takes the children of a node above the leaves in which a box may lie that the window admits, and looks ahead at those
+/// that are leaves.
+#[inline]
+pub(crate) fn take_children_ahead<const D: usize>(
+    keys: &mut Vec<Key>,
+    seen: &mut i64,
+    tree: &Arena<D>,
+    node: &Node<D>,
+    asked: &Asked<D>,
+) -> Result<(), AllocError>
+    requires few { D ≤ 3 }
+    requires reach { IsReach D asked.now.window asked.now.reach }
+    ensures { OnOk result (TakesChildren asked.now.window node.now.cells keys.old.items keys.new.items) }
+{
+    let before = keys.len();
+    take_children(keys, node, asked)?;
+    if node.level() == 1 {
+        look_ahead(seen, tree, &keys[before..]);
+    }
+    Ok(())
+}
+
 // By itself, so that the numbers of a window are read as vectors from where they stand: those of two windows don't fit
 // into the registers of the search's loop.
 
@@ -185,12 +207,7 @@ fn visit<const D: usize>(
     if node.level() == 0 {
         return take_rows(rows, node, &asked.window);
     }
-    let before = keys.len();
-    take_children(keys, node, asked)?;
-    if node.level() == 1 {
-        look_ahead(seen, tree, &keys[before..]);
-    }
-    Ok(())
+    take_children_ahead(keys, seen, tree, node, asked)
 }
 
 /// Appends the rows whose boxes the window admits, and answers the number of nodes that the search went into. A list

@@ -1,8 +1,11 @@
-//! Tests of the R*-tree: dumps after worked calls, and a tree whose memory is refused.
+//! Tests of the R*-tree: dumps after worked calls, counts and nearest rows beside a plain list, and a tree whose memory is
+//! refused.
 //!
 //! Scripts hold the tree against a plain one, call by call: see `faults/follow.py`.
 #![tactic(auto)]
 
+#[cfg(test)]
+mod finding;
 #[cfg(test)]
 mod growth;
 #[cfg(test)]

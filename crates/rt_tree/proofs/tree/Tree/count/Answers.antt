@@ -1,0 +1,17 @@
+use Rattle.std.proofs.Common.{ℕ, subst}
+use Rattle.std.proofs.lemmas.Result.{IfOk-weaker}
+use Rattle.rt_tree_walk.specs.Search.{Counts}
+use Rattle.rt_tree.specs.Lists.{TreeLists}
+use Rattle.rt_tree.specs.Finding.{CountsIn}
+use Rattle.rt_tree.proofs.Kept.{settled}
+use Rattle.rt_tree.proofs.Reached.{counts-in}
+use Rattle.rt_tree.proofs.tree.Tree.count.Goals as goal
+
+pub returns : goal.returns
+returns g c =
+    IfOk-weaker c.count.result (λ n. Counts c.self.inside.arena c.args.window.now n)
+    (λ n. CountsIn c.args.self.now.lists c.args.window.now n)
+    (λ (n : ℕ) h.
+    subst (λ (v : TreeLists g.row.D). CountsIn v.lists c.args.window.now n) c.self.view_is
+    (counts-in c.self.inside.arena (settled c.self.inside c.self.invariant) c.args.window.now n h))
+    c.count.ensures
