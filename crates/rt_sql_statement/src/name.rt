@@ -1,25 +1,73 @@
 //! Names of tables, columns and views.
 //!
 //! A name keeps the case that was written. Two names are one where they differ in ASCII case at most
-//! (`specs/Name.antt`).
+//! (`specs/Name.antt`). A short name, as most are, takes no memory beside its own.
 
+ghost use Rattle.std.specs.Prelude.{◌≡◌};
+ghost use Rattle.std.specs.Char.{eq_ignore_ascii_case};
+ghost use Rattle.rt_sql_statement.specs.Name.{same_name};
+
+use arrayvec::ArrayString;
 use std::alloc::{AllocError, Global};
+use std::fmt;
 use std::marker::Model;
+
+/// The most bytes of a name that are kept in place; a longer one stands on the heap.
+const MOST_IN_PLACE: usize = 16;
+
+/// Whether both bytes are the same but for ASCII case. Mostly they are the same, and no case is folded.
+fn is_same_byte(own: u8, other: u8) -> bool
+    ensures { result ≡ eq_ignore_ascii_case own other }
+{
+    own == other || own.eq_ignore_ascii_case(&other)
+}
+
+/// Whether both texts are one name. Most names of a table differ in their lengths, or in one of their first bytes.
+#[tactic(auto, using(crate::proofs::Names::not_as_long, crate::proofs::Names::same_rest, crate::proofs::Names::differs, crate::proofs::Names::same_end))]
+fn are_same(own: &[u8], other: &[u8]) -> bool
+    ensures { result ≡ same_name own.now other.now }
+{
+    if own.len() != other.len() {
+        return false;
+    }
+    for at in 0..own.len() {
+        if !is_same_byte(own[at], other[at]) {
+            return false;
+        }
+    }
+    true
+}
+
+/// Where the text of a name stands.
+#[derive(Drop)]
+enum Kept {
+    InPlace(ArrayString<MOST_IN_PLACE>),
+    OnHeap(String),
+}
 
 /// The name of a table, a column or a view: its text with the case that was written, without
 /// the quotes round it.
-#[derive(Debug, Drop)]
+#[derive(Drop)]
 pub struct Name {
-    text: String,
+    kept: Kept,
+}
+
+// By hand, since where the text stands is nobody's business.
+impl fmt::Debug for Name {
+    fn fmt<W: fmt::Write>(&self, f: &mut fmt::Formatter<W>) -> fmt::Result {
+        f.debug_struct("Name")
+            .field("text", &self.as_str())
+            .finish()
+    }
 }
 
 impl Model for Name {
     ghost use Rattle.std.specs.Prelude.{ℕ, List};
-    ghost use Rattle.std.specs.String.{string_bytes};
+    ghost use Rattle.rt_sql_statement.specs.Name.{text_in};
 
     ghost Value = { List ℕ };
 
-    ghost view = { λ name. string_bytes name.text };
+    ghost view = { λ name. text_in name.kept };
 }
 
 impl Name {
@@ -31,8 +79,14 @@ impl Name {
     pub fn new(alloc: Global, text: &str) -> Result<Name, AllocError>
         ensures { IfOk result (λ name. name ≡ text.now) }
     {
+        if let Ok(short) = ArrayString::from(text) {
+            return Ok(Name {
+                kept: Kept::InPlace(short),
+            });
+        }
+        let long = String::from_str(alloc, text)?;
         Ok(Name {
-            text: String::from_str(alloc, text)?,
+            kept: Kept::OnHeap(long),
         })
     }
 
@@ -40,29 +94,26 @@ impl Name {
     pub fn from_string(text: String) -> Name
         ensures { result ≡ string_bytes text }
     {
-        Name { text }
+        Name {
+            kept: Kept::OnHeap(text),
+        }
     }
 
     /// Its text, with the case that was written.
     pub fn as_str(&self) -> &str
         ensures { result.now ≡ self.now }
     {
-        self.text.as_str()
-    }
-
-    /// The string itself, without a copy.
-    pub fn into_string(self) -> String
-        ensures { string_bytes result ≡ self }
-    {
-        let Name { text: string } = self;
-        string
+        match &self.kept {
+            Kept::InPlace(text) => text.as_str(),
+            Kept::OnHeap(text) => text.as_str(),
+        }
     }
 
     /// Whether both are one name, which ASCII case doesn't change. Nothing is copied.
     pub fn is_same(&self, other: &Name) -> bool
         ensures { result ≡ same_name self.now other.now }
     {
-        self.as_str().eq_ignore_ascii_case(other.as_str())
+        are_same(self.as_str().as_bytes(), other.as_str().as_bytes())
     }
 
     /// The name again, with the same case.

@@ -72,39 +72,43 @@ fn placing<const D: usize>(
     Ok(Step::Comes(entry_of(&id, candidate)))
 }
 
-/// The step of a row of these values.
+/// The step of a row of these values, as the arrangement has them.
 fn row_step<const D: usize>(
+    alloc: Global,
     store: &Store<D>,
     draft: &Draft<D>,
     count: &Count,
     rule: Rule,
-    values: Vec<Value>,
+    arrangement: &Arrangement,
+    values: &[Value],
 ) -> Result<Step<D>, Refusal>
     requires some { 1 ≤ D }
     requires few { D ≤ 3 }
-    requires long { 1 + 2 * D ≤ length values.items }
+    requires long { 1 + 2 * D ≤ length arrangement.now.places }
     ensures { (now : List TableRow) → Knows store.now.rows (known_of draft.now) now → Counts now count.now.largest count.now.room
-        → GivesAs one_step (and_then (candidate_of D values.items) (λ c. put_at rule now c (id_or_new now c.id))) result }
+        → GivesAs one_step (and_then (candidate_of D (rearranged arrangement.now values.now)) (λ c. put_at rule now c (id_or_new now c.id))) result }
 {
-    let candidate = Candidate::new(values)?;
+    let candidate = arrangement.candidate(alloc, values)?;
     placing(store, draft, count, rule, candidate)
 }
 
 /// The step of a row of these values, or none where it is passed over.
 fn step_or_none<const D: usize>(
+    alloc: Global,
     store: &Store<D>,
     draft: &Draft<D>,
     count: &Count,
     rule: Rule,
-    values: Vec<Value>,
+    arrangement: &Arrangement,
+    values: &[Value],
 ) -> Result<Option<Step<D>>, Refusal>
     requires some { 1 ≤ D }
     requires few { D ≤ 3 }
-    requires long { 1 + 2 * D ≤ length values.items }
+    requires long { 1 + 2 * D ≤ length arrangement.now.places }
     ensures { (now : List TableRow) → Knows store.now.rows (known_of draft.now) now → Counts now count.now.largest count.now.room
-        → GivesAs step_given (put D rule now values.items) result }
+        → GivesAs step_given (put D rule now (rearranged arrangement.now values.now)) result }
 {
-    match row_step(store, draft, count, rule, values) {
+    match row_step(alloc, store, draft, count, rule, arrangement, values) {
         Ok(step) => Ok(Some(step)),
         Err(refusal) => {
             if is_ignored(rule, &refusal) {
@@ -136,8 +140,9 @@ fn all_steps<const D: usize>(
         room: MOST_ROWS_OF_A_TABLE.saturating_sub(store.len()),
     };
     for list in lists {
-        let values = arrangement.values(alloc, list.as_slice())?;
-        let Some(step) = step_or_none(store, &draft, &count, rule, values)? else {
+        let values = list.as_slice();
+        let step = step_or_none(alloc, store, &draft, &count, rule, arrangement, values)?;
+        let Some(step) = step else {
             continue;
         };
         count.add(&step);
@@ -155,7 +160,7 @@ fn arrangement_of(
     ensures { MatchResult result (IsArrangementOf schema.now (listed_columns schema.now listed.now)) (IsBadList schema.now (listed_columns schema.now listed.now)) }
 {
     match listed {
-        None => Ok(Arrangement::whole(alloc, schema)?),
+        None => Ok(Arrangement::whole(schema)),
         Some(names) => Arrangement::new(alloc, schema, names.as_slice()),
     }
 }

@@ -1,5 +1,6 @@
 -- The box that a row's coordinates are.
-use Rattle.std.proofs.Common.{◌≡◌, ℕ, zero, suc, ◌+◌, ◌-◌, ◌*◌, ◌<◌, ◌≤◌, ℤ, pos, negsuc, ◌≤ℤ◌, Bool, true, false, cond, not, ◌&&◌, List, [], ◌∷◌, ◌++◌, length, set, map, get_or, take, drop, Result, Ok, Err, Option, Some, None, IsSome, IfSome, ◌↔◌, FitsSigned, w32, arith, rules, sym, ap, refl, ◌∙◌}
+use Rattle.std.proofs.Common.{◌≡◌, ℕ, zero, suc, ◌+◌, ◌-◌, ◌*◌, ◌<◌, ◌≤◌, ℤ, pos, negsuc, ◌≤ℤ◌, Bool, true, false, cond, not, ◌&&◌, List, [], ◌∷◌, ◌++◌, length, set, map, get_or, take, drop, Result, Ok, Err, Option, Some, None, IsSome, IfSome, ◌↔◌, FitsSigned, w32, arith, rules, sym, ap, subst, refl, ◌∙◌}
+use Rattle.std.proofs.Math.Seq.{take-append_seam, drop-append_seam}
 use Rattle.std.specs.List.{list_all, AllZip}
 use Rattle.std.proofs.lemmas.Bool.Decides.{nat_tests}
 use Rattle.std.proofs.lemmas.Int.{ints}
@@ -173,3 +174,11 @@ pub candidate_from : (axes : ℕ) (values : List Value) (box : List Interval) �
     Some box ≡ cond (is_ordered (box_of (map number_in (coordinate_values axes values)))) (Some (box_of (map number_in (coordinate_values axes values)))) None →
     candidate_of axes values ≡ Ok (record { id = id_in (id_value values); box = box; auxiliary = drop (1 + 2 * axes) values })
 candidate_from axes values box id integers short ordered = rw (id, integers, short) (candidate_box axes values box (is_ordered (box_of (map number_in (coordinate_values axes values)))) ordered)
+
+-- ---- a front and a rest
+
+pub front_is : (n : ℕ) (front rest : List Value) → length front ≡ n → front ≡ take n (front ++ rest)
+front_is n front rest long = subst (λ m. front ≡ take m (front ++ rest)) long (sym (take-append_seam front rest))
+
+pub rest_is : (n : ℕ) (front rest : List Value) → length front ≡ n → drop n (front ++ rest) ≡ rest
+rest_is n front rest long = subst (λ m. drop m (front ++ rest) ≡ rest) long (drop-append_seam front rest)

@@ -1,17 +1,28 @@
 -- The columns that an INSERT lists, looked up: each column of the table has the place of its value. Source: own.
-use Rattle.std.specs.Prelude.{◌≡◌, ◌⊎◌, ℕ, true, false, List, map, length, Option, slice_index_or}
+use Rattle.std.specs.Prelude.{◌≡◌, ◌⊎◌, ℕ, zero, suc, true, false, List, [], ◌∷◌, ◌++◌, map, length, Option, Some, slice_index_or}
 use Rattle.std.specs.List.{list_all}
 use Rattle.std.specs.Option.{option_map_or}
 use Rattle.rt_sql_statement.specs.declared.value.Value.{Value}
 use Rattle.rt_sql_statement.specs.declared.value.Value.TheVariants.{Null}
 use Rattle.rt_sql_statement.specs.declared.refusal.Refusal.{Refusal}
 use Rattle.rt_sql_statement.specs.declared.refusal.Refusal.TheVariants.{BadColumnList, NoSuchColumn, OutOfMemory}
+use Rattle.rt_table_row.specs.declared.arrangement.Places.{Places}
+use Rattle.rt_table_row.specs.declared.arrangement.Places.TheVariants.{Own, Listed}
 use Rattle.rt_table_row.specs.Columns.{Columns, has_name, are_distinct}
 use Rattle.rt_table_row.specs.Edits.{arranged}
 
 pub record Arranged : Type 0 where
   pub width : ℕ
   pub places : List (Option ℕ)
+
+-- so many columns, each in its own place
+abbrev pub own_places : ℕ → List (Option ℕ)
+own_places zero = []
+own_places (suc n) = own_places n ++ Some n ∷ []
+
+abbrev pub places_in : Places → List (Option ℕ)
+places_in (Own count) = own_places count
+places_in (Listed places) = places.items
 
 -- the value at the place; NULL where the column isn't listed
 abbrev pub value_at : List Value → Option ℕ → Value

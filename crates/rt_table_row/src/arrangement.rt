@@ -3,12 +3,16 @@
 //! For each column of the table an arrangement has the place of its value in a list. A column that isn't listed
 //! gets NULL (`specs/Arrangements.antt`).
 
-ghost use Rattle.std.specs.Prelude.{◌≡◌, ◌==◌, true, length, map, IfOk};
+ghost use Rattle.std.specs.Prelude.{◌≡◌, ◌==◌, ◌≤◌, ◌+◌, ◌*◌, true, length, map, IfOk};
 ghost use Rattle.std.specs.List.{list_all};
 ghost use Rattle.std.specs.Option.{option_copied};
-ghost use Rattle.rt_table_row.specs.Columns.{place_of, has_name, are_distinct};
-ghost use Rattle.rt_table_row.specs.Arrangements.{value_at};
+ghost use Rattle.rt_table_row.specs.Columns.{place_of, has_name};
+ghost use Rattle.rt_table_row.specs.Arrangements.{value_at, own_places};
+ghost use Rattle.rt_table_row.specs.Answers.{GivesAs};
+ghost use Rattle.rt_table_row.specs.Candidates.{candidate_of};
+ghost use Rattle.rt_table_row.specs.Entries.{candidate_as};
 
+use crate::candidate::Candidate;
 use crate::schema::{Schema, are_listed_once, has_name, place_of};
 use rt_sql_statement::{Items, Name, Refusal, Value};
 use std::alloc::{AllocError, Global};
@@ -40,18 +44,6 @@ fn places_of(
     Ok(places)
 }
 
-/// For each column its own place.
-fn own_places(alloc: Global, columns: &[Name]) -> Result<Vec<Option<usize>>, AllocError>
-    requires { are_distinct columns.now ≡ true }
-    ensures { IfOk result (λ places. places.items ≡ map (place_of columns.now) columns.now) }
-{
-    let mut places = Vec::with_capacity(alloc, columns.len())?;
-    for place in 0..columns.len() {
-        places.push(Some(place))?;
-    }
-    Ok(places)
-}
-
 /// A copy of the value at that place.
 fn copy_at(alloc: Global, values: &[Value], place: Option<usize>) -> Result<Value, AllocError>
     ensures { IfOk result (λ value. value ≡ value_at values.now place) }
@@ -62,11 +54,20 @@ fn copy_at(alloc: Global, values: &[Value], place: Option<usize>) -> Result<Valu
     }
 }
 
+/// Where the values of the columns stand in a list.
+#[derive(Debug, Drop)]
+enum Places {
+    /// In the order of the columns, of which there are so many.
+    Own(usize),
+    /// At these places, or nowhere.
+    Listed(Vec<Option<usize>>),
+}
+
 /// The columns that an INSERT lists, looked up once, so that no name is compared for a row.
 #[derive(Debug, Drop)]
 pub struct Arrangement {
     width: usize,
-    places: Vec<Option<usize>>,
+    places: Places,
 }
 
 impl Model for Arrangement {
@@ -74,7 +75,9 @@ impl Model for Arrangement {
 
     ghost Value = { Arranged };
 
-    ghost view = { λ arrangement. record { width = arrangement.width; places = arrangement.places.items } };
+    ghost use Rattle.rt_table_row.specs.Arrangements.{places_in};
+
+    ghost view = { λ arrangement. record { width = arrangement.width; places = places_in arrangement.places } };
 }
 
 impl Arrangement {
@@ -99,19 +102,21 @@ impl Arrangement {
         let places = places_of(alloc, schema.names(), names)?;
         Ok(Arrangement {
             width: names.len(),
-            places,
+            places: Places::Listed(places),
         })
     }
 
     /// The arrangement of values for all columns in their order. No names are compared.
-    pub fn whole(alloc: Global, schema: &Schema) -> Result<Arrangement, AllocError>
-        ensures { IfOk result (IsArrangementOf schema.now schema.now.names) }
+    pub fn whole(schema: &Schema) -> Arrangement
+        ensures { IsArrangementOf schema.now schema.now.names result }
     {
         // No two columns have one name.
         schema.facts();
         let width = schema.len();
-        let places = own_places(alloc, schema.names())?;
-        Ok(Arrangement { width, places })
+        Arrangement {
+            width,
+            places: Places::Own(width),
+        }
     }
 
     /// Whether each list has a value for each name.
@@ -121,12 +126,68 @@ impl Arrangement {
         are_wide(lists, self.width)
     }
 
-    /// A copy of the values in the order of the table's columns; a column that isn't listed gets NULL.
-    pub fn values(&self, alloc: Global, list: &[Value]) -> Result<Vec<Value>, AllocError>
-        ensures { IfOk result (λ values. values.items ≡ rearranged self.now list.now) }
+    /// The candidate that the values are in the order of the table's columns; a column that isn't listed gets NULL.
+    /// Values that stand in that order aren't copied, but for auxiliary ones.
+    ///
+    /// # Errors
+    ///
+    /// Those of `Candidate::new`.
+    pub fn candidate<const D: usize>(
+        &self,
+        alloc: Global,
+        list: &[Value],
+    ) -> Result<Candidate<D>, Refusal>
+        requires some { 1 ≤ D }
+        requires few { D ≤ 3 }
+        requires long { 1 + 2 * D ≤ length self.now.places }
+        ensures { GivesAs candidate_as (candidate_of D (rearranged self.now list.now)) result }
     {
-        rearranged(alloc, self.places.as_slice(), list)
+        match &self.places {
+            Places::Own(count) => {
+                own_places_facts(*count);
+                own_candidate(alloc, *count, list)
+            }
+            Places::Listed(places) => {
+                let values = rearranged(alloc, places.as_slice(), list)?;
+                Candidate::new(values)
+            }
+        }
     }
+}
+
+/// A law: so many columns have so many places. The call does nothing.
+fn own_places_facts(count: usize)
+    ensures { length (own_places count) ≡ count }
+{}
+
+/// The candidate of values in the order of the columns.
+fn own_candidate<const D: usize>(
+    alloc: Global,
+    count: usize,
+    list: &[Value],
+) -> Result<Candidate<D>, Refusal>
+    requires some { 1 ≤ D }
+    requires few { D ≤ 3 }
+    requires long { 1 + 2 * D ≤ count }
+    ensures { GivesAs candidate_as (candidate_of D (map (value_at list.now) (own_places count))) result }
+{
+    if list.len() == count {
+        return Candidate::from_slice(alloc, list);
+    }
+    let values = in_order(alloc, count, list)?;
+    Candidate::new(values)
+}
+
+/// So many values of a list in its order; NULL past its end.
+fn in_order(alloc: Global, count: usize, list: &[Value]) -> Result<Vec<Value>, AllocError>
+    ensures value { IfOk result (λ values. values.items ≡ map (value_at list.now) (own_places count)) }
+    ensures each { IfOk result (λ values. length values.items ≡ count) }
+{
+    let mut values = Vec::with_capacity(alloc, count)?;
+    for place in 0..count {
+        values.push(copy_at(alloc, list, Some(place))?)?;
+    }
+    Ok(values)
 }
 
 fn are_wide(lists: &[Items<Value>], width: usize) -> bool

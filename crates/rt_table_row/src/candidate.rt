@@ -3,14 +3,16 @@
 //! INSERT and UPDATE both make their rows here, so types, ranges and the order of minimum and maximum are tested
 //! in one place. Nothing is converted (`specs/Candidates.antt`).
 
-ghost use Rattle.std.specs.Prelude.{◌≡◌, ◌*◌, ◌+◌, ◌≤◌, ◌<◌, pos, true, map, length, Some, None, if◌then◌else◌, slice_index_or};
+ghost use Rattle.std.specs.Prelude.{◌≡◌, ◌*◌, ◌+◌, ◌≤◌, ◌<◌, ◌++◌, IfOk, pos, true, map, length, Some, None, if◌then◌else◌, slice_index_or};
 ghost use Rattle.std.specs.List.{list_all};
 ghost use Rattle.rt_table_row.specs.Candidates.{is_id, is_integer, id_in, number_in, fits_bits, box_of, is_ordered, candidate_of};
 ghost use Rattle.rt_table_row.specs.Answers.{GivesAs};
 ghost use Rattle.rt_table_row.specs.Entries.{candidate_as};
 
+use crate::entry::push_copies;
 use rt_box::Rect;
 use rt_sql_statement::{Items, Refusal, Value};
+use std::alloc::{AllocError, Global};
 
 fn is_id(value: &Value) -> bool
     ensures { result ≡ is_id value.now }
@@ -89,6 +91,15 @@ fn rect_of<const D: usize>(values: &[Value]) -> Option<Rect<D>>
     Rect::new(lo, hi)
 }
 
+/// A copy of each auxiliary value.
+fn copies(alloc: Global, auxiliary: &[Value]) -> Result<Items<Value>, AllocError>
+    ensures { IfOk result (λ values. values ≡ auxiliary.now) }
+{
+    let mut values = Vec::new(alloc);
+    push_copies(alloc, &mut values, auxiliary)?;
+    Ok(Items::from_vec(values))
+}
+
 /// What a new row will be, of a table with `D` axes: its id, or none where it asks for a new one, its
 /// box, and the values of its auxiliary columns.
 #[derive(Debug, Drop)]
@@ -102,6 +113,29 @@ pub struct Candidate<const D: usize> {
 }
 
 impl<const D: usize> Candidate<D> {
+    /// The candidate that an id or NULL, the coordinates, and auxiliary values are.
+    fn with(plain: &[Value], auxiliary: Items<Value>) -> Result<Candidate<D>, Refusal>
+        requires some { 1 ≤ D }
+        requires few { D ≤ 3 }
+        requires long { length plain.now ≡ 1 + 2 * D }
+        ensures { GivesAs candidate_as (candidate_of D (plain.now ++ auxiliary)) result }
+    {
+        if !is_id(&plain[0]) || !are_integers(&plain[1..]) {
+            return Err(Refusal::WrongType);
+        }
+        if !are_short(&plain[1..]) {
+            return Err(Refusal::IntegerOutOfRange);
+        }
+        match rect_of(&plain[1..]) {
+            None => Err(Refusal::MinimumAboveMaximum),
+            Some(rect) => Ok(Candidate {
+                id: id_in(&plain[0]),
+                rect,
+                auxiliary,
+            }),
+        }
+    }
+
     /// The candidate that the values are: an id or NULL, the coordinates, and then the auxiliary values.
     ///
     /// # Errors
@@ -115,19 +149,22 @@ impl<const D: usize> Candidate<D> {
         ensures { GivesAs candidate_as (candidate_of D values.items) result }
     {
         let auxiliary = values.split_off(1 + 2 * D)?;
-        if !is_id(&values[0]) || !are_integers(&values[1..]) {
-            return Err(Refusal::WrongType);
-        }
-        if !are_short(&values[1..]) {
-            return Err(Refusal::IntegerOutOfRange);
-        }
-        match rect_of(&values[1..]) {
-            None => Err(Refusal::MinimumAboveMaximum),
-            Some(rect) => Ok(Candidate {
-                id: id_in(&values[0]),
-                rect,
-                auxiliary: Items::from_vec(auxiliary),
-            }),
-        }
+        Candidate::with(&values, Items::from_vec(auxiliary))
+    }
+
+    /// The same of values that stay where they are: of these only the auxiliary ones are copied.
+    ///
+    /// # Errors
+    ///
+    /// Those of `new`.
+    pub fn from_slice(alloc: Global, values: &[Value]) -> Result<Candidate<D>, Refusal>
+        requires some { 1 ≤ D }
+        requires few { D ≤ 3 }
+        requires long { 1 + 2 * D ≤ length values.now }
+        ensures { GivesAs candidate_as (candidate_of D values.now) result }
+    {
+        let (plain, auxiliary) = values.split_at(1 + 2 * D);
+        let auxiliary = copies(alloc, auxiliary)?;
+        Candidate::with(plain, auxiliary)
     }
 }

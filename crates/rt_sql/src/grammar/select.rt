@@ -88,7 +88,8 @@ fn then_sign(tokens: &Tokens<'_>, sign: Sign) -> bool
     }
 }
 
-/// A SELECT from what follows that word on.
+/// A SELECT from what follows that word on. It stands apart, so that its locals aren't cleared for other statements.
+#[inline(never)]
 #[tactic(auto, unfolding(crate::specs::Reading::select))]
 pub(crate) fn select(
     alloc: Global,

@@ -16,11 +16,11 @@ returns-in_err-step g c =
     let f = rearranged c.args.arrangement.now in
     let done = map step_of c.loop-list.draft.steps.items in
     let within : c.loop-list.list-index < length lists = omega arith in
-    let p = err_from_is_err_and c.from_residual-in_err-step.result c.from_residual-in_err-step.ensures.1 in
+    let p = err_from_is_err_and c.from_residual.result c.from_residual.ensures.1 in
     rw (p.1, p.2)
-    (put_refused g.row.D c.args.rule rows (put_all g.row.D c.args.rule rows (map f lists)) done c.in_err-step.field-0.0 c.in_ok-values.values.items
+    (put_refused g.row.D c.args.rule rows (put_all g.row.D c.args.rule rows (map f lists)) done c.in_err-step.field-0.0 (f c.as_slice-values.result.now)
     (map f (drop c.loop-list.list-index lists)) (map f (drop (c.loop-list.list-index + 1) lists)) c.loop-list.invariant.rest
-    (left_more f lists c.loop-list.list-index c.list-item.result c.in_ok-values.values.items within c.list-item.is (c.in_ok-values.ensures ∙ ap f c.as_slice.ensures))
+    (left_more f lists c.loop-list.list-index c.list-item.result (f c.as_slice-values.result.now) within c.list-item.is (ap f c.as_slice-values.ensures))
     (c.in_err-step.ensures (outcome rows done) c.loop-list.invariant.knows c.loop-list.invariant.counts))
 
 pub loop-list-preserved-in_default : goal.loop-list-preserved-in_default
@@ -33,9 +33,9 @@ loop-list-preserved-in_default g c =
     record {
       knows = c.loop-list.invariant.knows;
       counts = c.loop-list.invariant.counts;
-      rest = put_more g.row.D c.args.rule rows (put_all g.row.D c.args.rule rows (map f lists)) done done (step_given c.in_ok-step.field-0) c.in_ok-values.values.items
+      rest = put_more g.row.D c.args.rule rows (put_all g.row.D c.args.rule rows (map f lists)) done done (step_given c.in_ok-step.step) (f c.as_slice-values.result.now)
           (map f (drop c.loop-list.list-index lists)) (map f (drop (c.loop-list.list-index + 1) lists)) c.loop-list.invariant.rest
-          (left_more f lists c.loop-list.list-index c.list-item.result c.in_ok-values.values.items within c.list-item.is (c.in_ok-values.ensures ∙ ap f c.as_slice.ensures))
+          (left_more f lists c.loop-list.list-index c.list-item.result (f c.as_slice-values.result.now) within c.list-item.is (ap f c.as_slice-values.ensures))
           (c.in_ok-step.ensures (outcome rows done) c.loop-list.invariant.knows c.loop-list.invariant.counts)
           (rw c.in_default.is (sym (append-nil done)));
     }
@@ -53,10 +53,10 @@ loop-list-preserved g c =
     record {
       knows = knows_more rows (known_of c.loop-list.draft) (known_of c.push.new.self) done next step c.loop-list.invariant.knows c.in_ok-push.ensures.steps c.in_ok-push.ensures.known;
       counts = counts_step rows done next step c.loop-list.count.largest c.add.new.self.largest c.loop-list.count.room c.add.new.self.room c.loop-list.invariant.counts
-          (put_fits g.row.D c.args.rule (outcome rows done) c.in_ok-values.values.items step one) c.in_ok-push.ensures.steps c.add.ensures.largest c.add.ensures.room;
-      rest = put_more g.row.D c.args.rule rows (put_all g.row.D c.args.rule rows (map f lists)) done next (step ∷ []) c.in_ok-values.values.items
+          (put_fits g.row.D c.args.rule (outcome rows done) (f c.as_slice-values.result.now) step one) c.in_ok-push.ensures.steps c.add.ensures.largest c.add.ensures.room;
+      rest = put_more g.row.D c.args.rule rows (put_all g.row.D c.args.rule rows (map f lists)) done next (step ∷ []) (f c.as_slice-values.result.now)
           (map f (drop c.loop-list.list-index lists)) (map f (drop (c.loop-list.list-index + 1) lists)) c.loop-list.invariant.rest
-          (left_more f lists c.loop-list.list-index c.list-item.result c.in_ok-values.values.items within c.list-item.is (c.in_ok-values.ensures ∙ ap f c.as_slice.ensures))
+          (left_more f lists c.loop-list.list-index c.list-item.result (f c.as_slice-values.result.now) within c.list-item.is (ap f c.as_slice-values.ensures))
           one c.in_ok-push.ensures.steps;
     }
 

@@ -1,5 +1,0 @@
-use Rattle.std.proofs.Common.{rules}
-use Rattle.rt_sql_statement.proofs.name.Name.try_clone.Goals as goal
-
-pub returns : goal.returns
-returns c = search rules
