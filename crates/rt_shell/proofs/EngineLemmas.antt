@@ -21,20 +21,40 @@ use Rattle.rt_shell.specs.declared.engine.Flow.{Flow}
 use Rattle.rt_shell.specs.declared.engine.Flow.TheVariants.{Goes, Stops}
 use Rattle.rt_shell.specs.declared.engine.Options.{Options}
 use Rattle.rt_session.specs.Session.{State, Outcome}
-use Rattle.rt_shell.specs.Lines.{answer_lines}
-use Rattle.rt_shell.specs.Transcript.{Marks, Progress, MayGive, after, Prints, PrintsText, lines_of, status_of}
-use Rattle.rt_shell.specs.Engine.{outcome_of, GivesAnswer, AnswersNext, progress_of, ready_lines, flow_of, CutInto, Gives, Moves, StopsWith, Reaches, AnswersReady, Finishes}
+use Rattle.rt_shell.specs.Lines.{answer_lines, echo_of}
+use Rattle.rt_shell.specs.Transcript.{Marks, Progress, MayGive, after, Prints, PrintsText, lines_of, part_of, status_of}
+use Rattle.rt_shell.specs.Engine.{outcome_of, GivesAnswer, AnswersNext, progress_of, echo_ready, AnswersPiece, ready_lines, flow_of, CutInto, Gives, Moves, StopsWith, Reaches, AnswersReady, Finishes}
 
 is_err-outcome_of : (answer : Result Reply Refusal) (new : State) → is_err (outcome_of answer new) ≡ is_err answer
 is_err-outcome_of (Ok reply) new = refl
 is_err-outcome_of (Err refusal) new = refl
 
 -- the progress that an answer makes
-pub after-outcome_of : (p : Progress) (piece : PieceText) (answer : Result Reply Refusal) (new : State) → GivesAnswer p.state piece answer new
+after-outcome_of : (p : Progress) (piece : PieceText) (answer : Result Reply Refusal) (new : State) → GivesAnswer p.state piece answer new
     → (let next : Progress = record { state = new; pieces = p.pieces + 1; refused = p.refused || is_err answer } in next ≡ after p (outcome_of answer new))
 after-outcome_of p piece answer new gives =
     ap (λ b. record { state = new; pieces = p.pieces + 1; refused = p.refused || b }) (sym (is_err-outcome_of answer new))
     ∙ ap (λ s. record { state = s; pieces = p.pieces + 1; refused = p.refused || is_err (outcome_of answer new) }) (sym gives.leaves)
+
+-- the piece that was ready is answered, and the cutter starts anew
+pub answers_piece : (old : Engine) (piece : PieceText) (answer : Result Reply Refusal) (c : Front) (state : State) (is_refused : Bool) → Some piece ≡ ready_piece old.cutter
+    → ((x : List ℕ) → StandsAt old.cutter x → IsWholePiece x piece) → ((x : List ℕ) → FinishedAt old.cutter x → IsWholePiece x piece ⊎ IsLastPiece x piece)
+    → GivesAnswer old.session piece answer state → is_refused ≡ is_err answer → StandsAt c []
+    → AnswersPiece old answer (record old { cutter = c; session = state; pieces = old.pieces + 1; refused = old.refused || is_refused })
+answers_piece old piece answer c state is_refused ready whole last gives refused anew = record {
+  piece = piece;
+  ready = sym ready;
+  whole = whole;
+  last = last;
+  gives = gives;
+  comes_on = rw refused (after-outcome_of (progress_of old) piece answer state gives);
+  starts_anew = anew;
+  same_options = refl;
+}
+
+pub part_ready : (old : Engine) (piece : PieceText) (answer : Result Reply Refusal) → Some piece ≡ ready_piece old.cutter
+    → echo_of old.options.echo piece ++ answer_lines (old.pieces + 1) answer ≡ ready_lines old (Some answer)
+part_ready old piece answer ready = ap (λ p. echo_ready old.options.echo p ++ answer_lines (old.pieces + 1) answer) ready
 
 -- ---- marks
 
@@ -71,7 +91,7 @@ remarked options marks others p (piece ∷ pieces) parts status agree (outcome, 
 
 -- the lines of a piece, and then the text of those behind it
 text_from : (options : Options) (marks : Marks) (p : Progress) (piece : PieceText) (pieces : List PieceText) (outcome : Outcome) → MayGive (marks (p.pieces + 1)) p.state piece outcome
-    → (later out : List ℕ) (status : Status) → out ≡ lines_of (p.pieces + 1) outcome ++ later
+    → (later out : List ℕ) (status : Status) → out ≡ part_of options (p.pieces + 1) piece outcome ++ later
     → MatchBool (options.bail && is_err outcome) ((later ≡ []) × (status ≡ Refused)) (PrintsText options marks (after p outcome) pieces later status)
     → PrintsText options marks p (piece ∷ pieces) out status
 text_from options marks p piece pieces outcome gives later out status is more =
@@ -84,7 +104,7 @@ text_from options marks p piece pieces outcome gives later out status is more =
       | false ↦ λ goes. (goes.0, goes.2, goes.1)
     ] more
     in
-    (lines_of (p.pieces + 1) outcome ∷ rest.0, (outcome, gives, rest.0, refl, rest.2), is ∙ ap (λ ls. lines_of (p.pieces + 1) outcome ++ ls) rest.1)
+    (part_of options (p.pieces + 1) piece outcome ∷ rest.0, (outcome, gives, rest.0, refl, rest.2), is ∙ ap (λ ls. part_of options (p.pieces + 1) piece outcome ++ ls) rest.1)
 
 -- ---- every text is cut, and every list of pieces may print something
 
@@ -110,10 +130,10 @@ prints_somehow options p (piece ∷ pieces) =
     let later = prints_somehow options (after p (Err OutOfMemory)) pieces in
     elim options.bail as
     (λ b. (parts : List (List ℕ)) × (status : Status) × ((outcome : Outcome) × MayGive true p.state piece outcome
-    × (more : List (List ℕ)) × (parts ≡ lines_of (p.pieces + 1) outcome ∷ more)
+    × (more : List (List ℕ)) × (parts ≡ part_of options (p.pieces + 1) piece outcome ∷ more)
     × MatchBool (b && is_err outcome) ((more ≡ []) × (status ≡ Refused)) (Prints options all_marked (after p outcome) pieces more status))) [
-      | true ↦ (lines_of (p.pieces + 1) (Err OutOfMemory) ∷ [], Refused, (Err OutOfMemory, refl, [], refl, (refl, refl)))
-      | false ↦ (lines_of (p.pieces + 1) (Err OutOfMemory) ∷ later.0, later.1, (Err OutOfMemory, refl, later.0, refl, later.2))
+      | true ↦ (part_of options (p.pieces + 1) piece (Err OutOfMemory) ∷ [], Refused, (Err OutOfMemory, refl, [], refl, (refl, refl)))
+      | false ↦ (part_of options (p.pieces + 1) piece (Err OutOfMemory) ∷ later.0, later.1, (Err OutOfMemory, refl, later.0, refl, later.2))
     ]
 
 gives_somehow : (so_far : Bool) (options : Options) (p : Progress) (x : List ℕ) → (out : List ℕ) × (status : Status) × Gives so_far options p x out status
@@ -172,6 +192,13 @@ lines_of-outcome_of : (n : ℕ) (answer : Result Reply Refusal) (new : State) �
 lines_of-outcome_of n (Ok reply) new = refl
 lines_of-outcome_of n (Err refusal) new = refl
 
+-- what the piece prints that was ready
+ready_part : (old : Engine) (answer : Result Reply Refusal) (new : Engine) → (answers : AnswersPiece old answer new)
+    → ready_lines old (Some answer) ≡ part_of old.options (old.pieces + 1) answers.piece (outcome_of answer new.session)
+ready_part old answer new answers =
+    ap (λ p. echo_ready old.options.echo p ++ answer_lines (old.pieces + 1) answer) answers.ready
+    ∙ ap (λ ls. echo_of old.options.echo answers.piece ++ ls) (sym (lines_of-outcome_of (old.pieces + 1) answer new.session))
+
 goes_on : (bail : Bool) (answer : Result Reply Refusal) (new : State) → flow_of bail (Some answer) ≡ Goes → (bail && is_err (outcome_of answer new)) ≡ false
 goes_on false answer new flow = refl
 goes_on true (Ok reply) new flow = refl
@@ -183,7 +210,7 @@ stops_here true (Ok reply) new flow = cc
 stops_here true (Err refusal) new flow = refl
 
 pub moves_by_answer : (old : Engine) (answer : Option (Result Reply Refusal)) (new : Engine) (x : List ℕ) → StandsAt old.cutter x → AnswersNext old answer new
-    → flow_of old.options.bail answer ≡ Goes → (y : List ℕ) × Moves old x [] (ready_lines (old.pieces + 1) answer) new y
+    → flow_of old.options.bail answer ≡ Goes → (y : List ℕ) × Moves old x [] (ready_lines old answer) new y
 moves_by_answer old None new x stands waits flow = (x, rw waits.same (moves_nowhere old x stands))
 moves_by_answer old (Some answer) new x stands answers flow = (
   [],
@@ -204,14 +231,14 @@ moves_by_answer old (Some answer) new x stands answers flow = (
           (
             answers.piece ∷ gives.1.0,
             cut_more so_far x ahead answers.piece gives.1.0 (answers.whole x stands) gives.1.1,
-            text_from old.options marks (progress_of old) answers.piece gives.1.0 outcome here out _ status (rw (lines_of-outcome_of number answer new.session) refl) (rw kept on_here),
+            text_from old.options marks (progress_of old) answers.piece gives.1.0 outcome here out _ status (ap (λ ls. ls ++ out) (ready_part old answer new answers)) (rw kept on_here),
           ),
         );
   },
 )
 
 pub stops_by_answer : (old : Engine) (answer : Option (Result Reply Refusal)) (new : Engine) (x : List ℕ) → StandsAt old.cutter x → AnswersNext old answer new
-    → flow_of old.options.bail answer ≡ Stops → StopsWith old x [] (ready_lines (old.pieces + 1) answer)
+    → flow_of old.options.bail answer ≡ Stops → StopsWith old x [] (ready_lines old answer)
 stops_by_answer old None new x stands waits flow so_far ahead = absurd (let none : ⊥ = cc in none)
 stops_by_answer old (Some answer) new x stands answers flow so_far ahead =
     let cut = cut_in_some_way so_far ahead in
@@ -222,18 +249,18 @@ stops_by_answer old (Some answer) new x stands answers flow so_far ahead =
         answers.piece ∷ cut.0,
         cut_more so_far x ahead answers.piece cut.0 (answers.whole x stands) cut.1,
         text_from old.options (λ number. answers.gives.mark) (progress_of old) answers.piece cut.0 outcome answers.gives.gives [] _ Refused
-            (rw (lines_of-outcome_of (old.pieces + 1) answer new.session) (sym (append-nil _))) (rw stop (refl, refl)),
+            (ready_part old answer new answers ∙ sym (append-nil _)) (rw stop (refl, refl)),
       ),
     )
 
 pub reaches_by_answer : (old : Engine) (answer : Option (Result Reply Refusal)) (new : Engine) (x : List ℕ) → StandsAt old.cutter x → AnswersNext old answer new
-    → Reaches old x [] (ready_lines (old.pieces + 1) answer)
+    → Reaches old x [] (ready_lines old answer)
 reaches_by_answer old answer new x stands answers =
-    elim (flow_of old.options.bail answer) as (λ flow. flow_of old.options.bail answer ≡ flow → Reaches old x [] (ready_lines (old.pieces + 1) answer)) [
+    elim (flow_of old.options.bail answer) as (λ flow. flow_of old.options.bail answer ≡ flow → Reaches old x [] (ready_lines old answer)) [
       | Goes ↦ λ goes. let moves = moves_by_answer old answer new x stands answers goes in reaches_from old new x moves.0 [] _ moves.1
       | Stops ↦ λ stops so_far ahead.
           let gives = stops_by_answer old answer new x stands answers stops so_far ahead in
-          ([], Refused, rw (append-nil (ready_lines (old.pieces + 1) answer)) gives)
+          ([], Refused, rw (append-nil (ready_lines old answer)) gives)
     ] refl
 
 -- ---- the end of the input
@@ -264,12 +291,12 @@ last_of_all options marks true p (Ok given) = prints_none options marks (after p
 last_of_all options marks false p (Ok given) = prints_none options marks (after p (Ok given)) _ refl
 
 prints_last : (options : Options) (marks : Marks) (p : Progress) (piece : PieceText) (outcome : Outcome) → MayGive (marks (p.pieces + 1)) p.state piece outcome
-    → PrintsText options marks p (piece ∷ []) (lines_of (p.pieces + 1) outcome) (status_of (after p outcome))
+    → PrintsText options marks p (piece ∷ []) (part_of options (p.pieces + 1) piece outcome) (status_of (after p outcome))
 prints_last options marks p piece outcome gives =
-    text_from options marks p piece [] outcome gives no_lines (lines_of (p.pieces + 1) outcome) (status_of (after p outcome)) (sym (append-nil _)) (last_of_all options marks options.bail p outcome)
+    text_from options marks p piece [] outcome gives no_lines (part_of options (p.pieces + 1) piece outcome) (status_of (after p outcome)) (sym (append-nil _)) (last_of_all options marks options.bail p outcome)
 
 pub gives_at_end : (old : Engine) (answer : Option (Result Reply Refusal)) (new : Engine) (x : List ℕ) → FinishedAt old.cutter x → AnswersNext old answer new
-    → Gives false old.options (progress_of old) x (ready_lines (old.pieces + 1) answer) (status_of (progress_of new))
+    → Gives false old.options (progress_of old) x (ready_lines old answer) (status_of (progress_of new))
 gives_at_end old None new x finished waits =
     (all_marked, ([], waits.gap x finished, prints_none old.options all_marked (progress_of old) (status_of (progress_of new)) (ap (λ e. status_of (progress_of e)) waits.same)))
 gives_at_end old (Some answer) new x finished answers =
@@ -280,21 +307,21 @@ gives_at_end old (Some answer) new x finished answers =
       (
         answers.piece ∷ [],
         only_piece x answers.piece (answers.last x finished),
-        subst (λ (q : Progress). PrintsText old.options marks (progress_of old) (answers.piece ∷ []) (answer_lines (old.pieces + 1) answer) (status_of q)) (sym answers.comes_on)
+        subst (λ (q : Progress). PrintsText old.options marks (progress_of old) (answers.piece ∷ []) (ready_lines old (Some answer)) (status_of q)) (sym answers.comes_on)
             (subst (λ (out : List ℕ). PrintsText old.options marks (progress_of old) (answers.piece ∷ []) out (status_of (after (progress_of old) outcome)))
-            (lines_of-outcome_of (old.pieces + 1) answer new.session) prints),
+            (sym (ready_part old answer new answers)) prints),
       ),
     )
 
 pub finishes_ok : (old : Engine) (c : Front) (new : Engine) (w v : Option (List ℕ)) (f g : ℕ) (flow : Flow) → ((x : List ℕ) → StandsAt old.cutter x → FinishedAt c x)
     → AnswersReady (record old { cutter = c }) new w v f g (Ok flow) → Finishes old w v f g (Ok (status_of (progress_of new)))
 finishes_ok old c new w v f g flow ends ready =
-    (ready_lines (old.pieces + 1) ready.answer, ready.writes, λ x stands. gives_at_end (record old { cutter = c }) ready.answer new x (ends x stands) ready.answers)
+    (ready_lines (record old { cutter = c }) ready.answer, ready.writes, λ x stands. gives_at_end (record old { cutter = c }) ready.answer new x (ends x stands) ready.answers)
 
 pub finishes_err : (old : Engine) (c : Front) (new : Engine) (w v : Option (List ℕ)) (f g : ℕ) (fault : WriteFault) → ((x : List ℕ) → StandsAt old.cutter x → FinishedAt c x)
     → AnswersReady (record old { cutter = c }) new w v f g (Err fault) → Finishes old w v f g (Err fault)
 finishes_err old c new w v f g fault ends ready = (
-  ready_lines (old.pieces + 1) ready.answer,
+  ready_lines (record old { cutter = c }) ready.answer,
   ready.writes,
   λ x stands. (status_of (progress_of new), gives_at_end (record old { cutter = c }) ready.answer new x (ends x stands) ready.answers),
 )
@@ -303,28 +330,28 @@ finishes_err old c new w v f g fault ends ready = (
 
 pub moves_step : (old now : Engine) (c : Front) (answer : Option (Result Reply Refusal)) (new : Engine) (x y b l taken : List ℕ)
     → Moves old x b l now y → StandsAt c (y ++ taken) → AnswersNext (record now { cutter = c }) answer new → flow_of now.options.bail answer ≡ Goes
-    → (z : List ℕ) × Moves old x (b ++ taken) (l ++ ready_lines (now.pieces + 1) answer) new z
+    → (z : List ℕ) × Moves old x (b ++ taken) (l ++ ready_lines (record now { cutter = c }) answer) new z
 moves_step old now c answer new x y b l taken first stands answers goes =
     let fed = moves_on old now (record now { cutter = c }) x y (y ++ taken) b taken l [] first (moves_by_feed now c y taken stands) in
     let answered = moves_by_answer (record now { cutter = c }) answer new (y ++ taken) stands answers goes in
-    let on = moves_on old (record now { cutter = c }) new x (y ++ taken) answered.0 (b ++ taken) [] (l ++ []) (ready_lines (now.pieces + 1) answer) fed answered.1 in
+    let on = moves_on old (record now { cutter = c }) new x (y ++ taken) answered.0 (b ++ taken) [] (l ++ []) (ready_lines (record now { cutter = c }) answer) fed answered.1 in
     (answered.0, rw (append-nil (b ++ taken), append-nil l) at on)
 
 pub stops_step : (old now : Engine) (c : Front) (answer : Option (Result Reply Refusal)) (new : Engine) (x y b l taken rest : List ℕ)
     → Moves old x b l now y → StandsAt c (y ++ taken) → AnswersNext (record now { cutter = c }) answer new → flow_of now.options.bail answer ≡ Stops
-    → StopsWith old x (b ++ (taken ++ rest)) (l ++ ready_lines (now.pieces + 1) answer)
+    → StopsWith old x (b ++ (taken ++ rest)) (l ++ ready_lines (record now { cutter = c }) answer)
 stops_step old now c answer new x y b l taken rest first stands answers stops =
     let fed = moves_on old now (record now { cutter = c }) x y (y ++ taken) b taken l [] first (moves_by_feed now c y taken stands) in
     let stop = stops_by_answer (record now { cutter = c }) answer new (y ++ taken) stands answers stops in
-    rw (← append_assoc b taken rest, ← append-nil l) (stops_after old (record now { cutter = c }) x (y ++ taken) (b ++ taken) (l ++ []) (ready_lines (now.pieces + 1) answer) rest fed stop)
+    rw (← append_assoc b taken rest, ← append-nil l) (stops_after old (record now { cutter = c }) x (y ++ taken) (b ++ taken) (l ++ []) (ready_lines (record now { cutter = c }) answer) rest fed stop)
 
 pub reaches_step : (old now : Engine) (c : Front) (answer : Option (Result Reply Refusal)) (new : Engine) (x y b l taken rest : List ℕ)
     → Moves old x b l now y → StandsAt c (y ++ taken) → AnswersNext (record now { cutter = c }) answer new
-    → Reaches old x (b ++ (taken ++ rest)) (l ++ ready_lines (now.pieces + 1) answer)
+    → Reaches old x (b ++ (taken ++ rest)) (l ++ ready_lines (record now { cutter = c }) answer)
 reaches_step old now c answer new x y b l taken rest first stands answers =
     let fed = moves_on old now (record now { cutter = c }) x y (y ++ taken) b taken l [] first (moves_by_feed now c y taken stands) in
     let reach = reaches_by_answer (record now { cutter = c }) answer new (y ++ taken) stands answers in
-    rw (← append_assoc b taken rest, ← append-nil l) (reaches_after old (record now { cutter = c }) x (y ++ taken) (b ++ taken) (l ++ []) (ready_lines (now.pieces + 1) answer) rest fed reach)
+    rw (← append_assoc b taken rest, ← append-nil l) (reaches_after old (record now { cutter = c }) x (y ++ taken) (b ++ taken) (l ++ []) (ready_lines (record now { cutter = c }) answer) rest fed reach)
 
 pub idle_after : (old : Engine) (answer : Option (Result Reply Refusal)) (new : Engine) → AnswersNext old answer new → ready_piece new.cutter ≡ None
 idle_after old None new waits = rw waits.same waits.not_ready

@@ -44,7 +44,7 @@ module _ (old : Engine) (bytes : List ℕ) (now : Engine) (rest more later : Lis
   pub taking_on : 0 < length more → AnswersReady (record now { cutter = c }) new u v h g (Ok Goes) → Taking old bytes new later w v f g
   taking_on some ready = record {
     taken = so_far.taken ++ more;
-    lines = so_far.lines ++ ready_lines (now.pieces + 1) ready.answer;
+    lines = so_far.lines ++ ready_lines (record now { cutter = c }) ready.answer;
     split = whole ∙ sym (append_assoc so_far.taken more later);
     writes = WritesAll-trans w u v f h g _ _ so_far.writes ready.writes;
     moves = λ x stands. let m = so_far.moves x stands in moves_step old now c ready.answer new x m.0 _ _ more m.1 (fed m.0 m.1.stands) ready.answers (sym ready.flow);
@@ -57,14 +57,14 @@ module _ (old : Engine) (bytes : List ℕ) (now : Engine) (rest more later : Lis
 
   pub taking_stops : AnswersReady (record now { cutter = c }) new u v h g (Ok Stops) → TakesAll old bytes new w v f g (Ok Stops)
   taking_stops ready = (
-    so_far.lines ++ ready_lines (now.pieces + 1) ready.answer,
+    so_far.lines ++ ready_lines (record now { cutter = c }) ready.answer,
     WritesAll-trans w u v f h g _ _ so_far.writes ready.writes,
     λ x stands. let m = so_far.moves x stands in rw whole (stops_step old now c ready.answer new x m.0 _ _ more later m.1 (fed m.0 m.1.stands) ready.answers (sym ready.flow)),
   )
 
   pub taking_fails : (fault : WriteFault) → AnswersReady (record now { cutter = c }) new u v h g (Err fault) → TakesAll old bytes new w v f g (Err fault)
   taking_fails fault ready = (
-    so_far.lines ++ ready_lines (now.pieces + 1) ready.answer,
+    so_far.lines ++ ready_lines (record now { cutter = c }) ready.answer,
     WritesFront-after w u v f h g _ _ so_far.writes ready.writes,
     λ x stands. let m = so_far.moves x stands in rw whole (reaches_step old now c ready.answer new x m.0 _ _ more later m.1 (fed m.0 m.1.stands) ready.answers),
   )

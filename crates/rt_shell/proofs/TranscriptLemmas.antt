@@ -1,5 +1,5 @@
 -- What two runs of one script print, is equal but for dumps, and over plain lists there is a transcript for all marks.
-use Rattle.std.proofs.Common.{◌≡◌, ◌∙◌, ◌⊎◌, inl, inr, ℕ, ◌+◌, ◌≤◌, Bool, true, false, List, [], ◌∷◌, Option, Some, None, Result, Ok, Err, length, arith, refl, sym, ap, subst}
+use Rattle.std.proofs.Common.{◌≡◌, ◌∙◌, ◌⊎◌, inl, inr, ℕ, ◌+◌, ◌≤◌, Bool, true, false, List, [], ◌∷◌, ◌++◌, Option, Some, None, Result, Ok, Err, length, arith, refl, sym, ap, subst}
 use Rattle.std.specs.Prelude.{◌&&◌, ◌||◌, if◌then◌else◌}
 use Rattle.std.specs.Bool.{MatchBool}
 use Rattle.std.specs.Result.{is_err}
@@ -19,8 +19,8 @@ use Rattle.rt_table.specs.AnyTrees.{StandsFor}
 use Rattle.rt_session.specs.declared.reply.Reply.{Reply}
 use Rattle.rt_session.specs.Session.{State, NamedTable, Outcome, table_of, is_named, state_after, answer, Answers}
 use Rattle.rt_shell.specs.declared.engine.Options.{Options}
-use Rattle.rt_shell.specs.Lines.{reply_lines, refusal_line}
-use Rattle.rt_shell.specs.Transcript.{Marks, Progress, start, AnswersParsed, MayGive, after, lines_of, status_of, Prints}
+use Rattle.rt_shell.specs.Lines.{reply_lines, refusal_line, echo_of}
+use Rattle.rt_shell.specs.Transcript.{Marks, Progress, start, AnswersParsed, MayGive, after, lines_of, part_of, status_of, Prints}
 use Rattle.rt_shell.specs.Laws.{EqualButDumps, AreDumps, HaveSameRows, TranscriptIsDetermined, TranscriptSoFarIsDetermined, no_tree, PlainlyAnswersParsed, PlainlyGives, PlainlyPrints, AnyTrees, EveryScriptHasAPlainTranscript}
 use Rattle.rt_shell.proofs.Alike.{FoundAlike, SameTables, table_alike, SameAnswer, FoundRelated, AreRelated, both_answer}
 use Rattle.rt_shell.proofs.Standing.{IsStanding, found_stands, stands_after}
@@ -32,31 +32,33 @@ abbrev pub SameProgress : Progress → Progress → Type 0
 SameProgress p q = SameTables p.state q.state × (q.pieces ≡ p.pieces) × (q.refused ≡ p.refused)
 
 -- what is printed from a piece on that has this outcome, where the later pieces print by a rule
-abbrev pub PrintsFrom : (List (List ℕ) → Status → Type 0) → Options → Progress → Outcome → List (List ℕ) → Status → Type 0
-PrintsFrom Rest options p outcome parts status =
-    (later : List (List ℕ)) × (parts ≡ lines_of (p.pieces + 1) outcome ∷ later)
+abbrev pub PrintsFrom : (List (List ℕ) → Status → Type 0) → Options → Progress → PieceText → Outcome → List (List ℕ) → Status → Type 0
+PrintsFrom Rest options p piece outcome parts status =
+    (later : List (List ℕ)) × (parts ≡ part_of options (p.pieces + 1) piece outcome ∷ later)
     × MatchBool (options.bail && is_err outcome) ((later ≡ []) × (status ≡ Refused)) (Rest later status)
 
-no_lines : (T : AnyShadow → AnyShadow → Type 0) → (one other : List (List ℕ)) → one ≡ [] → other ≡ [] → EqualButDumps T one other
-no_lines T one other is are = subst (λ ls. EqualButDumps T ls other) (sym is) (subst (λ ls. EqualButDumps T [] ls) (sym are) tt)
+no_lines : (T : AnyShadow → AnyShadow → Type 0) (options : Options) → (one other : List (List ℕ)) → one ≡ [] → other ≡ [] → EqualButDumps T options one other
+no_lines T options one other is are = subst (λ ls. EqualButDumps T options ls other) (sym is) (subst (λ ls. EqualButDumps T options [] ls) (sym are) tt)
 
 module _ (T : AnyShadow → AnyShadow → Type 0) where
   -- equal but for dumps, and the status is one
-  abbrev pub PrintSame : List (List ℕ) → List (List ℕ) → Status → Status → Type 0
-  PrintSame one other first second = EqualButDumps T one other × (first ≡ second)
+  abbrev pub PrintSame : Options → List (List ℕ) → List (List ℕ) → Status → Status → Type 0
+  PrintSame options one other first second = EqualButDumps T options one other × (first ≡ second)
 
-  same_lines : (n : ℕ) (o a : Outcome) → SameAnswer T o a → (lines_of n o ≡ lines_of n a) ⊎ AreDumps T (lines_of n o) (lines_of n a)
-  same_lines n (Ok one) (Ok other) (inl is, _) = inl (ap (λ (r : Reply). reply_lines r) is)
-  same_lines n (Ok one) (Ok other) (inr (tree, given, is, are, related), _) = inr (record {
+  same_lines : (options : Options) (n : ℕ) (piece : PieceText) (o a : Outcome) → SameAnswer T o a
+      → (part_of options n piece o ≡ part_of options n piece a) ⊎ AreDumps T options (part_of options n piece o) (part_of options n piece a)
+  same_lines options n piece (Ok one) (Ok other) (inl is, _) = inl (ap (λ (r : Reply). echo_of options.echo piece ++ reply_lines r) is)
+  same_lines options n piece (Ok one) (Ok other) (inr (tree, given, is, are, related), _) = inr (record {
+    piece = piece;
     tree = tree;
     given = given;
     related = related;
-    one_is = ap (λ (r : Reply). reply_lines r) is;
-    other_is = ap (λ (r : Reply). reply_lines r) are;
+    one_is = ap (λ (r : Reply). echo_of options.echo piece ++ reply_lines r) is;
+    other_is = ap (λ (r : Reply). echo_of options.echo piece ++ reply_lines r) are;
   })
-  same_lines n (Err one) (Err other) is = inl (ap (λ (r : Refusal). refusal_line n r) is)
-  same_lines n (Ok one) (Err other) none = absurd none
-  same_lines n (Err one) (Ok other) none = absurd none
+  same_lines options n piece (Err one) (Err other) is = inl (ap (λ (r : Refusal). echo_of options.echo piece ++ refusal_line n r) is)
+  same_lines options n piece (Ok one) (Err other) none = absurd none
+  same_lines options n piece (Err one) (Ok other) none = absurd none
 
   same_kind : (o a : Outcome) → SameAnswer T o a → is_err a ≡ is_err o
   same_kind (Ok one) (Ok other) same = refl
@@ -78,30 +80,30 @@ module _ (T : AnyShadow → AnyShadow → Type 0) where
   )
 
   -- outcomes that are the same, with later lines that are the same
-  pub same_from : (options : Options) (p q : Progress) → SameProgress p q → (o a : Outcome) → SameAnswer T o a → (Mine Theirs : List (List ℕ) → Status → Type 0)
-      → ((l m : List (List ℕ)) (first second : Status) → Mine l first → Theirs m second → PrintSame l m first second)
-      → (one other : List (List ℕ)) (first second : Status) → PrintsFrom Mine options p o one first → PrintsFrom Theirs options q a other second → PrintSame one other first second
-  same_from options p q same o a alike Mine Theirs rest one other first second (l, is, finish) (m, are, finished) =
+  pub same_from : (options : Options) (p q : Progress) → SameProgress p q → (piece : PieceText) (o a : Outcome) → SameAnswer T o a → (Mine Theirs : List (List ℕ) → Status → Type 0)
+      → ((l m : List (List ℕ)) (first second : Status) → Mine l first → Theirs m second → PrintSame options l m first second)
+      → (one other : List (List ℕ)) (first second : Status) → PrintsFrom Mine options p piece o one first → PrintsFrom Theirs options q piece a other second → PrintSame options one other first second
+  same_from options p q same piece o a alike Mine Theirs rest one other first second (l, is, finish) (m, are, finished) =
       let finished_so : MatchBool (options.bail && is_err o) ((m ≡ []) × (second ≡ Refused)) (Theirs m second) =
       subst (λ b. MatchBool (options.bail && b) ((m ≡ []) × (second ≡ Refused)) (Theirs m second)) (same_kind o a alike) finished in
-      let both : PrintSame l m first second =
+      let both : PrintSame options l m first second =
       elim (options.bail && is_err o) as
-      (λ b. MatchBool b ((l ≡ []) × (first ≡ Refused)) (Mine l first) → MatchBool b ((m ≡ []) × (second ≡ Refused)) (Theirs m second) → PrintSame l m first second) [
-        | true ↦ λ x y. (no_lines T l m x.0 y.0, x.1 ∙ sym y.1)
+      (λ b. MatchBool b ((l ≡ []) × (first ≡ Refused)) (Mine l first) → MatchBool b ((m ≡ []) × (second ≡ Refused)) (Theirs m second) → PrintSame options l m first second) [
+        | true ↦ λ x y. (no_lines T options l m x.0 y.0, x.1 ∙ sym y.1)
         | false ↦ λ x y. rest l m first second x y
       ] finish finished_so
       in
-      let theirs : lines_of (p.pieces + 1) a ∷ m ≡ other = ap (λ n. lines_of (n + 1) a ∷ m) (sym same.1) ∙ sym are in (
-        subst (λ ls. EqualButDumps T ls other) (sym is)
-            (subst (λ ls. EqualButDumps T (lines_of (p.pieces + 1) o ∷ l) ls) theirs (same_lines (p.pieces + 1) o a alike, both.0)),
+      let theirs : part_of options (p.pieces + 1) piece a ∷ m ≡ other = ap (λ n. part_of options (n + 1) piece a ∷ m) (sym same.1) ∙ sym are in (
+        subst (λ ls. EqualButDumps T options ls other) (sym is)
+            (subst (λ ls. EqualButDumps T options (part_of options (p.pieces + 1) piece o ∷ l) ls) theirs (same_lines options (p.pieces + 1) piece o a alike, both.0)),
         both.1,
       )
 
   -- no piece is left
-  pub same_end : (p q : Progress) → SameProgress p q → (one other : List (List ℕ)) (first second : Status) → (one ≡ []) × (first ≡ status_of p) → (other ≡ []) × (second ≡ status_of q)
-      → PrintSame one other first second
-  same_end p q same one other first second g h =
-      (no_lines T one other g.0 h.0, g.1 ∙ ap (λ b. if b then Refused else Clean) (sym same.2) ∙ sym h.1)
+  pub same_end : (options : Options) (p q : Progress) → SameProgress p q → (one other : List (List ℕ)) (first second : Status) → (one ≡ []) × (first ≡ status_of p) → (other ≡ []) × (second ≡ status_of q)
+      → PrintSame options one other first second
+  same_end options p q same one other first second g h =
+      (no_lines T options one other g.0 h.0, g.1 ∙ ap (λ b. if b then Refused else Clean) (sym same.2) ∙ sym h.1)
 
 -- an answer with some tree
 answered : (old : State) (statement : Stmt) (outcome : Outcome) → Answers old statement outcome → (tree : AnyShadow) × (answer tree old statement ≡ outcome)
@@ -154,13 +156,13 @@ stands_given s stands false piece o (Ok statement, parses, answers) = stands_aft
 stands_given s stands false piece o (Err refusal, parses, is) = subst (λ x. IsStanding (state_after s x)) (sym is) stands
 
 same_print : (options : Options) (marks : Marks) (p q : Progress) → SameProgress p q → IsStanding p.state → IsStanding q.state → (pieces : List PieceText) (one other : List (List ℕ)) (first second : Status)
-    → Prints options marks p pieces one first → Prints options marks q pieces other second → PrintSame HaveSameRows one other first second
-same_print options marks p q same stands other_stands [] one other first second g h = same_end HaveSameRows p q same one other first second g h
+    → Prints options marks p pieces one first → Prints options marks q pieces other second → PrintSame HaveSameRows options one other first second
+same_print options marks p q same stands other_stands [] one other first second g h = same_end HaveSameRows options p q same one other first second g h
 same_print options marks p q same stands other_stands (piece ∷ pieces) one other first second (o, gives, l, is, finish) (a, given, m, are, finished) =
     let given_so : MayGive (marks (p.pieces + 1)) q.state piece a = subst (λ n. MayGive (marks (n + 1)) q.state piece a) same.1 given in
     let alike : SameAnswer HaveSameRows o a =
     same_given p.state q.state (record { same = same.0; stands = stands; other_stands = other_stands }) (marks (p.pieces + 1)) piece o a gives given_so in
-    same_from HaveSameRows options p q same o a alike (Prints options marks (after p o) pieces) (Prints options marks (after q a) pieces)
+    same_from HaveSameRows options p q same piece o a alike (Prints options marks (after p o) pieces) (Prints options marks (after q a) pieces)
     (λ k n s t x y. same_print options marks (after p o) (after q a) (same_progress HaveSameRows p q same o a alike)
     (stands_given p.state stands (marks (p.pieces + 1)) piece o gives) (stands_given q.state other_stands (marks (q.pieces + 1)) piece a given) pieces k n s t x y)
     one other first second (l, is, finish) (m, are, finished)
@@ -246,12 +248,12 @@ plain_given s u same false piece o a (p, first, g) (q, second, h) =
     plain_parsed s u same p o a g (subst (λ r. PlainlyAnswersParsed u r a) (one_answer piece q p second first) h)
 
 plain_print : (options : Options) (marks : Marks) (p q : Progress) → SameProgress p q → (pieces : List PieceText) (one other : List (List ℕ)) (first second : Status)
-    → Prints options marks p pieces one first → PlainlyPrints options marks q pieces other second → PrintSame AnyTrees one other first second
-plain_print options marks p q same [] one other first second g h = same_end AnyTrees p q same one other first second g h
+    → Prints options marks p pieces one first → PlainlyPrints options marks q pieces other second → PrintSame AnyTrees options one other first second
+plain_print options marks p q same [] one other first second g h = same_end AnyTrees options p q same one other first second g h
 plain_print options marks p q same (piece ∷ pieces) one other first second (o, gives, l, is, finish) (a, given, m, are, finished) =
     let given_so : PlainlyGives (marks (p.pieces + 1)) q.state piece a = subst (λ n. PlainlyGives (marks (n + 1)) q.state piece a) same.1 given in
     let alike : SameAnswer AnyTrees o a = plain_given p.state q.state same.0 (marks (p.pieces + 1)) piece o a gives given_so in
-    same_from AnyTrees options p q same o a alike (Prints options marks (after p o) pieces) (PlainlyPrints options marks (after q a) pieces)
+    same_from AnyTrees options p q same piece o a alike (Prints options marks (after p o) pieces) (PlainlyPrints options marks (after q a) pieces)
     (λ k n s t x y. plain_print options marks (after p o) (after q a) (same_progress AnyTrees p q same o a alike) pieces k n s t x y)
     one other first second (l, is, finish) (m, are, finished)
 
@@ -273,9 +275,9 @@ some_print_after : (options : Options) (marks : Marks) (p : Progress) (piece : P
     → PlainlyGives (marks (p.pieces + 1)) p.state piece outcome → PrintsSomething options marks (after p outcome) pieces
     → (stops : Bool) → (options.bail && is_err outcome) ≡ stops → PrintsSomething options marks p (piece ∷ pieces)
 some_print_after options marks p piece pieces outcome gives later true stops =
-    (lines_of (p.pieces + 1) outcome ∷ [], Refused, (outcome, gives, [], refl, rw stops (refl, refl)))
+    (part_of options (p.pieces + 1) piece outcome ∷ [], Refused, (outcome, gives, [], refl, rw stops (refl, refl)))
 some_print_after options marks p piece pieces outcome gives later false goes =
-    (lines_of (p.pieces + 1) outcome ∷ later.0, later.1, (outcome, gives, later.0, refl, rw goes later.2))
+    (part_of options (p.pieces + 1) piece outcome ∷ later.0, later.1, (outcome, gives, later.0, refl, rw goes later.2))
 
 some_print : (options : Options) (marks : Marks) (p : Progress) (pieces : List PieceText) → PrintsSomething options marks p pieces
 some_print options marks p [] = ([], status_of p, (refl, refl))

@@ -15,7 +15,7 @@ use Rattle.rt_bytes.specs.declared.outcome.Status.{Status}
 use Rattle.rt_bytes.specs.declared.outcome.Status.TheVariants.{Refused}
 use Rattle.rt_shell.specs.declared.engine.Options.{Options}
 use Rattle.rt_session.specs.Session.{State, Outcome, state_after}
-use Rattle.rt_shell.specs.Lines.{answer_lines}
+use Rattle.rt_shell.specs.Lines.{answer_lines, echo_of}
 use Rattle.rt_shell.specs.Transcript.{Marks, Progress, start, MayGive, after, PrintsText}
 
 -- an answer with the state that it leaves
@@ -42,6 +42,7 @@ pub record IsFresh (engine : Engine) (options : Options) : Type 0 where
 -- the piece that was ready got this answer, and the cutter starts anew
 pub record AnswersPiece (old : Engine) (answer : Result Reply Refusal) (new : Engine) : Type 0 where
   pub piece : PieceText
+  pub ready : ready_piece old.cutter ≡ Some piece
   pub whole : (x : List ℕ) → StandsAt old.cutter x → IsWholePiece x piece
   pub last : (x : List ℕ) → FinishedAt old.cutter x → IsWholePiece x piece ⊎ IsLastPiece x piece
   pub gives : GivesAnswer old.session piece answer new.session
@@ -59,9 +60,14 @@ abbrev pub AnswersNext : Engine → Option (Result Reply Refusal) → Engine →
 AnswersNext old None new = WaitsForMore old new
 AnswersNext old (Some answer) new = AnswersPiece old answer new
 
-abbrev pub ready_lines : ℕ → Option (Result Reply Refusal) → List ℕ
-ready_lines number None = []
-ready_lines number (Some answer) = answer_lines number answer
+abbrev pub echo_ready : Bool → Option PieceText → List ℕ
+echo_ready echo None = []
+echo_ready echo (Some piece) = echo_of echo piece
+
+-- what the piece that is ready prints, if there is one: with echo itself, and then this answer
+abbrev pub ready_lines : Engine → Option (Result Reply Refusal) → List ℕ
+ready_lines old None = []
+ready_lines old (Some answer) = echo_ready old.options.echo (ready_piece old.cutter) ++ answer_lines (old.pieces + 1) answer
 
 -- with bail the run stops at a refusal
 abbrev pub flow_of : Bool → Option (Result Reply Refusal) → Flow
@@ -72,7 +78,7 @@ flow_of bail (Some answer) = if bail && is_err answer then Stops else Goes
 pub record AnswersReady (old new : Engine) (w v : Option (List ℕ)) (f g : ℕ) (result : Result Flow WriteFault) : Type 0 where
   pub answer : Option (Result Reply Refusal)
   pub answers : AnswersNext old answer new
-  pub writes : Writes w v f g result (ready_lines (old.pieces + 1) answer)
+  pub writes : Writes w v f g result (ready_lines old answer)
   pub flow : IfOk result (λ flow. flow ≡ flow_of old.options.bail answer)
 
 -- the pieces of a text, or those that have ended in it so far

@@ -1,5 +1,5 @@
 -- What holds of every script, over the definitions that the contracts cite (own).
-use Rattle.std.specs.Prelude.{◌≡◌, ◌⊎◌, ℕ, ◌+◌, Bool, true, false, ◌&&◌, ◌≤◌, List, [], ◌∷◌, length, Result, Ok, Err}
+use Rattle.std.specs.Prelude.{◌≡◌, ◌⊎◌, ℕ, ◌+◌, Bool, true, false, ◌&&◌, ◌≤◌, List, [], ◌∷◌, ◌++◌, length, Result, Ok, Err}
 use Rattle.std.specs.Bool.{MatchBool}
 use Rattle.std.specs.List.{concat}
 use Rattle.std.specs.Result.{is_err}
@@ -20,24 +20,26 @@ use Rattle.rt_table_row.specs.Rows.{TableRow}
 use Rattle.rt_table.specs.AnyTrees.{StandsFor}
 use Rattle.rt_session.specs.Session.{State, Outcome, answer}
 use Rattle.rt_shell.specs.declared.engine.Options.{Options}
-use Rattle.rt_shell.specs.Transcript.{Marks, Progress, start, after, Prints, lines_of, status_of, IsTranscriptByPieces}
+use Rattle.rt_shell.specs.Lines.{echo_of}
+use Rattle.rt_shell.specs.Transcript.{Marks, Progress, start, after, Prints, part_of, status_of, IsTranscriptByPieces}
 use Rattle.rt_shell.specs.declared.shell.Shell.{Shell}
 use Rattle.rt_shell.specs.Shell.{HasPrinted}
 
--- the one is the dump of a tree, and the other that of a tree that is related to it
-pub record AreDumps (Related : AnyShadow → AnyShadow → Type 0) (one other : List ℕ) : Type 0 where
+-- after a piece as it is echoed, the one is the dump of a tree, and the other that of a tree that is related to it
+pub record AreDumps (Related : AnyShadow → AnyShadow → Type 0) (options : Options) (one other : List ℕ) : Type 0 where
+  pub piece : PieceText
   pub tree : AnyShadow
   pub given : AnyShadow
   pub related : Related tree given
-  pub one_is : one ≡ any_text tree
-  pub other_is : other ≡ any_text given
+  pub one_is : one ≡ echo_of options.echo piece ++ any_text tree
+  pub other_is : other ≡ echo_of options.echo piece ++ any_text given
 
 -- of each piece two runs print the same lines, or the dumps of related trees
-abbrev pub EqualButDumps : (AnyShadow → AnyShadow → Type 0) → List (List ℕ) → List (List ℕ) → Type 0
-EqualButDumps Related [] [] = Unit {0}
-EqualButDumps Related (one ∷ ones) (other ∷ others) = ((one ≡ other) ⊎ AreDumps Related one other) × EqualButDumps Related ones others
-EqualButDumps Related [] (other ∷ others) = ⊥
-EqualButDumps Related (one ∷ ones) [] = ⊥
+abbrev pub EqualButDumps : (AnyShadow → AnyShadow → Type 0) → Options → List (List ℕ) → List (List ℕ) → Type 0
+EqualButDumps Related options [] [] = Unit {0}
+EqualButDumps Related options (one ∷ ones) (other ∷ others) = ((one ≡ other) ⊎ AreDumps Related options one other) × EqualButDumps Related options ones others
+EqualButDumps Related options [] (other ∷ others) = ⊥
+EqualButDumps Related options (one ∷ ones) [] = ⊥
 
 -- trees without a problem, of one capacity and of the same rows
 abbrev pub HaveSameRows : AnyShadow → AnyShadow → Type 0
@@ -50,7 +52,7 @@ abbrev pub TranscriptIsDetermined : Type 0
 TranscriptIsDetermined =
     (options : Options) (marks : Marks) (script : List ℕ) (one other : List (List ℕ)) (first second : Status)
     → IsTranscriptByPieces options marks script one first → IsTranscriptByPieces options marks script other second
-    → EqualButDumps HaveSameRows one other × (first ≡ second)
+    → EqualButDumps HaveSameRows options one other × (first ≡ second)
 
 -- of the pieces that have ended in what was read of a script, each prints its part
 abbrev pub IsTranscriptSoFarByPieces : Options → Marks → List ℕ → List (List ℕ) → Type 0
@@ -64,7 +66,7 @@ TranscriptSoFarIsDetermined =
     (options : Options) (marks others : Marks) (read : List ℕ) (one other : List (List ℕ))
     → IsTranscriptSoFarByPieces options marks read one → IsTranscriptSoFarByPieces options others read other
     → ((n : ℕ) → n ≤ length one → marks n ≡ others n)
-    → EqualButDumps HaveSameRows one other
+    → EqualButDumps HaveSameRows options one other
 
 -- after each feed a shell has printed the transcript so far of all that it was fed, in whatever parts that came
 abbrev pub ShellPrintsTheTranscriptSoFar : Type 0
@@ -90,7 +92,7 @@ abbrev pub PlainlyPrints : Options → Marks → Progress → List PieceText →
 PlainlyPrints options marks p [] parts status = (parts ≡ []) × (status ≡ status_of p)
 PlainlyPrints options marks p (piece ∷ pieces) parts status =
     (outcome : Outcome) × PlainlyGives (marks (p.pieces + 1)) p.state piece outcome
-    × (later : List (List ℕ)) × (parts ≡ lines_of (p.pieces + 1) outcome ∷ later)
+    × (later : List (List ℕ)) × (parts ≡ part_of options (p.pieces + 1) piece outcome ∷ later)
     × MatchBool (options.bail && is_err outcome) ((later ≡ []) × (status ≡ Refused)) (PlainlyPrints options marks (after p outcome) pieces later status)
 
 -- what each piece of a script prints over plain lists of rows, which leave open what is printed of a tree
@@ -108,4 +110,4 @@ EveryScriptHasAPlainTranscript =
     (options : Options) (marks : Marks) (script : List ℕ)
     → (parts : List (List ℕ)) × (status : Status) × IsPlainTranscript options marks script parts status
     × ((printed : List (List ℕ)) (answered : Status) → IsTranscriptByPieces options marks script printed answered
-    → EqualButDumps AnyTrees printed parts × (answered ≡ status))
+    → EqualButDumps AnyTrees options printed parts × (answered ≡ status))

@@ -1,8 +1,11 @@
 -- The lines that a script's run prints (own; values as SQLite's documentation has them of quote(), Built-In Scalar SQL
 -- Functions).
-use Rattle.std.specs.Prelude.{ℕ, ◌/◌, ◌%◌, true, if◌then◌else◌, List, [], ◌∷◌, ◌++◌, codes, decimal, slice_index_or, Result, Ok, Err}
+use Rattle.std.specs.Prelude.{ℕ, ◌/◌, ◌%◌, Bool, true, false, if◌then◌else◌, List, [], ◌∷◌, ◌++◌, codes, decimal, slice_index_or, Result, Ok, Err}
 use Rattle.std.specs.Fmt.{digit_glyph, signed_decimal}
 use Rattle.std.specs.List.{flat_map, join_by}
+use Rattle.rt_sql_cut.specs.Piece.{PieceText}
+use Rattle.rt_sql_cut.specs.declared.piece.Ending.{Ending}
+use Rattle.rt_sql_cut.specs.declared.piece.Ending.TheVariants.{Whole, Incomplete, TooLong}
 use Rattle.rt_sql.specs.Token.{doubled}
 use Rattle.rt_sql_statement.specs.Refusal.{code_of, text_of}
 use Rattle.rt_sql_statement.specs.declared.refusal.Refusal.{Refusal}
@@ -53,3 +56,16 @@ refusal_line number refusal =
 abbrev pub answer_lines : ℕ → Result Reply Refusal → List ℕ
 answer_lines number (Ok reply) = reply_lines reply
 answer_lines number (Err refusal) = refusal_line number refusal
+
+-- a piece's text that ended so, as it is echoed
+abbrev pub echo_by : Ending → List ℕ → List ℕ
+echo_by Whole text = text ++ codes "\n"
+echo_by Incomplete text = text ++ codes "\n"
+echo_by TooLong text = []
+
+-- with echo a piece is printed before its answer, as `sqlite3 -echo` does: its bytes as they stand in the script, and a
+-- line feed. What stands before it, white space, comments and `;`, belongs to no piece and isn't printed. Of a piece that
+-- is too long nothing is held, and nothing is printed.
+abbrev pub echo_of : Bool → PieceText → List ℕ
+echo_of false piece = []
+echo_of true piece = echo_by piece.ending piece.text

@@ -1,5 +1,5 @@
 -- What a run of a script prints (own). A script is a whole text, and the tables are plain lists.
-use Rattle.std.specs.Prelude.{◌≡◌, ℕ, ◌+◌, Bool, true, false, ◌&&◌, ◌||◌, if◌then◌else◌, List, [], ◌∷◌, Result, Ok, Err}
+use Rattle.std.specs.Prelude.{◌≡◌, ℕ, ◌+◌, Bool, true, false, ◌&&◌, ◌||◌, if◌then◌else◌, List, [], ◌∷◌, ◌++◌, Result, Ok, Err}
 use Rattle.std.specs.Bool.{MatchBool}
 use Rattle.std.specs.List.{concat}
 use Rattle.std.specs.Result.{is_err}
@@ -13,7 +13,7 @@ use Rattle.rt_sql_statement.specs.declared.refusal.Refusal.{Refusal}
 use Rattle.rt_sql_statement.specs.declared.refusal.Refusal.TheVariants.{OutOfMemory}
 use Rattle.rt_shell.specs.declared.engine.Options.{Options}
 use Rattle.rt_session.specs.Session.{State, empty, Outcome, state_after, Answers}
-use Rattle.rt_shell.specs.Lines.{reply_lines, refusal_line}
+use Rattle.rt_shell.specs.Lines.{reply_lines, refusal_line, echo_of}
 
 -- which pieces memory refuses, by their numbers from 1 on
 abbrev pub Marks : Type 0
@@ -41,10 +41,14 @@ MayGive false old piece outcome = (parsed : Result Stmt Refusal) × Parses piece
 abbrev pub after : Progress → Outcome → Progress
 after p outcome = record { state = state_after p.state outcome; pieces = p.pieces + 1; refused = p.refused || is_err outcome }
 
--- what the piece of this number prints
+-- what the answer to the piece of this number prints
 abbrev pub lines_of : ℕ → Outcome → List ℕ
 lines_of number (Ok given) = reply_lines given.0
 lines_of number (Err refusal) = refusal_line number refusal
+
+-- what the piece of this number prints: with echo itself, and then its answer
+abbrev pub part_of : Options → ℕ → PieceText → Outcome → List ℕ
+part_of options number piece outcome = echo_of options.echo piece ++ lines_of number outcome
 
 abbrev pub status_of : Progress → Status
 status_of p = if p.refused then Refused else Clean
@@ -54,7 +58,7 @@ abbrev pub Prints : Options → Marks → Progress → List PieceText → List (
 Prints options marks p [] parts status = (parts ≡ []) × (status ≡ status_of p)
 Prints options marks p (piece ∷ pieces) parts status =
     (outcome : Outcome) × MayGive (marks (p.pieces + 1)) p.state piece outcome
-    × (later : List (List ℕ)) × (parts ≡ lines_of (p.pieces + 1) outcome ∷ later)
+    × (later : List (List ℕ)) × (parts ≡ part_of options (p.pieces + 1) piece outcome ∷ later)
     × MatchBool (options.bail && is_err outcome) ((later ≡ []) × (status ≡ Refused)) (Prints options marks (after p outcome) pieces later status)
 
 -- the parts in a row

@@ -10,7 +10,8 @@ use Rattle.rt_sql_statement.specs.declared.statement.Stmt.TheVariants.{Create, C
 use Rattle.rt_check.specs.declared.problem.Condition.TheVariants.{FitsChild, HasCell}
 use Rattle.rt_session.specs.declared.reply.Reply.TheVariants.{Nothing, Rows, Changes, Verdict}
 use Rattle.rt_session.specs.Session.{State, empty, state_after, answer}
-use Rattle.rt_shell.specs.Lines.{value_text, row_line, change_line, reply_lines}
+use Rattle.rt_sql_cut.specs.declared.piece.Ending.TheVariants.{Whole, Incomplete, TooLong}
+use Rattle.rt_shell.specs.Lines.{value_text, row_line, change_line, reply_lines, echo_of}
 use Rattle.rt_shell.specs.Transcript.{lines_of}
 use Rattle.rt_shell.specs.Laws.{no_tree}
 
@@ -101,6 +102,24 @@ verdict-two : reply_lines (Verdict (record { condition = FitsChild; node = pos 1
     ≡ codes "C6 node 1 at 2\nC9 node 4 at 1\n"
 unfolding digits
 verdict-two = refl
+
+-- ---- pieces that are printed before their answers
+
+echo-comment_inside : echo_of true (record { text = codes "SELECT * -- all\nFROM t;"; ending = Whole }) ≡ codes "SELECT * -- all\nFROM t;\n"
+echo-comment_inside = refl
+
+echo-dot_line : echo_of true (record { text = codes ".view v ;"; ending = Whole }) ≡ codes ".view v ;\n"
+echo-dot_line = refl
+
+-- the script ends behind a line feed
+echo-incomplete : echo_of true (record { text = codes "SELECT\n"; ending = Incomplete }) ≡ codes "SELECT\n\n"
+echo-incomplete = refl
+
+echo-too_long : echo_of true (record { text = []; ending = TooLong }) ≡ []
+echo-too_long = refl
+
+echo-not_asked_for : echo_of false (record { text = codes "SELECT"; ending = Incomplete }) ≡ []
+echo-not_asked_for = refl
 
 -- ---- trees
 

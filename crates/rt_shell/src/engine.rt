@@ -3,18 +3,18 @@
 //! The contract of a step holds for whatever bytes follow those that it took, so no loop speaks of the script's
 //! end (`Moves` in `specs/Engine.antt`).
 
-ghost use Rattle.std.specs.Prelude.{◌≡◌, ℕ, ◌+◌, ◌-◌, ◌<◌, ◌≤◌, ◌^◌, length, None, IfOk};
-ghost use Rattle.rt_shell.specs.Engine.{IsFresh, GivesAnswer, AnswersNext, AnswersReady, TakesAll, Finishes, flow_of};
+ghost use Rattle.std.specs.Prelude.{◌≡◌, ℕ, ◌+◌, ◌-◌, ◌<◌, ◌≤◌, ◌^◌, ◌++◌, length, None, IfOk};
+ghost use Rattle.rt_shell.specs.Engine.{IsFresh, GivesAnswer, AnswersReady, TakesAll, Finishes, flow_of};
 ghost use Rattle.rt_sql_cut.specs.Cutter.{ready_piece};
 ghost use Rattle.rt_bytes.specs.Devices.{WritesTo};
-ghost use Rattle.rt_shell.specs.Lines.{answer_lines};
+ghost use Rattle.rt_shell.specs.Lines.{answer_lines, echo_of};
 
 use crate::reply::{write_refusal, write_reply};
 use rt_box::Capacity;
-use rt_bytes::{ByteWriter, Status, WriteFault};
+use rt_bytes::{ByteWriter, Status, WriteFault, write_parts};
 use rt_session::{Reply, Session};
 use rt_sql::parse;
-use rt_sql_cut::{Cutter, Piece};
+use rt_sql_cut::{Cutter, Ending, Piece};
 use rt_sql_statement::Refusal;
 use std::alloc::{AllocError, Global};
 use std::hash::RandomState;
@@ -26,6 +26,8 @@ pub struct Options {
     pub capacity: Capacity,
     /// The run ends after the first refusal.
     pub bail: bool,
+    /// Each piece is printed before its answer, as it stands in the script, unless it is too long.
+    pub echo: bool,
 }
 
 /// Whether a run goes on.
@@ -70,6 +72,34 @@ fn write_answer<W: ByteWriter>(
     }
 }
 
+/// Writes a piece as it stands, and a line feed, if echo asks for it and the piece's text is held.
+fn write_echo<W: ByteWriter>(
+    echo: bool,
+    piece: &Piece<'_>,
+    writer: &mut W,
+) -> Result<(), WriteFault>
+    ensures { WritesTo W.ByteWriter writer.old writer.new result (echo_of echo piece.now) }
+{
+    if !echo || piece.ending() == Ending::TooLong {
+        return Ok(());
+    }
+    write_parts(writer, &[piece.text(), b"\n"])
+}
+
+/// Writes what the piece of this number prints: with echo itself, and then its answer.
+fn write_part<W: ByteWriter>(
+    echo: bool,
+    number: &u64,
+    piece: &Piece<'_>,
+    answer: &Result<Reply, Refusal>,
+    writer: &mut W,
+) -> Result<(), WriteFault>
+    ensures { WritesTo W.ByteWriter writer.old writer.new result (echo_of echo piece.now ++ answer_lines number.now answer.now) }
+{
+    write_echo(echo, piece, writer)?;
+    write_answer(number, answer, writer)
+}
+
 /// With bail a run stops at a refusal.
 fn flow_after(bail: bool, answer: &Result<Reply, Refusal>) -> Flow
     ensures { result ≡ flow_of bail (Some answer.now) }
@@ -96,28 +126,20 @@ impl Engine {
         })
     }
 
-    // Answers the piece that the cutter has ready, and drops it.
-    fn next_answer(&mut self) -> Option<Result<Reply, Refusal>>
-        requires { self.old.pieces < 2 ^ 64 - 1 }
-        ensures { AnswersNext self.old result self.new }
-    {
-        let piece = self.cutter.ready()?;
-        let answer = answer_to(self.alloc, &mut self.session, &piece);
-        self.cutter.clear();
-        self.pieces += 1;
-        self.refused |= answer.is_err();
-        Some(answer)
-    }
-
-    // Answers the piece that the cutter has ready, if it has one, and writes the lines.
+    // Answers the piece that the cutter has ready, if it has one, writes what it prints, and drops it.
     fn answer_ready<W: ByteWriter>(&mut self, writer: &mut W) -> Result<Flow, WriteFault>
         requires { self.old.pieces < 2 ^ 64 - 1 }
         ensures { AnswersReady self.old self.new (W.written writer.old) (W.written writer.new) (W.faults writer.old) (W.faults writer.new) result }
     {
-        let Some(answer) = self.next_answer() else {
+        let Some(piece) = self.cutter.ready() else {
             return Ok(Flow::Goes);
         };
-        write_answer(&self.pieces, &answer, writer)?;
+        let answer = answer_to(self.alloc, &mut self.session, &piece);
+        self.pieces += 1;
+        self.refused |= answer.is_err();
+        let written = write_part(self.options.echo, &self.pieces, &piece, &answer, writer);
+        self.cutter.clear();
+        written?;
         Ok(flow_after(self.options.bail, &answer))
     }
 

@@ -21,7 +21,7 @@
 //!
 //! ```text
 //! let keys = RandomState::new(&rt)?;
-//! let options = Options { capacity, bail: false };
+//! let options = Options { capacity, bail: false, echo: false };
 //! let mut reader = SliceReader::new(b"SELECT * FROM shops;", 4096);
 //! let mut writer = OverWrite::new(io::writer(&rt));
 //! let status = run(rt.alloc(), keys, &mut reader, &mut writer, &options)?;

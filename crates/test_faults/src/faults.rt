@@ -53,6 +53,7 @@ fn options_of(script: &Script<'_>) -> Result<Options, Fail> {
     Ok(Options {
         capacity,
         bail: false,
+        echo: false,
     })
 }
 

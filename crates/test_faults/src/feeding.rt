@@ -18,7 +18,11 @@ const PRINTS: &[u8] = b"2\n9\n+v 9|3|4\nrefused 6 2: incomplete input\n";
 
 fn options_of(bail: bool) -> Result<Options, Fail> {
     let capacity = Capacity::new(51).ok_or("no capacity")?;
-    Ok(Options { capacity, bail })
+    Ok(Options {
+        capacity,
+        bail,
+        echo: false,
+    })
 }
 
 /// The script is fed in parts of that many bytes.
