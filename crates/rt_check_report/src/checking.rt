@@ -16,7 +16,7 @@ use std::alloc::{AllocError, Global};
 use std::hash::RandomState;
 
 /// Reads all that there is.
-fn read_all<R: ByteReader>(alloc: Global, reader: &mut R) -> Result<Vec<u8>, RunFault>
+pub fn read_all<R: ByteReader>(alloc: Global, reader: &mut R) -> Result<Vec<u8>, RunFault>
     ensures reads_all { ReadsAll (source_of R.ByteReader reader.old) (source_of R.ByteReader reader.new) (items_or_fault result) }
     ensures reads { R.reads reader.new ≤ R.reads reader.old + 2 ^ 40 }
 {
@@ -53,7 +53,7 @@ fn status_of(problems: &[Problem]) -> Status
 }
 
 /// Writes what is to be said of bytes that weren't read as a dump.
-fn report_fault<W: ByteWriter>(fault: &DumpFault, writer: &mut W) -> Result<Status, RunFault>
+pub fn report_fault<W: ByteWriter>(fault: &DumpFault, writer: &mut W) -> Result<Status, RunFault>
     ensures { ReportsFault W.ByteWriter fault.now writer.old writer.new result }
 {
     match fault {

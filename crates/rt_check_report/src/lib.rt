@@ -12,5 +12,5 @@ mod checking;
 pub mod laws;
 mod report;
 
-pub use checking::run_check;
+pub use checking::{read_all, report_fault, run_check};
 pub use report::write_verdict;

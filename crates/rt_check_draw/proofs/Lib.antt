@@ -1,0 +1,4 @@
+pub mod Scales
+pub mod Drawn
+pub mod Once
+pub mod Answering

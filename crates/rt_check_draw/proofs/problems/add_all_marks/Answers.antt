@@ -1,0 +1,6 @@
+use Rattle.rt_check_draw.proofs.Drawn.{two_added, three_added, four_added}
+use Rattle.rt_check_draw.proofs.problems.add_all_marks.Goals as goal
+
+pub returns : goal.returns
+returns g c =
+    three_added _ _ _ _ _ _ _ _ c.in_ok-add.ensures c.in_ok-add_boxes.ensures c.add-2.ensures

@@ -1,0 +1,28 @@
+-- What the picture keeps of a tree (own).
+use Rattle.std.specs.Prelude.{◌≡◌, ℕ, suc, ◌≤◌, ℤ, ◌≤ℤ◌, List, [], ◌∷◌, ◌==◌, if◌then◌else◌}
+use Rattle.std.specs.List.{AllByRecursion}
+use Rattle.rt_check.specs.Shadow.{ShadowLists}
+use Rattle.rt_check_draw.specs.declared.choice.Axes.{Axes}
+use Rattle.rt_check_draw.specs.declared.choice.Choice.{Choice}
+use Rattle.rt_check_draw.specs.declared.scale.Range.{Range}
+use Rattle.rt_check_draw.specs.Scale.{plot, place_in}
+use Rattle.rt_check_draw.specs.Levels.{rows_of, levels_of, is_drawn}
+
+-- no greater coordinate stands further left or down
+abbrev pub ScaleIsMonotone : Type 0
+ScaleIsMonotone = (r : Range) (a b : ℤ) → a ≤ℤ b → place_in r a ≤ place_in r b
+
+-- each coordinate stands in the plot
+abbrev pub ScaleStaysInPlot : Type 0
+ScaleStaysInPlot = (r : Range) (z : ℤ) → place_in r z ≤ plot
+
+-- how often a number stands in a list
+abbrev pub times : ℕ → List ℕ → ℕ
+times x [] = 0
+times x (y ∷ ys) = if y == x then suc (times x ys) else times x ys
+
+-- each node's level is among those drawn once where it is to be drawn, and else not at all; so each of the node's cells is drawn
+-- once, or not at all
+abbrev pub EachLevelIsDrawnOnce : Type 0
+EachLevelIsDrawnOnce = (D : ℕ) (choice : Choice) (axes : Axes) (s : ShadowLists D) →
+    AllByRecursion (λ n. times n.level (levels_of choice (rows_of axes s)) ≡ (if is_drawn choice (rows_of axes s) n.level then 1 else 0)) s.nodes

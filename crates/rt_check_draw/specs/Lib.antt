@@ -1,0 +1,9 @@
+pub mod Axes
+pub mod Scale
+pub mod Boxes
+pub mod Levels
+pub mod Legend
+pub mod Problems
+pub mod Picture
+pub mod DrawRun
+pub mod Laws

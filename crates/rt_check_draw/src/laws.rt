@@ -1,0 +1,19 @@
+//! What the picture keeps of a tree, as laws of the definitions that the contracts cite. Each function does
+//! nothing: its contract is the law.
+
+ghost use Rattle.rt_check_draw.specs.Laws.{ScaleIsMonotone, ScaleStaysInPlot, EachLevelIsDrawnOnce};
+
+/// Of two coordinates the greater stands no further left, or down.
+pub fn scale_is_monotone()
+    ensures { ScaleIsMonotone }
+{}
+
+/// Each coordinate stands in the plot.
+pub fn scale_stays_in_plot()
+    ensures { ScaleStaysInPlot }
+{}
+
+/// The cells of each node are drawn once where the node's level is to be drawn, and else not at all.
+pub fn each_level_is_drawn_once()
+    ensures { EachLevelIsDrawnOnce }
+{}
