@@ -1,0 +1,220 @@
+/*
+ * juicedelta.h: the calls of Juicedelta for C99 and C++.
+ *
+ * Juicedelta keeps rows, each an id and a box of whole numbers, in R*-trees of one, two or three axes, and runs scripts
+ * over tables of them. Link with libjuicedelta.a.
+ *
+ * Handles. A juicedelta_handle holds one object, a tree or a script shell, or nothing: all zeros hold nothing, and the
+ * handle is closed. The caller owns the handle itself; the library owns what it holds, until juicedelta_close.
+ *
+ *     juicedelta_handle tree = {0};
+ *     if (juicedelta_tree2_open(&tree, 51, keys[0], keys[1]) == JUICEDELTA_OK) ...
+ *     juicedelta_close(&tree);
+ *
+ * Keep a handle as a call left it. Use no copy of it: once one of two copies was used, the other no longer knows what
+ * it holds. A handle is used by one call at a time, on one thread; two handles have nothing in common.
+ *
+ * Answers. Each call answers JUICEDELTA_OK or another value of juicedelta_code. No call ends the process. A call
+ * that does not answer JUICEDELTA_OK changes neither what the handle holds nor what the caller's pointers lead to, but
+ * where it is said.
+ *
+ * Pointers are never NULL, not even to a buffer of length 0. No pointer is kept after the call.
+ *
+ * Boxes. On each axis the box goes from `min` to `max`, both ends included, and min <= max.
+ */
+#ifndef JUICEDELTA_H
+#define JUICEDELTA_H
+
+#include <stddef.h>
+#include <stdint.h>
+
+#ifdef __cplusplus
+extern "C" {
+#endif
+
+/* What a call answers. */
+typedef enum juicedelta_code {
+    JUICEDELTA_OK = 0,
+    /* The handle holds nothing. */
+    JUICEDELTA_CLOSED = 1,
+    /* The handle holds an object of another kind. */
+    JUICEDELTA_OTHER_KIND = 2,
+    /* The handle that is to be opened holds an object. */
+    JUICEDELTA_ALREADY_OPEN = 3,
+    /* The capacity of nodes is not from 5 to 51. */
+    JUICEDELTA_BAD_CAPACITY = 4,
+    /* On some axis min is above max. */
+    JUICEDELTA_BAD_BOX = 5,
+    /* A row with that id is there. */
+    JUICEDELTA_ID_TAKEN = 6,
+    /* No row with that id is there. */
+    JUICEDELTA_ID_MISSING = 7,
+    /* The result is longer than the buffer. */
+    JUICEDELTA_BUFFER_TOO_SMALL = 8,
+    /* No memory is left. */
+    JUICEDELTA_OUT_OF_MEMORY = 9,
+    /* The tree has 1,048,576 rows. */
+    JUICEDELTA_TREE_FULL = 10,
+    /* The script was finished before. */
+    JUICEDELTA_ENDED = 11,
+    /* With these bytes the script is longer than 2^63 bytes. */
+    JUICEDELTA_TOO_LONG = 12
+} juicedelta_code;
+
+/* Holds an object or nothing. Set it to {0} before the first call, and never change or copy it. */
+typedef struct juicedelta_handle {
+    void *object;
+    uint64_t count;
+} juicedelta_handle;
+
+/* Boxes of one, two and three axes. */
+typedef struct juicedelta_box1 {
+    int32_t min[1], max[1];
+} juicedelta_box1;
+typedef struct juicedelta_box2 {
+    int32_t min[2], max[2];
+} juicedelta_box2;
+typedef struct juicedelta_box3 {
+    int32_t min[3], max[3];
+} juicedelta_box3;
+
+/*
+ * Frees what the handle holds; the handle is closed then, and can be opened again.
+ * CLOSED.
+ */
+int32_t juicedelta_close(juicedelta_handle *handle);
+
+/*
+ * Fills two words at random, for a call that opens. They are the keys of the hashes of ids: no answer depends on them,
+ * but who can guess them can choose ids that make look-ups slow. Answers 0, or -1 where the system gives none.
+ */
+#ifdef __linux__
+#include <sys/random.h>
+static inline int juicedelta_random_keys(uint64_t keys[2])
+{
+    return getrandom(keys, 2 * sizeof keys[0], 0) == (ssize_t)(2 * sizeof keys[0]) ? 0 : -1;
+}
+#endif
+
+/* ---- Trees ------------------------------------------------------------------------------------------------------
+ *
+ * The calls for two axes are juicedelta_tree2_..; those for one and three axes are the same with tree1 and tree3, and
+ * boxes of that many axes. A handle that holds anything else answers OTHER_KIND, and a closed one CLOSED.
+ */
+
+/*
+ * Opens a tree without rows. Its nodes have at most `capacity` cells, from 5 to 51; 51 is SQLite's. The keys are two
+ * random words, as of juicedelta_random_keys. Nothing is closed for it: close the handle first.
+ * ALREADY_OPEN, BAD_CAPACITY, OUT_OF_MEMORY.
+ */
+int32_t juicedelta_tree2_open(juicedelta_handle *handle, uint32_t capacity, uint64_t first_key, uint64_t second_key);
+
+/*
+ * Inserts a row.
+ * CLOSED, OTHER_KIND, BAD_BOX, ID_TAKEN, TREE_FULL, OUT_OF_MEMORY.
+ */
+int32_t juicedelta_tree2_insert(juicedelta_handle *handle, int64_t id, const juicedelta_box2 *box);
+
+/*
+ * Removes the row with that id. It needs no memory.
+ * CLOSED, OTHER_KIND, ID_MISSING.
+ */
+int32_t juicedelta_tree2_remove(juicedelta_handle *handle, int64_t id);
+
+/*
+ * Writes the box of the row with that id to `box`.
+ * CLOSED, OTHER_KIND, ID_MISSING.
+ */
+int32_t juicedelta_tree2_get(juicedelta_handle *handle, int64_t id, juicedelta_box2 *box);
+
+/*
+ * Writes the number of rows to `rows`.
+ * CLOSED, OTHER_KIND.
+ */
+int32_t juicedelta_tree2_len(juicedelta_handle *handle, uint64_t *rows);
+
+/*
+ * Writes the ids of the rows whose boxes have a point in common with `box` to the front of `ids`, each once, in no stated
+ * order, and to `total` how many there are.
+ * CLOSED, OTHER_KIND, OUT_OF_MEMORY.
+ * BUFFER_TOO_SMALL: there are more than `length`. No id is written, and `total` is.
+ */
+int32_t juicedelta_tree2_search(juicedelta_handle *handle, const juicedelta_box2 *box, int64_t *ids, size_t length, uint64_t *total);
+
+/*
+ * Takes all rows out, and gives their memory back. The capacity stays.
+ * CLOSED, OTHER_KIND, OUT_OF_MEMORY: a new tree takes the place of the old one.
+ */
+int32_t juicedelta_tree2_clear(juicedelta_handle *handle);
+
+int32_t juicedelta_tree1_open(juicedelta_handle *handle, uint32_t capacity, uint64_t first_key, uint64_t second_key);
+int32_t juicedelta_tree1_insert(juicedelta_handle *handle, int64_t id, const juicedelta_box1 *box);
+int32_t juicedelta_tree1_remove(juicedelta_handle *handle, int64_t id);
+int32_t juicedelta_tree1_get(juicedelta_handle *handle, int64_t id, juicedelta_box1 *box);
+int32_t juicedelta_tree1_len(juicedelta_handle *handle, uint64_t *rows);
+int32_t juicedelta_tree1_search(juicedelta_handle *handle, const juicedelta_box1 *box, int64_t *ids, size_t length, uint64_t *total);
+int32_t juicedelta_tree1_clear(juicedelta_handle *handle);
+
+int32_t juicedelta_tree3_open(juicedelta_handle *handle, uint32_t capacity, uint64_t first_key, uint64_t second_key);
+int32_t juicedelta_tree3_insert(juicedelta_handle *handle, int64_t id, const juicedelta_box3 *box);
+int32_t juicedelta_tree3_remove(juicedelta_handle *handle, int64_t id);
+int32_t juicedelta_tree3_get(juicedelta_handle *handle, int64_t id, juicedelta_box3 *box);
+int32_t juicedelta_tree3_len(juicedelta_handle *handle, uint64_t *rows);
+int32_t juicedelta_tree3_search(juicedelta_handle *handle, const juicedelta_box3 *box, int64_t *ids, size_t length, uint64_t *total);
+int32_t juicedelta_tree3_clear(juicedelta_handle *handle);
+
+/* ---- Script shells ----------------------------------------------------------------------------------------------
+ *
+ * A shell is fed a script in whatever parts, and prints what `rtsh run` prints. The handle keeps what was printed until
+ * the caller drops it. A statement that is refused prints a line that begins with `refused`, and the script goes on.
+ * A handle that holds anything else answers OTHER_KIND, and a closed one CLOSED.
+ */
+
+/*
+ * Opens a shell without a table. The nodes of its tables' trees have at most `capacity` cells, from 5 to 51; 51 is
+ * SQLite's. The keys are two random words, as of juicedelta_random_keys.
+ * ALREADY_OPEN, BAD_CAPACITY, OUT_OF_MEMORY.
+ */
+int32_t juicedelta_script_open(juicedelta_handle *handle, uint32_t capacity, uint64_t first_key, uint64_t second_key);
+
+/*
+ * Feeds the shell the next `length` bytes of the script. It carries out the statements that end in them, and what they
+ * print comes behind the output.
+ * CLOSED, OTHER_KIND, ENDED, TOO_LONG.
+ * OUT_OF_MEMORY: there was none for the output. Some statements may have been carried out; the shell takes no more of
+ * the script, and answers OUT_OF_MEMORY from then on. (A statement that finds no memory is refused, as in `rtsh`.)
+ */
+int32_t juicedelta_script_exec(juicedelta_handle *handle, const uint8_t *bytes, size_t length);
+
+/*
+ * Ends the script, and writes to `refused` whether any statement was refused in the whole of it, 1 or 0. A last dot line
+ * needs no line feed; a last statement without a `;` is refused as incomplete. What is printed of them comes behind the
+ * output, which can be read until the handle is closed.
+ * CLOSED, OTHER_KIND, ENDED.
+ * OUT_OF_MEMORY: there was none for the output, now or before. The script has ended all the same.
+ */
+int32_t juicedelta_script_finish(juicedelta_handle *handle, uint32_t *refused);
+
+/*
+ * Writes the length of the output to `length`, in bytes.
+ * CLOSED, OTHER_KIND.
+ */
+int32_t juicedelta_script_output_length(juicedelta_handle *handle, uint64_t *length);
+
+/*
+ * Copies the whole output to the front of the buffer; no byte 0 is put behind it. The output stays.
+ * CLOSED, OTHER_KIND, BUFFER_TOO_SMALL.
+ */
+int32_t juicedelta_script_output(juicedelta_handle *handle, uint8_t *buffer, size_t length);
+
+/*
+ * Drops the output, and gives its memory back.
+ * CLOSED, OTHER_KIND.
+ */
+int32_t juicedelta_script_drop_output(juicedelta_handle *handle);
+
+#ifdef __cplusplus
+}
+#endif
+
+#endif

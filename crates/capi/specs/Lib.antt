@@ -1,0 +1,6 @@
+pub mod Buffers
+pub mod Calls
+pub mod Codes
+pub mod Scripts
+pub mod Touching
+pub mod Trees

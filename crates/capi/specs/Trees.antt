@@ -1,0 +1,83 @@
+-- What a call does to a tree, by its code (own).
+use Rattle.std.specs.Prelude.{◌≡◌, ℕ, ◌^◌, ◌≤◌, ℤ, ◌≤ℤ◌, List, length, map, Result, Ok, Err, Some, None, IsSome}
+use Rattle.std.specs.List.{AllZip}
+use Rattle.rt_box.specs.declared.interval.Interval.{Interval}
+use Rattle.rt_box.specs.Capacity.{IsCapacity}
+use Rattle.rt_box.specs.Rect.{los, his}
+use Rattle.rt_box.specs.Window.{Comparison, IsUnlimited, NarrowsInTurn}
+use Rattle.rt_handle.specs.declared.object.Kept.{Kept}
+use Rattle.rt_tree.specs.Finding.{FindsIn}
+use Rattle.rt_tree.specs.Lists.{TreeLists, empty_lists}
+use Rattle.rt_tree.specs.Rows.{box_of, GainsRow, LosesRow}
+use Rattle.rt_tree_walk.specs.declared.searching.Row.{Row}
+use Rattle.capi.specs.Buffers.{Copies}
+use Rattle.capi.specs.declared.code.Code.{Code}
+use Rattle.capi.specs.declared.code.Code.TheVariants.{Done, BadCapacity, BadBox, IdTaken, IdMissing, OutOfMemory, TreeFull}
+
+-- why there is no tree
+abbrev pub MakesNone : ℕ → Code → Type 0
+MakesNone capacity BadCapacity = ¬ IsCapacity capacity
+MakesNone capacity OutOfMemory = Unit {0}
+MakesNone capacity code = ⊥
+
+-- a window that these comparisons leave of the space of so many axes
+abbrev pub IsLeft : ℕ → List Comparison → List Interval → Type 0
+IsLeft axes comparisons window = (all : List Interval) × IsUnlimited axes all × NarrowsInTurn all comparisons window
+
+module _ {D : ℕ} where
+  -- a tree of no rows whose nodes have that many cells at most
+  abbrev pub IsEmptyTree : ℕ → TreeLists D → Type 0
+  IsEmptyTree capacity tree = tree ≡ record { lists = empty_lists capacity; spare = 0 }
+
+  abbrev pub IsNew : ℕ → Kept D → Type 0
+  IsNew capacity kept = (kept.capacity ≡ capacity) × IsEmptyTree capacity kept.tree
+
+  abbrev pub Makes : ℕ → Result (Kept D) Code → Type 0
+  Makes capacity (Ok kept) = IsNew capacity kept
+  Makes capacity (Err code) = MakesNone capacity code
+
+  -- The row came. Or the box has a least number above its greatest, the id is taken, there are 2^20 rows, or there is no
+  -- memory, and the rows are as before.
+  abbrev pub Inserts : ℤ → List ℤ → List ℤ → TreeLists D → TreeLists D → Code → Type 0
+  Inserts id min max old new Done =
+      (rect : List Interval) × (los rect ≡ min) × (his rect ≡ max) × (box_of old.lists id ≡ None) × GainsRow old.lists new.lists id rect
+  Inserts id min max old new BadBox = (¬ AllZip ◌≤ℤ◌ min max) × (new ≡ old)
+  Inserts id min max old new IdTaken = IsSome (box_of old.lists id) × (new ≡ old)
+  Inserts id min max old new TreeFull = (2 ^ 20 ≤ length old.lists.rows) × (new ≡ old)
+  Inserts id min max old new OutOfMemory = new.lists ≡ old.lists
+  Inserts id min max old new code = ⊥
+
+  -- the row is gone; or there was none, and nothing changes
+  abbrev pub Removes : ℤ → TreeLists D → TreeLists D → Code → Type 0
+  Removes id old new Done = (rect : List Interval) × LosesRow old.lists new.lists id rect
+  Removes id old new IdMissing = (box_of old.lists id ≡ None) × (new ≡ old)
+  Removes id old new code = ⊥
+
+  -- no row is there; or there is no memory for the new tree, and the rows are as before
+  abbrev pub Clears : ℕ → TreeLists D → TreeLists D → Code → Type 0
+  Clears capacity old new Done = IsEmptyTree capacity new
+  Clears capacity old new OutOfMemory = new ≡ old
+  Clears capacity old new code = ⊥
+
+  -- the least and the greatest numbers of the row's box; or there is no such row. The tree stays
+  abbrev pub GetsInto : ℤ → List ℤ → List ℤ → TreeLists D → TreeLists D → Code → Type 0
+  GetsInto id min max old new Done = (new ≡ old) × ((rect : List Interval) × (box_of old.lists id ≡ Some rect) × (los rect ≡ min) × (his rect ≡ max))
+  GetsInto id min max old new IdMissing = (new ≡ old) × (box_of old.lists id ≡ None)
+  GetsInto id min max old new code = ⊥
+
+  -- the number of rows. The tree stays
+  abbrev pub Counts : ℕ → TreeLists D → TreeLists D → Code → Type 0
+  Counts rows old new Done = (new ≡ old) × (rows ≡ length old.lists.rows)
+  Counts rows old new code = ⊥
+
+  -- these are the ids of the rows that the window admits, each once, and their number is told; or there is no memory
+  abbrev pub Lists : TreeLists D → List Interval → List ℤ → List ℤ → ℕ → ℕ → Code → Type 0
+  Lists tree window before after told total OutOfMemory = (after ≡ before) × (total ≡ told)
+  Lists tree window before after told total code =
+      (rows : List (Row D)) × ((visited : ℕ) × FindsIn tree.lists window rows visited) × (total ≡ length rows)
+      × Copies (map (λ row. row.id) rows) before after code
+
+  -- The ids of the rows of which the comparisons hold. The tree stays
+  abbrev pub Searches : List Comparison → List ℤ → List ℤ → ℕ → ℕ → TreeLists D → TreeLists D → Code → Type 0
+  Searches comparisons before after told total old new code =
+      (new ≡ old) × ((window : List Interval) × IsLeft D comparisons window × Lists old window before after told total code)

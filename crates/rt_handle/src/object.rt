@@ -1,0 +1,40 @@
+//! What a handle may hold.
+
+use rt_box::Capacity;
+use rt_bytes::Sink;
+use rt_shell::Shell;
+use rt_tree::Tree;
+use std::hash::RandomState;
+
+/// An object that outlives the call that made it.
+#[derive(Drop)]
+pub enum Object {
+    /// A script shell.
+    Script(Script),
+    /// A tree of one axis.
+    Line(Kept<1>),
+    /// A tree of two axes.
+    Plane(Kept<2>),
+    /// A tree of three axes.
+    Space(Kept<3>),
+}
+
+/// A script shell, and what it printed that the caller has not dropped yet.
+#[derive(Drop)]
+pub struct Script {
+    /// The shell, until its script has ended.
+    pub shell: Option<Shell>,
+    /// The bytes that it printed.
+    pub output: Sink,
+}
+
+/// A tree, and what a new one in its place is made of.
+#[derive(Drop)]
+pub struct Kept<const D: usize> {
+    /// The tree.
+    pub tree: Tree<D>,
+    /// The keys of the hashes of its ids.
+    pub keys: RandomState,
+    /// The capacity of its nodes.
+    pub capacity: Capacity,
+}
