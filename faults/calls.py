@@ -24,8 +24,11 @@ def growths_refused(program, case):
     @lru_cache(maxsize=None)
     def with_refused(number):
         printed = program.run(case.words, cases.with_refused(case.given, number)).printed
-        syntax = b"refused %d 1: syntax error\n" % number
-        return printed.replace(syntax, b"refused %d 20: out of memory\n" % number, 1)
+        syntax, memory = b"refused %d 1: syntax error\n" % number, b"refused %d 20: out of memory\n" % number
+        if "--echo" in case.words:
+            start, end, _ = cases.pieces(case.given)[number - 1]
+            syntax, memory = b"FOO;\n" + syntax, case.given[start:end] + b"\n" + memory
+        return printed.replace(syntax, memory, 1)
 
     for allocation in itertools.count(1):
         outcome = program.run_with(case.words, case.given, REFUSE_ALLOCATION=allocation)

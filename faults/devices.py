@@ -2,6 +2,7 @@
 
 import os
 import pty
+import re
 import resource
 import select
 import shlex
@@ -10,6 +11,7 @@ import tempfile
 import termios
 import threading
 import time
+from contextlib import contextmanager
 from pathlib import Path
 
 from program import SECONDS, Outcome
@@ -28,6 +30,7 @@ TYPED = [
     (b".watch v FROM t WHERE a<0", PROMPT),
     (b"DELETE FROM t WHERE id=2; FOO;", b"-v 2|-1|0\nrefused 6 1: syntax error\n" + PROMPT),
 ]
+REFUSED = b"refused 1 1: syntax error\n"
 
 # The length of a long input, and what the program may take of memory beside one of any length.
 LONG = 100_000_000
@@ -211,29 +214,135 @@ def shown(terminal, wanted):
     return text
 
 
-def typed_at_a_terminal(program):
-    """Each answer is there before the next line is typed."""
+@contextmanager
+def at_a_terminal(program, words, *streams, **how):
+    """A run with these streams at a terminal, which doesn't echo what is typed; its master's end, and the process."""
     terminal, end = pty.openpty()
-    how = termios.tcgetattr(end)
-    how[3] &= ~termios.ECHO
-    termios.tcsetattr(end, termios.TCSANOW, how)
-    started = subprocess.Popen([program.path, "run"], stdin=end, stdout=end, stderr=end)
+    modes = termios.tcgetattr(end)
+    modes[3] &= ~termios.ECHO
+    termios.tcsetattr(end, termios.TCSANOW, modes)
+    started = subprocess.Popen([program.path, *words], **{stream: end for stream in streams}, **how)
     try:
+        yield terminal, started
+    finally:
+        started.kill()
+        started.wait()
+        os.close(end)
+        os.close(terminal)
+
+
+def typed(program, lines, status):
+    """What is wrong, unless each line shows just what it must, and the last one ends the run with this status."""
+    with at_a_terminal(program, ["run"], "stdin", "stdout", "stderr") as (terminal, started):
         text = shown(terminal, PROMPT)
-        if not text.startswith(b"rtsh: ") or not text.endswith(b"\n" + PROMPT):
+        if not text.startswith(b"rtsh: ") or b".help" not in text or not text.endswith(b"\n" + PROMPT):
             return f"at the start: {text}"
-        for line, wanted in TYPED:
-            os.write(terminal, line + b"\n")
+        for line, wanted in lines:
+            os.write(terminal, line)
             text = shown(terminal, wanted)
             if text != wanted:
                 return f"after {line}: {text}"
-        os.write(terminal, b"\x04")
-        status = started.wait(SECONDS)
-        return None if status == 1 else f"status {status}"
-    finally:
-        started.kill()
-        os.close(end)
-        os.close(terminal)
+        ended = started.wait(SECONDS)
+        return None if ended == status else f"status {ended}"
+
+
+def typed_at_a_terminal(program):
+    """Each answer is there before the next line is typed."""
+    return typed(program, [*[(line + b"\n", wanted) for line, wanted in TYPED], (b"\x04", b"\n")], 1)
+
+
+def quit_at_a_terminal(program):
+    """These lines end the run between pieces, and in a statement they are part of it."""
+    for line in (b".quit\n", b".exit\n", b" .QUIT ;\n"):
+        wrong = typed(program, [(b"SELECT\n", CONTINUATION), (b".quit\n", CONTINUATION), (b";", b""), (b"\n", REFUSED + PROMPT), (line, b"")], 1)
+        if wrong:
+            return f"{line}: {wrong}"
+    return typed(program, [(b".exit\n", b"")], 0)
+
+
+def helped_at_a_terminal(program):
+    """The help fits on a screen, and is no part of the script."""
+    with at_a_terminal(program, ["run"], "stdin", "stdout", "stderr") as (terminal, _):
+        shown(terminal, PROMPT)
+        os.write(terminal, b".help\n")
+        lines = shown(terminal, PROMPT).decode().splitlines()
+        if len(lines) > 24 or max(map(len, lines)) > 80:
+            return f"{len(lines)} lines, the longest of {max(map(len, lines))} characters"
+        words = "CREATE DROP INSERT UPDATE DELETE SELECT rtreecheck WHERE .watch .view .unwatch .nodes .help .quit .exit Ctrl-D".split()
+        lacking = [word for word in words if not any(word in line for line in lines)]
+        os.write(terminal, b"FOO;\n")
+        text = shown(terminal, REFUSED + PROMPT)
+        return f"lacks {lacking}" if lacking else None if text == REFUSED + PROMPT else f"then: {text}"
+
+
+def terminal_lines_in_a_pipe(program):
+    lines = [b".help", b".quit", b".exit"]
+    printed = b"".join(b"refused %d 21: unknown command\n" % number for number in range(1, 4))
+    return same(program.run(["run"], b"\n".join(lines)), 1, printed)
+
+
+def all_shown(terminal, started):
+    """What a terminal shows until the run has ended."""
+    text = b""
+    while started.poll() is None or select.select([terminal], [], [], 0.1)[0]:
+        if select.select([terminal], [], [], 0.1)[0]:
+            text += os.read(terminal, 65536)
+    return text.replace(b"\r\n", b"\n")
+
+
+def lines_of_refusals(program):
+    """The error output is a terminal: it names the line of each refused statement of a file or a pipe, and nothing else."""
+    script = b"FOO; SELECT 'refused 1';\n-- a comment\n\n  SELECT *\nFROM t;.view v\n.nodes t\n" + ROWS + b"SELECT '" + b"\n" * 70_000 + b"';\nSELECT id\n"
+    numbers = [(1, 1), (2, 1), (3, 4), (4, 5), (5, 6), (9, 70_007), (10, 70_008)]
+    with tempfile.NamedTemporaryFile() as file:
+        file.write(script)
+        file.flush()
+        for words, given, name in ((["run"], script, "standard input"), (["run", "--echo", file.name], b"", file.name)):
+            wanted = "".join(f"rtsh: {name}: line {line}: statement {number} was refused\n" for number, line in numbers)
+            with at_a_terminal(program, words, "stderr", stdin=subprocess.PIPE, stdout=subprocess.DEVNULL) as (terminal, started):
+                threading.Thread(target=lambda: feed(started, [given]), daemon=True).start()
+                text = all_shown(terminal, started)
+                if text.decode() != wanted or started.returncode != 1:
+                    return f"{words}: {text}, status {started.returncode}"
+    return None
+
+
+def part_read(program):
+    """A file of more than a megabyte shows how much of it is read, on one line, which is clear at the end. A shorter one and
+    a pipe don't."""
+    long = ROWS + b"-- more\n" * 200_000
+    for script, given, is_shown in ((long, None, True), (ROWS, None, False), (b"", long, False)):
+        with tempfile.NamedTemporaryFile() as file:
+            file.write(script)
+            file.flush()
+            words = ["run", "-" if given else file.name]
+            with at_a_terminal(program, words, "stderr", stdin=subprocess.PIPE, stdout=subprocess.PIPE) as (terminal, started):
+                threading.Thread(target=lambda: feed(started, [given or b""]), daemon=True).start()
+                text, printed = all_shown(terminal, started), started.stdout.read()
+        parts = [int(part) for part in re.findall(rb"(\d+) % read", text)]
+        is_right = parts == sorted(set(parts)) and parts[-1:] == [100] and text.endswith(b"% read\r\x1b[K") and b"\n" not in text
+        if printed != PRINTED or (not is_right if is_shown else text):
+            return f"{text[-300:]}, printed {printed}"
+    return None
+
+
+def spoken_with(program):
+    """The guide's program of Python speaks with the shell through two pipes."""
+    guide = (Path(__file__).resolve().parent.parent / "docs" / "GUIDE.md").read_text()
+    lines, printed = re.search(r"```python\n(.*?)```.*?```text\n(.*?)```", guide, re.S).groups()
+    how = {"input": lines.replace("bin/rtsh", program.path), "capture_output": True, "text": True, "timeout": SECONDS}
+    ran = subprocess.run(["python3", "-"], **how)
+    return None if ran.stdout == printed and not ran.stderr else f"{ran.stdout} {ran.stderr}"
+
+
+def first_contact(program):
+    """Words of the command line, and how what is said of them begins."""
+    for words, status, begins in CONTACT:
+        outcome = program.run(words)
+        said = outcome.printed if status == 0 else outcome.complained
+        if outcome.status != status or not said.startswith(begins) or (outcome.printed and outcome.complained):
+            return f"{words}: {outcome}"
+    return None
 
 
 def little_memory(program):
@@ -260,6 +369,21 @@ def capacities(program):
     )
 
 
+# What is asked at a first contact, the status, and how the answer begins.
+CONTACT = [
+    ([], 2, b"Tables of boxes"),
+    (["help"], 0, b"Tables of boxes"),
+    (["--help"], 0, b"Tables of boxes"),
+    (["help", "run"], 0, b"Runs a script"),
+    (["run", "--help"], 0, b"Runs a script"),
+    (["check", "-h"], 0, b"Says of a dump"),
+    (["--version"], 0, b"rtsh "),
+    (["runs"], 2, b"error: unrecognized subcommand 'runs'"),
+    (["run", "--ehco"], 2, b"error: unexpected argument '--ehco'"),
+    (["run", "a", "b"], 2, b"error: unexpected argument 'b'"),
+    (["run", "/nowhere/at/all"], 3, b"rtsh: cannot open file: /nowhere/at/all: "),
+]
+
 TOO_LONG = b"refused 1 3: statement too long\n"
 CHECKS = {
     "the output is a full device": full_device,
@@ -281,6 +405,13 @@ CHECKS = {
     "an input of one byte, and then none for long": slow_input,
     "an output that is read late": slow_output,
     "a script that is typed at a terminal": typed_at_a_terminal,
+    "lines that end a run at a terminal": quit_at_a_terminal,
+    "help at a terminal": helped_at_a_terminal,
+    "lines of a terminal in a pipe": terminal_lines_in_a_pipe,
+    "lines of refused statements at a terminal": lines_of_refusals,
+    "the part read of a long file at a terminal": part_read,
+    "a program that speaks with the shell": spoken_with,
+    "a first contact": first_contact,
     "rows until memory runs out": little_memory,
     "capacities at and past the limits": capacities,
 }

@@ -3,7 +3,7 @@
 //! - It reads the command line (`command`), opens the file, and hands over to `rt_shell::run` or
 //!   `rt_check_report::run_check`, whose contracts say what is written.
 //! - `fault` has what goes to the error output where a run comes to no end, `terminal` what a person at a terminal
-//!   sees there.
+//!   sees there, and `trail` what it shows of a script that is read from a file or a pipe.
 //! - Exit status: 0 where nothing was refused and no problem found (or help was asked for), 1 where something was,
 //!   2 where the command line was refused, and 3 where a file couldn't be opened, a device failed or memory ran out.
 //!
@@ -13,20 +13,23 @@
 mod command;
 mod fault;
 mod terminal;
+mod trail;
 
 use clap::error::ErrorKind;
-use command::{Asked, asked_by, program};
+use command::{Asked, Manner, asked_by, program};
 use fault::{Cause, Fault, Noting};
 use rt_bytes::{ByteReader, ByteWriter, OverRead, OverWrite, RunFault, Status};
+use rt_check_draw::run_draw;
 use rt_check_report::run_check;
 use rt_shell::run;
 use std::alloc::{AllocError, Global};
 use std::env;
-use std::fs::{self, File};
+use std::fs::{self, File, Metadata};
 use std::hash::RandomState;
 use std::io::{self, BufWriter, IsTerminal, Read, Write};
 use std::process::ExitCode;
 use terminal::{Prompting, hint_at_dump, is_attended};
+use trail::{Traced, Tracing, Trail};
 
 /// How many bytes of the output are gathered before they are written, where nobody waits for them.
 const GATHERED: usize = 65_536;
@@ -103,12 +106,15 @@ fn hint_at_run(rt: &HostRuntime, words: &[String], kind: ErrorKind) {
 
 fn carry_out<'a>(rt: &HostRuntime, asked: &Asked<'a>) -> Result<Status, Fault<'a>> {
     let file = match asked {
-        Asked::Run(_, file) | Asked::Check(file) => *file,
+        Asked::Run(_, file) | Asked::Check(file) | Asked::Draw(_, file) => *file,
     };
     match file {
         None => read_input(rt, asked),
         Some(name) => match File::open(rt, name) {
-            Ok(file) => read_from(rt, file, name, asked),
+            Ok(file) => {
+                let length = length_of(file.metadata());
+                read_unattended(rt, file, name, length, asked)
+            }
             Err(reason) => Err(Fault::OpenFile(Cause { name, reason })),
         },
     }
@@ -117,27 +123,61 @@ fn carry_out<'a>(rt: &HostRuntime, asked: &Asked<'a>) -> Result<Status, Fault<'a
 /// Reads standard input, with prompts where a person types it.
 fn read_input<'a>(rt: &HostRuntime, asked: &Asked<'a>) -> Result<Status, Fault<'a>> {
     let (reader, name) = (rt.reader(), "standard input");
+    if !rt.stdin().is_terminal() {
+        let length = length_of(fs::metadata(rt, "/dev/stdin"));
+        return read_unattended(rt, reader, name, length, asked);
+    }
     if !is_attended(rt) {
-        return read_from(rt, reader, name, asked);
+        return read_from(rt, reader, name, asked, None);
     }
     match asked {
         Asked::Run(_, _) => {
             let reader = Prompting::new(rt.alloc(), reader, rt)?;
-            read_from(rt, reader, name, asked)
+            read_from(rt, reader, name, asked, None)
         }
-        Asked::Check(_) => {
+        Asked::Check(_) | Asked::Draw(_, _) => {
             hint_at_dump(rt);
-            read_from(rt, reader, name, asked)
+            read_from(rt, reader, name, asked, None)
         }
     }
 }
 
-/// At a terminal each answer shows at once; else answers are gathered before they are written.
-fn read_from<'a, R: Read + Drop>(
+/// The length of a file.
+fn length_of(found: io::Result<Metadata>) -> Option<u64> {
+    let found = found.ok()?;
+    found.is_file().then_some(found.len())
+}
+
+/// Reads what nobody types. Where the error output is a terminal, it shows how a script comes on.
+fn read_unattended<'a, R: Read + Drop>(
     rt: &HostRuntime,
     reader: R,
     name: &'a str,
+    length: Option<u64>,
     asked: &Asked<'a>,
+) -> Result<Status, Fault<'a>> {
+    let Asked::Run(manner, _) = asked else {
+        return read_from(rt, reader, name, asked, None);
+    };
+    if !rt.stderr().is_terminal() {
+        return read_from(rt, reader, name, asked, None);
+    }
+    let trail = Trail::new(name, length, manner.options.echo, rt.stdout().is_terminal());
+    let Ok(reader) = Traced::new(rt.alloc(), reader, rt, &trail) else {
+        return Err(Fault::Run(RunFault::Memory));
+    };
+    let answer = read_from(rt, reader, name, asked, Some(&trail));
+    trail.end(rt);
+    answer
+}
+
+/// At a terminal, and where it is asked for, each answer is written at once; else answers are gathered before they are written.
+fn read_from<'a, 't, R: Read + Drop>(
+    rt: &'t HostRuntime,
+    reader: R,
+    name: &'a str,
+    asked: &Asked<'a>,
+    trail: Option<&'t Trail<'a>>,
 ) -> Result<Status, Fault<'a>> {
     let keys = match RandomState::new(rt) {
         Ok(keys) => keys,
@@ -145,21 +185,27 @@ fn read_from<'a, R: Read + Drop>(
         Err(reason) => return Err(Fault::read("random bytes", Some(reason))),
     };
     let (alloc, writer) = (rt.alloc(), io::writer(rt));
-    if rt.stdout().is_terminal() {
+    if rt.stdout().is_terminal() || is_unbuffered(asked) {
+        let writer = Tracing::new(writer, rt, trail);
         let (answer, _writer) = read_and_write(alloc, keys, reader, name, writer, asked);
         return answer;
     }
     let Ok(buffer) = BufWriter::with_capacity(alloc, GATHERED, writer) else {
         return Err(Fault::Run(RunFault::Memory));
     };
-    let (answer, buffer) = read_and_write(alloc, keys, reader, name, buffer, asked);
+    let writer = Tracing::new(buffer, rt, trail);
+    let (answer, writer) = read_and_write(alloc, keys, reader, name, writer, asked);
     if let Err(fault) = &answer
         && fault.is_of_writing()
     {
         // A buffer that is dropped writes what it holds once more.
-        let _ = buffer.into_parts();
+        let _ = writer.into_inner().into_parts();
     }
     answer
+}
+
+fn is_unbuffered(asked: &Asked<'_>) -> bool {
+    matches!(asked, Asked::Run(manner, _) if manner.is_unbuffered)
 }
 
 /// Does what is asked, and says of a fault why it came. Hands the writer back.
@@ -192,7 +238,8 @@ fn answer<R: ByteReader, W: ByteWriter>(
     asked: &Asked<'_>,
 ) -> Result<Status, RunFault> {
     match asked {
-        Asked::Run(options, _) => run(alloc, keys, reader, writer, options),
+        Asked::Run(manner, _) => run(alloc, keys, reader, writer, &manner.options),
         Asked::Check(_) => run_check(alloc, keys, reader, writer),
+        Asked::Draw(choice, _) => run_draw(alloc, keys, choice, reader, writer),
     }
 }

@@ -4,6 +4,7 @@
 
 use rt_box::Capacity;
 use rt_bytes::Status;
+use rt_check_draw::{Axes, Choice};
 use rt_shell::Options;
 use std::alloc::{AllocError, Global};
 
@@ -16,6 +17,8 @@ pub enum Command {
     Check,
     /// Each front of the dump is checked, from none of its bytes to all but the last.
     CheckFronts,
+    /// The dump is drawn.
+    Draw(Choice),
 }
 
 impl Command {
@@ -23,7 +26,7 @@ impl Command {
     pub fn extension(&self) -> &'static str {
         match self {
             Command::Run(_) => "sql",
-            Command::Check | Command::CheckFronts => "dump",
+            Command::Check | Command::CheckFronts | Command::Draw(_) => "dump",
         }
     }
 }
@@ -54,23 +57,45 @@ impl<'a> Case<'a> {
             _ => return None,
         };
         let command = words.next()?;
-        let (mut capacity, mut bail, mut fill, mut cuts) = (Capacity::new(51)?, false, None, false);
+        let mut options = Options {
+            capacity: Capacity::new(51)?,
+            bail: false,
+            echo: false,
+        };
+        let (mut fill, mut cuts) = (None, false);
+        let mut choice = Choice {
+            axes: None,
+            lowest: 0,
+            highest: u8::MAX,
+            all: false,
+        };
         for _ in 0..line.len() {
             let Some(option) = words.next() else {
                 break;
             };
             match option {
-                "--capacity" => capacity = Capacity::new(words.next()?.parse::<u8>().ok()?)?,
-                "--bail" => bail = true,
+                "--capacity" => options.capacity = Capacity::new(
+                    words.next()?.parse::<u8>().ok()?,
+                )?,
+                "--bail" => options.bail = true,
+                "--echo" => options.echo = true,
                 "--fill" => fill = Some(words.next()?.parse::<u32>().ok()?),
                 "--cuts" => cuts = true,
+                "--axes" => choice.axes = axes_of(words.next()?),
+                "--levels" => {
+                    let mut levels = words.next()?.split('-');
+                    choice.lowest = levels.next()?.parse::<u8>().ok()?;
+                    choice.highest = levels.next()?.parse::<u8>().ok()?;
+                }
+                "--all" => choice.all = true,
                 _ => return None,
             }
         }
         let command = match command {
-            "run" => Command::Run(Options { capacity, bail }),
+            "run" => Command::Run(options),
             "check" => Command::Check,
             "check-fronts" => Command::CheckFronts,
+            "draw" => Command::Draw(choice),
             _ => return None,
         };
         Some(Case {
@@ -98,4 +123,15 @@ impl<'a> Case<'a> {
         }
         Ok(input)
     }
+}
+
+/// The axes by their numbers, as `1,3`.
+fn axes_of(numbers: &str) -> Option<Axes> {
+    let mut numbers = numbers.split(',');
+    let across = numbers.next()?.parse::<usize>().ok()?.checked_sub(1)?;
+    let up = match numbers.next() {
+        Some(number) => Some(number.parse::<usize>().ok()?.checked_sub(1)?),
+        None => None,
+    };
+    Some(Axes { across, up })
 }

@@ -4,6 +4,7 @@
 
 use crate::case::Command;
 use rt_bytes::{ByteReader, OverRead, RunFault, Sink, SliceReader, Status};
+use rt_check_draw::run_draw;
 use rt_check_report::run_check;
 use rt_shell::run;
 use std::alloc::Global;
@@ -96,5 +97,6 @@ fn carry_out<R: ByteReader>(
     match command {
         Command::Run(options) => run(alloc, keys, reader, printed, options),
         Command::Check | Command::CheckFronts => run_check(alloc, keys, reader, printed),
+        Command::Draw(choice) => run_draw(alloc, keys, choice, reader, printed),
     }
 }

@@ -1,0 +1,3 @@
+SELECT * FROM t WHERE @ = 1;
+.nodes t
+.@

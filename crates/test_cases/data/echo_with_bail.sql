@@ -1,0 +1,3 @@
+CREATE VIRTUAL TABLE t USING rtree_i32(id, a, b);
+SELECT x FROM t;
+SELECT * FROM t;
