@@ -184,28 +184,44 @@ fn read_from<'a, 't, R: Read + Drop>(
         // The source of random bytes is a device too.
         Err(reason) => return Err(Fault::read("random bytes", Some(reason))),
     };
-    let (alloc, writer) = (rt.alloc(), io::writer(rt));
+    let writer = io::writer(rt);
     if rt.stdout().is_terminal() || is_unbuffered(asked) {
-        let writer = Tracing::new(writer, rt, trail);
-        let (answer, _writer) = read_and_write(alloc, keys, reader, name, writer, asked);
+        let (answer, _writer) = read_and_trace(rt, keys, reader, name, writer, asked, trail);
         return answer;
     }
-    let Ok(buffer) = BufWriter::with_capacity(alloc, GATHERED, writer) else {
+    let Ok(buffer) = BufWriter::with_capacity(rt.alloc(), GATHERED, writer) else {
         return Err(Fault::Run(RunFault::Memory));
     };
-    let writer = Tracing::new(buffer, rt, trail);
-    let (answer, writer) = read_and_write(alloc, keys, reader, name, writer, asked);
+    let (answer, buffer) = read_and_trace(rt, keys, reader, name, buffer, asked, trail);
     if let Err(fault) = &answer
         && fault.is_of_writing()
     {
         // A buffer that is dropped writes what it holds once more.
-        let _ = writer.into_inner().into_parts();
+        let _ = buffer.into_parts();
     }
     answer
 }
 
 fn is_unbuffered(asked: &Asked<'_>) -> bool {
     matches!(asked, Asked::Run(manner, _) if manner.is_unbuffered)
+}
+
+/// Does what is asked, beside a trail where there is one. Hands the writer back.
+fn read_and_trace<'a, 't, R: Read + Drop, W: Write + Drop>(
+    rt: &'t HostRuntime,
+    keys: RandomState,
+    reader: R,
+    name: &'a str,
+    writer: W,
+    asked: &Asked<'a>,
+    trail: Option<&'t Trail<'a>>,
+) -> (Result<Status, Fault<'a>>, W) {
+    let Some(trail) = trail else {
+        return read_and_write(rt.alloc(), keys, reader, name, writer, asked);
+    };
+    let writer = Tracing::new(writer, rt, trail);
+    let (answer, writer) = read_and_write(rt.alloc(), keys, reader, name, writer, asked);
+    (answer, writer.into_inner())
 }
 
 /// Does what is asked, and says of a fault why it came. Hands the writer back.

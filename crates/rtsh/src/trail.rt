@@ -212,17 +212,17 @@ impl<'a, 'n, R: Read + Drop, E: Eprint> Read for Traced<'a, 'n, R, E> {
     }
 }
 
-/// A writer of what a script prints. Without a trail it leaves none.
+/// A writer of what a script prints.
 #[derive(Drop)]
 pub struct Tracing<'a, 'n, W, E> {
     inner: W,
     rt: &'a E,
-    trail: Option<&'a Trail<'n>>,
+    trail: &'a Trail<'n>,
 }
 
 impl<'a, 'n, W: Write, E: Eprint> Tracing<'a, 'n, W, E> {
     /// Nothing was written yet.
-    pub fn new(inner: W, rt: &'a E, trail: Option<&'a Trail<'n>>) -> Tracing<'a, 'n, W, E> {
+    pub fn new(inner: W, rt: &'a E, trail: &'a Trail<'n>) -> Tracing<'a, 'n, W, E> {
         Tracing { inner, rt, trail }
     }
 
@@ -239,14 +239,11 @@ impl<'a, 'n, W: Write, E: Eprint> Tracing<'a, 'n, W, E> {
 
 impl<'a, 'n, W: Write, E: Eprint> Write for Tracing<'a, 'n, W, E> {
     fn write(&mut self, bytes: &[u8]) -> io::Result<usize> {
-        let Some(trail) = self.trail else {
-            return self.inner.write(bytes);
-        };
-        if trail.is_shared {
-            trail.clear(self.rt);
+        if self.trail.is_shared {
+            self.trail.clear(self.rt);
         }
         let count = self.inner.write(bytes)?;
-        trail.follow(&bytes[..count.min(bytes.len())]);
+        self.trail.follow(&bytes[..count.min(bytes.len())]);
         Ok(count)
     }
 
