@@ -1,5 +1,5 @@
 -- Lemmas on the levels that are drawn: each node's stands in the list once, or not at all.
-use Rattle.std.proofs.Common.{◌≡◌, ◌∙◌, ap, sym, refl, ℕ, zero, suc, ◌+◌, ◌≤◌, ◌<◌, max, Bool, true, false, cond, List, [], ◌∷◌, map, ◌==◌, arith}
+use Rattle.std.proofs.Common.{◌≡◌, ◌∙◌, ap, sym, refl, ℕ, zero, suc, ◌≤◌, ◌<◌, max, Bool, true, false, cond, List, [], ◌∷◌, map, ◌==◌, arith}
 use Rattle.std.specs.Prelude.{fold, filter}
 use Rattle.std.specs.List.{AllByRecursion}
 use Rattle.std.proofs.lemmas.Bool.Decides.{Decides-eqb}

@@ -4,10 +4,8 @@ use Rattle.std.specs.Prelude.{if◌then◌else◌}
 use Rattle.std.proofs.lemmas.Int.{ints}
 use Rattle.std.proofs.lemmas.Nat.{le-div}
 use Rattle.std.proofs.Math.Nat.{div-mul-le_self}
-use Rattle.rt_box.specs.Interval.{or_zero}
 use Rattle.rt_box.proofs.Intervals.{or_zero-le}
-use Rattle.rt_check_draw.specs.declared.scale.Range.{Range}
-use Rattle.rt_check_draw.specs.Scale.{plot, range, length_of, place_in}
+use Rattle.rt_check_draw.specs.Scale.{range, length_of}
 use Rattle.rt_check_draw.specs.Laws.{ScaleIsMonotone, ScaleStaysInPlot}
 
 positive : (n : ℕ) → (n == 0) ≡ false → 0 < n

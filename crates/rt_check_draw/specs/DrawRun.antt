@@ -1,8 +1,8 @@
 -- What the drawing of a dump does to its reader and its writer (own).
-use Rattle.std.specs.Prelude.{◌≡◌, ◌⊎◌, ℕ, ◌^◌, ◌<◌, List, length, codes, Option, None, Some, Result, Ok, Err, IfSome}
+use Rattle.std.specs.Prelude.{◌≡◌, ℕ, List, codes, Option, None, Some, Result, Ok, Err}
 use Rattle.std.specs.Io.KnownBytes.{Appends}
 use Rattle.rt_bytes.specs.Bytes.{one_more, AppendsFront, WritesAll, WritesFront}
-use Rattle.rt_bytes.specs.Devices.{Devices, most_reads, Held}
+use Rattle.rt_bytes.specs.Devices.{Devices, Held}
 use Rattle.rt_bytes.specs.declared.device.ByteWriter.{Ghosts as WriterMembers}
 use Rattle.rt_bytes.specs.declared.outcome.Status.{Status}
 use Rattle.rt_bytes.specs.declared.outcome.Status.TheVariants.{Clean, Refused}

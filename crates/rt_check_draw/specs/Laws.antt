@@ -1,5 +1,5 @@
 -- What the picture keeps of a tree (own).
-use Rattle.std.specs.Prelude.{◌≡◌, ℕ, suc, ◌≤◌, ℤ, ◌≤ℤ◌, List, [], ◌∷◌, ◌==◌, if◌then◌else◌}
+use Rattle.std.specs.Prelude.{◌≡◌, ℕ, suc, ◌≤◌, ℤ, ◌≤ℤ◌, List, [], ◌∷◌, ◌==◌, codes, IfSome, if◌then◌else◌}
 use Rattle.std.specs.List.{AllByRecursion}
 use Rattle.rt_check.specs.Shadow.{ShadowLists}
 use Rattle.rt_check_draw.specs.declared.choice.Axes.{Axes}
@@ -7,6 +7,8 @@ use Rattle.rt_check_draw.specs.declared.choice.Choice.{Choice}
 use Rattle.rt_check_draw.specs.declared.scale.Range.{Range}
 use Rattle.rt_check_draw.specs.Scale.{plot, place_in}
 use Rattle.rt_check_draw.specs.Levels.{rows_of, levels_of, is_drawn}
+use Rattle.rt_check_draw.specs.Markup.{IsDocument}
+use Rattle.rt_check_draw.specs.Picture.{picture_of}
 
 -- no greater coordinate stands further left or down
 abbrev pub ScaleIsMonotone : Type 0
@@ -26,3 +28,7 @@ times x (y ∷ ys) = if y == x then suc (times x ys) else times x ys
 abbrev pub EachLevelIsDrawnOnce : Type 0
 EachLevelIsDrawnOnce = (D : ℕ) (choice : Choice) (axes : Axes) (s : ShadowLists D) →
     AllByRecursion (λ n. times n.level (levels_of choice (rows_of axes s)) ≡ (if is_drawn choice (rows_of axes s) n.level then 1 else 0)) s.nodes
+
+-- the text is well-formed markup: one element of the name svg
+abbrev pub PictureIsWellFormed : Type 0
+PictureIsWellFormed = (D : ℕ) (choice : Choice) (s : ShadowLists D) → IfSome (picture_of choice s) (λ text. IsDocument (codes "svg") text)

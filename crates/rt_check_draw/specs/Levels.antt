@@ -1,5 +1,5 @@
 -- What a legend says of a level, and which levels are drawn (own).
-use Rattle.std.specs.Prelude.{ℕ, zero, suc, ◌+◌, ◌-◌, ◌*◌, ◌^◌, min, Bool, not, ◌&&◌, ◌||◌, List, [], ◌∷◌, length, take, map, filter, fold, nat_le, nat_lt, ◌==◌, Option, None, Some, if◌then◌else◌}
+use Rattle.std.specs.Prelude.{ℕ, zero, suc, ◌+◌, ◌-◌, ◌*◌, ◌^◌, min, Bool, not, ◌&&◌, List, [], ◌∷◌, length, take, map, filter, fold, nat_le, nat_lt, ◌==◌, Option, None, Some}
 use Rattle.rt_check.specs.declared.node.NodeRow.{NodeRow}
 use Rattle.rt_check.specs.declared.node.RawCell.{RawCell}
 use Rattle.rt_check.specs.Shadow.{ShadowLists}

@@ -6,4 +6,5 @@ pub mod Legend
 pub mod Problems
 pub mod Picture
 pub mod DrawRun
+pub mod Markup
 pub mod Laws

@@ -1,11 +1,10 @@
 -- The problems of a tree, in red (own).
-use Rattle.std.specs.Prelude.{ℕ, ◌+◌, ◌-◌, min, Bool, true, false, List, [], ◌∷◌, ◌++◌, length, take, slice_get, codes, decimal, Option, None, Some, ◌==◌, if◌then◌else◌}
+use Rattle.std.specs.Prelude.{ℕ, ◌-◌, min, Bool, List, [], ◌∷◌, ◌++◌, length, take, slice_get, codes, decimal, Option, None, Some, ◌==◌, if◌then◌else◌}
 use Rattle.std.specs.Fmt.{signed_decimal}
 use Rattle.std.specs.List.{flat_map}
 use Rattle.rt_check.specs.declared.node.NodeRow.{NodeRow}
 use Rattle.rt_check.specs.declared.node.RawCell.{RawCell}
 use Rattle.rt_check.specs.declared.problem.Problem.{Problem}
-use Rattle.rt_check.specs.declared.problem.Condition.{Condition}
 use Rattle.rt_check.specs.Conditions.{code_of, node_of}
 use Rattle.rt_check_draw.specs.declared.scale.Frame.{Frame}
 use Rattle.rt_check_draw.specs.Scale.{place_of}

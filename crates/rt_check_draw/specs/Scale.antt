@@ -1,5 +1,5 @@
 -- Where in the picture a box stands (own). All lengths are in hundredths of a pixel.
-use Rattle.std.specs.Prelude.{◌≡◌, ℕ, ◌+◌, ◌-◌, ◌*◌, ◌/◌, ◌≤◌, ◌≤ℤ◌, min, max, ℤ, pos, negsuc, ◌-ℤ◌, List, Option, Some, None, fold, ◌==◌, if◌then◌else◌}
+use Rattle.std.specs.Prelude.{ℕ, ◌+◌, ◌-◌, ◌*◌, ◌/◌, min, max, ℤ, pos, negsuc, ◌-ℤ◌, List, Option, Some, None, fold, ◌==◌, if◌then◌else◌}
 use Rattle.std.specs.Int.{int_min, int_max}
 use Rattle.std.specs.List.{flat_map}
 use Rattle.rt_box.specs.Interval.{or_zero}

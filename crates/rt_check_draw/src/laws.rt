@@ -1,7 +1,7 @@
 //! What the picture keeps of a tree, as laws of the definitions that the contracts cite. Each function does
 //! nothing: its contract is the law.
 
-ghost use Rattle.rt_check_draw.specs.Laws.{ScaleIsMonotone, ScaleStaysInPlot, EachLevelIsDrawnOnce};
+ghost use Rattle.rt_check_draw.specs.Laws.{ScaleIsMonotone, ScaleStaysInPlot, EachLevelIsDrawnOnce, PictureIsWellFormed};
 
 /// Of two coordinates the greater stands no further left, or down.
 pub fn scale_is_monotone()
@@ -16,4 +16,9 @@ pub fn scale_stays_in_plot()
 /// The cells of each node are drawn once where the node's level is to be drawn, and else not at all.
 pub fn each_level_is_drawn_once()
     ensures { EachLevelIsDrawnOnce }
+{}
+
+/// The text of each picture is well-formed XML: one element, `svg`.
+pub fn picture_is_well_formed()
+    ensures { PictureIsWellFormed }
 {}

@@ -1,5 +1,5 @@
-use Rattle.std.proofs.Common.{◌≡◌, ◌∙◌, ap}
-use Rattle.std.specs.Fmt.{decimal, signed_decimal}
+use Rattle.std.proofs.Common.{◌≡◌, ◌∙◌}
+use Rattle.std.specs.Fmt.{decimal}
 use Rattle.rt_check_draw.specs.Boxes.{opacity_of}
 use Rattle.rt_check_draw.proofs.boxes.add_colours.Goals as goal
 

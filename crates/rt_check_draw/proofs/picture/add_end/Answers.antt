@@ -1,4 +1,4 @@
-use Rattle.rt_check_draw.proofs.Drawn.{two_added, three_added, four_added}
+use Rattle.rt_check_draw.proofs.Drawn.{two_added}
 use Rattle.rt_check_draw.proofs.picture.add_end.Goals as goal
 
 pub returns : goal.returns
