@@ -79,17 +79,22 @@ class Picture:
         low, high = self.span_of[axis]
         return PLOT // 2 if low == high else int(Fraction(at - low, high - low) * PLOT)
 
+    def side(self, start: int, end: int) -> tuple[int, int]:
+        """The start and the length of a box's side: at least two pixels, all of them in the plot."""
+        length = max(LEAST, end - start)
+        return min(start, PLOT - length), length
+
     def box(self, level: int, cell: Cell) -> str:
         """The start of a box."""
         low, high = (self.scaled(self.axes[0], end) for end in cell.ends[self.axes[0]])
-        across, wide = LEFT + low, max(LEAST, high - low)
+        across, wide = self.side(low, high)
         if len(self.axes) == 2:
             low, high = (self.scaled(self.axes[1], end) for end in cell.ends[self.axes[1]])
-            down, tall = UPPER + PLOT - high, max(LEAST, high - low)
+            down, tall = self.side(PLOT - high, PLOT - low)
         else:
             band = PLOT // (self.top + 1)
-            down, tall = UPPER + band * (self.top - level), band * 9 // 10
-        return f'<rect x="{across}" y="{down}" width="{wide}" height="{tall}">'
+            down, tall = band * (self.top - level), band * 9 // 10
+        return f'<rect x="{LEFT + across}" y="{UPPER + down}" width="{wide}" height="{tall}">'
 
     def shared(self, one: Cell, other: Cell) -> int:
         """The area that two cells have in common."""
@@ -102,12 +107,12 @@ class Picture:
         self.span_of = {axis: self.span(axis) for axis in self.axes}
         start = LEGEND + LINE * (4 + top)
         height = start + LINE * (1 + min(20, len(self.problems)))
-        up = f"axis {self.axes[1] + 1}" if len(self.axes) == 2 else "level over level"
+        up = f"axis {self.axes[1] + 1}" if len(self.axes) == 2 else "the levels"
         out = [
             f'<svg xmlns="http://www.w3.org/2000/svg" width="1000" height="{height // 100}" viewBox="0 0 100000 {height}" font-family="sans-serif" font-size="1300">',
             '<rect width="100%" height="100%" fill="white"/>',
             '<rect x="10000" y="4000" width="80000" height="80000" fill="none" stroke="silver" stroke-width="50"/>',
-            f'<text x="10000" y="2500">Rows: {dump.rows}; capacity: {dump.capacity}; to the right axis {self.axes[0] + 1}; upwards {up}</text>',
+            f'<text x="10000" y="2500">Rows: {dump.rows}; capacity: {dump.capacity}; to the right: axis {self.axes[0] + 1}; upwards: {up}</text>',
         ]
         places = [[('x="10000" y="85700"', 0), ('x="90000" y="85700" text-anchor="end"', 1)], [('x="9500" y="84000" text-anchor="end"', 0), ('x="9500" y="5000" text-anchor="end"', 1)]]
         for axis, pair in zip(self.axes, places):

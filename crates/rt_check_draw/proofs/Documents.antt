@@ -255,17 +255,17 @@ module _ {D : ℕ} (f : Frame) (nodes : List (NodeRow D)) (problems : List Probl
 
 -- what stands before the boxes
 upwards-content : (up : Option ℕ) → IsContent (upwards up)
-upwards-content None = plain-content (codes "level over level") refl
+upwards-content None = plain-content (codes "the levels") refl
 upwards-content (Some axis) =
     parts-content (codes "axis " ∷ decimal (shown axis) ∷ []) (plain-content (codes "axis ") refl, (number (shown axis), tt))
 
 title-content : (rows capacity : ℕ) (axes : Axes) → IsContent (title rows capacity axes)
 title-content rows capacity axes =
     let size_parts : List (List ℕ) =
-    codes "<text x=\"10000\" y=\"2500\">Rows: " ∷ decimal rows ∷ codes "; capacity: " ∷ decimal capacity ∷ codes "; to the right axis "
-    ∷ decimal (shown axes.across) ∷ codes "; upwards " ∷ [] in
+    codes "<text x=\"10000\" y=\"2500\">Rows: " ∷ decimal rows ∷ codes "; capacity: " ∷ decimal capacity ∷ codes "; to the right: axis "
+    ∷ decimal (shown axes.across) ∷ codes "; upwards: " ∷ [] in
     let inside : List (List ℕ) =
-    codes "Rows: " ∷ decimal rows ∷ codes "; capacity: " ∷ decimal capacity ∷ codes "; to the right axis " ∷ decimal (shown axes.across) ∷ codes "; upwards "
+    codes "Rows: " ∷ decimal rows ∷ codes "; capacity: " ∷ decimal capacity ∷ codes "; to the right: axis " ∷ decimal (shown axes.across) ∷ codes "; upwards: "
     ∷ upwards axes.up ∷ [] in
     subst IsContent (sym (three size_parts (upwards axes.up) (codes "</text>\n")))
     (whole-content (codes "text") ((codes "x", codes "10000" ∷ []) ∷ (codes "y", codes "2500" ∷ []) ∷ []) refl refl inside (codes "\n")
@@ -277,7 +277,7 @@ title-content rows capacity axes =
           plain-content (codes "; capacity: ") refl,
           (
             number capacity,
-            (plain-content (codes "; to the right axis ") refl, (number (shown axes.across), (plain-content (codes "; upwards ") refl, (upwards-content axes.up, tt)))),
+            (plain-content (codes "; to the right: axis ") refl, (number (shown axes.across), (plain-content (codes "; upwards: ") refl, (upwards-content axes.up, tt)))),
           ),
         ),
       ),

@@ -1,4 +1,5 @@
 pub mod Scales
+pub mod Ranges
 pub mod Drawn
 pub mod Once
 pub mod Answering

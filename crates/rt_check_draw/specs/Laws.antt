@@ -1,11 +1,12 @@
 -- What the picture keeps of a tree (own).
-use Rattle.std.specs.Prelude.{◌≡◌, ℕ, suc, ◌≤◌, ℤ, ◌≤ℤ◌, List, [], ◌∷◌, ◌==◌, codes, IfSome, if◌then◌else◌}
+use Rattle.std.specs.Prelude.{◌≡◌, ℕ, suc, ◌+◌, ◌≤◌, ℤ, ◌≤ℤ◌, List, [], ◌∷◌, ◌==◌, codes, IfSome, if◌then◌else◌}
 use Rattle.std.specs.List.{AllByRecursion}
 use Rattle.rt_check.specs.Shadow.{ShadowLists}
 use Rattle.rt_check_draw.specs.declared.choice.Axes.{Axes}
 use Rattle.rt_check_draw.specs.declared.choice.Choice.{Choice}
 use Rattle.rt_check_draw.specs.declared.scale.Range.{Range}
-use Rattle.rt_check_draw.specs.Scale.{plot, place_in}
+use Rattle.rt_check_draw.specs.declared.scale.Place.{Place}
+use Rattle.rt_check_draw.specs.Scale.{plot, left, upper, place_in, ends_of, range_of, frame_of, place_of}
 use Rattle.rt_check_draw.specs.Levels.{rows_of, levels_of, is_drawn}
 use Rattle.rt_check_draw.specs.Markup.{IsDocument}
 use Rattle.rt_check_draw.specs.Picture.{picture_of}
@@ -17,6 +18,25 @@ ScaleIsMonotone = (r : Range) (a b : ℤ) → a ≤ℤ b → place_in r a ≤ pl
 -- each coordinate stands in the plot
 abbrev pub ScaleStaysInPlot : Type 0
 ScaleStaysInPlot = (r : Range) (z : ℤ) → place_in r z ≤ plot
+
+-- a range lies in another one, and its ends in order
+abbrev pub LiesIn : Range → Range → Type 0
+LiesIn part whole = (whole.lo ≤ℤ part.lo) × (part.lo ≤ℤ part.hi) × (part.hi ≤ℤ whole.hi)
+
+-- on each axis the range covers each cell
+abbrev pub RangeCoversCells : Type 0
+RangeCoversCells = (D : ℕ) (s : ShadowLists D) (axis : ℕ) →
+    AllByRecursion (λ n. AllByRecursion (λ c. LiesIn (ends_of c axis) (range_of s.nodes axis)) n.cells) s.nodes
+
+-- a box lies in the frame round the plot
+abbrev pub IsInFrame : Place → Type 0
+IsInFrame p =
+    (left ≤ p.across.start) × (p.across.start + p.across.length ≤ left + plot) × (upper ≤ p.up.start) × (p.up.start + p.up.length ≤ upper + plot)
+
+-- the box of each cell lies in the frame
+abbrev pub BoxesStayInFrame : Type 0
+BoxesStayInFrame = (D : ℕ) (s : ShadowLists D) (axes : Axes) →
+    AllByRecursion (λ n. AllByRecursion (λ c. IsInFrame (place_of (frame_of s axes) n.level c)) n.cells) s.nodes
 
 -- how often a number stands in a list
 abbrev pub times : ℕ → List ℕ → ℕ

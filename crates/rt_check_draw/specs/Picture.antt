@@ -34,14 +34,14 @@ shown axis = min (axis + 1) (2 ^ 64 - 1)
 
 -- what stands upwards
 abbrev pub upwards : Option ℕ → List ℕ
-upwards None = codes "level over level"
+upwards None = codes "the levels"
 upwards (Some axis) = together (codes "axis " ∷ decimal (shown axis) ∷ [])
 
 -- the tree's size, and the axis to the right
 abbrev pub size : ℕ → ℕ → ℕ → List ℕ
 size rows capacity axis =
-    together (codes "<text x=\"10000\" y=\"2500\">Rows: " ∷ decimal rows ∷ codes "; capacity: " ∷ decimal capacity ∷ codes "; to the right axis "
-    ∷ decimal axis ∷ codes "; upwards " ∷ [])
+    together (codes "<text x=\"10000\" y=\"2500\">Rows: " ∷ decimal rows ∷ codes "; capacity: " ∷ decimal capacity ∷ codes "; to the right: axis "
+    ∷ decimal axis ∷ codes "; upwards: " ∷ [])
 
 abbrev pub title : ℕ → ℕ → Axes → List ℕ
 title rows capacity axes = size rows capacity (shown axes.across) ++ upwards axes.up ++ codes "</text>\n"

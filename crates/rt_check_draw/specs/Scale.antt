@@ -75,13 +75,17 @@ module _ {D : ℕ} where
   abbrev pub frame_of : ShadowLists D → Axes → Frame
   frame_of s axes = record { axes = axes; across = range_of s.nodes axes.across; up = range_up s.nodes axes.up; top = top_of s.nodes }
 
+-- a side from one place in the plot to another; where it is lengthened to the least, it ends at the plot's end at the latest
+abbrev pub side_from : ℕ → ℕ → ℕ → Side
+side_from edge start end = let length = max (end - start) least in record { start = edge + min start (plot - length); length = length }
+
 -- to the right
 abbrev pub side_across : Range → Range → Side
-side_across r e = record { start = left + place_in r e.lo; length = max (place_in r e.hi - place_in r e.lo) least }
+side_across r e = side_from left (place_in r e.lo) (place_in r e.hi)
 
 -- upwards, while an SVG counts downwards
 abbrev pub side_up : Range → Range → Side
-side_up r e = record { start = upper + (plot - place_in r e.hi); length = max (place_in r e.hi - place_in r e.lo) least }
+side_up r e = side_from upper (plot - place_in r e.hi) (plot - place_in r e.lo)
 
 -- the bars of a level: those of the root are the highest
 abbrev pub side_of_bar : ℕ → ℕ → Side

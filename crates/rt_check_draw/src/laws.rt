@@ -1,7 +1,7 @@
 //! What the picture keeps of a tree, as laws of the definitions that the contracts cite. Each function does
 //! nothing: its contract is the law.
 
-ghost use Rattle.rt_check_draw.specs.Laws.{ScaleIsMonotone, ScaleStaysInPlot, EachLevelIsDrawnOnce, PictureIsWellFormed};
+ghost use Rattle.rt_check_draw.specs.Laws.{ScaleIsMonotone, ScaleStaysInPlot, RangeCoversCells, BoxesStayInFrame, EachLevelIsDrawnOnce, PictureIsWellFormed};
 
 /// Of two coordinates the greater stands no further left, or down.
 pub fn scale_is_monotone()
@@ -11,6 +11,16 @@ pub fn scale_is_monotone()
 /// Each coordinate stands in the plot.
 pub fn scale_stays_in_plot()
     ensures { ScaleStaysInPlot }
+{}
+
+/// On each axis the range that is drawn has both ends of each cell.
+pub fn range_covers_cells()
+    ensures { RangeCoversCells }
+{}
+
+/// The box of each cell lies in the frame round the plot.
+pub fn boxes_stay_in_frame()
+    ensures { BoxesStayInFrame }
 {}
 
 /// The cells of each node are drawn once where the node's level is to be drawn, and else not at all.

@@ -3,13 +3,15 @@
 //! `run_draw` reads a dump whole, and writes the picture of its tree, or the first fault of the text.
 //! `draw` makes the picture of a shadow alone. Their contracts name the whole text: a head, a line for
 //! each cell of the levels that are drawn, a legend, and the tree's problems in red. `laws` says that
-//! no cell is drawn twice, and that the scale keeps the order of coordinates.
+//! the text is well-formed XML, that no cell is drawn twice, that the scale keeps the order of coordinates, and
+//! that each box lies in the frame.
 //!
 //! All lengths are whole hundredths of a pixel. The text is made whole before it is written.
 //!
 //! Stands on `rt_check_report`, `rt_check_dump`, `rt_check` and `rt_bytes`. Definitions: `specs/Picture.antt` (the
 //! text), `Boxes.antt`, `Scale.antt` (where a box stands), `Axes.antt`, `Levels.antt` (which levels are drawn, and what is
-//! said of each), `Legend.antt`, `Problems.antt`, `DrawRun.antt` (what a run does to its reader and its writer).
+//! said of each), `Legend.antt`, `Problems.antt`, `DrawRun.antt` (what a run does to its reader and its writer),
+//! `Markup.antt` (what well-formed is), `Laws.antt`.
 #![tactic(auto)]
 
 mod boxes;

@@ -46,7 +46,7 @@ fn add_upwards(text: &mut Vec<u8>, up: Option<usize>) -> Result<(), AllocError>
                 &[b"axis ", number.format(axis.saturating_add(1)).as_bytes()],
             )
         }
-        None => add(text, &[b"level over level"]),
+        None => add(text, &[b"the levels"]),
     }
 }
 
@@ -62,9 +62,9 @@ fn add_size(text: &mut Vec<u8>, rows: usize, capacity: usize, axis: usize) -> Re
             many.format(rows).as_bytes(),
             b"; capacity: ",
             most.format(capacity).as_bytes(),
-            b"; to the right axis ",
+            b"; to the right: axis ",
             across.format(axis).as_bytes(),
-            b"; upwards ",
+            b"; upwards: ",
         ],
     )
 }

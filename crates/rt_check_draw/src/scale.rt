@@ -3,7 +3,7 @@
 ghost use Rattle.std.specs.Prelude.{◌≡◌, ◌<◌, ◌≤◌};
 ghost use Rattle.std.specs.Option.{option_map_or};
 ghost use Rattle.rt_check_draw.specs.Axes.{IsWithin};
-ghost use Rattle.rt_check_draw.specs.Scale.{plot, length_of, cover, common_part, place_in, ends_of, range_from, range_of, range_up, nothing, top_of, frame_of, side_across, side_up, side_of_bar, place_of};
+ghost use Rattle.rt_check_draw.specs.Scale.{plot, length_of, cover, common_part, place_in, ends_of, range_from, range_of, range_up, nothing, top_of, frame_of, side_from, side_across, side_up, side_of_bar, place_of};
 
 use crate::choice::Axes;
 use rt_check::{NodeRow, RawCell, Shadow};
@@ -160,26 +160,34 @@ pub(crate) struct Side {
     pub(crate) length: u64,
 }
 
+impl Side {
+    /// A side from one place in the plot to another, whose edge stands there. It is as long as the least, and
+    /// doesn't leave the plot for that.
+    fn new(edge: u64, start: u64, end: u64) -> Side
+        requires { edge ≤ plot }
+        ensures { result ≡ side_from edge start end }
+    {
+        let length = end.saturating_sub(start).max(LEAST);
+        Side {
+            start: edge + start.min(PLOT.saturating_sub(length)),
+            length,
+        }
+    }
+}
+
 /// A box's side to the right.
 fn side_across(range: Range, ends: Range) -> Side
     ensures { result ≡ side_across range ends }
 {
-    let (start, end) = (range.place_of(ends.lo), range.place_of(ends.hi));
-    Side {
-        start: LEFT + start,
-        length: end.saturating_sub(start).max(LEAST),
-    }
+    Side::new(LEFT, range.place_of(ends.lo), range.place_of(ends.hi))
 }
 
 /// A box's side upwards: it starts at its upper end, since an SVG counts downwards.
 fn side_up(range: Range, ends: Range) -> Side
     ensures { result ≡ side_up range ends }
 {
-    let (start, end) = (range.place_of(ends.lo), range.place_of(ends.hi));
-    Side {
-        start: TOP + PLOT.saturating_sub(end),
-        length: end.saturating_sub(start).max(LEAST),
-    }
+    let (lower, upper) = (range.place_of(ends.lo), range.place_of(ends.hi));
+    Side::new(TOP, PLOT.saturating_sub(upper), PLOT.saturating_sub(lower))
 }
 
 /// The side upwards of a bar: the root's bars are the highest.
