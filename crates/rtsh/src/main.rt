@@ -34,7 +34,13 @@ use trail::{Traced, Tracing, Trail};
 /// How many bytes of the output are gathered before they are written, where nobody waits for them.
 const GATHERED: usize = 65_536;
 
+/// How many bytes of the stack are written to at the start, more than a run takes.
+const STACK: usize = 1 << 19;
+
 fn main(rt: HostRuntime) -> ExitCode {
+    if !grow_stack() {
+        return failed(&rt, Fault::Run(RunFault::Memory));
+    }
     let Ok(words) = words(&rt) else {
         return failed(&rt, Fault::Run(RunFault::Memory));
     };
@@ -42,6 +48,19 @@ fn main(rt: HostRuntime) -> ExitCode {
         Ok(code) => code,
         Err(fault) => failed(&rt, fault),
     }
+}
+
+/// Takes the memory of the stack. Where memory is limited, the stack can't grow once all is taken, and the system would end
+/// the process. Says whether what was written there can be read.
+#[inline(never)]
+fn grow_stack() -> bool {
+    are_alike(&[0; STACK])
+}
+
+// Out of line, so that the caller does write the bytes.
+#[inline(never)]
+fn are_alike(bytes: &[u8]) -> bool {
+    bytes.first() == bytes.last()
 }
 
 /// Says why the program came to no end.
