@@ -58,7 +58,9 @@ typedef enum juicedelta_code {
     /* The script was finished before. */
     JUICEDELTA_ENDED = 11,
     /* With these bytes the script is longer than 2^63 bytes. */
-    JUICEDELTA_TOO_LONG = 12
+    JUICEDELTA_TOO_LONG = 12,
+    /* The text is not the dump of such a tree. */
+    JUICEDELTA_BAD_DUMP = 13
 } juicedelta_code;
 
 /* Holds an object or nothing. Set it to {0} before the first call, and never change or copy it. */
@@ -77,6 +79,31 @@ typedef struct juicedelta_box2 {
 typedef struct juicedelta_box3 {
     int32_t min[3], max[3];
 } juicedelta_box3;
+
+/* Points of one, two and three axes. */
+typedef struct juicedelta_point1 {
+    int32_t at[1];
+} juicedelta_point1;
+typedef struct juicedelta_point2 {
+    int32_t at[2];
+} juicedelta_point2;
+typedef struct juicedelta_point3 {
+    int32_t at[3];
+} juicedelta_point3;
+
+/* Rows of one, two and three axes. */
+typedef struct juicedelta_row1 {
+    int64_t id;
+    juicedelta_box1 box;
+} juicedelta_row1;
+typedef struct juicedelta_row2 {
+    int64_t id;
+    juicedelta_box2 box;
+} juicedelta_row2;
+typedef struct juicedelta_row3 {
+    int64_t id;
+    juicedelta_box3 box;
+} juicedelta_row3;
 
 /*
  * Frees what the handle holds; the handle is closed then, and can be opened again.
@@ -99,7 +126,7 @@ static inline int juicedelta_random_keys(uint64_t keys[2])
 /* ---- Trees ------------------------------------------------------------------------------------------------------
  *
  * The calls for two axes are juicedelta_tree2_..; those for one and three axes are the same with tree1 and tree3, and
- * boxes of that many axes. A handle that holds anything else answers OTHER_KIND, and a closed one CLOSED.
+ * boxes, points and rows of that many axes. A handle that holds anything else answers OTHER_KIND, and a closed one CLOSED.
  */
 
 /*
@@ -142,6 +169,44 @@ int32_t juicedelta_tree2_len(juicedelta_handle *handle, uint64_t *rows);
 int32_t juicedelta_tree2_search(juicedelta_handle *handle, const juicedelta_box2 *box, int64_t *ids, size_t length, uint64_t *total);
 
 /*
+ * Writes to `total` how many rows have boxes with a point in common with `box`.
+ * CLOSED, OTHER_KIND, OUT_OF_MEMORY.
+ */
+int32_t juicedelta_tree2_count(juicedelta_handle *handle, const juicedelta_box2 *box, uint64_t *total);
+
+/*
+ * As juicedelta_tree2_search, with the boxes: writes the rows to the front of `rows`, each once, in no stated order, and
+ * to `total` how many there are.
+ * CLOSED, OTHER_KIND, OUT_OF_MEMORY.
+ * BUFFER_TOO_SMALL: there are more than `length`. No row is written, and `total` is.
+ */
+int32_t juicedelta_tree2_search_rows(juicedelta_handle *handle, const juicedelta_box2 *box, juicedelta_row2 *rows, size_t length, uint64_t *total);
+
+/*
+ * Writes the `length` rows that are nearest to the point to the front of `rows`, or all rows where there are fewer, and
+ * to `total` how many it wrote. The distance of a row is that of the point to its box, 0 inside of it. The nearest row
+ * comes first, and of two equally near that with the lower id.
+ * CLOSED, OTHER_KIND, OUT_OF_MEMORY.
+ */
+int32_t juicedelta_tree2_nearest(juicedelta_handle *handle, const juicedelta_point2 *point, juicedelta_row2 *rows, size_t length, uint64_t *total);
+
+/*
+ * Writes the tree's dump, which is the text that `.nodes` prints in a script and `rtsh check` reads, to the front of
+ * `text`, and its length in bytes to `total`. No byte 0 is put behind it.
+ * CLOSED, OTHER_KIND, OUT_OF_MEMORY.
+ * BUFFER_TOO_SMALL: the dump has more than `length` bytes. None is written, and `total` is.
+ */
+int32_t juicedelta_tree2_dump(juicedelta_handle *handle, uint8_t *text, size_t length, uint64_t *total);
+
+/*
+ * Opens a tree with the rows of a dump of `length` bytes: each is inserted, those with lower ids first, so that the new
+ * tree's own dump may differ. The capacity is the dump's. The keys are as for juicedelta_tree2_open.
+ * ALREADY_OPEN, TREE_FULL, OUT_OF_MEMORY.
+ * BAD_DUMP: the text is no dump, or one of another number of axes, or its rows aren't those of a tree.
+ */
+int32_t juicedelta_tree2_open_dump(juicedelta_handle *handle, const uint8_t *text, size_t length, uint64_t first_key, uint64_t second_key);
+
+/*
  * Takes all rows out, and gives their memory back. The capacity stays.
  * CLOSED, OTHER_KIND, OUT_OF_MEMORY: a new tree takes the place of the old one.
  */
@@ -153,6 +218,11 @@ int32_t juicedelta_tree1_remove(juicedelta_handle *handle, int64_t id);
 int32_t juicedelta_tree1_get(juicedelta_handle *handle, int64_t id, juicedelta_box1 *box);
 int32_t juicedelta_tree1_len(juicedelta_handle *handle, uint64_t *rows);
 int32_t juicedelta_tree1_search(juicedelta_handle *handle, const juicedelta_box1 *box, int64_t *ids, size_t length, uint64_t *total);
+int32_t juicedelta_tree1_count(juicedelta_handle *handle, const juicedelta_box1 *box, uint64_t *total);
+int32_t juicedelta_tree1_search_rows(juicedelta_handle *handle, const juicedelta_box1 *box, juicedelta_row1 *rows, size_t length, uint64_t *total);
+int32_t juicedelta_tree1_nearest(juicedelta_handle *handle, const juicedelta_point1 *point, juicedelta_row1 *rows, size_t length, uint64_t *total);
+int32_t juicedelta_tree1_dump(juicedelta_handle *handle, uint8_t *text, size_t length, uint64_t *total);
+int32_t juicedelta_tree1_open_dump(juicedelta_handle *handle, const uint8_t *text, size_t length, uint64_t first_key, uint64_t second_key);
 int32_t juicedelta_tree1_clear(juicedelta_handle *handle);
 
 int32_t juicedelta_tree3_open(juicedelta_handle *handle, uint32_t capacity, uint64_t first_key, uint64_t second_key);
@@ -161,6 +231,11 @@ int32_t juicedelta_tree3_remove(juicedelta_handle *handle, int64_t id);
 int32_t juicedelta_tree3_get(juicedelta_handle *handle, int64_t id, juicedelta_box3 *box);
 int32_t juicedelta_tree3_len(juicedelta_handle *handle, uint64_t *rows);
 int32_t juicedelta_tree3_search(juicedelta_handle *handle, const juicedelta_box3 *box, int64_t *ids, size_t length, uint64_t *total);
+int32_t juicedelta_tree3_count(juicedelta_handle *handle, const juicedelta_box3 *box, uint64_t *total);
+int32_t juicedelta_tree3_search_rows(juicedelta_handle *handle, const juicedelta_box3 *box, juicedelta_row3 *rows, size_t length, uint64_t *total);
+int32_t juicedelta_tree3_nearest(juicedelta_handle *handle, const juicedelta_point3 *point, juicedelta_row3 *rows, size_t length, uint64_t *total);
+int32_t juicedelta_tree3_dump(juicedelta_handle *handle, uint8_t *text, size_t length, uint64_t *total);
+int32_t juicedelta_tree3_open_dump(juicedelta_handle *handle, const uint8_t *text, size_t length, uint64_t first_key, uint64_t second_key);
 int32_t juicedelta_tree3_clear(juicedelta_handle *handle);
 
 /* ---- Script shells ----------------------------------------------------------------------------------------------
