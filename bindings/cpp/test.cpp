@@ -1,0 +1,138 @@
+// Tests of juicedelta.hpp. Each check names its line; the first that fails ends the program with status 1. With the word
+// `memory` it tries one call that finds no memory: faults/refuse.c refuses the allocations between the two marks.
+#include "juicedelta.hpp"
+
+#include <cstdio>
+#include <cstdlib>
+#include <type_traits>
+#include <unistd.h>
+
+#define CHECK(truth)                                                                                                   \
+    do {                                                                                                               \
+        if (!(truth)) {                                                                                                \
+            std::fprintf(stderr, "%s:%d: %s\n", __FILE__, __LINE__, #truth);                                           \
+            std::exit(1);                                                                                              \
+        }                                                                                                              \
+    } while (0)
+
+using juicedelta::Shell;
+using juicedelta::Tree;
+
+// The code that a call throws.
+template <class Call> static juicedelta_code refused(Call call)
+{
+    try {
+        call();
+    } catch (const juicedelta::Error &error) {
+        return error.code();
+    }
+    return JUICEDELTA_OK;
+}
+
+template <int D> static juicedelta::Box<D> cube(std::int32_t min, std::int32_t max)
+{
+    juicedelta::Box<D> box;
+    for (int axis = 0; axis < D; axis++)
+        box.min[axis] = min, box.max[axis] = max;
+    return box;
+}
+
+template <int D> static void tree()
+{
+    static_assert(!std::is_copy_constructible_v<Tree<D>> && std::is_nothrow_move_constructible_v<Tree<D>>);
+    Tree<D> tree(5);
+    for (int id = 0; id < 200; id++)
+        tree.insert(id, cube<D>(10 * id, 10 * id + 5));
+    tree.remove(100);
+    CHECK(tree.size() == 199 && tree.count(cube<D>(0, 2000)) == 199 && tree.count(cube<D>(995, 1012)) == 2);
+    auto ids = tree.search(cube<D>(0, 2000));
+    CHECK(ids.size() == 199);
+    auto rows = tree.search_rows(cube<D>(45, 45));
+    CHECK(rows.size() == 1 && rows[0].id == 4 && rows[0].box.min[D - 1] == 40 && rows[0].box.max[0] == 45);
+    juicedelta::Point<D> point = {};
+    point.at[0] = -10;
+    auto nearest = tree.nearest(point, 3);
+    CHECK(nearest.size() == 3 && nearest[0].id == 0 && nearest[1].id == 1 && nearest[2].id == 2);
+    CHECK(tree.nearest(point, 0).empty() && tree.nearest(point, 1000).size() == 199);
+    CHECK(tree.get(7)->max[0] == 75 && !tree.get(100));
+#if __cplusplus >= 202002L
+    std::int64_t buffer[3] = {-1, -1, -1};
+    CHECK(tree.search(cube<D>(0, 25), buffer) == 3 && buffer[0] + buffer[1] + buffer[2] == 3);
+    CHECK(tree.search(cube<D>(0, 2000), buffer) == 199 && tree.search(cube<D>(0, 25), std::span<std::int64_t>()) == 3);
+#endif
+    Tree<D> read = Tree<D>::from_dump(tree.dump());
+    CHECK(read.size() == 199 && read.get(199)->min[D - 1] == 1990 && read.count(cube<D>(995, 1012)) == 2);
+    Tree<D> moved = std::move(read);
+    CHECK(moved.size() == 199);
+    tree = std::move(moved);
+    tree.clear();
+    CHECK(tree.size() == 0 && tree.search(cube<D>(0, 2000)).empty() && tree.nearest(point, 3).empty());
+}
+
+// Each code once, but OUT_OF_MEMORY and ENDED.
+static void codes()
+{
+    using juicedelta::check;
+    Tree<2> tree, moved = std::move(tree);
+    Tree<1> line;
+    juicedelta::Box<2> box = {{0, 0}, {1, 1}};
+    std::int64_t id;
+    std::uint64_t total;
+    moved.insert(1, box);
+    CHECK(refused([&] { tree.insert(1, box); }) == JUICEDELTA_CLOSED);
+    CHECK(refused([&] { check(juicedelta_tree2_len(line.handle(), &total)); }) == JUICEDELTA_OTHER_KIND);
+    CHECK(refused([&] { check(juicedelta_tree2_open(moved.handle(), 51, 1, 2)); }) == JUICEDELTA_ALREADY_OPEN);
+    CHECK(refused([] { Tree<2> tree(52); }) == JUICEDELTA_BAD_CAPACITY);
+    CHECK(refused([&] { moved.insert(2, {{0, 2}, {1, 1}}); }) == JUICEDELTA_BAD_BOX);
+    CHECK(refused([&] { moved.insert(1, box); }) == JUICEDELTA_ID_TAKEN);
+    CHECK(refused([&] { moved.remove(2); }) == JUICEDELTA_ID_MISSING);
+    CHECK(refused([&] { check(juicedelta_tree2_search(moved.handle(), &box, &id, 0, &total)); }) == JUICEDELTA_BUFFER_TOO_SMALL);
+    CHECK(refused([] { check(JUICEDELTA_TOO_LONG); }) == JUICEDELTA_TOO_LONG);
+    CHECK(refused([] { Tree<2>::from_dump("rtree 2 5 1 0\n"); }) == JUICEDELTA_BAD_DUMP);
+    CHECK(std::string(juicedelta::Error(JUICEDELTA_ID_TAKEN).what()) == "the id is taken");
+    CHECK(moved.size() == 1);
+}
+
+static void full()
+{
+    Tree<1> tree;
+    for (int id = 0; id < 1048576; id++)
+        tree.insert(id, {{id}, {id}});
+    CHECK(refused([&] { tree.insert(-1, {{0}, {0}}); }) == JUICEDELTA_TREE_FULL);
+    CHECK(tree.size() == 1048576 && tree.count({{7}, {1006}}) == 1000);
+}
+
+static void shell()
+{
+    Shell shell(5);
+    CHECK(shell.execute("CREATE VIRTUAL TABLE t USING rtree_i32(id, a, b); INSERT INTO t VAL").empty());
+    CHECK(shell.execute("UES (1, 2, 3); SELECT * FROM t; SELECT * FROM u;") == "1|2|3\nrefused 4 5: no such table\n");
+    auto [refused_any, output] = shell.finish();
+    CHECK(refused_any && output.empty());
+    CHECK(refused([&] { shell.execute(""); }) == JUICEDELTA_ENDED);
+}
+
+static void memory()
+{
+    Tree<2> tree;
+    CHECK(write(2, "<", 1) == 1);
+    juicedelta_code code = refused([&] { tree.insert(1, {{0, 0}, {1, 1}}); });
+    CHECK(write(2, ">", 1) == 1);
+    CHECK(code == JUICEDELTA_OUT_OF_MEMORY && tree.size() == 0);
+}
+
+int main(int count, char **)
+{
+    if (count > 1) {
+        memory();
+    } else {
+        tree<1>();
+        tree<2>();
+        tree<3>();
+        codes();
+        full();
+        shell();
+    }
+    std::puts("bindings/cpp: passed");
+    return 0;
+}
