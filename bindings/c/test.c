@@ -1,29 +1,71 @@
-/* Tests of the C calls. Each check names its line; the first that fails ends the program with status 1. */
+/*
+ * Tests of the C calls, linked with plain.c under the names plain_.., and with malloc, realloc and free wrapped by the
+ * linker (--wrap), so that allocations can be refused and counted. Each check names its line; the first that fails ends
+ * the program.
+ *
+ *   test calls CALLS    what each call answers; CALLS random calls on each number of axes, at capacities 5 and 51, beside
+ *                       the oracle; handles opened and closed a thousand times
+ *   test refused CALLS  random calls beside the oracle, with each allocation refused in turn, and a script
+ *   test rows ROWS      so many rows come and go
+ */
 #define _GNU_SOURCE
-#include "juicedelta.h"
+#define AXES 1
+#include "pair.h"
+#define AXES 2
+#include "pair.h"
+#define AXES 3
+#include "pair.h"
 
-#include <stdio.h>
-#include <stdlib.h>
-#include <string.h>
+/* ---- Memory ------------------------------------------------------------------------------------------------------ */
 
-#define CHECK(truth)                                                                                                    \
-    do {                                                                                                               \
-        if (!(truth)) {                                                                                                \
-            fprintf(stderr, "%s:%d: %s\n", __FILE__, __LINE__, #truth);                                                \
-            exit(1);                                                                                                   \
-        }                                                                                                              \
-    } while (0)
+static long blocks, left, refuses;
+static int was_refused;
 
-static uint64_t state = 88172645463325252u;
+void *__real_malloc(size_t size);
+void *__real_realloc(void *block, size_t size);
+void __real_free(void *block);
 
-/* A number from 0 to n - 1 (xorshift). */
-static uint32_t below(uint32_t n)
+static int is_refused(void)
 {
-    state ^= state << 13;
-    state ^= state >> 7;
-    state ^= state << 17;
-    return (uint32_t)(state >> 32) % n;
+    if (left == 0 || --left > 0)
+        return 0;
+    was_refused = 1;
+    return 1;
 }
+
+void *__wrap_malloc(size_t size)
+{
+    void *block = is_refused() ? NULL : __real_malloc(size);
+    blocks += block != NULL;
+    return block;
+}
+
+void *__wrap_realloc(void *block, size_t size)
+{
+    void *other = is_refused() ? NULL : __real_realloc(block, size);
+    blocks += other != NULL && block == NULL;
+    return other;
+}
+
+void __wrap_free(void *block)
+{
+    blocks -= block != NULL;
+    __real_free(block);
+}
+
+static void arm(long allocation)
+{
+    was_refused = 0;
+    left = refuses ? allocation : 0;
+}
+
+static int disarm(void)
+{
+    left = 0;
+    return was_refused;
+}
+
+/* ---- Scripts ----------------------------------------------------------------------------------------------------- */
 
 /* Text in, text out: what the shell prints of a script that is fed in parts of so many bytes. */
 static char *printed(const char *script, size_t part, uint32_t *refused)
@@ -113,7 +155,9 @@ static void script_codes(void)
     CHECK(juicedelta_close(&shell) == JUICEDELTA_CLOSED);
 }
 
-#define TREE(D)                                                                                                        \
+/* ---- Trees ------------------------------------------------------------------------------------------------------- */
+
+#define CODES(D)                                                                                                        \
     /* Each code that a bad argument gets, with nothing changed. */                                                    \
     static void tree##D##_codes(void)                                                                                  \
     {                                                                                                                  \
@@ -121,6 +165,9 @@ static void script_codes(void)
         juicedelta_box##D box, upside, got;                                                                            \
         uint64_t rows = 77, total = 77;                                                                                \
         int64_t ids[1] = {77};                                                                                         \
+        juicedelta_row##D row = {77, {{0}, {0}}};                                                                      \
+        juicedelta_point##D point = {{0}};                                                                             \
+        uint8_t text[4] = {77};                                                                                        \
         for (int axis = 0; axis < D; axis++) {                                                                         \
             box.min[axis] = INT32_MIN, box.max[axis] = INT32_MAX;                                                      \
             upside.min[axis] = axis, upside.max[axis] = axis - (axis == D - 1);                                        \
@@ -132,12 +179,19 @@ static void script_codes(void)
         CHECK(juicedelta_tree##D##_len(&tree, &rows) == JUICEDELTA_CLOSED);                                            \
         CHECK(juicedelta_tree##D##_clear(&tree) == JUICEDELTA_CLOSED);                                                 \
         CHECK(juicedelta_tree##D##_search(&tree, &box, ids, 1, &total) == JUICEDELTA_CLOSED && total == 77);           \
+        CHECK(juicedelta_tree##D##_count(&tree, &box, &total) == JUICEDELTA_CLOSED);                                   \
+        CHECK(juicedelta_tree##D##_search_rows(&tree, &box, &row, 1, &total) == JUICEDELTA_CLOSED);                    \
+        CHECK(juicedelta_tree##D##_nearest(&tree, &point, &row, 1, &total) == JUICEDELTA_CLOSED);                      \
+        CHECK(juicedelta_tree##D##_dump(&tree, text, 4, &total) == JUICEDELTA_CLOSED);                                 \
+        CHECK(total == 77 && row.id == 77 && text[0] == 77);                                                           \
         CHECK(juicedelta_tree##D##_open(&tree, 4, 1, 2) == JUICEDELTA_BAD_CAPACITY);                                   \
         CHECK(juicedelta_tree##D##_open(&tree, 52, 1, 2) == JUICEDELTA_BAD_CAPACITY);                                  \
         CHECK(juicedelta_tree##D##_open(&tree, 256 + 51, 1, 2) == JUICEDELTA_BAD_CAPACITY);                            \
+        CHECK(juicedelta_tree##D##_open_dump(&tree, text, 1, 1, 2) == JUICEDELTA_BAD_DUMP);                            \
         CHECK(rows == 77 && got.min[0] == 0x07070707);                                                                 \
         CHECK(juicedelta_tree##D##_open(&tree, 51, 1, 2) == JUICEDELTA_OK);                                            \
         CHECK(juicedelta_tree##D##_open(&tree, 51, 1, 2) == JUICEDELTA_ALREADY_OPEN);                                  \
+        CHECK(juicedelta_tree##D##_open_dump(&tree, text, 0, 1, 2) == JUICEDELTA_ALREADY_OPEN);                        \
         CHECK(juicedelta_tree##D##_insert(&tree, INT64_MIN, &box) == JUICEDELTA_OK);                                   \
         CHECK(juicedelta_tree##D##_insert(&tree, INT64_MIN, &box) == JUICEDELTA_ID_TAKEN);                             \
         CHECK(juicedelta_tree##D##_insert(&tree, 5, &upside) == JUICEDELTA_BAD_BOX);                                   \
@@ -154,101 +208,25 @@ static void script_codes(void)
         CHECK(juicedelta_tree##D##_len(&shell, &rows) == JUICEDELTA_OTHER_KIND);                                       \
         CHECK(juicedelta_tree##D##_clear(&shell) == JUICEDELTA_OTHER_KIND);                                            \
         CHECK(juicedelta_tree##D##_search(&shell, &box, ids, 1, &total) == JUICEDELTA_OTHER_KIND && total == 77);      \
+        CHECK(juicedelta_tree##D##_count(&shell, &box, &total) == JUICEDELTA_OTHER_KIND);                              \
+        CHECK(juicedelta_tree##D##_search_rows(&shell, &box, &row, 1, &total) == JUICEDELTA_OTHER_KIND);               \
+        CHECK(juicedelta_tree##D##_nearest(&shell, &point, &row, 1, &total) == JUICEDELTA_OTHER_KIND);                 \
+        CHECK(juicedelta_tree##D##_dump(&shell, text, 4, &total) == JUICEDELTA_OTHER_KIND);                            \
+        CHECK(total == 77 && row.id == 77 && text[0] == 77);                                                           \
         CHECK(juicedelta_tree##D##_search(&tree, &box, ids, 0, &total) == JUICEDELTA_BUFFER_TOO_SMALL);                \
         CHECK(total == 1 && ids[0] == 77);                                                                             \
+        CHECK(juicedelta_tree##D##_search_rows(&tree, &box, &row, 0, &total) == JUICEDELTA_BUFFER_TOO_SMALL);          \
+        CHECK(juicedelta_tree##D##_dump(&tree, text, 4, &total) == JUICEDELTA_BUFFER_TOO_SMALL && total > 4);          \
+        CHECK(row.id == 77 && text[0] == 77);                                                                          \
         CHECK(juicedelta_tree##D##_search(&tree, &box, ids, 1, &total) == JUICEDELTA_OK && ids[0] == INT64_MIN);       \
         CHECK(juicedelta_close(&shell) == JUICEDELTA_OK);                                                              \
         CHECK(juicedelta_close(&tree) == JUICEDELTA_OK);                                                               \
         CHECK(juicedelta_close(&tree) == JUICEDELTA_CLOSED);                                                           \
-    }                                                                                                                  \
-                                                                                                                       \
-    /* Random calls against an array that ids lead into. */                                                            \
-    static void tree##D##_random(uint32_t capacity, int calls)                                                         \
-    {                                                                                                                  \
-        enum { IDS = 1500 };                                                                                           \
-        static juicedelta_box##D boxes[IDS];                                                                           \
-        static char there[IDS];                                                                                        \
-        uint64_t count = 0, rows;                                                                                      \
-        juicedelta_handle tree = {0}, other = {0};                                                                     \
-        memset(there, 0, sizeof there);                                                                                \
-        CHECK(juicedelta_tree##D##_open(&tree, capacity, 3, 4) == JUICEDELTA_OK);                                      \
-        CHECK(juicedelta_tree##D##_open(&other, capacity, 3, 4) == JUICEDELTA_OK);                                     \
-        for (int call = 0; call < calls; call++) {                                                                     \
-            int id = (int)below(IDS);                                                                                  \
-            juicedelta_box##D box, got;                                                                                \
-            for (int axis = 0; axis < D; axis++) {                                                                     \
-                box.min[axis] = (int32_t)below(2000) - 1000;                                                           \
-                box.max[axis] = box.min[axis] + (int32_t)below(60) - (below(50) == 0);                                 \
-            }                                                                                                          \
-            int bad = 0;                                                                                               \
-            for (int axis = 0; axis < D; axis++)                                                                       \
-                bad |= box.min[axis] > box.max[axis];                                                                  \
-            switch (below(6)) {                                                                                        \
-            case 0:                                                                                                    \
-            case 1: {                                                                                                  \
-                int32_t code = juicedelta_tree##D##_insert(&tree, id - 700, &box);                                     \
-                CHECK(code == (bad ? JUICEDELTA_BAD_BOX : there[id] ? JUICEDELTA_ID_TAKEN : JUICEDELTA_OK));           \
-                if (code == JUICEDELTA_OK)                                                                             \
-                    there[id] = 1, boxes[id] = box, count++;                                                           \
-                break;                                                                                                 \
-            }                                                                                                          \
-            case 2: {                                                                                                  \
-                int32_t code = juicedelta_tree##D##_remove(&tree, id - 700);                                           \
-                CHECK(code == (there[id] ? JUICEDELTA_OK : JUICEDELTA_ID_MISSING));                                    \
-                if (code == JUICEDELTA_OK)                                                                             \
-                    there[id] = 0, count--;                                                                            \
-                break;                                                                                                 \
-            }                                                                                                          \
-            case 3: {                                                                                                  \
-                int32_t code = juicedelta_tree##D##_get(&tree, id - 700, &got);                                        \
-                CHECK(code == (there[id] ? JUICEDELTA_OK : JUICEDELTA_ID_MISSING));                                    \
-                CHECK(code != JUICEDELTA_OK || memcmp(&got, &boxes[id], sizeof got) == 0);                             \
-                break;                                                                                                 \
-            }                                                                                                          \
-            case 4: {                                                                                                  \
-                static int64_t ids[IDS];                                                                               \
-                static char seen[IDS];                                                                                 \
-                uint64_t wanted = 0, total = 77;                                                                       \
-                size_t length = below(8) == 0 ? below(20) : IDS;                                                       \
-                for (int axis = 0; axis < D; axis++)                                                                   \
-                    box.max[axis] = box.min[axis] + (int32_t)below(below(4) == 0 ? 2000 : 100);                        \
-                for (int other = 0; other < IDS; other++) {                                                            \
-                    seen[other] = there[other];                                                                        \
-                    for (int axis = 0; axis < D; axis++)                                                               \
-                        seen[other] &= boxes[other].min[axis] <= box.max[axis] && box.min[axis] <= boxes[other].max[axis]; \
-                    wanted += seen[other];                                                                             \
-                }                                                                                                      \
-                int32_t code = juicedelta_tree##D##_search(&tree, &box, ids, length, &total);                          \
-                CHECK(code == (wanted > length ? JUICEDELTA_BUFFER_TOO_SMALL : JUICEDELTA_OK) && total == wanted);     \
-                if (code == JUICEDELTA_OK)                                                                             \
-                    for (uint64_t place = 0; place < total; place++) {                                                 \
-                        CHECK(ids[place] >= -700 && ids[place] < IDS - 700 && seen[ids[place] + 700]);                 \
-                        seen[ids[place] + 700] = 0;                                                                    \
-                    }                                                                                                  \
-                break;                                                                                                 \
-            }                                                                                                          \
-            default:                                                                                                   \
-                CHECK(juicedelta_tree##D##_len(&tree, &rows) == JUICEDELTA_OK && rows == count);                       \
-                if (below(5000) == 0) {                                                                                \
-                    CHECK(juicedelta_tree##D##_clear(&tree) == JUICEDELTA_OK);                                         \
-                    memset(there, 0, sizeof there), count = 0;                                                         \
-                }                                                                                                      \
-            }                                                                                                          \
-        }                                                                                                              \
-        /* The second handle saw none of it. */                                                                        \
-        CHECK(juicedelta_tree##D##_len(&other, &rows) == JUICEDELTA_OK && rows == 0);                                  \
-        for (int id = 0; id < IDS; id++) {                                                                             \
-            juicedelta_box##D got;                                                                                     \
-            CHECK((juicedelta_tree##D##_get(&tree, id - 700, &got) == JUICEDELTA_OK) == there[id]);                    \
-            CHECK(!there[id] || memcmp(&got, &boxes[id], sizeof got) == 0);                                            \
-        }                                                                                                              \
-        CHECK(juicedelta_close(&other) == JUICEDELTA_OK);                                                              \
-        CHECK(juicedelta_close(&tree) == JUICEDELTA_OK);                                                               \
     }
 
-TREE(1)
-TREE(2)
-TREE(3)
+CODES(1)
+CODES(2)
+CODES(3)
 
 /* Handles that are opened and closed over and over. */
 static void again(int times)
@@ -268,21 +246,112 @@ static void again(int times)
     }
 }
 
-int main(int count, char **words)
+/* Random calls of two trees by turns, each beside its own list. */
+#define RANDOM(D)                                                                                                      \
+    static void random##D(uint32_t capacity, int calls)                                                                \
+    {                                                                                                                  \
+        source from = {NULL, 0, 88172645463325252u};                                                                   \
+        pair##D pairs[2];                                                                                              \
+        pair##D##_open(&pairs[0], capacity);                                                                           \
+        pair##D##_open(&pairs[1], capacity);                                                                           \
+        for (int call = 0; call < calls; call++)                                                                       \
+            pair##D##_step(&from, &pairs[below(&from, 2)]);                                                            \
+        for (int place = 0; place < 2; place++) {                                                                      \
+            pair##D##_same(&pairs[place]);                                                                             \
+            pair##D##_close(&pairs[place]);                                                                            \
+        }                                                                                                              \
+    }
+
+RANDOM(1)
+RANDOM(2)
+RANDOM(3)
+
+static void all_random(int calls)
 {
-    int calls = count > 1 ? atoi(words[1]) : 100000;
-    scripts();
-    script_codes();
-    tree1_codes();
-    tree2_codes();
-    tree3_codes();
     for (int round = 0; round < 2; round++) {
         uint32_t capacity = round == 0 ? 5 : 51;
-        tree1_random(capacity, calls);
-        tree2_random(capacity, calls);
-        tree3_random(capacity, calls);
+        random1(capacity, calls);
+        random2(capacity, calls);
+        random3(capacity, calls);
     }
-    again(1000);
-    puts("bindings/c: passed");
+}
+
+/* A script in which the nth allocation is refused, for each n: the answers are OK, or OUT_OF_MEMORY from some call on. */
+static void refused_script(void)
+{
+    static const char script[] =
+        "CREATE VIRTUAL TABLE t USING rtree_i32(id, a, b, +c); .watch v FROM t WHERE a <= 9\n"
+        "INSERT INTO t VALUES (1, 2, 3, 'x'), (2, 3, 4, 'y'), (3, 4, 5, NULL), (4, 5, 6, 7), (5, 6, 7, X'00'), (6, 7, 8, 8);"
+        "UPDATE t SET a = a - 1, c = 'a longer text than a short one'; SELECT * FROM t WHERE b >= 5; .nodes t\nDELETE FROM t;";
+    int hit = 1;
+    for (long allocation = 1; hit; allocation++) {
+        juicedelta_handle shell = {0};
+        long before = blocks;
+        uint64_t length = 0;
+        uint32_t refused;
+        arm(allocation);
+        int32_t code = juicedelta_script_open(&shell, 5, 1, 2);
+        if (code == JUICEDELTA_OK) {
+            int32_t fed = juicedelta_script_exec(&shell, (const uint8_t *)script, sizeof script - 1);
+            int32_t end = juicedelta_script_finish(&shell, &refused);
+            hit = disarm();
+            CHECK(fed == JUICEDELTA_OK || fed == JUICEDELTA_OUT_OF_MEMORY);
+            CHECK(end == JUICEDELTA_OK || end == JUICEDELTA_OUT_OF_MEMORY);
+            CHECK(fed == JUICEDELTA_OK || end == fed);
+            CHECK(hit || (code == JUICEDELTA_OK && fed == JUICEDELTA_OK && end == JUICEDELTA_OK && refused == 0));
+            CHECK(juicedelta_script_output_length(&shell, &length) == JUICEDELTA_OK && (hit || length > 400));
+            CHECK(juicedelta_close(&shell) == JUICEDELTA_OK);
+        } else {
+            CHECK(disarm() && code == JUICEDELTA_OUT_OF_MEMORY && juicedelta_close(&shell) == JUICEDELTA_CLOSED);
+        }
+        CHECK(blocks == before);
+    }
+}
+
+/* So many rows come, are found, and go, each at its own place. */
+static void many(int32_t rows)
+{
+    juicedelta_handle tree = {0};
+    juicedelta_box2 space = {{INT32_MIN, INT32_MIN}, {INT32_MAX, INT32_MAX}}, box = {{0, 0}, {9, 9}}, got;
+    uint64_t total;
+    CHECK(juicedelta_tree2_open(&tree, 51, 1, 2) == JUICEDELTA_OK);
+    for (int32_t row = 0; row < rows; row++) {
+        juicedelta_box2 own = {{row % 1024 * 10, row / 1024 * 10}, {row % 1024 * 10 + 9, row / 1024 * 10 + 9}};
+        CHECK(juicedelta_tree2_insert(&tree, row, &own) == JUICEDELTA_OK);
+    }
+    CHECK(juicedelta_tree2_insert(&tree, -1, &box) == (rows == 1048576 ? JUICEDELTA_TREE_FULL : JUICEDELTA_OK));
+    CHECK(juicedelta_tree2_count(&tree, &space, &total) == JUICEDELTA_OK && total == (uint64_t)rows + (rows < 1048576));
+    CHECK(juicedelta_tree2_get(&tree, rows - 1, &got) == JUICEDELTA_OK && got.min[0] == (rows - 1) % 1024 * 10);
+    for (int32_t row = 0; row < rows; row += 2)
+        CHECK(juicedelta_tree2_remove(&tree, row) == JUICEDELTA_OK);
+    CHECK(juicedelta_tree2_count(&tree, &space, &total) == JUICEDELTA_OK && total == (uint64_t)rows / 2 + (rows < 1048576));
+    CHECK(juicedelta_close(&tree) == JUICEDELTA_OK);
+}
+
+int main(int count, char **words)
+{
+    const char *part = count > 2 ? words[1] : "";
+    int number = count > 2 ? atoi(words[2]) : 0;
+    long before = blocks;
+    if (strcmp(part, "calls") == 0) {
+        scripts();
+        script_codes();
+        tree1_codes();
+        tree2_codes();
+        tree3_codes();
+        all_random(number);
+        again(1000);
+    } else if (strcmp(part, "refused") == 0) {
+        refuses = 1;
+        all_random(number);
+        refused_script();
+    } else if (strcmp(part, "rows") == 0) {
+        many(number);
+    } else {
+        fputs("test calls CALLS, test refused CALLS or test rows ROWS\n", stderr);
+        return 2;
+    }
+    CHECK(blocks == before);
+    printf("bindings/c: %s passed\n", part);
     return 0;
 }
