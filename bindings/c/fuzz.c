@@ -1,0 +1,77 @@
+/*
+ * What libFuzzer makes up, tried on the C calls. The first byte of an input chooses: a tree of one, two or three axes
+ * makes the calls that the other bytes say beside a plain list (pair.h); or they are a script, which prints the same in
+ * one piece and byte by byte.
+ */
+#define AXES 1
+#include "pair.h"
+#define AXES 2
+#include "pair.h"
+#define AXES 3
+#include "pair.h"
+
+static void arm(long allocation) { (void)allocation; }
+static int disarm(void) { return 0; }
+
+#define CALLS(D)                                                                                                       \
+    static void calls##D(source *from)                                                                                 \
+    {                                                                                                                  \
+        pair##D pair;                                                                                                  \
+        pair##D##_open(&pair, 5 + below(from, 47));                                                                    \
+        while (from->length > 0)                                                                                       \
+            pair##D##_step(from, &pair);                                                                               \
+        pair##D##_same(&pair);                                                                                         \
+        pair##D##_close(&pair);                                                                                        \
+    }
+
+CALLS(1)
+CALLS(2)
+CALLS(3)
+
+/* What a shell prints of a script that is fed in parts of so many bytes. */
+static uint8_t *printed(const uint8_t *script, size_t length, size_t part, uint64_t *count, uint32_t *refused)
+{
+    juicedelta_handle shell = {0};
+    CHECK(juicedelta_script_open(&shell, 5, 1, 2) == JUICEDELTA_OK);
+    for (size_t from = 0; from < length; from += part)
+        CHECK(juicedelta_script_exec(&shell, script + from, length - from < part ? length - from : part) == JUICEDELTA_OK);
+    CHECK(juicedelta_script_finish(&shell, refused) == JUICEDELTA_OK);
+    CHECK(juicedelta_script_output_length(&shell, count) == JUICEDELTA_OK);
+    uint8_t *text = malloc(*count + 1);
+    CHECK(text != NULL && juicedelta_script_output(&shell, text, *count) == JUICEDELTA_OK);
+    CHECK(juicedelta_close(&shell) == JUICEDELTA_OK);
+    return text;
+}
+
+static void script(const uint8_t *bytes, size_t length)
+{
+    uint64_t whole_count, count;
+    uint32_t whole_refused = 9, refused = 9;
+    uint8_t *whole = printed(bytes, length, length + 1, &whole_count, &whole_refused);
+    uint8_t *text = printed(bytes, length, 1, &count, &refused);
+    CHECK(whole_refused < 2 && whole_refused == refused);
+    CHECK(whole_count == count && memcmp(whole, text, count) == 0);
+    free(whole);
+    free(text);
+}
+
+int LLVMFuzzerTestOneInput(const uint8_t *bytes, size_t length)
+{
+    /* A source without bytes is a generator. */
+    static const uint8_t none = 0;
+    source from = {length > 1 ? bytes + 1 : &none, length > 1 ? length - 1 : 0, 0};
+    switch (length > 0 ? bytes[0] % 4 : 0) {
+    case 1:
+        calls1(&from);
+        break;
+    case 2:
+        calls2(&from);
+        break;
+    case 3:
+        calls3(&from);
+        break;
+    default:
+        script(from.bytes, from.length);
+    }
+    return 0;
+}
