@@ -59,7 +59,7 @@ typedef enum juicedelta_code {
     JUICEDELTA_ENDED = 11,
     /* With these bytes the script is longer than 2^63 bytes. */
     JUICEDELTA_TOO_LONG = 12,
-    /* The text is not the dump of such a tree. */
+    /* The text is not the dump of a sound tree of so many axes. */
     JUICEDELTA_BAD_DUMP = 13
 } juicedelta_code;
 
@@ -202,7 +202,7 @@ int32_t juicedelta_tree2_dump(juicedelta_handle *handle, uint8_t *text, size_t l
  * Opens a tree with the rows of a dump of `length` bytes: each is inserted, those with lower ids first, so that the new
  * tree's own dump may differ. The capacity is the dump's. The keys are as for juicedelta_tree2_open.
  * ALREADY_OPEN, TREE_FULL, OUT_OF_MEMORY.
- * BAD_DUMP: the text is no dump, or one of another number of axes, or its rows aren't those of a tree.
+ * BAD_DUMP: the text is no dump, or one of another number of axes, or `rtsh check` finds a problem in its tree.
  */
 int32_t juicedelta_tree2_open_dump(juicedelta_handle *handle, const uint8_t *text, size_t length, uint64_t first_key, uint64_t second_key);
 

@@ -247,6 +247,7 @@ static void PAIR(dump)(source *from, TWO *pair)
     code = TREE(open_dump)(&broken.tree, text, length, 1, 2);
     int32_t plain = LIST(open_dump)(&broken.list, text, length, 1, 2);
     CHECK(code == JUICEDELTA_OK || code == JUICEDELTA_BAD_DUMP);
+    /* The list doesn't look for problems of the tree. */
     CHECK(code != JUICEDELTA_OK || plain == JUICEDELTA_OK);
     if (code == JUICEDELTA_OK)
         PAIR(same)(&broken);

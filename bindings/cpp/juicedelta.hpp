@@ -37,7 +37,7 @@ private:
         static const char *const all[] = {"done", "nothing is held", "an object of another kind is held", "open already",
             "the capacity is not from 5 to 51", "on some axis min is above max", "the id is taken", "no row has that id",
             "the result is longer than the buffer", "no memory is left", "the tree has 1,048,576 rows", "the script has ended",
-            "the script is longer than 2^63 bytes", "the text is not the dump of such a tree"};
+            "the script is longer than 2^63 bytes", "the text is not the dump of a sound tree"};
         return code >= 0 && code <= JUICEDELTA_BAD_DUMP ? all[code] : "unknown code";
     }
     juicedelta_code code_;

@@ -34,7 +34,7 @@ _WORDS = {
     4: "the capacity is not from 5 to 51", 5: "on some axis min is above max", 6: "the id is taken",
     7: "no row has that id", 8: "the result is longer than the buffer", 9: "no memory is left",
     10: "the tree has 1,048,576 rows", 11: "the script has ended", 12: "the script is longer than 2^63 bytes",
-    13: "the text is not the dump of such a tree",
+    13: "the text is not the dump of a sound tree",
 }
 _ID_MISSING, _BUFFER_TOO_SMALL = 7, 8
 

@@ -69,7 +69,7 @@ const ERRORS: [(Error, &str); 13] = [
     (Error::TreeFull, "the tree has 1,048,576 rows"),
     (Error::Ended, "the script has ended"),
     (Error::TooLong, "the script is longer than 2^63 bytes"),
-    (Error::BadDump, "the text is not the dump of such a tree"),
+    (Error::BadDump, "the text is not the dump of a sound tree"),
 ];
 
 impl fmt::Display for Error {
