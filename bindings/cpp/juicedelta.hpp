@@ -94,19 +94,13 @@ class Owner {
 public:
     Owner() = default;
     Owner(Owner &&other) noexcept : handle_(std::exchange(other.handle_, {})) {}
-    Owner &operator=(Owner &&other) noexcept
-    {
-        close();
-        handle_ = std::exchange(other.handle_, {});
-        return *this;
-    }
+    Owner &operator=(Owner other) noexcept { return std::swap(handle_, other.handle_), *this; }
     ~Owner() { close(); }
     void close() noexcept { juicedelta_close(&handle_); } // Closing twice does nothing.
     juicedelta_handle *handle() noexcept { return &handle_; } // For the calls of juicedelta.h. It stays the owner's.
 private:
     juicedelta_handle handle_ = {};
 };
-
 } // namespace detail
 template <int D> using Box = typename detail::Calls<D>::Box;
 template <int D> using Point = typename detail::Calls<D>::Point;
@@ -120,7 +114,7 @@ public:
     // The rows of a dump, which `dump` or a script's `.nodes` wrote.
     static Tree from_dump(std::string_view text)
     {
-        Tree tree(nullptr);
+        Tree tree(Closed{});
         detail::open(Calls::open_dump, tree.handle(), detail::bytes_of(text), text.size());
         return tree;
     }
@@ -160,7 +154,8 @@ public:
     void clear() { check(Calls::clear(handle())); }
 private:
     using Calls = detail::Calls<D>;
-    explicit Tree(std::nullptr_t) {} // closed
+    struct Closed {};
+    explicit Tree(Closed) {}
     template <class Call, class... Words> std::size_t number(Call call, Words... words)
     {
         std::uint64_t number = 0;
@@ -201,6 +196,5 @@ private:
         return text;
     }
 };
-
 } // namespace juicedelta
 #endif
