@@ -94,7 +94,7 @@ class Owner {
 public:
     Owner() = default;
     Owner(Owner &&other) noexcept : handle_(std::exchange(other.handle_, {})) {}
-    Owner &operator=(Owner other) noexcept { return std::swap(handle_, other.handle_), *this; }
+    Owner &operator=(Owner &&other) noexcept { return close(), handle_ = std::exchange(other.handle_, {}), *this; }
     ~Owner() { close(); }
     void close() noexcept { juicedelta_close(&handle_); } // Closing twice does nothing.
     juicedelta_handle *handle() noexcept { return &handle_; } // For the calls of juicedelta.h. It stays the owner's.

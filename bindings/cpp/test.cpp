@@ -39,7 +39,8 @@ template <int D> static juicedelta::Box<D> cube(std::int32_t min, std::int32_t m
 
 template <int D> static void tree()
 {
-    static_assert(!std::is_copy_constructible_v<Tree<D>> && std::is_nothrow_move_constructible_v<Tree<D>>);
+    static_assert(!std::is_copy_constructible_v<Tree<D>> && !std::is_copy_assignable_v<Tree<D>>);
+    static_assert(std::is_nothrow_move_constructible_v<Tree<D>> && std::is_nothrow_move_assignable_v<Tree<D>>);
     Tree<D> tree(5);
     for (int id = 0; id < 200; id++)
         tree.insert(id, cube<D>(10 * id, 10 * id + 5));
@@ -65,6 +66,7 @@ template <int D> static void tree()
     Tree<D> moved = std::move(read);
     CHECK(moved.size() == 199);
     tree = std::move(moved);
+    CHECK(tree.size() == 199 && moved.handle()->object == nullptr);
     tree.clear();
     CHECK(tree.size() == 0 && tree.search(cube<D>(0, 2000)).empty() && tree.nearest(point, 3).empty());
 }
