@@ -34,8 +34,11 @@ use trail::{Traced, Tracing, Trail};
 /// How many bytes of the output are gathered before they are written, where nobody waits for them.
 const GATHERED: usize = 65_536;
 
-/// How many bytes of the stack are written to at the start, more than a run takes.
-const STACK: usize = 1 << 19;
+/// How many pages of the stack are written to at the start, more than a run takes.
+const PAGES: usize = 128;
+
+/// The bytes of a page.
+const PAGE: usize = 4096;
 
 fn main(rt: HostRuntime) -> ExitCode {
     if !grow_stack() {
@@ -54,13 +57,15 @@ fn main(rt: HostRuntime) -> ExitCode {
 /// the process. Says whether what was written there can be read.
 #[inline(never)]
 fn grow_stack() -> bool {
-    are_alike(&[0; STACK])
+    let mut pages = [[0; PAGE]; PAGES];
+    is_filled(&mut pages)
 }
 
-// Out of line, so that the caller does write the bytes.
+// Out of line, so that the caller has the pages on its stack.
 #[inline(never)]
-fn are_alike(bytes: &[u8]) -> bool {
-    bytes.first() == bytes.last()
+fn is_filled(pages: &mut [[u8; PAGE]]) -> bool {
+    pages.fill([1; PAGE]);
+    pages.last().is_some_and(|page| page[0] == 1)
 }
 
 /// Says why the program came to no end.
