@@ -1,22 +1,31 @@
--- What a box that has a point in common with another meets, as comparisons of its coordinates: on each axis its least
--- number is not above the other's greatest, and its greatest not below the other's least (own: both ends belong to a box).
-use Rattle.std.specs.Prelude.{ℕ, ℤ, pos, List, [], ◌∷◌, slice_index_or}
-use Rattle.rt_box.specs.declared.operator.Operator.TheVariants.{Le, Ge}
-use Rattle.rt_box.specs.Window.{Comparison}
+-- Boxes that have a point in common (own: both ends belong to a box).
+use Rattle.std.specs.Prelude.{◌≡◌, ℕ, ℤ, ◌≤ℤ◌, List, [], ◌∷◌, Bool, count_by}
+use Rattle.std.specs.List.{AllZip}
+use Rattle.rt_box.specs.declared.interval.Interval.{Interval}
+use Rattle.rt_box.specs.Rect.{los, his}
+use Rattle.rt_check.specs.Shadow.{ShadowLists}
+use Rattle.rt_tree.specs.Rows.{rows_of}
+use Rattle.rt_tree_walk.specs.declared.searching.Row.{Row}
 
--- of one axis, whose least and greatest number are a box's coordinates of these numbers
-abbrev pub begins_before : ℕ → List ℤ → ℕ → Comparison
-begins_before coordinate max axis = record { coordinate = coordinate; op = Le; value = slice_index_or max axis (pos 0) }
+-- the point, a number for each axis, lies in the box from min to max
+abbrev pub LiesIn : List ℤ → List ℤ → List ℤ → Type 0
+LiesIn min max point = AllZip ◌≤ℤ◌ min point × AllZip ◌≤ℤ◌ point max
 
-abbrev pub ends_behind : ℕ → List ℤ → ℕ → Comparison
-ends_behind coordinate min axis = record { coordinate = coordinate; op = Ge; value = slice_index_or min axis (pos 0) }
+-- some point lies in the box from min to max, and in the other one
+pub record HasCommonPoint (min max : List ℤ) (rect : List Interval) : Type 0 where
+  pub point : List ℤ
+  pub here : LiesIn min max point
+  pub there : LiesIn (los rect) (his rect) point
 
-abbrev pub touching_line : List ℤ → List ℤ → List Comparison
-touching_line min max = begins_before 0 max 0 ∷ ends_behind 1 min 0 ∷ []
+-- of the elements those are picked of which this holds, in their order
+pub data Picks {X : Type 0} (holds : X → Type 0) : List X → List X → Type 0 where
+  none : Picks holds [] []
+  this : {x : X} {xs picked : List X} → holds x → Picks holds xs picked → Picks holds (x ∷ xs) (x ∷ picked)
+  other : {x : X} {xs picked : List X} → (holds x → ⊥) → Picks holds xs picked → Picks holds (x ∷ xs) picked
 
-abbrev pub touching_plane : List ℤ → List ℤ → List Comparison
-touching_plane min max = begins_before 0 max 0 ∷ ends_behind 1 min 0 ∷ begins_before 2 max 1 ∷ ends_behind 3 min 1 ∷ []
-
-abbrev pub touching_space : List ℤ → List ℤ → List Comparison
-touching_space min max =
-    begins_before 0 max 0 ∷ ends_behind 1 min 0 ∷ begins_before 2 max 1 ∷ ends_behind 3 min 1 ∷ begins_before 4 max 2 ∷ ends_behind 5 min 2 ∷ []
+module _ {D : ℕ} where
+  -- of the tree's rows those that have a point in common with the box from min to max, in whatever order
+  pub record FindsTouching (s : ShadowLists D) (min max : List ℤ) (rows : List (Row D)) : Type 0 where
+    pub picked : List (Row D)
+    pub picks : Picks (λ r. HasCommonPoint min max r.rect) (rows_of s) picked
+    pub same : (test : Row D → Bool) → count_by test rows ≡ count_by test picked

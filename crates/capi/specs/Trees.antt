@@ -4,13 +4,13 @@ use Rattle.std.specs.List.{AllZip}
 use Rattle.rt_box.specs.declared.interval.Interval.{Interval}
 use Rattle.rt_box.specs.Capacity.{IsCapacity}
 use Rattle.rt_box.specs.Rect.{los, his}
-use Rattle.rt_box.specs.Window.{Comparison, IsUnlimited, NarrowsInTurn}
 use Rattle.rt_handle.specs.declared.object.Kept.{Kept}
-use Rattle.rt_tree.specs.Finding.{FindsIn}
 use Rattle.rt_tree.specs.Lists.{TreeLists, empty_lists}
-use Rattle.rt_tree.specs.Rows.{box_of, GainsRow, LosesRow}
+use Rattle.rt_tree.specs.Rows.{box_of, rows_of, GainsRow, LosesRow}
+use Rattle.rt_tree_nearest.specs.Nearest.{nearest_rows}
 use Rattle.rt_tree_walk.specs.declared.searching.Row.{Row}
 use Rattle.capi.specs.Buffers.{Copies}
+use Rattle.capi.specs.Touching.{FindsTouching}
 use Rattle.capi.specs.declared.code.Code.{Code}
 use Rattle.capi.specs.declared.code.Code.TheVariants.{Done, BadCapacity, BadBox, IdTaken, IdMissing, OutOfMemory, TreeFull}
 
@@ -19,10 +19,6 @@ abbrev pub MakesNone : ℕ → Code → Type 0
 MakesNone capacity BadCapacity = ¬ IsCapacity capacity
 MakesNone capacity OutOfMemory = Unit {0}
 MakesNone capacity code = ⊥
-
--- a window that these comparisons leave of the space of so many axes
-abbrev pub IsLeft : ℕ → List Comparison → List Interval → Type 0
-IsLeft axes comparisons window = (all : List Interval) × IsUnlimited axes all × NarrowsInTurn all comparisons window
 
 module _ {D : ℕ} where
   -- a tree of no rows whose nodes have that many cells at most
@@ -59,25 +55,38 @@ module _ {D : ℕ} where
   Clears capacity old new OutOfMemory = new ≡ old
   Clears capacity old new code = ⊥
 
-  -- the least and the greatest numbers of the row's box; or there is no such row. The tree stays
-  abbrev pub GetsInto : ℤ → List ℤ → List ℤ → TreeLists D → TreeLists D → Code → Type 0
-  GetsInto id min max old new Done = (new ≡ old) × ((rect : List Interval) × (box_of old.lists id ≡ Some rect) × (los rect ≡ min) × (his rect ≡ max))
-  GetsInto id min max old new IdMissing = (new ≡ old) × (box_of old.lists id ≡ None)
-  GetsInto id min max old new code = ⊥
+  -- the row's box, as the caller has boxes; or there is no such row. The tree stays
+  abbrev pub GetsInto : {B : Type 0} → (List Interval → B) → ℤ → B → TreeLists D → TreeLists D → Code → Type 0
+  GetsInto of_rect id told old new Done = (new ≡ old) × ((rect : List Interval) × (box_of old.lists id ≡ Some rect) × (told ≡ of_rect rect))
+  GetsInto of_rect id told old new IdMissing = (new ≡ old) × (box_of old.lists id ≡ None)
+  GetsInto of_rect id told old new code = ⊥
 
   -- the number of rows. The tree stays
   abbrev pub Counts : ℕ → TreeLists D → TreeLists D → Code → Type 0
   Counts rows old new Done = (new ≡ old) × (rows ≡ length old.lists.rows)
   Counts rows old new code = ⊥
 
-  -- these are the ids of the rows that the window admits, each once, and their number is told; or there is no memory
-  abbrev pub Lists : TreeLists D → List Interval → List ℤ → List ℤ → ℕ → ℕ → Code → Type 0
-  Lists tree window before after told total OutOfMemory = (after ≡ before) × (total ≡ told)
-  Lists tree window before after told total code =
-      (rows : List (Row D)) × ((visited : ℕ) × FindsIn tree.lists window rows visited) × (total ≡ length rows)
-      × Copies (map (λ row. row.id) rows) before after code
+  -- as many rows as have a point in common with the box; or there is no memory. The tree stays
+  abbrev pub CountsTouching : List ℤ → List ℤ → ℕ → ℕ → TreeLists D → TreeLists D → Code → Type 0
+  CountsTouching min max told total old new Done =
+      (new ≡ old) × ((rows : List (Row D)) × FindsTouching old.lists min max rows × (total ≡ length rows))
+  CountsTouching min max told total old new OutOfMemory = (new ≡ old) × (total ≡ told)
+  CountsTouching min max told total old new code = ⊥
 
-  -- The ids of the rows of which the comparisons hold. The tree stays
-  abbrev pub Searches : List Comparison → List ℤ → List ℤ → ℕ → ℕ → TreeLists D → TreeLists D → Code → Type 0
-  Searches comparisons before after told total old new code =
-      (new ≡ old) × ((window : List Interval) × IsLeft D comparisons window × Lists old window before after told total code)
+  -- What the caller gets of the rows is in its buffer, and their number is told; or there is no memory
+  abbrev pub Gives : {X : Type 0} → (Row D → X) → List (Row D) → List X → List X → ℕ → ℕ → Code → Type 0
+  Gives of_row rows before after told total OutOfMemory = (after ≡ before) × (total ≡ told)
+  Gives of_row rows before after told total code = (total ≡ length rows) × Copies (map of_row rows) before after code
+
+  -- so of the rows that have a point in common with the box. The tree stays
+  abbrev pub Searches : {X : Type 0} → (Row D → X) → List ℤ → List ℤ → List X → List X → ℕ → ℕ → TreeLists D → TreeLists D → Code → Type 0
+  Searches of_row min max before after told total old new OutOfMemory = (new ≡ old) × (after ≡ before) × (total ≡ told)
+  Searches of_row min max before after told total old new code =
+      (new ≡ old) × ((rows : List (Row D)) × FindsTouching old.lists min max rows × Gives of_row rows before after told total code)
+
+  -- so of the rows nearest to the point, as many as the buffer holds, which it is never too short for. The tree stays
+  abbrev pub FindsNearest : {X : Type 0} → (Row D → X) → List ℤ → List X → List X → ℕ → ℕ → TreeLists D → TreeLists D → Code → Type 0
+  FindsNearest of_row point before after told total old new Done =
+      (new ≡ old) × Gives of_row (nearest_rows point (length before) (rows_of old.lists)) before after told total Done
+  FindsNearest of_row point before after told total old new OutOfMemory = (new ≡ old) × (after ≡ before) × (total ≡ told)
+  FindsNearest of_row point before after told total old new code = ⊥

@@ -3,17 +3,24 @@
 //! Each call answers a number, that of a `Code`. No call ends the process, and one that refuses leaves the handle as it
 //! was. The C declarations stand in `bindings/c/juicedelta.h`.
 //!
+//! An export can't be generic. So `line`, `plane` and `space` hold the calls for one, two and three axes: each takes the
+//! object out of the handle, hands a tree of its kind to a generic function of `tree` or `finding`, and puts the
+//! object back.
+//!
 //! Stands on `rt_handle`. Definitions: `specs/Codes.antt` (numbers), `Calls.antt` (what a call does to what a handle
-//! holds), `Trees.antt`
-//! and `Scripts.antt` (what it does to a tree and to a script shell).
+//! holds), `Trees.antt` and `Scripts.antt` (what it does to a tree and to a script shell), `Touching.antt` (the rows
+//! that have a point in common with a box), `Plain.antt` (rows and boxes as C has them), `Buffers.antt`.
 #![tactic(auto)]
 
 mod buffer;
 mod code;
+mod finding;
 mod holding;
 mod keys;
 mod line;
+mod plain;
 mod plane;
 mod script;
 mod space;
+mod touching;
 mod tree;

@@ -1,19 +1,27 @@
 //! Trees of three axes.
 
-ghost use Rattle.std.specs.Prelude.{◌≡◌, ◌≢◌, pos, Some};
-ghost use Rattle.capi.specs.Codes.{number_of};
-ghost use Rattle.capi.specs.declared.code.Code.TheVariants.{Done, OtherKind};
-ghost use Rattle.capi.specs.Touching.{touching_space};
+ghost use Rattle.std.specs.Prelude.{◌≡◌, ◌≢◌, pos};
 ghost use Rattle.capi.specs.Calls.{Opens, OnSpace, IsSpace};
-ghost use Rattle.capi.specs.Trees.{IsNew, MakesNone, Inserts, Removes, GetsInto, Clears, Counts, IsLeft, Searches};
+ghost use Rattle.capi.specs.Plain.{box3, row3};
+ghost use Rattle.capi.specs.Trees.{IsNew, MakesNone, Inserts, Removes, GetsInto, Clears, Counts, CountsTouching, Searches, FindsNearest};
 
 use crate::code::Code;
+use crate::finding::{count, nearest, search};
 use crate::holding::fill;
 use crate::keys::Keys;
-use crate::tree::{clear, get, insert, list, new_tree, remove};
-use rt_box::{Operator, Window};
+use crate::plain::{FromRect, FromRow};
+use crate::tree::{clear, get, insert, len, new_tree, remove};
+use rt_box::Rect;
 use rt_handle::{Handle, Object};
+use rt_tree::Row;
 use std::alloc::Global;
+
+/// A point of three axes.
+#[repr(C)]
+#[derive(Clone, Copy)]
+pub struct Point3 {
+    pub at: [i32; 3],
+}
 
 /// A box of three axes.
 #[repr(C)]
@@ -21,6 +29,36 @@ use std::alloc::Global;
 pub struct Box3 {
     pub min: [i32; 3],
     pub max: [i32; 3],
+}
+
+/// A row of three axes.
+#[repr(C)]
+#[derive(Clone, Copy)]
+pub struct Row3 {
+    pub id: i64,
+    pub rect: Box3,
+}
+
+impl FromRect<3> for Box3 {
+    ghost of_rect = { box3 };
+
+    fn from_rect(rect: &Rect<3>) -> Box3 {
+        Box3 {
+            min: rect.lo(),
+            max: rect.hi(),
+        }
+    }
+}
+
+impl FromRow<3> for Row3 {
+    ghost of_row = { row3 };
+
+    fn from_row(row: &Row<3>) -> Row3 {
+        Row3 {
+            id: row.id,
+            rect: Box3::from_rect(&row.rect),
+        }
+    }
 }
 
 /// Opens a tree.
@@ -86,23 +124,6 @@ pub extern "C" fn juicedelta_tree3_remove(alloc: Global, handle: &mut Handle, id
     code.number()
 }
 
-fn copy_box(object: &Object, id: i64, rect: &mut Box3) -> Code
-    ensures found { OnSpace (Some object.now) (Some object.now) (λ old. GetsInto id rect.new.min rect.new.max old.tree) (number_of result) }
-    ensures kept { result ≢ Done → rect.new ≡ rect.old }
-{
-    match object {
-        Object::Space(kept) => match get(&kept.tree, id) {
-            Some(found) => {
-                rect.min = found.lo();
-                rect.max = found.hi();
-                Code::Done
-            }
-            None => Code::IdMissing,
-        },
-        _ => Code::OtherKind,
-    }
-}
-
 /// The box of a row.
 #[unsafe(no_mangle)]
 pub extern "C" fn juicedelta_tree3_get(
@@ -111,28 +132,18 @@ pub extern "C" fn juicedelta_tree3_get(
     id: i64,
     rect: &mut Box3,
 ) -> i32
-    ensures found { OnSpace handle.old.held handle.new.held (λ old. GetsInto id rect.new.min rect.new.max old.tree) result }
+    ensures found { OnSpace handle.old.held handle.new.held (λ old. GetsInto box3 id rect.new old.tree) result }
     ensures kept { result ≢ pos 0 → rect.new ≡ rect.old }
 {
     let Some(object) = handle.take(alloc) else {
         return Code::Closed.number();
     };
-    let code = copy_box(&object, id, rect);
+    let code = match &*object {
+        Object::Space(kept) => get(&kept.tree, id, rect),
+        _ => Code::OtherKind,
+    };
     handle.put(object);
     code.number()
-}
-
-fn count_rows(object: &Object, rows: &mut u64) -> Code
-    ensures rows { OnSpace (Some object.now) (Some object.now) (λ old. Counts rows.new old.tree) (number_of result) }
-    ensures kept { result ≢ Done → rows.new ≡ rows.old }
-{
-    match object {
-        Object::Space(kept) => {
-            *rows = kept.tree.len() as u64;
-            Code::Done
-        }
-        _ => Code::OtherKind,
-    }
 }
 
 /// The number of rows.
@@ -144,7 +155,10 @@ pub extern "C" fn juicedelta_tree3_len(alloc: Global, handle: &mut Handle, rows:
     let Some(object) = handle.take(alloc) else {
         return Code::Closed.number();
     };
-    let code = count_rows(&object, rows);
+    let code = match &*object {
+        Object::Space(kept) => len(&kept.tree, rows),
+        _ => Code::OtherKind,
+    };
     handle.put(object);
     code.number()
 }
@@ -165,37 +179,29 @@ pub extern "C" fn juicedelta_tree3_clear(alloc: Global, handle: &mut Handle) -> 
     code.number()
 }
 
-/// The window of the boxes that have a point in common with the box.
-fn window_of(rect: &Box3) -> Window<3>
-    ensures { IsLeft 3 (touching_space rect.now.min rect.now.max) result }
-{
-    let mut window = Window::all();
-    window.narrow(0, Operator::Le, i64::from(rect.max[0]));
-    window.narrow(1, Operator::Ge, i64::from(rect.min[0]));
-    window.narrow(2, Operator::Le, i64::from(rect.max[1]));
-    window.narrow(3, Operator::Ge, i64::from(rect.min[1]));
-    window.narrow(4, Operator::Le, i64::from(rect.max[2]));
-    window.narrow(5, Operator::Ge, i64::from(rect.min[2]));
-    window
-}
-
-fn list_touching(
+/// The number of rows that have a point in common with a box.
+#[unsafe(no_mangle)]
+pub extern "C" fn juicedelta_tree3_count(
     alloc: Global,
-    object: &Object,
+    handle: &mut Handle,
     rect: &Box3,
-    ids: &mut [i64],
     total: &mut u64,
-) -> Code
-    ensures found { OnSpace (Some object.now) (Some object.now) (λ old. Searches (touching_space rect.now.min rect.now.max) ids.old ids.new total.old total.new old.tree) (number_of result) }
-    ensures other { result ≡ OtherKind → (ids.new ≡ ids.old) × (total.new ≡ total.old) }
+) -> i32
+    ensures rows { OnSpace handle.old.held handle.new.held (λ old. CountsTouching rect.now.min rect.now.max total.old total.new old.tree) result }
+    ensures kept { result ≢ pos 0 → total.new ≡ total.old }
 {
-    match object {
-        Object::Space(kept) => list(alloc, &kept.tree, &window_of(rect), ids, total),
+    let Some(object) = handle.take(alloc) else {
+        return Code::Closed.number();
+    };
+    let code = match &*object {
+        Object::Space(kept) => count(alloc, &kept.tree, &rect.min, &rect.max, total),
         _ => Code::OtherKind,
-    }
+    };
+    handle.put(object);
+    code.number()
 }
 
-/// The ids of the rows that touch a box.
+/// The ids of the rows that have a point in common with a box.
 #[unsafe(no_mangle)]
 pub extern "C" fn juicedelta_tree3_search(
     alloc: Global,
@@ -204,12 +210,62 @@ pub extern "C" fn juicedelta_tree3_search(
     ids: &mut [i64],
     total: &mut u64,
 ) -> i32
-    ensures found { OnSpace handle.old.held handle.new.held (λ old. Searches (touching_space rect.now.min rect.now.max) ids.old ids.new total.old total.new old.tree) result }
+    ensures found { OnSpace handle.old.held handle.new.held (λ old. Searches (λ row. row.id) rect.now.min rect.now.max ids.old ids.new total.old total.new old.tree) result }
+    ensures kept { result ≢ pos 0 → result ≢ pos 8 → (ids.new ≡ ids.old) × (total.new ≡ total.old) }
 {
     let Some(object) = handle.take(alloc) else {
         return Code::Closed.number();
     };
-    let code = list_touching(alloc, &object, rect, ids, total);
+    let code = match &*object {
+        Object::Space(kept) => search(alloc, &kept.tree, &rect.min, &rect.max, ids, total),
+        _ => Code::OtherKind,
+    };
+    handle.put(object);
+    code.number()
+}
+
+/// The rows that have a point in common with a box.
+#[unsafe(no_mangle)]
+pub extern "C" fn juicedelta_tree3_search_rows(
+    alloc: Global,
+    handle: &mut Handle,
+    rect: &Box3,
+    rows: &mut [Row3],
+    total: &mut u64,
+) -> i32
+    ensures found { OnSpace handle.old.held handle.new.held (λ old. Searches row3 rect.now.min rect.now.max rows.old rows.new total.old total.new old.tree) result }
+    ensures kept { result ≢ pos 0 → result ≢ pos 8 → (rows.new ≡ rows.old) × (total.new ≡ total.old) }
+{
+    let Some(object) = handle.take(alloc) else {
+        return Code::Closed.number();
+    };
+    let code = match &*object {
+        Object::Space(kept) => search(alloc, &kept.tree, &rect.min, &rect.max, rows, total),
+        _ => Code::OtherKind,
+    };
+    handle.put(object);
+    code.number()
+}
+
+/// The rows nearest to a point.
+#[unsafe(no_mangle)]
+pub extern "C" fn juicedelta_tree3_nearest(
+    alloc: Global,
+    handle: &mut Handle,
+    point: &Point3,
+    rows: &mut [Row3],
+    total: &mut u64,
+) -> i32
+    ensures found { OnSpace handle.old.held handle.new.held (λ old. FindsNearest row3 point.now.at rows.old rows.new total.old total.new old.tree) result }
+    ensures kept { result ≢ pos 0 → (rows.new ≡ rows.old) × (total.new ≡ total.old) }
+{
+    let Some(object) = handle.take(alloc) else {
+        return Code::Closed.number();
+    };
+    let code = match &*object {
+        Object::Space(kept) => nearest(alloc, &kept.tree, &point.at, rows, total),
+        _ => Code::OtherKind,
+    };
     handle.put(object);
     code.number()
 }

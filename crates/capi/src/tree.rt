@@ -1,16 +1,16 @@
 //! Trees of any number of axes.
 
-ghost use Rattle.std.specs.Prelude.{◌≡◌, ◌≤◌, map, IfOk};
-ghost use Rattle.rt_tree.specs.Rows.{box_of};
-ghost use Rattle.capi.specs.Trees.{Makes, Inserts, Removes, Clears, Lists};
+ghost use Rattle.std.specs.Prelude.{◌≡◌, ◌≢◌, ◌≤◌};
+ghost use Rattle.capi.specs.declared.code.Code.TheVariants.{Done};
+ghost use Rattle.capi.specs.Trees.{Makes, Inserts, Removes, GetsInto, Counts, Clears};
 
-use crate::buffer::copy_to;
 use crate::code::Code;
 use crate::keys::Keys;
-use rt_box::{Capacity, Rect, Window};
+use crate::plain::FromRect;
+use rt_box::{Capacity, Rect};
 use rt_handle::Kept;
-use rt_tree::{Row, Tree};
-use std::alloc::{AllocError, Global};
+use rt_tree::Tree;
+use std::alloc::Global;
 use std::hash::RandomState;
 
 /// The most rows of a tree.
@@ -76,13 +76,28 @@ pub fn remove<const D: usize>(tree: &mut Tree<D>, id: i64) -> Code
     Code::Done
 }
 
-/// The box of the row with that id.
-pub fn get<const D: usize>(tree: &Tree<D>, id: i64) -> Option<Rect<D>>
+/// Writes the box of the row with that id.
+pub fn get<const D: usize, B: FromRect<D>>(tree: &Tree<D>, id: i64, place: &mut B) -> Code
     requires some { 1 ≤ D }
     requires few { D ≤ 3 }
-    ensures { result ≡ box_of tree.now.lists id }
+    ensures found { GetsInto B.of_rect id place.new tree.now tree.now result }
+    ensures kept { result ≢ Done → place.new ≡ place.old }
 {
-    tree.get(&id)
+    match tree.get(&id) {
+        Some(rect) => {
+            *place = B::from_rect(&rect);
+            Code::Done
+        }
+        None => Code::IdMissing,
+    }
+}
+
+/// Writes the number of rows.
+pub fn len<const D: usize>(tree: &Tree<D>, rows: &mut u64) -> Code
+    ensures { Counts rows.new tree.now tree.now result }
+{
+    *rows = tree.len() as u64;
+    Code::Done
 }
 
 /// Takes all rows out. The memory of the tree goes back, and a new one takes its place.
@@ -100,36 +115,4 @@ pub fn clear<const D: usize>(alloc: Global, kept: &mut Kept<D>) -> Code
         }
         Err(_) => Code::OutOfMemory,
     }
-}
-
-fn ids_of<const D: usize>(alloc: Global, rows: &[Row<D>]) -> Result<Vec<i64>, AllocError>
-    ensures { IfOk result (λ ids. ids.items ≡ map (λ row. row.id) rows.now) }
-{
-    let mut ids = Vec::with_capacity(alloc, rows.len())?;
-    for row in rows {
-        ids.push(row.id)?;
-    }
-    Ok(ids)
-}
-
-/// The ids of the rows whose boxes the window admits, and their number.
-pub fn list<const D: usize>(
-    alloc: Global,
-    tree: &Tree<D>,
-    window: &Window<D>,
-    ids: &mut [i64],
-    total: &mut u64,
-) -> Code
-    requires some { 1 ≤ D }
-    requires few { D ≤ 3 }
-    ensures { Lists tree.now window.now ids.old ids.new total.old total.new result }
-{
-    let Ok(found) = tree.search(alloc, window) else {
-        return Code::OutOfMemory;
-    };
-    let Ok(all) = ids_of(alloc, &found.rows) else {
-        return Code::OutOfMemory;
-    };
-    *total = all.len() as u64;
-    copy_to(&all, ids)
 }

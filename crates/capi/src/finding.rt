@@ -1,0 +1,104 @@
+//! What is found in a tree of any number of axes.
+
+ghost use Rattle.std.specs.Prelude.{◌≡◌, ◌≢◌, ◌≤◌, IfOk};
+ghost use Rattle.capi.specs.declared.code.Code.TheVariants.{Done, BufferTooSmall};
+ghost use Rattle.capi.specs.Touching.{FindsTouching};
+ghost use Rattle.capi.specs.Trees.{Gives, CountsTouching, Searches, FindsNearest};
+
+use crate::buffer::copy_to;
+use crate::code::Code;
+use crate::plain::{FromRow, from_rows};
+use crate::touching::touching;
+use rt_tree::{Found, Row, Tree};
+use std::alloc::{AllocError, Global};
+
+/// Writes to the number of the rows that have a point in common with the box from `min` to `max`.
+pub fn count<const D: usize>(
+    alloc: Global,
+    tree: &Tree<D>,
+    min: &[i32; D],
+    max: &[i32; D],
+    total: &mut u64,
+) -> Code
+    requires some { 1 ≤ D }
+    requires few { D ≤ 3 }
+    ensures { CountsTouching min.now max.now total.old total.new tree.now tree.now result }
+{
+    tree.has_boxes();
+    match tree.count(alloc, &touching(min, max)) {
+        Ok(rows) => {
+            *total = rows as u64;
+            Code::Done
+        }
+        Err(_) => Code::OutOfMemory,
+    }
+}
+
+/// The rows that have a point in common with the box from `min` to `max`.
+fn find<const D: usize>(
+    alloc: Global,
+    tree: &Tree<D>,
+    min: &[i32; D],
+    max: &[i32; D],
+) -> Result<Found<D>, AllocError>
+    requires some { 1 ≤ D }
+    requires few { D ≤ 3 }
+    ensures { IfOk result (λ found. FindsTouching tree.now.lists min.now max.now found.rows.items) }
+{
+    tree.has_boxes();
+    tree.search(alloc, &touching(min, max))
+}
+
+/// Writes the rows to the front of the buffer, and their number to `total`.
+fn give<const D: usize, R: FromRow<D>>(
+    alloc: Global,
+    rows: &[Row<D>],
+    buffer: &mut [R],
+    total: &mut u64,
+) -> Code
+    ensures { Gives R.of_row rows.now buffer.old buffer.new total.old total.new result }
+{
+    let Ok(given) = from_rows(alloc, rows) else {
+        return Code::OutOfMemory;
+    };
+    *total = given.len() as u64;
+    copy_to(&given, buffer)
+}
+
+/// Writes the rows that have a point in common with the box from `min` to `max` to the front of the buffer, in no stated
+/// order.
+pub fn search<const D: usize, R: FromRow<D>>(
+    alloc: Global,
+    tree: &Tree<D>,
+    min: &[i32; D],
+    max: &[i32; D],
+    buffer: &mut [R],
+    total: &mut u64,
+) -> Code
+    requires some { 1 ≤ D }
+    requires few { D ≤ 3 }
+    ensures { Searches R.of_row min.now max.now buffer.old buffer.new total.old total.new tree.now tree.now result }
+{
+    match find(alloc, tree, min, max) {
+        Ok(found) => give(alloc, &found.rows, buffer, total),
+        Err(_) => Code::OutOfMemory,
+    }
+}
+
+/// Writes as many of the rows nearest to the point as the buffer holds, nearest first.
+pub fn nearest<const D: usize, R: FromRow<D>>(
+    alloc: Global,
+    tree: &Tree<D>,
+    point: &[i32; D],
+    buffer: &mut [R],
+    total: &mut u64,
+) -> Code
+    requires some { 1 ≤ D }
+    requires few { D ≤ 3 }
+    ensures { FindsNearest R.of_row point.now buffer.old buffer.new total.old total.new tree.now tree.now result }
+{
+    match tree.nearest(alloc, point, buffer.len()) {
+        Ok(rows) => give(alloc, &rows, buffer, total),
+        Err(_) => Code::OutOfMemory,
+    }
+}
