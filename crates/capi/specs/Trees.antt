@@ -4,12 +4,13 @@ use Rattle.std.specs.List.{AllZip}
 use Rattle.rt_box.specs.declared.interval.Interval.{Interval}
 use Rattle.rt_box.specs.Capacity.{IsCapacity}
 use Rattle.rt_box.specs.Rect.{los, his}
+use Rattle.rt_check_dump.specs.Dump.{shadow_text}
 use Rattle.rt_handle.specs.declared.object.Kept.{Kept}
 use Rattle.rt_tree.specs.Lists.{TreeLists, empty_lists}
 use Rattle.rt_tree.specs.Rows.{box_of, rows_of, GainsRow, LosesRow}
 use Rattle.rt_tree_nearest.specs.Nearest.{nearest_rows}
 use Rattle.rt_tree_walk.specs.declared.searching.Row.{Row}
-use Rattle.capi.specs.Buffers.{Copies}
+use Rattle.capi.specs.Buffers.{Copies, GivesText}
 use Rattle.capi.specs.Touching.{FindsTouching}
 use Rattle.capi.specs.declared.code.Code.{Code}
 use Rattle.capi.specs.declared.code.Code.TheVariants.{Done, BadCapacity, BadBox, IdTaken, IdMissing, OutOfMemory, TreeFull}
@@ -90,3 +91,7 @@ module _ {D : ℕ} where
       (new ≡ old) × Gives of_row (nearest_rows point (length before) (rows_of old.lists)) before after told total Done
   FindsNearest of_row point before after told total old new OutOfMemory = (new ≡ old) × (after ≡ before) × (total ≡ told)
   FindsNearest of_row point before after told total old new code = ⊥
+
+  -- so the text of the tree's dump. The tree stays
+  abbrev pub Dumps : List ℕ → List ℕ → ℕ → ℕ → TreeLists D → TreeLists D → Code → Type 0
+  Dumps before after told total old new code = (new ≡ old) × GivesText (shadow_text old.lists) before after told total code

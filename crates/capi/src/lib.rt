@@ -4,7 +4,7 @@
 //! was. The C declarations stand in `bindings/c/juicedelta.h`.
 //!
 //! An export can't be generic. So `line`, `plane` and `space` hold the calls for one, two and three axes: each takes the
-//! object out of the handle, hands a tree of its kind to a generic function of `tree` or `finding`, and puts the
+//! object out of the handle, hands a tree of its kind to a generic function of `tree`, `finding` or `dump`, and puts the
 //! object back.
 //!
 //! Stands on `rt_handle`. Definitions: `specs/Codes.antt` (numbers), `Calls.antt` (what a call does to what a handle
@@ -14,6 +14,7 @@
 
 mod buffer;
 mod code;
+mod dump;
 mod finding;
 mod holding;
 mod keys;

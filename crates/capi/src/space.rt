@@ -3,16 +3,18 @@
 ghost use Rattle.std.specs.Prelude.{◌≡◌, ◌≢◌, pos};
 ghost use Rattle.capi.specs.Calls.{Opens, OnSpace, IsSpace};
 ghost use Rattle.capi.specs.Plain.{box3, row3};
-ghost use Rattle.capi.specs.Trees.{IsNew, MakesNone, Inserts, Removes, GetsInto, Clears, Counts, CountsTouching, Searches, FindsNearest};
+ghost use Rattle.capi.specs.Trees.{IsNew, MakesNone, Inserts, Removes, GetsInto, Clears, Counts, CountsTouching, Searches, FindsNearest, Dumps};
 
 use crate::code::Code;
+use crate::dump::dump;
 use crate::finding::{count, nearest, search};
 use crate::holding::fill;
 use crate::keys::Keys;
 use crate::plain::{FromRect, FromRow};
 use crate::tree::{clear, get, insert, len, new_tree, remove};
 use rt_box::Rect;
-use rt_handle::{Handle, Object};
+use rt_check_dump::AnyShadow;
+use rt_handle::{Handle, Kept, Object};
 use rt_tree::Row;
 use std::alloc::Global;
 
@@ -264,6 +266,37 @@ pub extern "C" fn juicedelta_tree3_nearest(
     };
     let code = match &*object {
         Object::Space(kept) => nearest(alloc, &kept.tree, &point.at, rows, total),
+        _ => Code::OtherKind,
+    };
+    handle.put(object);
+    code.number()
+}
+
+fn dump_tree(alloc: Global, kept: &Kept<3>, text: &mut [u8], total: &mut u64) -> Code
+    ensures { Dumps text.old text.new total.old total.new kept.now.tree kept.now.tree result }
+{
+    let Ok(shadow) = kept.tree.shadow(alloc, kept.keys) else {
+        return Code::OutOfMemory;
+    };
+    dump(alloc, AnyShadow::Three(shadow), text, total)
+}
+
+/// The dump as text.
+#[unsafe(no_mangle)]
+pub extern "C" fn juicedelta_tree3_dump(
+    alloc: Global,
+    handle: &mut Handle,
+    text: &mut [u8],
+    total: &mut u64,
+) -> i32
+    ensures text { OnSpace handle.old.held handle.new.held (λ old. Dumps text.old text.new total.old total.new old.tree) result }
+    ensures kept { result ≢ pos 0 → result ≢ pos 8 → (text.new ≡ text.old) × (total.new ≡ total.old) }
+{
+    let Some(object) = handle.take(alloc) else {
+        return Code::Closed.number();
+    };
+    let code = match &*object {
+        Object::Space(kept) => dump_tree(alloc, kept, text, total),
         _ => Code::OtherKind,
     };
     handle.put(object);
