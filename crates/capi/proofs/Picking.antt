@@ -1,5 +1,5 @@
 -- What a window finds of a tree, as the rows that have a point in common with a box.
-use Rattle.std.proofs.Common.{◌≡◌, ℕ, ◌+◌, Bool, true, false, cond, ◌&&◌, ℤ, List, [], ◌∷◌, All, map, count_by, if◌then◌else◌, arith, refl, sym, ap, ◌∙◌}
+use Rattle.std.proofs.Common.{◌≡◌, ℕ, ◌+◌, Bool, true, false, cond, ◌&&◌, ℤ, List, [], ◌∷◌, All, count_by, if◌then◌else◌, arith, refl, sym, ap, ◌∙◌}
 use Rattle.std.specs.List.{AllZip, filter}
 use Rattle.std.specs.Prelude.{int_le}
 use Rattle.std.proofs.lemmas.List.Elements.{All-head, All-tail, All-nil, All-map, All-weaker}

@@ -1,10 +1,10 @@
 -- Lemmas on windows and common points.
-use Rattle.std.proofs.Common.{◌≡◌, ℕ, zero, suc, ◌+◌, ◌*◌, ◌<◌, ◌≤◌, ◌↔◌, ℤ, pos, ◌≤ℤ◌, ◌<ℤ◌, negsuc, FitsSigned, w32, List, [], ◌∷◌, length, map, get_or, All, arith, refl, subst, Bool, true, false, inl, inr}
+use Rattle.std.proofs.Common.{◌≡◌, ℕ, zero, suc, ◌+◌, ◌*◌, ◌<◌, ◌≤◌, ◌↔◌, ℤ, pos, ◌≤ℤ◌, ◌<ℤ◌, negsuc, FitsSigned, w32, List, [], ◌∷◌, length, get_or, All, arith, refl, subst, Bool, true, false, inl, inr}
 use Rattle.std.proofs.lemmas.Bool.{cases_eq}
 use Rattle.std.specs.Int.{int_max}
 use Rattle.std.specs.List.{AllZip}
 use Rattle.std.proofs.lemmas.Int.{ints, clamps}
-use Rattle.std.proofs.lemmas.List.Elements.{All-head, All-tail, length_all_zip}
+use Rattle.std.proofs.lemmas.List.Elements.{All-head, All-tail}
 use Rattle.rt_box.specs.declared.interval.Interval.{Interval}
 use Rattle.rt_box.specs.declared.operator.Operator.{Operator}
 use Rattle.rt_box.specs.declared.operator.Operator.TheVariants.{Lt, Le, Ge}
@@ -12,7 +12,7 @@ use Rattle.rt_box.specs.Interval.{FitsEnds}
 use Rattle.rt_box.specs.Rect.{IsBox, los, his, coordinates}
 use Rattle.rt_box.specs.Window.{Admits, Narrows, IsUnlimited}
 use Rattle.rt_box.proofs.Made.{IsOrdered}
-use Rattle.rt_box.proofs.Lists.{AllZip-from_places, AllZip-get_or_both}
+use Rattle.rt_box.proofs.Lists.{AllZip-get_or_both}
 use Rattle.rt_box.proofs.Narrowing.{length-coordinates, Admits-narrowed, Admits-unlimited}
 use Rattle.capi.specs.Touching.{HasCommonPoint}
 use Rattle.capi.specs.Windows.{Reaches}

@@ -1,4 +1,4 @@
-use Rattle.std.proofs.Common.{◌≡◌, ℕ, ◌*◌, ◌↔◌, List, length}
+use Rattle.std.proofs.Common.{◌≡◌, ◌*◌, ◌↔◌, List, length}
 use Rattle.rt_box.specs.declared.interval.Interval.{Interval}
 use Rattle.rt_box.specs.Rect.{IsBox}
 use Rattle.rt_box.specs.Window.{Admits}
