@@ -74,24 +74,24 @@ module _ {D : ℕ} where
   CountsTouching min max told total old new OutOfMemory = (new ≡ old) × (total ≡ told)
   CountsTouching min max told total old new code = ⊥
 
-  -- What the caller gets of the rows is in its buffer, and their number is told; or there is no memory
+  -- what the caller gets of the rows is in its buffer, and their number is told; or there is no memory
   abbrev pub Gives : {X : Type 0} → (Row D → X) → List (Row D) → List X → List X → ℕ → ℕ → Code → Type 0
   Gives of_row rows before after told total OutOfMemory = (after ≡ before) × (total ≡ told)
   Gives of_row rows before after told total code = (total ≡ length rows) × Copies (map of_row rows) before after code
 
-  -- so of the rows that have a point in common with the box. The tree stays
+  -- the same of the rows that have a point in common with the box. The tree stays
   abbrev pub Searches : {X : Type 0} → (Row D → X) → List ℤ → List ℤ → List X → List X → ℕ → ℕ → TreeLists D → TreeLists D → Code → Type 0
   Searches of_row min max before after told total old new OutOfMemory = (new ≡ old) × (after ≡ before) × (total ≡ told)
   Searches of_row min max before after told total old new code =
       (new ≡ old) × ((rows : List (Row D)) × FindsTouching old.lists min max rows × Gives of_row rows before after told total code)
 
-  -- so of the rows nearest to the point, as many as the buffer holds, which it is never too short for. The tree stays
+  -- the same of the rows nearest to the point, as many as the buffer holds, so that it is never too short. The tree stays
   abbrev pub FindsNearest : {X : Type 0} → (Row D → X) → List ℤ → List X → List X → ℕ → ℕ → TreeLists D → TreeLists D → Code → Type 0
   FindsNearest of_row point before after told total old new Done =
       (new ≡ old) × Gives of_row (nearest_rows point (length before) (rows_of old.lists)) before after told total Done
   FindsNearest of_row point before after told total old new OutOfMemory = (new ≡ old) × (after ≡ before) × (total ≡ told)
   FindsNearest of_row point before after told total old new code = ⊥
 
-  -- so the text of the tree's dump. The tree stays
+  -- the text of the tree's dump is in the caller's buffer, and its length is told. The tree stays
   abbrev pub Dumps : List ℕ → List ℕ → ℕ → ℕ → TreeLists D → TreeLists D → Code → Type 0
   Dumps before after told total old new code = (new ≡ old) × GivesText (shadow_text old.lists) before after told total code

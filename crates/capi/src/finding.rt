@@ -1,7 +1,6 @@
 //! What is found in a tree of any number of axes.
 
-ghost use Rattle.std.specs.Prelude.{◌≡◌, ◌≢◌, ◌≤◌, IfOk};
-ghost use Rattle.capi.specs.declared.code.Code.TheVariants.{Done, BufferTooSmall};
+ghost use Rattle.std.specs.Prelude.{◌≤◌, IfOk};
 ghost use Rattle.capi.specs.Touching.{FindsTouching};
 ghost use Rattle.capi.specs.Trees.{Gives, CountsTouching, Searches, FindsNearest};
 
@@ -12,7 +11,7 @@ use crate::touching::touching;
 use rt_tree::{Found, Row, Tree};
 use std::alloc::{AllocError, Global};
 
-/// Writes to the number of the rows that have a point in common with the box from `min` to `max`.
+/// Writes the number of the rows that have a point in common with the box from `min` to `max`.
 pub fn count<const D: usize>(
     alloc: Global,
     tree: &Tree<D>,
@@ -49,7 +48,7 @@ fn find<const D: usize>(
     tree.search(alloc, &touching(min, max))
 }
 
-/// Writes the rows to the front of the buffer, and their number to `total`.
+/// Writes what the caller gets of the rows to the front of the buffer, and their number to `total`.
 fn give<const D: usize, R: FromRow<D>>(
     alloc: Global,
     rows: &[Row<D>],
@@ -65,8 +64,8 @@ fn give<const D: usize, R: FromRow<D>>(
     copy_to(&given, buffer)
 }
 
-/// Writes the rows that have a point in common with the box from `min` to `max` to the front of the buffer, in no stated
-/// order.
+/// Writes what the caller gets of the rows that have a point in common with the box from `min` to `max`, in no stated order,
+/// and their number.
 pub fn search<const D: usize, R: FromRow<D>>(
     alloc: Global,
     tree: &Tree<D>,
@@ -85,7 +84,8 @@ pub fn search<const D: usize, R: FromRow<D>>(
     }
 }
 
-/// Writes as many of the rows nearest to the point as the buffer holds, nearest first.
+/// Writes what the caller gets of the rows nearest to the point, nearest first, and how many they are: as many as the
+/// buffer holds.
 pub fn nearest<const D: usize, R: FromRow<D>>(
     alloc: Global,
     tree: &Tree<D>,
