@@ -68,13 +68,11 @@ static int by_number(const void *left, const void *right)
     return (one > other) - (one < other);
 }
 
-/* Whether each byte from there on is as `filled` left it. */
+/* Whether these bytes of a buffer that was filled with 0x5a are so: the first, and each as the one before it. */
 static int is_untouched(const void *bytes, size_t from, size_t to)
 {
-    for (const unsigned char *at = bytes; from < to; from++)
-        if (at[from] != 0x5a)
-            return 0;
-    return 1;
+    const unsigned char *at = bytes;
+    return from >= to || (at[from] == 0x5a && memcmp(at + from, at + from + 1, to - from - 1) == 0);
 }
 
 #define JOIN3(left, axes, right) left##axes##right
