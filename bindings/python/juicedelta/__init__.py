@@ -34,7 +34,6 @@ _WORDS = {
     4: "the capacity is not from 5 to 51", 5: "on some axis min is above max", 6: "the id is taken",
     7: "no row has that id", 8: "the result is longer than the buffer", 9: "no memory is left",
     10: "the tree has 1,048,576 rows", 11: "the script has ended", 12: "the script is longer than 2^63 bytes",
-    13: "the text is not the dump of a sound tree",
 }
 _ID_MISSING, _BUFFER_TOO_SMALL = 7, 8
 
@@ -100,7 +99,7 @@ _POINTER, _SIZE, _WORD, _ID = ctypes.c_void_p, ctypes.c_size_t, ctypes.c_uint64,
 _BYTES = ctypes.c_char_p
 _KEYS = [_WORD, _WORD]
 _ARGUMENTS = {
-    "open": [ctypes.c_uint32, *_KEYS], "open_dump": [_BYTES, _SIZE, *_KEYS], "insert": [_ID, _BYTES], "remove": [_ID],
+    "open": [ctypes.c_uint32, *_KEYS], "insert": [_ID, _BYTES], "remove": [_ID],
     "get": [_ID, _POINTER], "len": [_POINTER], "count": [_BYTES, _POINTER], "search": [_BYTES, _POINTER, _SIZE, _POINTER],
     "search_rows": [_BYTES, _POINTER, _SIZE, _POINTER], "nearest": [_BYTES, _POINTER, _SIZE, _POINTER],
     "dump": [_POINTER, _SIZE, _POINTER], "clear": [], "exec": [_BYTES, _SIZE], "finish": [_POINTER],
@@ -169,28 +168,12 @@ class RTree(_Owner):
     def _set(self, dimension: int) -> None:
         if dimension not in (1, 2, 3):
             raise ValueError("dimension is 1, 2 or 3")
-        super().__init__(f"tree{dimension}", "open open_dump insert remove get len count search search_rows nearest dump clear")
+        super().__init__(f"tree{dimension}", "open insert remove get len count search search_rows nearest dump clear")
         self.dimension = dimension
         self._box = struct.Struct(f"={2 * dimension}i")
         self._point = struct.Struct(f"={dimension}i")
         self._row = struct.Struct(f"=q{2 * dimension}i")
         self._room = 64
-
-    @classmethod
-    def from_dump(cls, text: str) -> RTree:
-        """The rows of a dump, which `dump`, or `.nodes` in a script, wrote.
-
-        >>> shops = RTree(dimension=1)
-        >>> shops.insert(7, (0, 5))
-        >>> list(RTree.from_dump(shops.dump()).intersection((5, 9), objects=True))
-        [Item(id=7, bbox=(0, 5))]
-        """
-        tree = cls.__new__(cls)
-        axes = re.match("rtree ([123]) ", text)
-        tree._set(int(axes.group(1)) if axes else 2)
-        data = text.encode()
-        tree._do(tree._open_dump, data, len(data), *_keys())
-        return tree
 
     def _packed(self, coordinates: Sequence[int]) -> bytes:
         try:

@@ -60,7 +60,6 @@ macro_rules! calls {
 
 calls! {
     open(u32, u64, u64);
-    open_dump(*const u8, usize, u64, u64);
     insert(i64, *const Rect<D>);
     remove(i64);
     get(i64, *mut Rect<D>);

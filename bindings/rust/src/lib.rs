@@ -53,10 +53,9 @@ pub enum Error {
     TreeFull = 10,
     Ended = 11,
     TooLong = 12,
-    BadDump = 13,
 }
 
-const ERRORS: [(Error, &str); 13] = [
+const ERRORS: [(Error, &str); 12] = [
     (Error::Closed, "nothing is held"),
     (Error::OtherKind, "an object of another kind is held"),
     (Error::AlreadyOpen, "an object is held already"),
@@ -69,7 +68,6 @@ const ERRORS: [(Error, &str); 13] = [
     (Error::TreeFull, "the tree has 1,048,576 rows"),
     (Error::Ended, "the script has ended"),
     (Error::TooLong, "the script is longer than 2^63 bytes"),
-    (Error::BadDump, "the text is not the dump of a sound tree"),
 ];
 
 impl fmt::Display for Error {
@@ -168,15 +166,6 @@ where
     pub fn with_capacity(capacity: u32) -> Result<Self, Error> {
         let owner = Owner::closed();
         check(unsafe { (Self::CALLS.open)(owner.get(), capacity, random_word(), random_word()) })?;
-        Ok(Tree { owner })
-    }
-
-    /// A tree with the rows of a dump, which `dump` or a script's `.nodes` wrote (`BadDump`, `TreeFull`).
-    pub fn from_dump(text: &[u8]) -> Result<Self, Error> {
-        let owner = Owner::closed();
-        check(unsafe {
-            (Self::CALLS.open_dump)(owner.get(), text.as_ptr(), text.len(), random_word(), random_word())
-        })?;
         Ok(Tree { owner })
     }
 

@@ -31,8 +31,8 @@ where
         |most| Ok::<Vec<i64>, Error>(tree.nearest(&Point { at: [-10; D] }, most)?.iter().map(|row| row.id).collect());
     assert_eq!((ids(3)?, ids(0)?, ids(1000)?.len()), (vec![0, 1, 2], vec![], 199));
     assert_eq!((tree.get(7)?, tree.get(100)?), (Some(cube(70, 75)), None));
-    let read = Tree::<D>::from_dump(&tree.dump()?)?;
-    assert_eq!((read.len()?, read.get(199)?, read.count(&cube(995, 1012))?), (199, Some(cube(1990, 1995)), 2));
+    assert_eq!((tree.len()?, tree.get(199)?, tree.count(&cube(995, 1012))?), (199, Some(cube(1990, 1995)), 2));
+    assert!(tree.dump()?.starts_with(format!("rtree {D} ").as_bytes()));
     tree.clear()?;
     assert_eq!((tree.is_empty()?, tree.search(&cube(0, 2000))?), (true, vec![]));
     Ok(())
@@ -79,7 +79,6 @@ fn codes() -> Result<(), Error> {
         Err(Error::BufferTooSmall)
     );
     assert_eq!(check(12), Err(Error::TooLong));
-    assert_eq!(Tree::<2>::from_dump(b"rtree 2 5 1 0\n").err(), Some(Error::BadDump));
     assert_eq!((tree.len()?, Error::IdTaken.to_string().as_str()), (1, "the id is taken"));
     Ok(())
 }
