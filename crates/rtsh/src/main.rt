@@ -41,12 +41,12 @@ const PAGES: usize = 128;
 const PAGE: usize = 4096;
 
 fn main(rt: HostRuntime) -> ExitCode {
-    if !grow_stack() {
-        return failed(&rt, Fault::Run(RunFault::Memory));
-    }
     let Ok(words) = words(&rt) else {
         return failed(&rt, Fault::Run(RunFault::Memory));
     };
+    if !grow_stack() {
+        return failed(&rt, Fault::Run(RunFault::Memory));
+    }
     match start(&rt, words.as_slice()) {
         Ok(code) => code,
         Err(fault) => failed(&rt, fault),
