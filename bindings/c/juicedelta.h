@@ -20,7 +20,8 @@
  *
  * Pointers are never NULL, not even to a buffer of length 0. No pointer is kept after the call.
  *
- * Boxes. On each axis the box goes from `min` to `max`, both ends included, and min <= max.
+ * Boxes. On each axis the box goes from `min` to `max`, both ends included. A row's box has min <= max; no row has a point in
+ * common with a box whose min is above its max.
  */
 #ifndef JUICEDELTA_H
 #define JUICEDELTA_H

@@ -77,8 +77,8 @@ text that is no dump it prints `bad dump LINE CODE: TEXT`.";
 
 const STATUS_HELP: &str = "Exit status:
   0  nothing was refused, and no problem was found
-  1  a statement was refused, a problem was found, the dump was bad, or an axis that is to be
-     drawn isn't in it
+  1  a statement was refused, a problem was found, the dump was bad, or its tree lacks an axis
+     to be drawn
   2  the command line was refused
   3  a file couldn't be opened, a read or a write failed, or memory ran out";
 
