@@ -51,7 +51,7 @@ check: tools
 gate: tools
 	rt ci
 	@scripts/faults
-	@scripts/build_bindings
+	@scripts/build_bindings .
 	@scripts/test_bindings
 
 fuzz:
