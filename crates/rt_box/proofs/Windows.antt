@@ -1,6 +1,7 @@
 -- Lemmas on windows.
-use Rattle.std.proofs.Common.{◌≡◌, ℕ, zero, suc, ◌+◌, ◌*◌, ◌<◌, ◌↔◌, Bool, ℤ, pos, ◌≤ℤ◌, List, [], ◌∷◌, length, get_or, set, replicate, All, arith, refl, ap, ◌∙◌, w32, FitsSigned}
+use Rattle.std.proofs.Common.{◌≡◌, ℕ, zero, suc, ◌+◌, ◌*◌, ◌<◌, ◌≤◌, ◌↔◌, inl, inr, Bool, ℤ, pos, ◌≤ℤ◌, List, [], ◌∷◌, length, get_or, set, replicate, All, arith, refl, ap, ◌∙◌, w32, FitsSigned}
 use Rattle.std.specs.Int.{int_min, int_max}
+use Rattle.std.proofs.lemmas.Bool.{cases_eq, cases_lt}
 use Rattle.std.proofs.lemmas.Int.{ints, clamps}
 use Rattle.std.proofs.lemmas.List.{length-set, get_or_default, get_or-set_same, get_or-set_other, length-replicate}
 use Rattle.std.proofs.lemmas.List.Elements.{All-head, All-tail, All-nil, All-cons, All-get_or}
@@ -11,7 +12,7 @@ use Rattle.rt_box.specs.declared.window.Ends.{Ends}
 use Rattle.rt_box.specs.Interval.{interval, Includes, Covers, FitsEnds}
 use Rattle.rt_box.specs.Operators.{Keeps}
 use Rattle.rt_box.specs.Rect.{IsBox, Holds}
-use Rattle.rt_box.specs.Ends.{in_order, paired_up, paired_up-in_order, AdmitsSide, MayHoldSide, Reaches}
+use Rattle.rt_box.specs.Ends.{in_order, paired_up, paired_up-in_order, AdmitsSide, AdmitsAxes, MayHoldSide, Reaches}
 use Rattle.rt_box.proofs.Made.{IsOrdered}
 use Rattle.rt_box.specs.Window.{Allows, IsUnlimited, Narrows, Admits, MayHold, IsReach}
 
@@ -222,6 +223,30 @@ sides_here P es b i here x in_es in_b x_is holds e d =
 pub side_here : (P : Ends → Interval → Type 0) (es : List Ends) (b : List Interval) (i : ℕ) (here : Ends) (x : Interval) → x ≡ get_or b i x →
     ((e : Ends) (d : Interval) → P (get_or es i e) (get_or b i d)) → P (get_or es i here) x
 side_here P es b i here x x_is holds = rw x_is (holds here x)
+
+-- one axis more, from one on
+pub axis_more : (P : Ends → Interval → Type 0) (es : List Ends) (b : List Interval) (from axis : ℕ) (here : Ends) (x : Interval) →
+    axis < length es → axis < length b → x ≡ get_or b axis x →
+    ((i : ℕ) → from ≤ i → i < axis → (e : Ends) (d : Interval) → P (get_or es i e) (get_or b i d)) → P (get_or es axis here) x →
+    (i : ℕ) → from ≤ i → i < axis + 1 → (e : Ends) (d : Interval) → P (get_or es i e) (get_or b i d)
+axis_more P es b from axis here x in_es in_b x_is before holds i low high e d = elim (cases_eq i axis) [
+  | inl same ↦ rw same (sides_here P es b axis here x in_es in_b x_is holds e d)
+  | inr ne ↦ before i low (omega (arith, ne)) e d
+]
+
+pub axis_fewer : (P : Ends → Interval → Type 0) (es : List Ends) (b : List Interval) (from axis : ℕ) (here : Ends) (x : Interval) →
+    from ≤ axis → x ≡ get_or b axis x →
+    ((i : ℕ) → from ≤ i → i < axis + 1 → (e : Ends) (d : Interval) → P (get_or es i e) (get_or b i d)) → P (get_or es axis here) x
+axis_fewer P es b from axis here x low x_is h = side_here P es b axis here x x_is (h axis low (omega arith))
+
+-- the axes of two ranges that meet are all axes
+pub axes_joined : (es : List Ends) (b : List Interval) (first axes : ℕ) → length es ≡ axes →
+    AdmitsAxes es b 0 first → AdmitsAxes es b first axes →
+    (i : ℕ) (e : Ends) (d : Interval) → i < length es → AdmitsSide (get_or es i e) (get_or b i d)
+axes_joined es b first axes long start rest i e d below = elim (cases_lt i first) [
+  | inl before ↦ start i (omega arith) before e d
+  | inr after ↦ rest i (omega (arith, after)) (omega (arith, below, long)) e d
+]
 
 pub Admits-sides : (es : List Ends) (window b : List Interval) (i : ℕ) (e : Ends) (d : Interval) →
     in_order es ≡ window → i < length es → Admits window b → AdmitsSide (get_or es i e) (get_or b i d)

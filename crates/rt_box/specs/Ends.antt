@@ -1,5 +1,5 @@
 -- The pairs in which a window keeps its intervals, one pair for each axis.
-use Rattle.std.specs.Prelude.{◌≡◌, ◌↔◌, List, [], ◌∷◌, ◌≤ℤ◌}
+use Rattle.std.specs.Prelude.{◌≡◌, ◌↔◌, ℕ, ◌<◌, ◌≤◌, List, [], ◌∷◌, ◌≤ℤ◌, slice_index_or}
 use Rattle.std.proofs.Common.{refl, ap}
 use Rattle.rt_box.specs.declared.interval.Interval.{Interval}
 use Rattle.rt_box.specs.declared.window.Ends.{Ends}
@@ -22,6 +22,19 @@ paired_up-in_order (e ∷ es) = ap (λ rest. e ∷ rest) (paired_up-in_order es)
 -- both ends of a side are allowed
 abbrev pub AdmitsSide : Ends → Interval → Type 0
 AdmitsSide e side = Includes e.lo side.lo × Includes e.hi side.hi
+
+-- neither end of a side is below the least number that it is allowed
+abbrev pub KeepsLeast : Ends → Interval → Type 0
+KeepsLeast e side = (e.lo.lo ≤ℤ side.lo) × (e.hi.lo ≤ℤ side.hi)
+
+-- neither end of a side is above the greatest number that it is allowed
+abbrev pub KeepsGreatest : Ends → Interval → Type 0
+KeepsGreatest e side = (side.lo ≤ℤ e.lo.hi) × (side.hi ≤ℤ e.hi.hi)
+
+-- both ends of a box's side are allowed on each axis from one on up to another
+abbrev pub AdmitsAxes : List Ends → List Interval → ℕ → ℕ → Type 0
+AdmitsAxes es b from to =
+    (i : ℕ) → from ≤ i → i < to → (e : Ends) (d : Interval) → AdmitsSide (slice_index_or es i e) (slice_index_or b i d)
 
 -- some interval within the side is admitted
 abbrev pub MayHoldSide : Ends → Interval → Type 0

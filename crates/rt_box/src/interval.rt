@@ -84,11 +84,18 @@ impl Interval {
         self.lo <= inner.lo && inner.hi <= self.hi
     }
 
-    /// Whether the number is in it.
-    pub(crate) fn includes(self, number: i32) -> bool
-        ensures { IsTrue result ↔ Includes self number }
+    /// Whether the number isn't below it.
+    pub(crate) fn begins_by(self, number: i32) -> bool
+        ensures { IsTrue result ↔ (self.lo ≤ℤ number) }
     {
-        (self.lo <= number) & (number <= self.hi)
+        self.lo <= number
+    }
+
+    /// Whether the number isn't above it.
+    pub(crate) fn lasts_to(self, number: i32) -> bool
+        ensures { IsTrue result ↔ (number ≤ℤ self.hi) }
+    {
+        number <= self.hi
     }
 
     /// The numbers of this interval up to `value`.

@@ -3,8 +3,8 @@
 //! A window has two intervals for each axis, one for `lo` and one for `hi`. Rows are tested by the window itself,
 //! and the boxes around them by its `reach` (`specs/Window.antt`; `specs/Ends.antt` for one axis).
 
-ghost use Rattle.std.specs.Prelude.{◌*◌, ◌<◌, ◌↔◌, IsTrue};
-ghost use Rattle.rt_box.specs.Ends.{AdmitsSide, Reaches};
+ghost use Rattle.std.specs.Prelude.{◌*◌, ◌<◌, ◌≤◌, ◌↔◌, IsTrue};
+ghost use Rattle.rt_box.specs.Ends.{KeepsLeast, KeepsGreatest, AdmitsAxes, Reaches};
 ghost use Rattle.rt_box.specs.Window.{IsUnlimited, Narrows, Admits, MayHold, IsReach};
 
 use crate::interval::Interval;
@@ -13,7 +13,11 @@ use crate::rect::Rect;
 use std::marker::Model;
 
 // A search tests each box of a node, and which of them pass can't be foreseen: with `&` in the place of `&&` the tests
-// have no branches.
+// have no branches. The least numbers are compared apart from the greatest, and the third axis apart from the first two:
+// then four numbers of a box are compared by one instruction.
+
+/// How many axes of a box are compared together.
+const AXES_TOGETHER: usize = 2;
 
 /// The numbers that a window allows the two ends of a box on one axis.
 #[derive(Clone, Copy, Debug, PartialEq, Eq)]
@@ -23,10 +27,18 @@ struct Ends {
 }
 
 impl Ends {
-    fn admits(self, side: Interval) -> bool
-        ensures { IsTrue result ↔ AdmitsSide self side }
+    /// Whether neither end of the side is below the least number that it is allowed.
+    fn keeps_least(self, side: Interval) -> bool
+        ensures { IsTrue result ↔ KeepsLeast self side }
     {
-        self.lo.includes(side.lo) & self.hi.includes(side.hi)
+        self.lo.begins_by(side.lo) & self.hi.begins_by(side.hi)
+    }
+
+    /// Whether neither end of the side is above the greatest number that it is allowed.
+    fn keeps_greatest(self, side: Interval) -> bool
+        ensures { IsTrue result ↔ KeepsGreatest self side }
+    {
+        self.lo.lasts_to(side.lo) & self.hi.lasts_to(side.hi)
     }
 
     /// What the ends of a side are where an interval that is admitted fits into it: the side begins no later than such
@@ -51,6 +63,22 @@ impl Ends {
             hi: Interval::EMPTY,
         }
     }
+}
+
+/// Whether both ends of the box's side are allowed on each axis from one on up to another.
+#[inline]
+fn admits_axes<const D: usize>(axes: &[Ends; D], rect: &Rect<D>, from: usize, to: usize) -> bool
+    requires order { from ≤ to }
+    requires within { to ≤ D }
+    ensures { IsTrue result ↔ AdmitsAxes axes.now rect.now from to }
+{
+    let (mut least, mut greatest) = (true, true);
+    for axis in from..to {
+        let (ends, side) = (axes[axis], rect.range(axis));
+        least &= ends.keeps_least(side);
+        greatest &= ends.keeps_greatest(side);
+    }
+    least & greatest
 }
 
 /// What a search asks of each coordinate of a box: an interval of 32-bit numbers, which may be empty.
@@ -119,11 +147,8 @@ impl<const D: usize> Window<D> {
     pub fn admits(&self, rect: &Rect<D>) -> bool
         ensures { IsTrue result ↔ Admits self.now rect.now }
     {
-        let mut admitted = true;
-        for axis in 0..rect.axes() {
-            admitted &= self.axes[axis].admits(rect.range(axis));
-        }
-        admitted
+        let first = rect.axes().min(AXES_TOGETHER);
+        admits_axes(&self.axes, rect, first, D) & admits_axes(&self.axes, rect, 0, first)
     }
 
     /// Whether a box that this window admits may lie in the box. A search that asks it of many boxes makes the `reach`

@@ -1,8 +1,0 @@
-use Rattle.std.proofs.Common.{ℕ, ◌<◌, ◌↔◌, IsTrue, get_or}
-use Rattle.rt_box.specs.declared.interval.Interval.{Interval}
-use Rattle.rt_box.specs.declared.window.Ends.{Ends}
-use Rattle.rt_box.specs.Ends.{AdmitsSide}
-use Rattle.rt_box.proofs.window.Window.admits.Given as goal
-
-abbrev pub invariant-loop-axis : goal.invariant-loop-axis
-invariant-loop-axis g l = IsTrue l.admitted ↔ ((i : ℕ) → i < l.axis → (e : Ends) (d : Interval) → AdmitsSide (get_or l.self-inside.axes i e) (get_or l.rect i d))
