@@ -1,5 +1,5 @@
 -- Lemmas on windows.
-use Rattle.std.proofs.Common.{◌≡◌, ℕ, zero, suc, ◌+◌, ◌*◌, ◌<◌, ◌≤◌, ◌↔◌, inl, inr, Bool, ℤ, pos, ◌≤ℤ◌, List, [], ◌∷◌, length, get_or, set, replicate, All, arith, refl, ap, ◌∙◌, w32, FitsSigned}
+use Rattle.std.proofs.Common.{◌≡◌, ℕ, zero, suc, ◌+◌, ◌-◌, ◌*◌, ◌<◌, ◌≤◌, ◌↔◌, inl, inr, Bool, ℤ, pos, ◌≤ℤ◌, List, [], ◌∷◌, length, get_or, set, replicate, All, arith, refl, ap, ◌∙◌, subst, w32, FitsSigned}
 use Rattle.std.specs.Int.{int_min, int_max}
 use Rattle.std.proofs.lemmas.Bool.{cases_eq, cases_lt}
 use Rattle.std.proofs.lemmas.Int.{ints, clamps}
@@ -12,7 +12,7 @@ use Rattle.rt_box.specs.declared.window.Ends.{Ends}
 use Rattle.rt_box.specs.Interval.{interval, Includes, Covers, FitsEnds}
 use Rattle.rt_box.specs.Operators.{Keeps}
 use Rattle.rt_box.specs.Rect.{IsBox, Holds}
-use Rattle.rt_box.specs.Ends.{in_order, paired_up, paired_up-in_order, AdmitsSide, AdmitsAxes, MayHoldSide, Reaches}
+use Rattle.rt_box.specs.Ends.{in_order, paired_up, paired_up-in_order, AdmitsSide, KeepsLeast, KeepsGreatest, OnAxes, MayHoldSide, Reaches}
 use Rattle.rt_box.proofs.Made.{IsOrdered}
 use Rattle.rt_box.specs.Window.{Allows, IsUnlimited, Narrows, Admits, MayHold, IsReach}
 
@@ -227,8 +227,7 @@ side_here P es b i here x x_is holds = rw x_is (holds here x)
 -- one axis more, from one on
 pub axis_more : (P : Ends → Interval → Type 0) (es : List Ends) (b : List Interval) (from axis : ℕ) (here : Ends) (x : Interval) →
     axis < length es → axis < length b → x ≡ get_or b axis x →
-    ((i : ℕ) → from ≤ i → i < axis → (e : Ends) (d : Interval) → P (get_or es i e) (get_or b i d)) → P (get_or es axis here) x →
-    (i : ℕ) → from ≤ i → i < axis + 1 → (e : Ends) (d : Interval) → P (get_or es i e) (get_or b i d)
+    OnAxes P es b from axis → P (get_or es axis here) x → OnAxes P es b from (axis + 1)
 axis_more P es b from axis here x in_es in_b x_is before holds i low high e d = elim (cases_eq i axis) [
   | inl same ↦ rw same (sides_here P es b axis here x in_es in_b x_is holds e d)
   | inr ne ↦ before i low (omega (arith, ne)) e d
@@ -236,12 +235,48 @@ axis_more P es b from axis here x in_es in_b x_is before holds i low high e d = 
 
 pub axis_fewer : (P : Ends → Interval → Type 0) (es : List Ends) (b : List Interval) (from axis : ℕ) (here : Ends) (x : Interval) →
     from ≤ axis → x ≡ get_or b axis x →
-    ((i : ℕ) → from ≤ i → i < axis + 1 → (e : Ends) (d : Interval) → P (get_or es i e) (get_or b i d)) → P (get_or es axis here) x
+    OnAxes P es b from (axis + 1) → P (get_or es axis here) x
 axis_fewer P es b from axis here x low x_is h = side_here P es b axis here x x_is (h axis low (omega arith))
+
+-- one box more
+pub box_more : (P : List Interval → Type 0) (boxes : List (List Interval)) (from offset : ℕ) (here : List Interval) →
+    from + offset < length boxes → here ≡ get_or boxes (from + offset) here →
+    ((k : ℕ) (b : List Interval) → k < offset → P (get_or boxes (from + k) b)) → P here →
+    (k : ℕ) (b : List Interval) → k < offset + 1 → P (get_or boxes (from + k) b)
+box_more P boxes from offset here within here_is before holds k b below = elim (cases_eq k offset) [
+  | inl same ↦ rw (same, get_or_default boxes (from + offset) b here within, ← here_is) holds
+  | inr ne ↦ before k b (omega (arith, ne, below))
+]
+
+pub box_last : (P : List Interval → Type 0) (boxes : List (List Interval)) (from offset : ℕ) (here : List Interval) →
+    here ≡ get_or boxes (from + offset) here →
+    ((k : ℕ) (b : List Interval) → k < offset + 1 → P (get_or boxes (from + k) b)) → P here
+box_last P boxes from offset here here_is h = rw here_is (h offset here (omega arith))
+
+-- one of four boxes from one on
+pub box_at : (P : List Interval → Type 0) (boxes : List (List Interval)) (from i : ℕ) (b : List Interval) → from ≤ i → i < from + 4 →
+    ((k : ℕ) (b : List Interval) → k < 4 → P (get_or boxes (from + k) b)) → P (get_or boxes i b)
+box_at P boxes from i b low high h =
+    let is : from + (i - from) ≡ i = omega (arith, low) in
+    subst (λ (n : ℕ). P (get_or boxes n b)) is (h (i - from) b (omega (arith, low, high)))
+
+-- a side is admitted exactly where its least and its greatest numbers are kept
+pub both_kept : (es : List Ends) (b : List Interval) (from to : ℕ) → OnAxes KeepsLeast es b from to → OnAxes KeepsGreatest es b from to →
+    OnAxes AdmitsSide es b from to
+both_kept es b from to least greatest i low high e d =
+    let l = least i low high e d in
+    let g = greatest i low high e d in
+    ((l.0, g.0), (l.1, g.1))
+
+pub least_kept : (es : List Ends) (b : List Interval) (from to : ℕ) → OnAxes AdmitsSide es b from to → OnAxes KeepsLeast es b from to
+least_kept es b from to h i low high e d = let here = h i low high e d in (here.0.0, here.1.0)
+
+pub greatest_kept : (es : List Ends) (b : List Interval) (from to : ℕ) → OnAxes AdmitsSide es b from to → OnAxes KeepsGreatest es b from to
+greatest_kept es b from to h i low high e d = let here = h i low high e d in (here.0.1, here.1.1)
 
 -- the axes of two ranges that meet are all axes
 pub axes_joined : (es : List Ends) (b : List Interval) (first axes : ℕ) → length es ≡ axes →
-    AdmitsAxes es b 0 first → AdmitsAxes es b first axes →
+    OnAxes AdmitsSide es b 0 first → OnAxes AdmitsSide es b first axes →
     (i : ℕ) (e : Ends) (d : Interval) → i < length es → AdmitsSide (get_or es i e) (get_or b i d)
 axes_joined es b first axes long start rest i e d below = elim (cases_lt i first) [
   | inl before ↦ start i (omega arith) before e d

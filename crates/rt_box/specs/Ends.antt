@@ -31,10 +31,9 @@ KeepsLeast e side = (e.lo.lo ≤ℤ side.lo) × (e.hi.lo ≤ℤ side.hi)
 abbrev pub KeepsGreatest : Ends → Interval → Type 0
 KeepsGreatest e side = (side.lo ≤ℤ e.lo.hi) × (side.hi ≤ℤ e.hi.hi)
 
--- both ends of a box's side are allowed on each axis from one on up to another
-abbrev pub AdmitsAxes : List Ends → List Interval → ℕ → ℕ → Type 0
-AdmitsAxes es b from to =
-    (i : ℕ) → from ≤ i → i < to → (e : Ends) (d : Interval) → AdmitsSide (slice_index_or es i e) (slice_index_or b i d)
+-- so it is of the ends and the side on each axis from one on up to another
+abbrev pub OnAxes : (Ends → Interval → Type 0) → List Ends → List Interval → ℕ → ℕ → Type 0
+OnAxes P es b from to = (i : ℕ) → from ≤ i → i < to → (e : Ends) (d : Interval) → P (slice_index_or es i e) (slice_index_or b i d)
 
 -- some interval within the side is admitted
 abbrev pub MayHoldSide : Ends → Interval → Type 0

@@ -85,15 +85,15 @@ impl Interval {
     }
 
     /// Whether the number isn't below it.
-    pub(crate) fn begins_by(self, number: i32) -> bool
-        ensures { IsTrue result ↔ (self.lo ≤ℤ number) }
+    pub(crate) fn begins_by(&self, number: i32) -> bool
+        ensures { IsTrue result ↔ (self.now.lo ≤ℤ number) }
     {
         self.lo <= number
     }
 
     /// Whether the number isn't above it.
-    pub(crate) fn lasts_to(self, number: i32) -> bool
-        ensures { IsTrue result ↔ (number ≤ℤ self.hi) }
+    pub(crate) fn lasts_to(&self, number: i32) -> bool
+        ensures { IsTrue result ↔ (number ≤ℤ self.now.hi) }
     {
         number <= self.hi
     }

@@ -100,6 +100,16 @@ impl<const D: usize> Rect<D> {
         self.sides[axis]
     }
 
+    /// The interval on an axis, where it stands.
+    #[inline]
+    pub(crate) fn side(&self, axis: usize) -> &Interval
+        requires { axis < D }
+        ensures value { result.now ≡ slice_index_or self.now axis result.now }
+        ensures is_box { IsBox D self.now }
+    {
+        &self.sides[axis]
+    }
+
     /// The least number on each axis.
     pub fn lo(&self) -> [i32; D]
         ensures { result ≡ los self.now }

@@ -5,8 +5,8 @@ use Rattle.rt_box.proofs.window.Ends.keeps_least.Goals as goal
 
 pub returns : goal.returns
 returns c =
-    let lo_fits : FitsSigned w32 c.args.side.lo = search rules in
-    let hi_fits : FitsSigned w32 c.args.side.hi = search rules in (
+    let lo_fits : FitsSigned w32 c.args.side.now.lo = search rules in
+    let hi_fits : FitsSigned w32 c.args.side.now.hi = search rules in (
       (λ t.
           let both = and_parts _ _ t in
           let lo_is = c.begins_by.ensures.0 both.0 in
