@@ -3,7 +3,7 @@
 //! A stack of keys takes the place of recursion. Rows are tested by the window, and children by its reach. Tests
 //! without branches are there for speed alone, and so is `ahead` (`specs/Search.antt`).
 
-ghost use Rattle.std.specs.Prelude.{◌≡◌, ◌≤◌, ◌<◌, ◌++◌, [], All, length, take, List, IfOk, OnOk, OnErr};
+ghost use Rattle.std.specs.Prelude.{◌≡◌, ◌≤◌, ◌<◌, ◌++◌, [], All, length, take, List, map, IfOk, OnOk, OnErr};
 ghost use Rattle.rt_box.specs.declared.interval.Interval.{Interval};
 ghost use Rattle.slab.specs.Slab.{ContainsKey};
 ghost use Rattle.rt_box.specs.Window.{IsReach};
@@ -112,7 +112,23 @@ fn push_rows<const D: usize>(
     Ok(())
 }
 
-/// Takes the rows of a leaf that the window admits.
+/// Takes the rows of all cells of a leaf.
+fn push_all_rows<const D: usize>(rows: &mut Vec<Row<D>>, node: &Node<D>) -> Result<(), AllocError>
+    ensures ok { OnOk result (rows.new.items ≡ rows.old.items ++ map row_of node.now.cells) }
+    ensures err { OnErr result (rows.new.items ≡ rows.old.items) }
+{
+    rows.reserve(node.len())?;
+    let alloc = *rows.allocator();
+    let mut list = mem::replace(rows, Vec::new(alloc));
+    for at in 0..node.len() {
+        list.push_reserved(row_of(&node.cell(at)));
+    }
+    *rows = list;
+    Ok(())
+}
+
+/// Takes the rows of a leaf that the window admits. Where those are all rows, as within a large window, that is seen
+/// with fewer steps than which ones they are.
 fn take_rows<const D: usize>(
     rows: &mut Vec<Row<D>>,
     node: &Node<D>,
@@ -122,6 +138,9 @@ fn take_rows<const D: usize>(
     ensures err { OnErr result (rows.new.items ≡ rows.old.items) }
 {
     node.facts();
+    if window.admits_all(node.boxes()) {
+        return push_all_rows(rows, node);
+    }
     let mut positions = [0; MOST_CELLS];
     let count = put_admitted(&mut positions, node, window);
     push_rows(rows, node, &positions[..count])
