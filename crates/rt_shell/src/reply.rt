@@ -241,6 +241,10 @@ fn write_next<W: ByteWriter>(
 fn write_changes<W: ByteWriter>(changes: &[Change], writer: &mut W) -> Result<(), WriteFault>
     ensures { WritesTo W.ByteWriter writer.old writer.new result (flat_map change_line changes.now) }
 {
+    // Most edits change no view, and no place for lines is made for nothing.
+    if changes.is_empty() {
+        return Ok(());
+    }
     let mut lines = Lines::new();
     for change in changes {
         write_change(&mut lines, change, writer)?;
