@@ -106,6 +106,8 @@ impl Session {
         }
     }
 
+    // Rare statements stand apart here and below, so that their locals aren't cleared for others.
+    #[inline(never)]
     fn create(
         &mut self,
         name: Name,
@@ -129,6 +131,7 @@ impl Session {
         Ok(Reply::Nothing)
     }
 
+    #[inline(never)]
     fn drop_table(&mut self, name: &Name, if_there: bool) -> Result<Reply, Refusal>
         ensures { AnswersUnlessMemory (dropped self.old name.now if_there) result self.old self.new }
     {
@@ -155,6 +158,7 @@ impl Session {
         Ok(Reply::Changes(Items::from_vec(changes)))
     }
 
+    #[inline(never)]
     fn watch(&mut self, view: Name, name: &Name, cond: Cond) -> Result<Reply, Refusal>
         ensures { AnswersUnlessMemory (on_table (table_of self.old name.now) (now_watched self.old view name.now cond)) result self.old self.new }
     {
@@ -171,6 +175,7 @@ impl Session {
         Ok(Reply::Nothing)
     }
 
+    #[inline(never)]
     fn unwatch(&mut self, view: &Name) -> Result<Reply, Refusal>
         ensures { AnswersUnlessMemory (on_watched (watched_by self.old view.now) (now_unwatched self.old view.now)) result self.old self.new }
     {
@@ -181,6 +186,7 @@ impl Session {
         Ok(Reply::Nothing)
     }
 
+    #[inline(never)]
     fn view(&self, view: &Name) -> Result<Reply, Refusal>
         ensures { AnswersUnlessMemory (on_watched (watched_by self.now view.now) (viewed self.now view.now)) result self.now self.now }
     {
@@ -208,6 +214,7 @@ impl Session {
         Ok(Reply::Rows(rows))
     }
 
+    #[inline(never)]
     fn check(&self, name: &Name) -> Result<Reply, Refusal>
         ensures { AnswersUnlessMemory (on_table (table_of self.now name.now) (checked self.now)) result self.now self.now }
     {
@@ -218,6 +225,7 @@ impl Session {
         Ok(Reply::Verdict(Items::from_vec(problems)))
     }
 
+    #[inline(never)]
     fn nodes(&self, name: &Name) -> Result<Reply, Refusal>
         ensures { AnswersUnlessMemory (dumped self.now (table_of self.now name.now)) result self.now self.now }
     {
