@@ -23,7 +23,7 @@ use Rattle.rt_tree_walk.proofs.Reaching.{All_contained, counted-contained}
 use Rattle.rt_tree_walk.proofs.Judging.{count-mapped}
 use Rattle.rt_tree.specs.Rows.{box_in, row_in, rows_of}
 use Rattle.rt_tree.specs.Boxes.{HasBoxes}
-use Rattle.rt_tree.specs.Finding.{FindsIn}
+use Rattle.rt_tree.specs.Finding.{FindsIn, FindsInAfter}
 use Rattle.rt_tree.proofs.Members.{contains-none, contains-map, contains-mapped}
 use Rattle.rt_table_row.specs.Rows.{TableRow, AreRising, row_at}
 use Rattle.rt_table_row.specs.Filters.{Placed, admits}
@@ -35,6 +35,11 @@ use Rattle.rt_table_store.proofs.Order.{eq_same, eq_from}
 use Rattle.rt_table_store.proofs.Sorted.{Rises, rises, rises-filter}
 use Rattle.rt_table_store.proofs.Soundness.{flat_from, found_in}
 use Rattle.rt_table_store.proofs.Alike.{count_alike, count_kept, count_permuted, sorted_climbs, at_own_key, counted_in_both, same_counts}
+
+-- ---- a list that had no rows before
+
+pub finds_alone : {D : ℕ} (s : ShadowLists D) (window : List Interval) (rows : List (Row D)) (visited : ℕ) → FindsInAfter s window [] rows visited → FindsIn s window rows visited
+finds_alone {D} s window rows visited after = subst (λ (found : List (Row D)). FindsIn s window found visited) (sym after.is) after.finds
 
 -- ---- whether boxes and rows are the same
 

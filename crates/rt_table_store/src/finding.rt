@@ -8,6 +8,7 @@ ghost use Rattle.std.specs.Prelude.{◌≡◌, ◌≤◌, List, All, true, filte
 ghost use Rattle.std.specs.Option.{option_to_list};
 ghost use Rattle.rt_box.specs.declared.interval.Interval.{Interval};
 ghost use Rattle.rt_box.specs.Window.{IsUnlimited, Admits};
+ghost use Rattle.rt_tree.specs.Finding.{FindsIn};
 ghost use Rattle.rt_table_row.specs.Rows.{TableRow};
 ghost use Rattle.rt_table_row.specs.Filters.{admits};
 ghost use Rattle.rt_table_row.specs.Windows.{IsWindowAt};
@@ -18,8 +19,11 @@ use crate::sorting::sort_by_id;
 use crate::store::Store;
 use rt_box::Window;
 use rt_table_row::Filter;
-use rt_tree::{Found, Row};
+use rt_tree::{Found, Row, Tree};
 use std::alloc::{AllocError, Global};
+
+/// How many rows a list has room for at first, where a window has limits.
+const LIKELY_ROWS: usize = 32;
 
 /// The rows that a condition picks, found by its window.
 #[derive(Drop)]
@@ -39,6 +43,25 @@ fn ids_of<const D: usize>(alloc: Global, rows: &[Row<D>]) -> Result<Vec<i64>, Al
         ids.push(row.id)?;
     }
     Ok(ids)
+}
+
+/// Searches a tree. A window without limits admits all rows, so that the list has room for them from the start.
+#[tactic(auto, using(crate::proofs::Found::finds_alone))]
+fn search<const D: usize>(
+    alloc: Global,
+    tree: &Tree<D>,
+    window: &Window<D>,
+) -> Result<Found<D>, AllocError>
+    ensures { IfOk result (λ found. FindsIn tree.now.lists window.now found.rows.items found.visited) }
+{
+    let room = if *window == Window::all() {
+        tree.len()
+    } else {
+        LIKELY_ROWS
+    };
+    let mut rows = Vec::with_capacity(alloc, room)?;
+    let visited = tree.search_into(alloc, window, &mut rows)?;
+    Ok(Found { rows, visited })
 }
 
 impl<const D: usize> Store<D> {
@@ -101,7 +124,7 @@ impl<const D: usize> Store<D> {
         let Found {
             rows: found,
             visited,
-        } = self.tree.search(alloc, window)?;
+        } = search(alloc, &self.tree, window)?;
         let mut rows = self.tested_rows(alloc, condition, window, found)?;
         sort_by_id(&mut rows);
         Ok(Selected { rows, visited })
