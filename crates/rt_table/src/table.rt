@@ -253,7 +253,7 @@ impl<const D: usize> Table<D> {
     {
         let staged = stage(alloc, &mut self.views, &self.store, plan)?;
         self.store
-            .reserve(alloc, inserts_all(plan), auxiliary_rows_all(plan))?;
+            .reserve(inserts_all(plan), auxiliary_rows_all(plan))?;
         self.staged = staged;
         Ok(())
     }

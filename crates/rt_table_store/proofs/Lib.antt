@@ -4,7 +4,7 @@ pub mod Buckets
 pub mod Sorted
 pub mod Standing
 pub mod Picked
-pub mod Heaps
+pub mod Ranking
 pub mod Joined
 pub mod Counted
 pub mod Top

@@ -1,7 +1,7 @@
 -- The largest id of rows by rising id.
 use Rattle.std.proofs.Common.{◌≡◌, ◌-◌, ℤ, Bool, true, false, cond, List, [], ◌∷◌, length, Option, Some, None, IsSome, inl, inr, refl, sym, ap, subst, ◌∙◌, arith}
-use Rattle.std.specs.Prelude.{◌<ℤ◌, ◌≤ℤ◌, slice_get}
-use Rattle.std.specs.List.{AllByRecursion, list_any}
+use Rattle.std.specs.Prelude.{◌<◌, ◌<ℤ◌, ◌≤ℤ◌, is_some, slice_get}
+use Rattle.std.specs.List.{AllByRecursion}
 use Rattle.std.specs.Option.{option_map}
 use Rattle.std.specs.Ordering.{int_eq}
 use Rattle.std.proofs.lemmas.Int.{ints}
@@ -11,8 +11,9 @@ use Rattle.rt_sql_statement.specs.declared.value.Value.{Value}
 use Rattle.rt_table_row.specs.Rows.{TableRow, row_at, largest_id}
 use Rattle.rt_tree.specs.Lists.{IsInShape}
 use Rattle.rt_tree.specs.Rows.{box_of}
-use Rattle.rt_table_store.specs.Ranked.{IsTop}
+use Rattle.rt_table_store.specs.Ranked.{IsTop, Ranks}
 use Rattle.rt_table_store.specs.StoreInside.{rows_in}
+use Rattle.rt_table_store.proofs.Ranking.{ranks-same}
 use Rattle.rt_table_store.proofs.Order.{three_ways, eq_same, eq_above, eq_from}
 use Rattle.rt_table_store.proofs.Sorted.{at_key, Rises}
 use Rattle.rt_table_store.proofs.Joined.{boxed, row-at, rows-rise}
@@ -64,43 +65,37 @@ module _ {X : Type 0} (key : X → ℤ) where
       by later true is found = subst (λ (z : ℤ). z ≤ℤ key (last y ys)) (sym (eq_from q (key x) is)) (first-below x (y ∷ ys) rise)
       by later false is found = later found
 
-module _ (rows : List TableRow) (rise : Rises (λ (r : TableRow). r.id) rows) (ids : List ℤ) where
-  -- each row's id is among the ids, of which the largest is that of a row
-  pub top-is : ((id : ℤ) → IsSome (row_at rows id) → list_any (int_eq id) ids ≡ true) → ((id : ℤ) → IsTop ids (Some id) → IsSome (row_at rows id)) →
-      (o : Option ℤ) → IsTop ids o → o ≡ largest_id rows
-  top-is ranked top o is = by rows rise ranked top o is
-    where
-      no-rows : (rs : List TableRow) → ((id : ℤ) → IsSome (row_at rs id) → list_any (int_eq id) [] ≡ true) → None ≡ largest_id rs
-      no-rows [] rk = refl
-      no-rows (r ∷ rs) rk =
-          let some : IsSome (row_at (r ∷ rs) r.id) = subst IsSome (sym (ap (λ (b : Bool). cond b (Some r) (row_at rs r.id)) (eq_same r.id))) refl in
-          let is_in : false ≡ true = rk r.id some in
-          absurd (let none : ⊥ = cc in none)
+some-from : {X : Type 0} (o : Option X) → is_some o ≡ true → IsSome o
+some-from None e = absurd (let none : ⊥ = cc in none)
+some-from (Some x) e = refl
 
-      by : (rs : List TableRow) → Rises (λ (r : TableRow). r.id) rs → ((id : ℤ) → IsSome (row_at rs id) → list_any (int_eq id) ids ≡ true) → ((id : ℤ) → IsTop ids (Some id) → IsSome (row_at rs id)) →
-          (p : Option ℤ) → IsTop ids p → p ≡ largest_id rs
-      by rs rr rk tp None empty = no-rows rs (λ id some. subst (λ (is : List ℤ). list_any (int_eq id) is ≡ true) empty (rk id some))
-      by [] rr rk tp (Some t) is_top = let some = tp t is_top in absurd (let none : ⊥ = cc in none)
-      by (r ∷ rs) rr rk tp (Some t) is_top =
+module _ (rows : List TableRow) (rise : Rises (λ (r : TableRow). r.id) rows) (ids : List ℤ) where
+  -- the ids are the greatest of the rows'
+  pub top-is : Ranks (λ id. is_some (row_at rows id)) ids → (o : Option ℤ) → IsTop ids o → o ≡ largest_id rows
+  top-is ranks o is = by rows rise ranks o is
+    where
+      by : (rs : List TableRow) → Rises (λ (r : TableRow). r.id) rs → Ranks (λ id. is_some (row_at rs id)) ids → (p : Option ℤ) → IsTop ids p → p ≡ largest_id rs
+      by [] rr ranked None empty = refl
+      by (r ∷ rs) rr ranked None empty =
+          let there : is_some (row_at (r ∷ rs) r.id) ≡ true = ap (λ (b : Bool). is_some (cond b (Some r) (row_at rs r.id))) (eq_same r.id) in
+          let some : 0 < length ids = ranked.some r.id there in
+          let none : length ids ≡ 0 = ap length empty in
+          absurd (omega (arith, some, none))
+      by [] rr ranked (Some t) is_top = let there : false ≡ true = ranked.top t is_top in absurd (let none : ⊥ = cc in none)
+      by (r ∷ rs) rr ranked (Some t) is_top =
           let l = last (λ (x : TableRow). x.id) r rs in
-          let there : IsSome (row_at (r ∷ rs) l.id) = subst IsSome (sym (at-last (λ (x : TableRow). x.id) r rs rr)) refl in
-          let same : t ≡ l.id = both-ways t l.id (up-to-last (λ (x : TableRow). x.id) r rs rr t (tp t is_top)) (is_top.1 l.id (rk l.id there)) in
+          let there : is_some (row_at (r ∷ rs) l.id) ≡ true = ap is_some (at-last (λ (x : TableRow). x.id) r rs rr) in
+          let low : t ≤ℤ l.id = up-to-last (λ (x : TableRow). x.id) r rs rr t (some-from (row_at (r ∷ rs) t) (ranked.top t is_top)) in
+          let same : t ≡ l.id = both-ways t l.id low (is_top.1 l.id (ranked.upward l.id t there is_top.0 low)) in
           let place : length (r ∷ rs) - 1 ≡ length rs = omega arith in
           let at : slice_get (r ∷ rs) (length (r ∷ rs) - 1) ≡ Some l = ap (slice_get (r ∷ rs)) place ∙ last-is (λ (x : TableRow). x.id) r rs in
           ap Some same ∙ sym (ap (option_map (λ (x : TableRow). x.id)) at)
 
-some-map : {X Y : Type 0} (f : X → Y) (o : Option X) → IsSome o → IsSome (option_map f o)
-some-map f None some = some
-some-map f (Some x) some = refl
-
-some-back : {X Y : Type 0} (f : X → Y) (o : Option X) → IsSome (option_map f o) → IsSome o
-some-back f None some = some
-some-back f (Some x) some = refl
+is_some-map : {X Y : Type 0} (f : X → Y) (o : Option X) → is_some o ≡ is_some (option_map f o)
+is_some-map f None = refl
+is_some-map f (Some x) = refl
 
 module _ {D : _} (s : ShadowLists D) (shape : IsInShape s) {S : Type 0} (auxiliary : IndexMap ℤ (List Value) S) (ids : List ℤ) where
-  pub largest-is : ((id : ℤ) → IsSome (box_of s id) → list_any (int_eq id) ids ≡ true) → ((id : ℤ) → IsTop ids (Some id) → IsSome (box_of s id)) →
-      (o : Option ℤ) → IsTop ids o → o ≡ largest_id (rows_in s auxiliary)
-  largest-is ranked top o is = top-is (rows_in s auxiliary) (rows-rise s shape auxiliary) ids
-      (λ id some. ranked id (some-back (boxed s shape auxiliary id) (box_of s id) (subst IsSome (row-at s shape auxiliary id) some)))
-      (λ id is_top. subst IsSome (sym (row-at s shape auxiliary id)) (some-map (boxed s shape auxiliary id) (box_of s id) (top id is_top)))
-      o is
+  pub largest-is : Ranks (λ id. is_some (box_of s id)) ids → (o : Option ℤ) → IsTop ids o → o ≡ largest_id (rows_in s auxiliary)
+  largest-is ranks o is = top-is (rows_in s auxiliary) (rows-rise s shape auxiliary) ids
+      (ranks-same _ ids _ (λ id. is_some-map (boxed s shape auxiliary id) (box_of s id) ∙ ap is_some (sym (row-at s shape auxiliary id))) ranks) o is

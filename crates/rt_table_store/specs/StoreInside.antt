@@ -1,7 +1,6 @@
 -- How a store keeps its rows: the boxes in a tree, the auxiliary values in a map by id.
-use Rattle.std.specs.Prelude.{◌≡◌, ℕ, ◌≤◌, ℤ, true, List, [], map, length, IsSome, Some}
+use Rattle.std.specs.Prelude.{◌≡◌, ℕ, ◌≤◌, ℤ, List, [], map, length, is_some, IsSome}
 use Rattle.std.specs.Option.{unwrap_or}
-use Rattle.std.specs.List.{list_any}
 use Rattle.std.specs.Ordering.{int_eq}
 use Rattle.indexmap.specs.IndexMap.{IndexMap, get, spare}
 use Rattle.rt_check.specs.Shadow.{ShadowLists}
@@ -10,7 +9,7 @@ use Rattle.rt_tree.specs.Rows.{box_of}
 use Rattle.rt_table_row.specs.Rows.{TableRow}
 use Rattle.rt_table_row.specs.Edits.{most_rows}
 use Rattle.rt_table_store.specs.Stored.{Stored}
-use Rattle.rt_table_store.specs.Ranked.{IsTop}
+use Rattle.rt_table_store.specs.Ranked.{Ranks}
 use Rattle.rt_table_store.specs.declared.store.Store.TheInside.{Inside}
 
 -- the row of an id: its box from the tree, its auxiliary values from the map, which has none of most rows
@@ -28,14 +27,11 @@ stored s = record {
   auxiliary_room = spare s.auxiliary;
 }
 
--- one to three axes; auxiliary values are stored of rows alone; with the room for a row goes room for its id; each row's
--- id is among the ranked ids, and the largest of these is that of a row
+-- one to three axes; auxiliary values are stored of rows alone; the greatest ids of the rows are known
 pub record IsJoined (D : ℕ) (s : Inside D) : Type 0 where
   pub some : 1 ≤ D
   pub few : D ≤ 3
   pub most : length s.tree.lists.rows ≤ most_rows
   pub auxiliary : (id : ℤ) → IsSome (get int_eq s.auxiliary id) → IsSome (box_of s.tree.lists id)
-  pub room : s.tree.spare ≤ s.largest.room
-  pub ranked : (id : ℤ) → IsSome (box_of s.tree.lists id) → list_any (int_eq id) s.largest.ids ≡ true
-  pub top : (id : ℤ) → IsTop s.largest.ids (Some id) → IsSome (box_of s.tree.lists id)
+  pub ranks : Ranks (λ id. is_some (box_of s.tree.lists id)) s.largest
   pub nothing : s.nothing ≡ []

@@ -1,23 +1,26 @@
 //! The largest id.
 //!
-//! The ids stand in a heap, the greatest on top. An id whose row has left stays in it until it comes to the top,
-//! or until the heap is built anew (`specs/Ranked.antt`).
+//! The greatest ids stand in a list, the largest last; it has room for `MOST_IDS`, and all others are in the tree alone.
+//! An id whose row has left stays in the list until it comes to its end (`specs/Ranked.antt`).
+//!
+//! Nothing here takes memory but `new`. Only where the rows of all listed ids have left is the list filled anew from the
+//! ids of the tree. Between two such fillings at least half of `MOST_IDS` rows leave, or as many rows come as the tree has
+//! more than the list has room for. So each statement pays for some hundred ids at most, also where a script deletes
+//! all rows from the top down, and for none in others.
 
-ghost use Rattle.std.specs.Prelude.{◌≡◌, ◌≤◌, ◌<◌, ◌+◌, ◌&&◌, ◌||◌, ℤ, [], true, length, is_some, vec_len, IfOk, OnOk, IsSome};
-ghost use Rattle.std.specs.BinaryHeap.{IsHeap, heap_items, heap_len, heap_capacity};
+ghost use Rattle.std.specs.Prelude.{◌≡◌, ◌≤◌, ◌<◌, ◌≤ℤ◌, ◌<ℤ◌, ◌+◌, ◌||◌, ℤ, Bool, [], true, false, length, is_some, vec_len, vec_capacity, insert, drop, IfOk};
 ghost use Rattle.std.specs.List.{list_any};
-ghost use Rattle.std.specs.List.Sorted.{IsStrictlySortedBy};
+ghost use Rattle.std.specs.List.Sorted.{IsSorted};
 ghost use Rattle.std.specs.Ordering.{int_cmp, int_eq};
 ghost use Rattle.rt_tree.specs.Rows.{box_of};
-ghost use Rattle.rt_table_store.specs.Ranked.{IsTop};
+ghost use Rattle.rt_table_store.specs.Ranked.{IsTop, IsUpward, Ranks};
 
 use rt_tree::Tree;
 use std::alloc::{AllocError, Global};
-use std::collections::BinaryHeap;
 use std::marker::Model;
 
-/// A heap of up to so many ids isn't built anew.
-const FEW_IDS: usize = 64;
+/// The most ids that are listed.
+const MOST_IDS: usize = 2048;
 
 /// Whether the tree has a row of that id.
 fn is_there<const D: usize>(tree: &Tree<D>, id: &i64) -> bool
@@ -27,17 +30,16 @@ fn is_there<const D: usize>(tree: &Tree<D>, id: &i64) -> bool
     tree.get(id).is_some()
 }
 
-/// Takes ids from the top of a heap whose rows are gone.
-fn drop_gone<const D: usize>(ids: &mut BinaryHeap<i64>, tree: &Tree<D>)
+/// Takes ids from the end whose rows are gone.
+fn drop_gone<const D: usize>(ids: &mut Vec<i64>, tree: &Tree<D>)
     requires few { D ≤ 3 }
-    requires order { IsHeap int_cmp (heap_items ids.old) }
-    ensures live { (id : ℤ) → IsSome (box_of tree.now.lists id) → list_any (int_eq id) (heap_items ids.new) ≡ list_any (int_eq id) (heap_items ids.old) }
-    ensures top { (id : ℤ) → IsTop (heap_items ids.new) (Some id) → IsSome (box_of tree.now.lists id) }
-    ensures order { IsHeap int_cmp (heap_items ids.new) }
-    ensures len { heap_len ids.new ≤ heap_len ids.old }
-    ensures capacity { heap_capacity ids.new ≡ heap_capacity ids.old }
+    requires order { IsSorted int_cmp ids.old.items }
+    ensures upward { IsUpward (λ id. is_some (box_of tree.now.lists id)) ids.old.items → IsUpward (λ id. is_some (box_of tree.now.lists id)) ids.new.items }
+    ensures top { (id : ℤ) → IsTop ids.new.items (Some id) → is_some (box_of tree.now.lists id) ≡ true }
+    ensures order { IsSorted int_cmp ids.new.items }
+    ensures capacity { vec_capacity ids.new ≡ vec_capacity ids.old }
 {
-    while let Some(id) = ids.peek() {
+    while let Some(id) = ids.last() {
         if is_there(tree, id) {
             return;
         }
@@ -45,139 +47,172 @@ fn drop_gone<const D: usize>(ids: &mut BinaryHeap<i64>, tree: &Tree<D>)
     }
 }
 
-/// The ids of the tree's rows among these, each once, rising.
-fn live_ids<const D: usize>(
-    alloc: Global,
-    ids: &[i64],
-    tree: &Tree<D>,
-) -> Result<Vec<i64>, AllocError>
-    requires { D ≤ 3 }
-    ensures live { IfOk result (λ live. (id : ℤ) → list_any (int_eq id) live.items ≡ (is_some (box_of tree.now.lists id) && list_any (int_eq id) ids.now)) }
-    ensures once { IfOk result (λ live. IsStrictlySortedBy int_cmp live.items) }
-    ensures few { IfOk result (λ live. length live.items ≤ length ids.now) }
+/// The place of an id among ids that rise.
+fn place_of(ids: &[i64], id: &i64) -> usize
+    requires { IsSorted int_cmp ids.now }
+    ensures within { result ≤ length ids.now }
+    ensures order { IsSorted int_cmp (insert ids.now result id.now) }
 {
-    let mut live = Vec::from_slice(alloc, ids)?;
-    live.sort_unstable();
-    live.dedup();
-    live.retain(
-        |id: &i64| -> bool
-            requires { D ≤ 3 }
-            ensures { result ≡ is_some (box_of tree.entry.now.lists id.now) }
-        { is_there(tree, id) },
-    );
-    Ok(live)
-}
-
-/// Fills an empty heap with ids that rise. None moves, since the largest goes first. It takes no memory.
-fn fill(heap: &mut BinaryHeap<i64>, mut ids: Vec<i64>)
-    requires empty { heap_items heap.old ≡ [] }
-    requires order { IsHeap int_cmp (heap_items heap.old) }
-    requires room { vec_len ids ≤ heap_capacity heap.old }
-    ensures ids { (id : ℤ) → list_any (int_eq id) (heap_items heap.new) ≡ list_any (int_eq id) ids.items }
-    ensures order { IsHeap int_cmp (heap_items heap.new) }
-    ensures len { heap_len heap.new ≤ vec_len ids }
-    ensures capacity { heap_capacity heap.old ≤ heap_capacity heap.new }
-{
-    while let Some(id) = ids.pop() {
-        let _ = heap.push(id);
+    match ids.binary_search(id) {
+        Ok(place) => place,
+        Err(place) => place,
     }
 }
 
-/// Builds a heap anew from the ids of the tree's rows, each once. What has room stays so.
-fn rebuild<const D: usize>(
-    alloc: Global,
-    ids: &mut BinaryHeap<i64>,
-    tree: &Tree<D>,
-) -> Result<(), AllocError>
-    requires few { D ≤ 3 }
-    requires order { IsHeap int_cmp (heap_items ids.old) }
-    ensures live { (id : ℤ) → IsSome (box_of tree.now.lists id) → list_any (int_eq id) (heap_items ids.new) ≡ list_any (int_eq id) (heap_items ids.old) }
-    ensures top { ((id : ℤ) → IsTop (heap_items ids.old) (Some id) → IsSome (box_of tree.now.lists id)) → (id : ℤ) → IsTop (heap_items ids.new) (Some id) → IsSome (box_of tree.now.lists id) }
-    ensures order { IsHeap int_cmp (heap_items ids.new) }
-    ensures len { heap_len ids.new ≤ heap_len ids.old }
-    ensures capacity { heap_capacity ids.old ≤ heap_capacity ids.new }
+/// Whether an id is below all of those that rise.
+fn is_below(ids: &[i64], id: &i64) -> bool
+    requires { IsSorted int_cmp ids.now }
+    ensures some { result ≡ true → 0 < length ids.now }
+    ensures below { result ≡ true → (other : ℤ) → list_any (int_eq other) ids.now ≡ true → id.now <ℤ other }
+    ensures not { result ≡ false → 0 < length ids.now → (other : ℤ) × (list_any (int_eq other) ids.now ≡ true) × (other ≤ℤ id.now) }
 {
-    let live = live_ids(alloc, ids.as_slice(), tree)?;
-    ids.clear();
-    fill(ids, live);
-    Ok(())
+    match ids.first() {
+        Some(first) => *id < *first,
+        None => false,
+    }
 }
 
-/// Ids, of which the largest is known. Those whose rows are gone are passed over once they come to the top.
+/// Puts an id in its place among ids that rise. It takes no memory.
+fn put(ids: &mut Vec<i64>, id: &i64)
+    requires order { IsSorted int_cmp ids.old.items }
+    requires room { vec_len ids.old < vec_capacity ids.old }
+    ensures ids { (other : ℤ) → list_any (int_eq other) ids.new.items ≡ (int_eq other id.now || list_any (int_eq other) ids.old.items) }
+    ensures order { IsSorted int_cmp ids.new.items }
+    ensures capacity { vec_capacity ids.old ≤ vec_capacity ids.new }
+{
+    let place = place_of(ids.as_slice(), id);
+    let _ = ids.insert(place, *id);
+}
+
+/// Drops so many of the first ids.
+fn drop_first(ids: &mut Vec<i64>, count: usize)
+    requires { count ≤ vec_len ids.old }
+    ensures items { ids.new.items ≡ drop count ids.old.items }
+    ensures capacity { vec_capacity ids.new ≡ vec_capacity ids.old }
+{
+    drop(ids.drain(..count));
+}
+
+/// Makes room for an id: the lower half of a full list is dropped.
+fn make_room(ids: &mut Vec<i64>)
+    requires order { IsSorted int_cmp ids.old.items }
+    requires two { 2 ≤ vec_capacity ids.old }
+    ensures ranks { (there : ℤ → Bool) → Ranks there ids.old.items → Ranks there ids.new.items }
+    ensures order { IsSorted int_cmp ids.new.items }
+    ensures room { vec_len ids.new < vec_capacity ids.new }
+    ensures capacity { vec_capacity ids.new ≡ vec_capacity ids.old }
+{
+    if ids.len() < ids.capacity() {
+        return;
+    }
+    drop_first(ids, ids.len() / 2);
+}
+
+/// Adds an id that came to the greatest ones. One below them all stays out. It takes no memory.
+fn add(ids: &mut Vec<i64>, id: &i64)
+    requires order { IsSorted int_cmp ids.old.items }
+    requires two { 2 ≤ vec_capacity ids.old }
+    ensures ranks { (there : ℤ → Bool) → Ranks there ids.old.items → Ranks (λ other. int_eq other id.now || there other) ids.new.items }
+    ensures order { IsSorted int_cmp ids.new.items }
+    ensures capacity { vec_capacity ids.old ≤ vec_capacity ids.new }
+{
+    make_room(ids);
+    if is_below(ids.as_slice(), id) {
+        return;
+    }
+    put(ids, id);
+}
+
+/// Adds each of the ids.
+fn add_all(ids: &mut Vec<i64>, more: &[i64])
+    requires order { IsSorted int_cmp ids.old.items }
+    requires two { 2 ≤ vec_capacity ids.old }
+    ensures ranks { (there : ℤ → Bool) → Ranks there ids.old.items → Ranks (λ id. list_any (int_eq id) more.now || there id) ids.new.items }
+    ensures order { IsSorted int_cmp ids.new.items }
+    ensures capacity { vec_capacity ids.old ≤ vec_capacity ids.new }
+{
+    for id in more {
+        add(ids, id);
+    }
+}
+
+/// Fills an empty list with ids, in order. It takes no memory.
+fn fill(ids: &mut Vec<i64>, more: &[i64])
+    requires empty { ids.old.items ≡ [] }
+    requires room { vec_len ids.old + length more.now ≤ vec_capacity ids.old }
+    ensures ranks { Ranks (λ id. list_any (int_eq id) more.now) ids.new.items }
+    ensures order { IsSorted int_cmp ids.new.items }
+    ensures capacity { vec_capacity ids.old ≤ vec_capacity ids.new }
+{
+    let _ = ids.extend_from_slice(more);
+    ids.sort_unstable();
+}
+
+/// Fills an empty list with the greatest ones of all ids. Those behind go first: where ids rise as they came, all
+/// others are below them.
+fn refill(ids: &mut Vec<i64>, all: &[i64])
+    requires empty { ids.old.items ≡ [] }
+    requires two { 2 ≤ vec_capacity ids.old }
+    ensures ranks { Ranks (λ id. list_any (int_eq id) all.now) ids.new.items }
+    ensures order { IsSorted int_cmp ids.new.items }
+    ensures capacity { vec_capacity ids.old ≤ vec_capacity ids.new }
+{
+    let rest = all.len().saturating_sub(ids.capacity());
+    fill(ids, &all[rest..]);
+    add_all(ids, &all[..rest]);
+}
+
+/// The greatest ids of a table's rows, of which the largest is known.
 #[derive(Drop)]
 pub(crate) struct Largest {
-    ids: BinaryHeap<i64>,
+    ids: Vec<i64>,
 }
 
 impl Model for Largest {
-    ghost use Rattle.rt_table_store.specs.Ranked.{Ranked};
-
-    ghost Value = { Ranked };
-
-    ghost use Rattle.std.specs.Prelude.{◌-◌};
-    ghost use Rattle.std.specs.BinaryHeap.{heap_items, heap_len, heap_capacity};
-
-    ghost view = { λ l. record { ids = heap_items l.ids; room = heap_capacity l.ids - heap_len l.ids } };
-
-    ghost use Rattle.std.specs.BinaryHeap.{IsHeap};
+    ghost use Rattle.std.specs.Prelude.{List, ℤ, ◌≤◌, vec_capacity};
+    ghost use Rattle.std.specs.List.Sorted.{IsSorted};
     ghost use Rattle.std.specs.Ordering.{int_cmp};
 
-    ghost invariant = { λ l. IsHeap int_cmp (heap_items l.ids) };
+    ghost Value = { List ℤ };
+
+    ghost view = { λ l. l.ids.items };
+
+    ghost invariant = { λ l. IsSorted int_cmp l.ids.items × (2 ≤ vec_capacity l.ids) };
 }
 
 impl Largest {
     /// No ids.
-    pub(crate) fn new(alloc: Global) -> Largest
-        ensures { result.ids ≡ [] }
+    pub(crate) fn new(alloc: Global) -> Result<Largest, AllocError>
+        ensures { IfOk result (λ largest. largest ≡ []) }
     {
-        Largest {
-            ids: BinaryHeap::new(alloc),
-        }
+        Ok(Largest {
+            ids: Vec::with_capacity(alloc, MOST_IDS)?,
+        })
     }
 
     /// The largest id.
     pub(crate) fn get(&self) -> Option<i64>
-        ensures { IsTop self.now.ids result }
+        ensures { IsTop self.now result }
     {
-        self.ids.peek().copied()
+        self.ids.last().copied()
     }
 
-    /// Makes room for so many more ids. Ids whose rows are gone are dropped where they are the most. The ids of the
-    /// tree's rows stay, also after a refusal, and none comes.
-    pub(crate) fn reserve<const D: usize>(
-        &mut self,
-        alloc: Global,
-        more: usize,
-        tree: &Tree<D>,
-    ) -> Result<(), AllocError>
-        requires { D ≤ 3 }
-        ensures live { (id : ℤ) → IsSome (box_of tree.now.lists id) → list_any (int_eq id) self.new.ids ≡ list_any (int_eq id) self.old.ids }
-        ensures top { ((id : ℤ) → IsTop self.old.ids (Some id) → IsSome (box_of tree.now.lists id)) → (id : ℤ) → IsTop self.new.ids (Some id) → IsSome (box_of tree.now.lists id) }
-        ensures room { self.old.room ≤ self.new.room }
-        ensures ok { OnOk result (more ≤ self.new.room) }
-    {
-        if self.ids.len() > FEW_IDS && self.ids.len() / 2 > tree.len() {
-            rebuild(alloc, &mut self.ids, tree)?;
-        }
-        self.ids.reserve(more)
-    }
-
-    /// Adds the id of a row that came. It takes no memory.
+    /// A row of that id came. It takes no memory.
     pub(crate) fn push(&mut self, id: &i64)
-        requires { 1 ≤ self.old.room }
-        ensures ids { (other : ℤ) → list_any (int_eq other) self.new.ids ≡ (int_eq other id.now || list_any (int_eq other) self.old.ids) }
-        ensures room { self.old.room ≤ self.new.room + 1 }
+        ensures { (there : ℤ → Bool) → Ranks there self.old → Ranks (λ other. int_eq other id.now || there other) self.new }
     {
-        let _ = self.ids.push(*id);
+        add(&mut self.ids, id);
     }
 
-    /// A row left the tree: ids at the top whose rows are gone are dropped.
+    /// Rows left, and these are in the tree. It takes no memory.
     pub(crate) fn settle<const D: usize>(&mut self, tree: &Tree<D>)
         requires { D ≤ 3 }
-        ensures live { (id : ℤ) → IsSome (box_of tree.now.lists id) → list_any (int_eq id) self.new.ids ≡ list_any (int_eq id) self.old.ids }
-        ensures top { (id : ℤ) → IsTop self.new.ids (Some id) → IsSome (box_of tree.now.lists id) }
-        ensures room { self.old.room ≤ self.new.room }
+        ensures { (there : ℤ → Bool) → Ranks there self.old → ((id : ℤ) → is_some (box_of tree.now.lists id) ≡ true → there id ≡ true)
+            → Ranks (λ id. is_some (box_of tree.now.lists id)) self.new }
     {
         drop_gone(&mut self.ids, tree);
+        if self.ids.is_empty() {
+            refill(&mut self.ids, tree.ids());
+        }
     }
 }

@@ -142,7 +142,7 @@ impl<const D: usize> Store<D> {
         Ok(Store {
             tree,
             auxiliary: IndexMap::with_hasher(alloc, keys),
-            largest: Largest::new(alloc),
+            largest: Largest::new(alloc)?,
             nothing: Items::new(alloc),
             alloc,
         })
@@ -221,37 +221,13 @@ impl<const D: usize> Store<D> {
         self.tree.shadow(alloc, keys)
     }
 
-    /// Makes room in the tree for so many more rows, and for their ids.
-    fn make_room(&mut self, alloc: Global, rows: usize) -> Result<(), AllocError>
-        ensures rows { self.new.rows ≡ self.old.rows }
-        ensures tree { self.new.tree ≡ self.old.tree }
-        ensures room { self.old.room ≤ self.new.room }
-        ensures auxiliary_room { self.new.auxiliary_room ≡ self.old.auxiliary_room }
-        ensures ok { OnOk result (rows ≤ self.new.room) }
-    {
-        if rows <= self.tree.spare() {
-            return Ok(());
-        }
-        // The tree makes room for as many rows as it has, or for more, so their ids are to have room first.
-        let held = self.tree.len();
-        let ids = if rows < held { held } else { rows };
-        self.largest.reserve(alloc, ids, &self.tree)?;
-        self.tree.reserve(rows)?;
-        Ok(())
-    }
-
     /// Makes room for so many more rows, and for so many with auxiliary values. The rows and the tree stay, also after a
     /// refusal.
     ///
     /// # Errors
     ///
     /// `AllocError` where no memory is left.
-    pub fn reserve(
-        &mut self,
-        alloc: Global,
-        rows: usize,
-        auxiliary: usize,
-    ) -> Result<(), AllocError>
+    pub fn reserve(&mut self, rows: usize, auxiliary: usize) -> Result<(), AllocError>
         ensures rows { self.new.rows ≡ self.old.rows }
         ensures tree { self.new.tree ≡ self.old.tree }
         ensures room { self.old.room ≤ self.new.room }
@@ -259,7 +235,7 @@ impl<const D: usize> Store<D> {
         ensures ok { OnOk result (rows ≤ self.new.room) }
         ensures auxiliary { OnOk result (auxiliary ≤ self.new.auxiliary_room) }
     {
-        self.make_room(alloc, rows)?;
+        self.tree.reserve(rows)?;
         if auxiliary == 0 {
             return Ok(());
         }

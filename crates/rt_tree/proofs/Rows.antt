@@ -1,6 +1,7 @@
 -- The rows of a tree from outside are those of its leaves.
 use Rattle.std.proofs.Common.{◌≡◌, ℕ, ◌+◌, ◌<◌, ◌≤◌, Bool, cond, ℤ, List, [], ◌∷◌, length, Contains, Option, Some, None, nat_eq, arith, refl, ap, sym, ◌∙◌, subst}
 use Rattle.std.proofs.Math.Path.{fun_ext}
+use Rattle.std.specs.Prelude.{is_some}
 use Rattle.std.specs.List.{sum_by, count_by}
 use Rattle.std.specs.Option.{option_map}
 use Rattle.std.specs.Ordering.{int_eq}
@@ -124,3 +125,11 @@ module _ {D : ℕ} where
           by : (o : Option ℕ) → leaf_of int_eq t.leaves id ≡ o → count_by has (rows_of (outside t)) ≤ 1
           by None e = omega (arith, none-have e)
           by (Some k) e = omega (arith, once k e)
+
+      -- a row has a box where the map has its leaf
+      pub has-row : is_some (box_of (outside t) id) ≡ is_some (leaf_of int_eq t.leaves id)
+      has-row = by (leaf_of int_eq t.leaves id) refl
+        where
+          by : (o : Option ℕ) → leaf_of int_eq t.leaves id ≡ o → is_some (box_of (outside t) id) ≡ is_some o
+          by None e = ap is_some (box-none e)
+          by (Some k) e = ap is_some (box-some k e).1

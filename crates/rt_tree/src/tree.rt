@@ -3,7 +3,9 @@
 //! Rows come and go without taking memory: `reserve` makes room for the nodes of any tree with so many rows.
 //! Between two calls no cell waits and no node is out of shape (`IsKept` in `specs/TreeInside.antt`).
 
-ghost use Rattle.std.specs.Prelude.{◌≡◌, ◌<◌, ◌≤◌, ◌+◌, ◌-◌, ◌*◌, ◌/◌, ◌^◌, max, length, Some, None, IsSome, IfOk, OnOk, OnErr};
+ghost use Rattle.std.specs.Prelude.{◌≡◌, ◌<◌, ◌≤◌, ◌+◌, ◌-◌, ◌*◌, ◌/◌, ◌^◌, ℤ, max, length, is_some, Some, None, IsSome, IfOk, OnOk, OnErr};
+ghost use Rattle.std.specs.List.{list_any};
+ghost use Rattle.std.specs.Ordering.{int_eq};
 ghost use Rattle.rt_box.specs.Capacity.{least_fill};
 ghost use Rattle.rt_tree.specs.Lists.{root_level, empty_lists, IsInShape};
 ghost use Rattle.rt_tree.specs.Rows.{box_of, rows_of, GainsRow, LosesRow};
@@ -201,6 +203,13 @@ impl<const D: usize> Tree<D> {
         };
         let node = node_at(&self.arena.nodes, leaf);
         Some(node.cell(node.position(id)).rect)
+    }
+
+    /// The ids of the rows, in no order.
+    pub fn ids(&self) -> &[i64]
+        ensures { (id : ℤ) → list_any (int_eq id) result.now ≡ is_some (box_of self.now.lists id) }
+    {
+        self.arena.leaves.keys().as_slice()
     }
 
     /// The tree from outside: its nodes in preorder, numbered from 1, and its row entries by rising id. Look-ups in it

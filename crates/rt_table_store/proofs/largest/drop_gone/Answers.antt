@@ -1,26 +1,30 @@
-use Rattle.std.proofs.Common.{◌≡◌, ◌<◌, ◌+◌, false, length, IsSome, rules, arith, refl, subst, ◌∙◌}
+use Rattle.std.proofs.Common.{◌≡◌, ◌<◌, ◌-◌, ◌++◌, ◌∷◌, [], ℤ, List, true, false, length, get_or, take, rules, sym, ap, subst, ◌∙◌}
 use Rattle.std.specs.Prelude.{is_some}
-use Rattle.std.specs.BinaryHeap.{heap_items, heap_len}
+use Rattle.std.specs.List.Sorted.{IsSorted}
+use Rattle.std.specs.Ordering.{int_cmp}
 use Rattle.rt_tree.specs.Rows.{box_of}
-use Rattle.rt_table_store.proofs.Heaps.{top_from, one_top, on_some, after_pop, other_id}
+use Rattle.rt_table_store.proofs.Ranking.{top-is-last, upward-popped, sorted-taken, split-last}
 use Rattle.rt_table_store.proofs.largest.drop_gone.Goals as goal
 
 pub returns-then-is_there-clause-top : goal.returns-then-is_there-clause-top
 returns-then-is_there-clause-top g c =
-    let some : 0 < length (heap_items c.loop-id.ids) = c.in-Some.ensures.item.3.0 in
-    let there : IsSome (box_of c.args.tree.now.lists c.in-Some.id.now) = search rules in
-    let first = top_from c.in-Some.id.now (heap_items c.loop-id.ids) some c.in-Some.ensures.lookup (c.in-Some.ensures.greatest c.loop-id.invariant.order) in
-    λ id top. subst (λ z. IsSome (box_of c.args.tree.now.lists z)) (one_top c.in-Some.id.now id (heap_items c.loop-id.ids) first top) there
+    let xs = c.loop-id.ids.items in
+    let id = c.in-Some.id.now in
+    let last : id ≡ get_or xs (length xs - 1) id = search rules in
+    let there : is_some (box_of c.args.tree.now.lists id) ≡ true = search rules in
+    λ top is_top. subst (λ (z : ℤ). is_some (box_of c.args.tree.now.lists z) ≡ true) (last ∙ sym (top-is-last xs c.loop-id.invariant.order top id is_top)) there
 
 pub loop-id-preserved : goal.loop-id-preserved
 loop-id-preserved g c =
-    let some : 0 < length (heap_items c.loop-id.ids) = c.in-Some.ensures.item.3.0 in
-    let gone : is_some (box_of c.args.tree.now.lists c.in-Some.id.now) ≡ false = search rules in
-    let popped : IsSome c.pop.result = c.pop.ensures.variant.1 (c.in-Some.ensures.variant.0 refl) in
+    let xs = c.loop-id.ids.items in
+    let id = c.in-Some.id.now in
+    let some : 0 < length xs = search rules in
+    let last : id ≡ get_or xs (length xs - 1) id = search rules in
+    let rest : c.pop.new.self.items ≡ take (length xs - 1) xs = search rules in
+    let is : xs ≡ c.pop.new.self.items ++ id ∷ [] = split-last xs id some ∙ ap (λ (z : ℤ). take (length xs - 1) xs ++ z ∷ []) (sym last) ∙ ap (λ (ys : List ℤ). ys ++ id ∷ []) (sym rest) in
+    let gone : is_some (box_of c.args.tree.now.lists id) ≡ false = search rules in
     record {
-      live = λ id there. after_pop (heap_items c.loop-id.ids) (heap_items c.pop.new.self) c.pop.result c.in-Some.id.now popped c.pop.ensures.top c.pop.ensures.permutation some c.in-Some.ensures.lookup id
-          (other_id (box_of c.args.tree.now.lists) id c.in-Some.id.now gone there) ∙ c.loop-id.invariant.live id there;
-      order = search rules;
-      len = omega (arith, on_some (heap_len c.pop.new.self + 1 ≡ heap_len c.loop-id.ids) c.pop.result popped c.pop.ensures.len);
+      upward = λ up. upward-popped (λ z. is_some (box_of c.args.tree.now.lists z)) xs c.pop.new.self.items id is gone (c.loop-id.invariant.upward up);
+      order = subst (λ (ys : List ℤ). IsSorted int_cmp ys) (sym rest) (sorted-taken xs c.loop-id.invariant.order (length xs - 1));
       capacity = c.pop.ensures.capacity ∙ c.loop-id.invariant.capacity;
     }

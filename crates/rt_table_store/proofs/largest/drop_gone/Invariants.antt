@@ -1,17 +1,17 @@
-use Rattle.std.proofs.Common.{◌≡◌, ◌≤◌, ℤ, IsSome}
-use Rattle.std.specs.BinaryHeap.{IsHeap, heap_items, heap_len, heap_capacity}
-use Rattle.std.specs.List.{list_any}
-use Rattle.std.specs.Ordering.{int_cmp, int_eq}
+use Rattle.std.proofs.Common.{◌≡◌, vec_len, vec_capacity}
+use Rattle.std.specs.Prelude.{is_some}
+use Rattle.std.specs.List.Sorted.{IsSorted}
+use Rattle.std.specs.Ordering.{int_cmp}
 use Rattle.rt_tree.specs.Rows.{box_of}
+use Rattle.rt_table_store.specs.Ranked.{IsUpward}
 use Rattle.rt_table_store.proofs.largest.drop_gone.Given as goal
 
 abbrev pub invariant-loop-id : goal.invariant-loop-id
 invariant-loop-id g l = record {
-  live : (id : ℤ) → IsSome (box_of l.tree.lists id) → list_any (int_eq id) (heap_items l.ids) ≡ list_any (int_eq id) (heap_items l.fn.ids);
-  order : IsHeap int_cmp (heap_items l.ids);
-  len : heap_len l.ids ≤ heap_len l.fn.ids;
-  capacity : heap_capacity l.ids ≡ heap_capacity l.fn.ids;
+  upward : IsUpward (λ id. is_some (box_of l.tree.lists id)) l.fn.ids.items → IsUpward (λ id. is_some (box_of l.tree.lists id)) l.ids.items;
+  order : IsSorted int_cmp l.ids.items;
+  capacity : vec_capacity l.ids ≡ vec_capacity l.fn.ids;
 }
 
 abbrev pub decreases-loop-id : goal.decreases-loop-id
-decreases-loop-id g l = heap_len l.ids
+decreases-loop-id g l = vec_len l.ids

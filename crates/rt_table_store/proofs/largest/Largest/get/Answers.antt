@@ -1,10 +1,12 @@
-use Rattle.std.proofs.Common.{rules, ap}
-use Rattle.rt_table_store.specs.Ranked.{IsTop}
+use Rattle.std.proofs.Common.{ℤ, List, rules, subst}
 use Rattle.std.specs.Option.{option_copied}
-use Rattle.rt_table_store.proofs.Heaps.{peeked}
+use Rattle.rt_table_store.specs.Ranked.{IsTop}
+use Rattle.rt_table_store.proofs.Ranking.{last-is-top}
 use Rattle.rt_table_store.proofs.largest.Largest.get.Goals as goal
 
 pub returns : goal.returns
 returns c =
-    let top : IsTop c.args.self.now.ids (option_copied c.peek.result) = rw (← ap (λ v. v.ids) c.self.view_is) (peeked _ c.peek.result c.peek.ensures.item (search rules)) in
+    let order = c.self.invariant.0 in
+    let top : IsTop c.args.self.now (option_copied c.last.result) =
+    subst (λ (xs : List ℤ). IsTop xs (option_copied c.last.result)) c.self.view_is (last-is-top c.self.inside.ids.items order c.last.result (search rules)) in
     search rules

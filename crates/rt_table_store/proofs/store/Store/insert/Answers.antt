@@ -1,6 +1,6 @@
 use Rattle.std.proofs.Common.{◌≡◌, ◌≢◌, ◌≤◌, ◌<◌, ◌^◌, ℤ, false, ◌||◌, [], length, None, IsSome, arith, rules, refl, sym, ap, ◌∙◌, subst, w64, FitsSigned}
 use Rattle.std.specs.Option.{unwrap_or}
-use Rattle.std.specs.List.{list_any}
+use Rattle.std.specs.Prelude.{is_some}
 use Rattle.std.specs.Ordering.{int_eq}
 use Rattle.std.proofs.lemmas.Int.{to_z-of_z}
 use Rattle.std.proofs.lemmas.List.{length-map}
@@ -9,10 +9,12 @@ use Rattle.rt_tree.specs.Rows.{box_of, GainsRow}
 use Rattle.rt_check.specs.declared.node.RowEntry.{RowEntry}
 use Rattle.rt_table_row.specs.Rows.{has_id, with_row}
 use Rattle.rt_table_row.specs.Entries.{row_of}
+use Rattle.rt_table_store.specs.Ranked.{Ranks}
 use Rattle.rt_table_store.specs.Stored.{Stored}
 use Rattle.rt_table_store.specs.StoreInside.{joined}
 use Rattle.rt_table_store.proofs.Moved.{no-box, rows-inserted}
-use Rattle.rt_table_store.proofs.Kept.{auxiliary-kept, ranked-inserted, top-inserted, longer}
+use Rattle.rt_table_store.proofs.Kept.{auxiliary-kept, there-inserted, longer}
+use Rattle.rt_table_store.proofs.Ranking.{ranks-same}
 use Rattle.rt_table_store.proofs.store.Store.insert.Goals as goal
 
 pub insert-requires : goal.insert-requires
@@ -39,16 +41,15 @@ invariant_of-self g c =
     let gains : GainsRow old new id c.args.row.rect = subst (λ (z : ℤ). GainsRow old new z c.args.row.rect) same c.insert.ensures.rows in
     let here : IsSome (box_of new id) = subst IsSome (sym gains.here) refl in
     let values = subst (λ (z : ℤ). (other : ℤ) → other ≢ z → get int_eq c.set_auxiliary.new.auxiliary other ≡ get int_eq i.auxiliary other) same c.set_auxiliary.ensures.others in
-    let came = subst (λ (z : ℤ). (other : ℤ) → list_any (int_eq other) c.push.new.self.ids ≡ (int_eq other z || list_any (int_eq other) i.largest.ids)) same c.push.ensures.ids in
+    let came : Ranks (λ other. int_eq other id || is_some (box_of old other)) c.push.new.self =
+    subst (λ (z : ℤ). Ranks (λ other. int_eq other z || is_some (box_of old other)) c.push.new.self) same (c.push.ensures _ k.ranks) in
     let long = ap (λ (v : Stored g.row.D). length v.rows) c.self.view_is in
     record {
       some = k.some;
       few = k.few;
       most = omega (arith, longer old new c.is_in_shape.ensures c.is_in_shape-2.ensures i.auxiliary id c.args.row.rect gains, long, c.requires.few, length-map old.rows (λ (e : RowEntry). joined old i.auxiliary e.id));
       auxiliary = auxiliary-kept old new id gains.others i.auxiliary c.set_auxiliary.new.auxiliary values (λ some. here) k.auxiliary;
-      room = omega (arith, k.room, c.push.ensures.room, c.insert.ensures.spare);
-      ranked = ranked-inserted old new id gains.others i.largest.ids c.push.new.self.ids came k.ranked;
-      top = top-inserted old new id gains.others i.largest.ids c.push.new.self.ids came here k.top;
+      ranks = ranks-same _ c.push.new.self _ (there-inserted old new id gains.others here) came;
       nothing = k.nothing;
     }
 

@@ -7,5 +7,5 @@ use Rattle.rt_table_store.proofs.store.Store.largest.Goals as goal
 pub returns : goal.returns
 returns g c =
     let i = c.self.inside in
-    largest-is i.tree.lists c.is_in_shape.ensures i.auxiliary i.largest.ids c.self.invariant.ranked c.self.invariant.top c.get.result c.get.ensures
+    largest-is i.tree.lists c.is_in_shape.ensures i.auxiliary i.largest c.self.invariant.ranks c.get.result c.get.ensures
     ∙ ap (λ (v : Stored g.row.D). largest_id v.rows) c.self.view_is

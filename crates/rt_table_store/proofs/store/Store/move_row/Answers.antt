@@ -10,7 +10,8 @@ use Rattle.rt_table_store.specs.Trees.{IsTreeOf}
 use Rattle.rt_table_store.specs.Moves.{Gains, Replaces}
 use Rattle.rt_table_store.proofs.Moved.{a-box, rows-replaced, rows-removed}
 use Rattle.rt_table_store.proofs.Counted.{is-tree}
-use Rattle.rt_table_store.proofs.Kept.{auxiliary-kept, still-there, longer, one-fewer}
+use Rattle.rt_table_store.proofs.Kept.{auxiliary-kept, there-replaced, longer, one-fewer}
+use Rattle.rt_table_store.proofs.Ranking.{ranks-same}
 use Rattle.rt_table_store.proofs.store.Store.move_row.Goals as goal
 
 pub remove-requires : goal.remove-requires
@@ -52,9 +53,7 @@ invariant_of-self g c =
       few = k.few;
       most = omega (arith, k.most, one-fewer old between c.is_in_shape.ensures c.is_in_shape-2.ensures i.auxiliary id c.remove.result loses, longer between new c.is_in_shape-2.ensures c.is_in_shape-3.ensures i.auxiliary id c.args.rect.now gains);
       auxiliary = auxiliary-kept old new id boxes i.auxiliary c.set_auxiliary.new.auxiliary c.set_auxiliary.ensures.others (λ some. here) k.auxiliary;
-      room = omega (arith, k.room, c.remove.ensures.spare, c.insert.ensures.spare);
-      ranked = λ other some. k.ranked other (still-there new old id (λ one ne. sym (boxes one ne)) was other some);
-      top = λ other is_top. still-there old new id boxes here other (k.top other is_top);
+      ranks = ranks-same _ i.largest _ (there-replaced old new id boxes was here) k.ranks;
       nothing = k.nothing;
     }
 

@@ -9,7 +9,7 @@ use Rattle.rt_table_row.specs.Rows.{TableRow, row_at, has_id, without_id}
 use Rattle.rt_table_store.specs.Stored.{Stored}
 use Rattle.rt_table_store.proofs.Joined.{boxed, row-at}
 use Rattle.rt_table_store.proofs.Moved.{a-box, rows-removed}
-use Rattle.rt_table_store.proofs.Kept.{not-both, auxiliary-kept, ranked-removed, one-fewer}
+use Rattle.rt_table_store.proofs.Kept.{not-both, auxiliary-kept, there-removed, one-fewer}
 use Rattle.rt_table_store.proofs.store.Store.remove.Goals as goal
 
 pub remove-rect-requires : goal.remove-rect-requires
@@ -33,9 +33,7 @@ invariant_of-self g c =
       few = k.few;
       most = omega (arith, k.most, one-fewer old new c.is_in_shape.ensures c.is_in_shape-2.ensures i.auxiliary id c.remove-rect.result loses);
       auxiliary = auxiliary-kept old new id loses.others i.auxiliary c.take_auxiliary-auxiliary.new.auxiliary c.take_auxiliary-auxiliary.ensures.others (λ some. not-both (IsSome (box_of new id)) (get int_eq c.take_auxiliary-auxiliary.new.auxiliary id) c.take_auxiliary-auxiliary.ensures.gone some) k.auxiliary;
-      room = omega (arith, k.room, c.settle.ensures.room, c.remove-rect.ensures.spare);
-      ranked = ranked-removed old new id loses.others i.largest.ids c.settle.new.self.ids loses.gone c.settle.ensures.live k.ranked;
-      top = c.settle.ensures.top;
+      ranks = c.settle.ensures _ k.ranks (there-removed old new id loses.others loses.gone);
       nothing = k.nothing;
     }
 

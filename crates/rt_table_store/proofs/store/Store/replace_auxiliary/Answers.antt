@@ -21,9 +21,7 @@ invariant_of-self g c =
       few = k.few;
       most = k.most;
       auxiliary = auxiliary-kept i.tree.lists i.tree.lists id (λ other ne. refl) i.auxiliary c.set_auxiliary.new.auxiliary c.set_auxiliary.ensures.others (λ some. there) k.auxiliary;
-      room = k.room;
-      ranked = k.ranked;
-      top = k.top;
+      ranks = k.ranks;
       nothing = k.nothing;
     }
 

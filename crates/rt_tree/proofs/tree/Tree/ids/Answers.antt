@@ -1,0 +1,18 @@
+use Rattle.std.proofs.Common.{sym, ap, ◌∙◌}
+use Rattle.std.specs.Prelude.{is_some}
+use Rattle.std.specs.List.{list_any}
+use Rattle.std.specs.Ordering.{int_eq}
+use Rattle.std.proofs.lemmas.Map.Made.{is_some-lookup}
+use Rattle.rt_tree.specs.Lists.{TreeLists}
+use Rattle.rt_tree.specs.Rows.{box_of}
+use Rattle.rt_tree.proofs.Kept.{settled}
+use Rattle.rt_tree.proofs.Rows.{has-row}
+use Rattle.rt_tree.proofs.tree.Tree.ids.Goals as goal
+
+pub returns : goal.returns
+returns g c = λ id.
+    let t = c.self.inside.arena in
+    ap (list_any (int_eq id)) (c.as_slice.ensures ∙ c.keys.ensures.rest)
+    ∙ sym (is_some-lookup (int_eq id) t.leaves.entries)
+    ∙ sym (has-row t (settled c.self.inside c.self.invariant) id)
+    ∙ ap (λ (v : TreeLists g.row.D). is_some (box_of v.lists id)) c.self.view_is
