@@ -2,8 +2,7 @@
 
 use std::io::Write;
 
-use crate::calls::{self, Handle, Supported};
-use crate::{check, Axes, Error, Point, Rect, Shell, Tree};
+use crate::{check, Error, Handle, Rect, Shell, Tree};
 
 fn cube<const D: usize>(min: i32, max: i32) -> Rect<D> {
     Rect { min: [min; D], max: [max; D] }
@@ -11,38 +10,33 @@ fn cube<const D: usize>(min: i32, max: i32) -> Rect<D> {
 
 fn is_send<T: Send>(_: &T) {}
 
-#[allow(private_bounds)]
-fn tree<const D: usize>() -> Result<(), Error>
-where
-    Axes<D>: Supported<D>,
-{
-    let mut tree = Tree::<D>::with_capacity(5)?;
-    is_send(&tree);
-    for id in 0..200 {
-        tree.insert(id.into(), &cube(10 * id, 10 * id + 5))?;
-    }
-    tree.remove(100)?;
-    assert_eq!((tree.len()?, tree.is_empty()?), (199, false));
-    assert_eq!((tree.count(&cube(0, 2000))?, tree.count(&cube(995, 1012))?), (199, 2));
-    assert_eq!(tree.search(&cube(0, 2000))?.len(), 199);
-    let rows = tree.search_rows(&cube(45, 45))?;
-    assert_eq!((rows.len(), rows[0].id, rows[0].rect), (1, 4, cube(40, 45)));
-    let ids =
-        |most| Ok::<Vec<i64>, Error>(tree.nearest(&Point { at: [-10; D] }, most)?.iter().map(|row| row.id).collect());
-    assert_eq!((ids(3)?, ids(0)?, ids(1000)?.len()), (vec![0, 1, 2], vec![], 199));
-    assert_eq!((tree.get(7)?, tree.get(100)?), (Some(cube(70, 75)), None));
-    assert_eq!((tree.len()?, tree.get(199)?, tree.count(&cube(995, 1012))?), (199, Some(cube(1990, 1995)), 2));
-    assert!(tree.dump()?.starts_with(format!("rtree {D} ").as_bytes()));
-    tree.clear()?;
-    assert_eq!((tree.is_empty()?, tree.search(&cube(0, 2000))?), (true, vec![]));
-    Ok(())
+macro_rules! tree {
+    ($D:literal) => {
+        let mut tree = Tree::<$D>::with_capacity(5)?;
+        is_send(&tree);
+        for id in 0..200 {
+            tree.insert(id.into(), &cube(10 * id, 10 * id + 5))?;
+        }
+        tree.remove(100)?;
+        assert_eq!((tree.len()?, tree.count(&cube(0, 2000))?, tree.count(&cube(995, 1012))?), (199, 199, 2));
+        assert_eq!(tree.search(&cube(0, 2000))?.len(), 199);
+        let rows = tree.search_rows(&cube(45, 45))?;
+        assert_eq!((rows.len(), rows[0].id, rows[0].rect), (1, 4, cube(40, 45)));
+        let ids = |most| tree.nearest(&[-10; $D], most).map(|rows| rows.iter().map(|row| row.id).collect::<Vec<_>>());
+        assert_eq!((ids(3)?, ids(0)?, ids(1000)?.len()), (vec![0, 1, 2], vec![], 199));
+        assert_eq!((tree.get(7)?, tree.get(100)?), (Some(cube(70, 75)), None));
+        assert!(tree.dump()?.starts_with(concat!("rtree ", $D, " ").as_bytes()));
+        tree.clear()?;
+        assert_eq!((tree.is_empty()?, tree.search(&cube(0, 2000))?), (true, vec![]));
+    };
 }
 
 #[test]
 fn trees() -> Result<(), Error> {
-    tree::<1>()?;
-    tree::<2>()?;
-    tree::<3>()
+    tree!(1);
+    tree!(2);
+    tree!(3);
+    Ok(())
 }
 
 #[test]
@@ -59,26 +53,20 @@ fn shells() -> Result<(), Error> {
     Ok(())
 }
 
-// But `Ended`, `TreeFull` and `OutOfMemory`. The calls below have no way to the first three: they are tried on a handle.
+// But `Ended`, `TreeFull` and `OutOfMemory`. The methods have no way to `BufferTooSmall` and `TooLong`.
 #[test]
 fn codes() -> Result<(), Error> {
-    let calls = <Axes<2> as Supported<2>>::CALLS;
-    let (mut tree, line, mut total) = (Tree::<2>::new()?, Tree::<1>::new()?, 0);
-    let (rect, mut id) = (cube(0, 1), 0);
+    let mut tree = Tree::<2>::new()?;
+    let rect = cube(0, 1);
     tree.insert(1, &rect)?;
-    let mut closed = Handle::CLOSED;
-    assert_eq!(check(unsafe { calls::juicedelta_close(&mut closed) }), Err(Error::Closed));
-    assert_eq!(check(unsafe { (calls.len)(line.owner.get(), &mut total) }), Err(Error::OtherKind));
-    assert_eq!(check(unsafe { (calls.open)(tree.owner.get(), 51, 1, 2) }), Err(Error::AlreadyOpen));
+    assert_eq!(Tree::<2>(Handle::default()).len(), Err(Error::Closed));
+    assert_eq!(Tree::<1>(Tree::<2>::new()?.0).len(), Err(Error::OtherKind));
+    assert_eq!(tree.open(51, 1, 2), Err(Error::AlreadyOpen));
     assert_eq!(Tree::<2>::with_capacity(4).err(), Some(Error::BadCapacity));
     assert_eq!(tree.insert(2, &cube(1, 0)), Err(Error::BadBox));
     assert_eq!(tree.insert(1, &rect), Err(Error::IdTaken));
     assert_eq!(tree.remove(2), Err(Error::IdMissing));
-    assert_eq!(
-        check(unsafe { (calls.search)(tree.owner.get(), &rect, &mut id, 0, &mut total) }),
-        Err(Error::BufferTooSmall)
-    );
-    assert_eq!(check(12), Err(Error::TooLong));
+    assert_eq!((check(8), check(12)), (Err(Error::BufferTooSmall), Err(Error::TooLong)));
     assert_eq!((tree.len()?, Error::IdTaken.to_string().as_str()), (1, "the id is taken"));
     Ok(())
 }
