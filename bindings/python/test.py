@@ -75,8 +75,8 @@ def test_codes():
     assert refused(tree.insert, 1, (0, 0, 1, 1)) == 6
     assert refused(tree.delete, 2) == 7
     ids, total = juicedelta.array.array("q", [0]), juicedelta.ctypes.c_uint64()
-    assert refused(tree._do, tree._search, tree._packed((0, 0, 1, 1)), ids.buffer_info()[0], 0, juicedelta.ctypes.byref(total)) == 8
-    assert refused(juicedelta._refuse, 12) == 12
+    assert refused(tree._do, tree._search, juicedelta._packed(tree._box, (0, 0, 1, 1)), ids.buffer_info()[0], 0, juicedelta.ctypes.byref(total)) == 8
+    assert JuicedeltaError(12).code == 12 and str(JuicedeltaError(12)) == "the script is longer than 2^63 bytes"
     for words in ((1, (0, 0, 1)), (1, (0, 0, 1, 2**31)), (2**63, (0, 0, 1, 1))):
         try:
             tree.insert(*words)
@@ -112,7 +112,7 @@ def test_shell():
 
 def test_memory():
     tree = RTree()
-    packed = tree._packed((0, 0, 1, 1))
+    packed = juicedelta._packed(tree._box, (0, 0, 1, 1))
     os.write(2, b"<")
     code = tree._insert(tree._at, 1, packed)
     os.write(2, b">")

@@ -2,11 +2,6 @@
 
 The library is the file that JUICEDELTA_LIBRARY names, else lib/libjuicedelta.so of the checkout, else the installed one.
 A call holds the interpreter's lock, so calls of several threads come one after the other.
-
->>> shops = RTree()
->>> shops.insert(1, (10, 5, 14, 9))
->>> list(shops.intersection((0, 0, 20, 8)))
-[1]
 """
 
 from __future__ import annotations
@@ -18,12 +13,7 @@ import re
 import secrets
 import struct
 from pathlib import Path
-from typing import Any, Iterator, List, NamedTuple, NoReturn, Sequence, Tuple, Union, overload
-
-try:
-    from typing import Literal
-except ImportError:  # before Python 3.8
-    Literal = {True: bool, False: bool}  # type: ignore[misc, assignment]
+from typing import Any, Iterator, List, NamedTuple, Sequence, Tuple, Union
 
 __all__ = ["Item", "JuicedeltaError", "RTree", "Shell", "StatementRefused", "Value"]
 
@@ -39,14 +29,7 @@ _ID_MISSING, _BUFFER_TOO_SMALL = 7, 8
 
 
 class JuicedeltaError(Exception):
-    """A call that was refused: its number in juicedelta.h, and words.
-
-    >>> try:
-    ...     RTree().delete(7)
-    ... except JuicedeltaError as error:
-    ...     print(error.code, error)
-    7 no row has that id
-    """
+    """A call that was refused: its number in juicedelta.h, and words."""
 
     def __init__(self, code: int) -> None:
         super().__init__(_WORDS.get(code, "unknown code"))
@@ -54,14 +37,7 @@ class JuicedeltaError(Exception):
 
 
 class StatementRefused(Exception):
-    """A statement that was refused: which one of the script, from 1 on, the number of the refusal, and its words.
-
-    >>> try:
-    ...     Shell().rows("SELECT * FROM shops;")
-    ... except StatementRefused as refusal:
-    ...     print(refusal.statement, refusal.number, refusal)
-    1 5 no such table
-    """
+    """A statement that was refused: which one of the script, from 1 on, the number of the refusal, and its words."""
 
     def __init__(self, statement: int, number: int, words: str) -> None:
         super().__init__(words)
@@ -70,11 +46,7 @@ class StatementRefused(Exception):
 
 
 class Item(NamedTuple):
-    """A row of a tree.
-
-    >>> Item(7, (0, 0, 3, 4)).bbox
-    (0, 0, 3, 4)
-    """
+    """A row of a tree."""
 
     id: int
     bbox: Tuple[int, ...]
@@ -95,53 +67,54 @@ def _load() -> ctypes.PyDLL:
 
 
 _library = _load()
-_POINTER, _SIZE, _WORD, _ID = ctypes.c_void_p, ctypes.c_size_t, ctypes.c_uint64, ctypes.c_int64
-_BYTES = ctypes.c_char_p
-_KEYS = [_WORD, _WORD]
-_ARGUMENTS = {
-    "open": [ctypes.c_uint32, *_KEYS], "insert": [_ID, _BYTES], "remove": [_ID],
-    "get": [_ID, _POINTER], "len": [_POINTER], "count": [_BYTES, _POINTER], "search": [_BYTES, _POINTER, _SIZE, _POINTER],
-    "search_rows": [_BYTES, _POINTER, _SIZE, _POINTER], "nearest": [_BYTES, _POINTER, _SIZE, _POINTER],
-    "dump": [_POINTER, _SIZE, _POINTER], "clear": [], "exec": [_BYTES, _SIZE], "finish": [_POINTER],
-    "output_length": [_POINTER], "output": [_POINTER, _SIZE], "drop_output": [],
+_POINTER, _SIZE, _WORD, _ID, _BYTES = ctypes.c_void_p, ctypes.c_size_t, ctypes.c_uint64, ctypes.c_int64, ctypes.c_char_p
+_LIST = [_POINTER, _SIZE, _POINTER]
+_TREE_CALLS = {
+    "open": [ctypes.c_uint32, _WORD, _WORD], "insert": [_ID, _BYTES], "remove": [_ID], "get": [_ID, _POINTER],
+    "len": [_POINTER], "count": [_BYTES, _POINTER], "search": [_BYTES, *_LIST], "search_rows": [_BYTES, *_LIST],
+    "nearest": [_BYTES, *_LIST], "dump": _LIST, "clear": [],
+}
+_SCRIPT_CALLS = {
+    "open": [ctypes.c_uint32, _WORD, _WORD], "exec": [_BYTES, _SIZE], "finish": [_POINTER], "output_length": [_POINTER],
+    "output": [_POINTER, _SIZE], "drop_output": [],
 }
 
 
-def _refuse(code: int) -> NoReturn:
-    raise JuicedeltaError(code)
-
-
-def _keys() -> Tuple[int, int]:
-    return secrets.randbits(64), secrets.randbits(64)
-
-
 class _Owner:
-    """A handle, and the calls for the kind of object that it holds."""
+    """A handle, and the calls for the kind of object that it holds, each as an attribute of its name behind a `_`."""
 
-    def __init__(self, kind: str, names: str) -> None:
+    def __init__(self, kind: str, calls: dict[str, list[Any]]) -> None:
         self._handle = _Handle()
         self._at = ctypes.byref(self._handle)
-        for name in names.split():
+        for name, words in calls.items():
             call = getattr(_library, f"juicedelta_{kind}_{name}")
-            call.argtypes = [_POINTER, *_ARGUMENTS[name]]
+            call.argtypes = [_POINTER, *words]
             setattr(self, "_" + name, call)
 
     def _do(self, call: Any, *words: object) -> None:
         code = call(self._at, *words)
         if code:
-            _refuse(code)
+            raise JuicedeltaError(code)
 
     def _number(self, call: Any, *words: object) -> int:
         number = ctypes.c_uint64()
         self._do(call, *words, ctypes.byref(number))
         return number.value
 
-    def close(self) -> None:
-        """Frees what is held. Closing twice does nothing.
+    def _filled(self, kind: str, width: int, room: int, call: Any, *words: object) -> array.array[int]:
+        """The items that a call writes, of `width` numbers each; it is called again with more room where they need it."""
+        total = ctypes.c_uint64()
+        while True:
+            data = array.array(kind, bytes(struct.calcsize(kind) * width * max(room, 1)))
+            code = call(self._at, *words, data.buffer_info()[0], room, ctypes.byref(total))
+            room = total.value
+            if code == 0:
+                return data[: width * room]
+            if code != _BUFFER_TOO_SMALL:
+                raise JuicedeltaError(code)
 
-        >>> shops = RTree()
-        >>> shops.close(); shops.close()
-        """
+    def close(self) -> None:
+        """Frees what is held. Closing twice does nothing."""
         _library.juicedelta_close(self._at)
 
     def __del__(self) -> None:
@@ -152,168 +125,77 @@ class _Owner:
 class RTree(_Owner):
     """A map from ids to boxes of `dimension` axes, 1 to 3, that is searched by boxes. Both ends belong to a box.
 
-    Coordinates are the least number of each axis, and then the greatest of each.
+    Coordinates are the least number of each axis, and then the greatest of each. A call that is refused raises
+    JuicedeltaError.
 
     >>> shops = RTree()
     >>> shops.insert(1, (10, 5, 14, 9))
     >>> shops.insert(2, (30, 0, 42, 6))
-    >>> len(shops), 2 in shops, 3 in shops, sorted(shops)
-    (2, True, False, [1, 2])
+    >>> len(shops), 2 in shops, 3 in shops, sorted(shops), shops.box(1)
+    (2, True, False, [1, 2], (10, 5, 14, 9))
+    >>> list(shops.intersection((0, 0, 20, 8))), list(shops.nearest((29, 3))), shops.count((14, 9, 30, 20))
+    ([1], [2], 1)
+    >>> list(shops.intersection((42, 6, 50, 50), objects=True))
+    [Item(id=2, bbox=(30, 0, 42, 6))]
     """
 
     def __init__(self, dimension: int = 2, capacity: int = 51) -> None:
         self._set(dimension)
-        self._do(self._open, capacity, *_keys())
+        self._do(self._open, capacity, secrets.randbits(64), secrets.randbits(64))
 
     def _set(self, dimension: int) -> None:
         if dimension not in (1, 2, 3):
             raise ValueError("dimension is 1, 2 or 3")
-        super().__init__(f"tree{dimension}", "open insert remove get len count search search_rows nearest dump clear")
+        super().__init__(f"tree{dimension}", _TREE_CALLS)
         self.dimension = dimension
-        self._box = struct.Struct(f"={2 * dimension}i")
-        self._point = struct.Struct(f"={dimension}i")
+        self._box, self._point = struct.Struct(f"={2 * dimension}i"), struct.Struct(f"={dimension}i")
         self._row = struct.Struct(f"=q{2 * dimension}i")
         self._room = 64
 
-    def _packed(self, coordinates: Sequence[int]) -> bytes:
-        try:
-            return self._box.pack(*coordinates)
-        except struct.error as error:
-            raise ValueError("a box has the least number of each axis and then the greatest, of 32 bits") from error
-
     def insert(self, id: int, coordinates: Sequence[int]) -> None:
-        """Inserts a row. An id that is taken is an error.
-
-        >>> RTree(dimension=3).insert(1, (0, 0, 0, 1, 2, 3))
-        """
-        code = self._insert(self._at, _checked(id), self._packed(coordinates))
-        if code:
-            _refuse(code)
+        """Inserts a row. An id that is taken is an error."""
+        self._do(self._insert, _checked(id), _packed(self._box, coordinates))
 
     def delete(self, id: int) -> None:
-        """Removes a row. An id that is missing is an error.
-
-        >>> shops = RTree()
-        >>> shops.insert(1, (10, 5, 14, 9))
-        >>> shops.delete(1)
-        >>> len(shops)
-        0
-        """
-        code = self._remove(self._at, _checked(id))
-        if code:
-            _refuse(code)
+        """Removes a row. An id that is missing is an error."""
+        self._do(self._remove, _checked(id))
 
     def box(self, id: int) -> Tuple[int, ...]:
-        """The box of a row.
-
-        >>> shops = RTree()
-        >>> shops.insert(1, (10, 5, 14, 9))
-        >>> shops.box(1)
-        (10, 5, 14, 9)
-        """
+        """The box of a row. An id that is missing is an error."""
         box = ctypes.create_string_buffer(self._box.size)
         self._do(self._get, _checked(id), box)
         return self._box.unpack(box)
 
     def count(self, coordinates: Sequence[int]) -> int:
-        """How many rows have a point in common with the box.
-
-        >>> shops = RTree()
-        >>> shops.insert(1, (10, 5, 14, 9))
-        >>> shops.count((14, 9, 20, 20)), shops.count((15, 9, 20, 20))
-        (1, 0)
-        """
-        return self._number(self._count, self._packed(coordinates))
-
-    @overload
-    def intersection(self, coordinates: Sequence[int], objects: Literal[False] = False) -> Iterator[int]: ...
-    @overload
-    def intersection(self, coordinates: Sequence[int], objects: Literal[True]) -> Iterator[Item]: ...
+        """How many rows have a point in common with the box."""
+        return self._number(self._count, _packed(self._box, coordinates))
 
     def intersection(self, coordinates: Sequence[int], objects: bool = False) -> Iterator[Any]:
-        """The ids of the rows that have a point in common with the box, in no stated order; with `objects` the rows.
-
-        >>> shops = RTree()
-        >>> shops.insert(1, (10, 5, 14, 9))
-        >>> shops.insert(2, (30, 0, 42, 6))
-        >>> list(shops.intersection((0, 0, 20, 8)))
-        [1]
-        >>> [(row.id, row.bbox) for row in shops.intersection((42, 6, 50, 50), objects=True)]
-        [(2, (30, 0, 42, 6))]
-        """
-        box, total, room = self._packed(coordinates), ctypes.c_uint64(), self._room
-        call = self._search_rows if objects else self._search
-        while True:
-            data = array.array("q", bytes(room * (self._row.size if objects else 8)))
-            code = call(self._at, box, data.buffer_info()[0], room, ctypes.byref(total))
-            room = total.value
-            if code == 0:
-                return self._items(data, room) if objects else iter(data[:room])
-            if code != _BUFFER_TOO_SMALL:
-                _refuse(code)
-            # The next window may have as many.
-            self._room = max(self._room, min(room, 4096))
-
-    @overload
-    def nearest(self, coordinates: Sequence[int], num_results: int = 1, objects: Literal[False] = False) -> Iterator[int]: ...
-    @overload
-    def nearest(self, coordinates: Sequence[int], num_results: int, objects: Literal[True]) -> Iterator[Item]: ...
+        """The ids of the rows that have a point in common with the box, in no stated order; with `objects` the rows."""
+        width, call = (self._row.size // 8, self._search_rows) if objects else (1, self._search)
+        data = self._filled("q", width, self._room, call, _packed(self._box, coordinates))
+        # The next window may have as many.
+        self._room = max(self._room, min(len(data) // width, 4096))
+        return self._items(data) if objects else iter(data)
 
     def nearest(self, coordinates: Sequence[int], num_results: int = 1, objects: bool = False) -> Iterator[Any]:
-        """The ids of the rows nearest to a point, the nearest first, of equal ones the lower id; with `objects` the rows.
-
-        The coordinates are a number for each axis, or a box that is a point.
-
-        >>> shops = RTree()
-        >>> shops.insert(1, (10, 5, 14, 9))
-        >>> shops.insert(2, (30, 0, 42, 6))
-        >>> list(shops.nearest((29, 3))), list(shops.nearest((0, 0, 0, 0), 5))
-        ([2], [1, 2])
-        """
+        """The ids of the rows nearest to a point, the nearest first, of equal ones the lower id; with `objects` the rows."""
         low, high = coordinates[: self.dimension], coordinates[self.dimension :]
         if len(high) > 0 and tuple(low) != tuple(high):
-            raise ValueError("nearest takes a point")
-        try:
-            point = self._point.pack(*low)
-        except struct.error as error:
-            raise ValueError("a point has a number of 32 bits for each axis") from error
+            raise ValueError("nearest takes a number for each axis, or a box that is a point")
         room = min(max(num_results, 0), len(self))
-        data, total = array.array("q", bytes(max(room, 1) * self._row.size)), ctypes.c_uint64()
-        self._do(self._nearest, point, data.buffer_info()[0], room, ctypes.byref(total))
-        rows = self._items(data, total.value)
+        rows = self._items(self._filled("q", self._row.size // 8, room, self._nearest, _packed(self._point, low)))
         return rows if objects else (row.id for row in rows)
 
-    def _items(self, data: array.array[int], length: int) -> Iterator[Item]:
-        rows = self._row.iter_unpack(data[: length * self._row.size // 8])
-        return (Item(row[0], row[1:]) for row in rows)
+    def _items(self, data: array.array[int]) -> Iterator[Item]:
+        return (Item(row[0], row[1:]) for row in self._row.iter_unpack(data))
 
     def dump(self) -> str:
-        """The dump, which `rtsh check` checks and `rtsh draw` draws.
-
-        >>> print(RTree(dimension=1, capacity=5).dump(), end="")
-        rtree 1 5 1 1 0
-        node 1 0 - 0
-        end
-        """
-        total, room = ctypes.c_uint64(), 4096
-        while True:
-            text = ctypes.create_string_buffer(room)
-            code = self._dump(self._at, text, room, ctypes.byref(total))
-            room = total.value
-            if code == 0:
-                return text.raw[:room].decode()
-            if code != _BUFFER_TOO_SMALL:
-                _refuse(code)
+        """The dump, which `rtsh check` checks and `rtsh draw` draws."""
+        return self._filled("B", 1, 4096, self._dump).tobytes().decode()
 
     def clear(self) -> None:
-        """Takes all rows out.
-
-        >>> shops = RTree()
-        >>> shops.insert(1, (10, 5, 14, 9))
-        >>> shops.clear()
-        >>> 1 in shops
-        False
-        """
+        """Takes all rows out."""
         self._do(self._clear)
 
     def __len__(self) -> int:
@@ -321,15 +203,21 @@ class RTree(_Owner):
 
     def __contains__(self, id: int) -> bool:
         try:
-            self.box(id)
-            return True
+            return self.box(id) is not None
         except JuicedeltaError as error:
-            if error.code != _ID_MISSING:
-                raise
-            return False
+            if error.code == _ID_MISSING:
+                return False
+            raise
 
     def __iter__(self) -> Iterator[int]:
         return self.intersection([-(2**31)] * self.dimension + [2**31 - 1] * self.dimension)
+
+
+def _packed(form: struct.Struct, coordinates: Sequence[int]) -> bytes:
+    try:
+        return form.pack(*coordinates)
+    except struct.error as error:
+        raise ValueError(f"coordinates are {form.size // 4} numbers of 32 bits here") from error
 
 
 def _checked(id: int) -> int:
@@ -354,60 +242,45 @@ class Shell(_Owner):
     """A script shell: it is fed a script in whatever parts.
 
     >>> shell = Shell()
-    >>> shell.execute("CREATE VIRTUAL TABLE t USING rtree_i32(id, a, b); INSERT INTO t VALUES (1, 2, 3);")
+    >>> shell.execute("CREATE VIRTUAL TABLE t USING rtree_i32(id, a, b, +c); INSERT INTO t VALUES (1, 2, 3, 'it''s');")
     []
-    >>> shell.execute("SELECT * FROM t;")
-    ['1|2|3']
+    >>> shell.execute("SELECT id, a FROM t;"), shell.rows("SELECT id, c FROM t;")
+    (['1|2'], [(1, "it's")])
+    >>> shell.execute("DELETE FROM u;"), shell.finish()
+    (['refused 5 5: no such table'], [])
     """
 
     def __init__(self, capacity: int = 51) -> None:
-        super().__init__("script", "open exec finish output_length output drop_output")
-        self._do(self._open, capacity, *_keys())
+        super().__init__("script", _SCRIPT_CALLS)
+        self._do(self._open, capacity, secrets.randbits(64), secrets.randbits(64))
 
     def execute(self, text: str) -> List[str]:
-        """Feeds the shell some text, and answers the lines that it prints. A refused statement prints one too.
-
-        >>> Shell().execute("SELECT * FROM t; DROP TABLE IF EXISTS t;")
-        ['refused 1 5: no such table']
-        """
+        """Feeds the shell some text, and answers the lines that it prints. A refused statement prints one too."""
         return self._fed(text).split("\n")[:-1]
 
     def rows(self, select: str) -> List[Tuple[Value, ...]]:
-        """The rows of a SELECT, with its `;`, or of `.view NAME` and a line feed: NULL is None, a blob bytes.
+        """The rows of a SELECT with its `;`, or of `.view NAME` and a line feed: NULL is None, a blob bytes.
 
         A refused statement raises StatementRefused.
-
-        >>> shell = Shell()
-        >>> shell.execute("CREATE VIRTUAL TABLE t USING rtree_i32(id, a, b, +c); INSERT INTO t VALUES (1, 2, 3, 'it''s');")
-        []
-        >>> shell.rows("SELECT id, c FROM t;")
-        [(1, "it's")]
         """
         printed = self._fed(select)
-        refusal = re.search(r"^refused (\d+) (\d+): (.*)$", printed, re.MULTILINE) if printed.startswith("refused ") else None
+        refusal = re.match(r"refused (\d+) (\d+): (.*)", printed)
         if refusal:
             raise StatementRefused(int(refusal.group(1)), int(refusal.group(2)), refusal.group(3))
+        values = _PRINTED.findall(printed)
+        if "".join(text + end for text, end in values) != printed:
+            raise ValueError("something else than rows is printed: " + printed)
         rows: List[Tuple[Value, ...]] = []
         row: List[Value] = []
-        at = 0
-        while at < len(printed):
-            found = _PRINTED.match(printed, at)
-            if found is None:
-                raise ValueError("something else than rows is printed: " + printed[at:].split("\n")[0])
-            row.append(_value(found.group(1)))
-            at = found.end()
-            if found.group(2) == "\n":
+        for text, end in values:
+            row.append(_value(text))
+            if end == "\n":
                 rows.append(tuple(row))
                 row = []
         return rows
 
     def finish(self) -> List[str]:
-        """Ends the script, and answers the lines that its end prints: a last statement without `;` is refused.
-
-        >>> shell = Shell()
-        >>> shell.execute("SELECT"), shell.finish()
-        ([], ['refused 1 2: incomplete input'])
-        """
+        """Ends the script, and answers the lines that its end prints: a last statement without `;` is refused."""
         self._do(self._finish, ctypes.byref(ctypes.c_uint32()))
         return self._printed().split("\n")[:-1]
 
