@@ -1,10 +1,11 @@
-// The same calls on a tree of Juicedelta, on Boost.Geometry's rtree<.., rstar<51>> and on libspatialindex's R*-tree: calls WHO ROWS.
-// Prints a line of nanoseconds of the processor a call and a checksum for each kind of call. Compile it with -DPEER_BOOST or
-// -DPEER_SPATIALINDEX for these, which need their headers.
+// The work of `rt_bench tree 2 ROWS` on uniform rows, by the C calls: calls ROWS. The same rows and windows are drawn by the same
+// arithmetic. Compiled with -DPEER_BOOST or -DPEER_SPATIALINDEX, by Boost.Geometry's rtree<.., rstar<51>> or libspatialindex's
+// R*-tree, which need their headers. Prints a line of nanoseconds a call and a checksum for each kind of call.
+#include <chrono>
+#include <cmath>
 #include <cstdint>
 #include <cstdio>
 #include <cstdlib>
-#include <ctime>
 #include <utility>
 #include <vector>
 
@@ -154,47 +155,51 @@ public:
 };
 #endif
 
-static uint64_t state = 88172645463325252u;
-static int32_t below(uint32_t n)
+// Numbers that look random (the finalizer of SplitMix64: Steele, Lea, Flood 2014).
+static uint64_t mixed(uint64_t seed)
 {
-    state ^= state << 13, state ^= state >> 7, state ^= state << 17;
-    return int32_t(uint32_t(state >> 32) % n);
+    uint64_t z = seed + 0x9E3779B97F4A7C15u;
+    z = (z ^ (z >> 30)) * 0xBF58476D1CE4E5B9u;
+    z = (z ^ (z >> 27)) * 0x94D049BB133111EBu;
+    return z ^ (z >> 31);
 }
-static double now()
+// The box of the row with this number, wider by `grow` at each end.
+static Box box_of(uint64_t row, int32_t grow)
 {
-    timespec time;
-    clock_gettime(CLOCK_PROCESS_CPUTIME_ID, &time);
-    return double(time.tv_sec) * 1e9 + double(time.tv_nsec);
+    Box box;
+    for (uint64_t axis = 0; axis < 2; axis++) {
+        uint64_t seed = mixed(row * 8 + axis);
+        int32_t low = int32_t(seed % 1000000), side = int32_t(mixed(seed) % 100);
+        box.min[axis] = low - grow, box.max[axis] = low + side + grow;
+    }
+    return box;
 }
-template <class Call> static void timed(const char *name, int calls, Call call)
+static double now() { return std::chrono::duration<double, std::nano>(std::chrono::steady_clock::now().time_since_epoch()).count(); }
+template <class Call> static void timed(const char *name, uint64_t calls, Call call)
 {
     int64_t sum = 0;
     double begun = now();
-    for (int at = 0; at < calls; at++)
+    for (uint64_t at = 0; at < calls; at++)
         sum += call(at);
-    std::printf("%s %.0f %lld\n", name, (now() - begun) / calls, static_cast<long long>(sum));
+    std::printf("%s %.0f %lld\n", name, (now() - begun) / double(calls), static_cast<long long>(sum));
 }
 
 int main(int count, char **words)
 {
-    const int rows = count > 1 ? std::atoi(words[1]) : 100000, windows = 500;
-    // Of the rows, boxes of up to 100 in a square of 1,000,000, such a window holds ten or a thousand of 100,000.
-    const int32_t ten = 10000, thousand = 100000;
-    std::vector<Box> boxes, small, large;
-    auto draw = [](int32_t side) {
-        int32_t x = below(1000000), y = below(1000000);
-        return Box{{x, y}, {x + side, y + side}};
-    };
-    for (int row = 0; row < rows; row++)
-        boxes.push_back(draw(below(100)));
-    for (int window = 0; window < windows; window++)
-        small.push_back(draw(ten)), large.push_back(draw(thousand));
+    const uint64_t rows = count > 1 ? std::strtoull(words[1], nullptr, 10) : 100000, few = 2000, many = 200;
+    // Half the side of a window that holds so many rows: a hundredth of them is a thousand of 100,000.
+    auto reach = [=](uint64_t held) { return int32_t(std::sqrt(double(1000000000000 * held / rows))) / 2; };
+    auto window = [=](uint64_t at, int32_t grow) { return box_of(mixed(at) % rows + 1, grow); };
+    const int32_t ten = reach(10), thousand = reach(rows / 100 + 1);
     Tree tree;
-    timed("insert", rows, [&](int at) { return tree.insert(at, boxes[at]), 0; });
-    timed("search_10", windows, [&](int at) { return tree.search(small[at]); });
-    timed("search_1000", windows, [&](int at) { return tree.search(large[at]); });
-    timed("count_1000", windows, [&](int at) { return tree.count(large[at]); });
-    timed("nearest_10", windows, [&](int at) { return tree.nearest(small[at].min); });
-    timed("delete", rows / 2, [&](int at) { return tree.remove(2 * at, boxes[2 * at]), 0; });
-    timed("left", 1, [&](int) { return tree.search({{0, 0}, {2000000, 2000000}}); });
+    timed("insert", rows, [&](uint64_t at) { return tree.insert(int64_t(at + 1), box_of(at + 1, 0)), 0; });
+    timed("search_10", few, [&](uint64_t at) { return tree.search(window(at, ten)); });
+    timed("search_1000", many, [&](uint64_t at) { return tree.search(window(at, thousand)); });
+    timed("count_1000", many, [&](uint64_t at) { return tree.count(window(at, thousand)); });
+    timed("nearest_10", few, [&](uint64_t at) { return tree.nearest(window(at, ten).min); });
+    timed("delete", rows / 2, [&](uint64_t at) {
+        uint64_t row = at * 7919 % rows + 1;
+        return tree.remove(int64_t(row), box_of(row, 0)), 0;
+    });
+    timed("left", 1, [&](uint64_t) { return tree.search({{0, 0}, {2000000, 2000000}}); });
 }

@@ -55,6 +55,13 @@ struct Shape {
     size: u8,
 }
 
+const SHAPES: [(&str, u16, u8); 4] = [
+    ("wide", 1000, 20),
+    ("tiled", 1000, 200),
+    ("close", 60, 20),
+    ("points", 1000, 0),
+];
+
 fn node(seed: u64, shape: Shape) -> [Rect<2>; CELLS] {
     let mut boxes = [whole(); CELLS];
     let mut seed = seed;
@@ -63,6 +70,15 @@ fn node(seed: u64, shape: Shape) -> [Rect<2>; CELLS] {
         *cell = rect_from(seed, shape.span, shape.size);
     }
     boxes
+}
+
+fn four_nodes(shape: Shape) -> [[Rect<2>; CELLS]; 4] {
+    [
+        node(1, shape),
+        node(2, shape),
+        node(3, shape),
+        node(4, shape),
+    ]
 }
 
 /// The time of a choice, and the sum of what was chosen.
@@ -86,12 +102,7 @@ fn time_splits<R: Clock>(rt: &R, shape: Shape, capacity: Capacity) -> io::Result
     requires { capacity ≡ 51 }
 {
     let mut sum: u64 = 0;
-    let boxes = [
-        node(1, shape),
-        node(2, shape),
-        node(3, shape),
-        node(4, shape),
-    ];
+    let boxes = four_nodes(shape);
     let start = Instant::now(rt)?;
     for round in 0..ROUNDS {
         let cut = choose_split(&boxes[(round % 4) as usize], capacity);
@@ -104,12 +115,7 @@ fn time_outliers<R: Clock>(rt: &R, shape: Shape, capacity: Capacity) -> io::Resu
     requires { capacity ≡ 51 }
 {
     let mut sum: u64 = 0;
-    let boxes = [
-        node(1, shape),
-        node(2, shape),
-        node(3, shape),
-        node(4, shape),
-    ];
+    let boxes = four_nodes(shape);
     let start = Instant::now(rt)?;
     for round in 0..ROUNDS {
         let order = farthest(&boxes[(round % 4) as usize], capacity);
@@ -136,29 +142,8 @@ fn report_shape(rt: &HostRuntime, name: &str, shape: Shape) -> io::Result<()> {
 
 /// Prints the nanoseconds of each call, on boxes strewn widely, on close ones, and on points.
 pub fn report(rt: &HostRuntime) -> io::Result<()> {
-    report_shape(
-        rt,
-        "wide",
-        Shape {
-            span: 1000,
-            size: 20,
-        },
-    )?;
-    report_shape(
-        rt,
-        "tiled",
-        Shape {
-            span: 1000,
-            size: 200,
-        },
-    )?;
-    report_shape(rt, "close", Shape { span: 60, size: 20 })?;
-    report_shape(
-        rt,
-        "points",
-        Shape {
-            span: 1000,
-            size: 0,
-        },
-    )
+    for (name, span, size) in SHAPES {
+        report_shape(rt, name, Shape { span, size })?;
+    }
+    Ok(())
 }

@@ -1,14 +1,14 @@
 //! Times of a tree: rows and windows drawn by arithmetic, so that another program can draw the same.
 //!
-//! `bench/` does the same work on Boost.Geometry. Times are nanoseconds a call. Searches are timed twice: for some
-//! ten rows, and for a hundredth of all rows.
+//! `bench/` does the same work on Boost.Geometry and by the C calls. Times are nanoseconds a call. Searches are timed twice:
+//! for some ten rows, and for a hundredth of all rows.
 
 ghost use Rattle.std.specs.Prelude.{◌≤◌};
 
 use rt_box::{Capacity, Operator, Rect, Window};
-use rt_tree::Tree;
+use rt_tree::{Row, Tree};
 use rt_tree_node::Node;
-use std::alloc::Global;
+use std::alloc::{AllocError, Global};
 use std::hash::RandomState;
 use std::io;
 use std::mem::size_of;
@@ -136,7 +136,17 @@ struct Times {
     look_up: u128,
     searches: [u128; 2],
     found: [u64; 2],
+    count: u128,
+    nearest: u128,
     nodes: usize,
+}
+
+/// What is asked about a place.
+#[derive(Clone, Copy)]
+enum Question {
+    Rows,
+    Count,
+    NearestTen,
 }
 
 /// How many rows a tree has at most.
@@ -220,12 +230,40 @@ fn time_removals<R: Clock, const D: usize>(
     share(rt, &start, removals)
 }
 
-/// The time of a search, and the rows found in all.
-fn time_searches<R: Clock, const D: usize>(
+/// The number of the rows that answer a question about the box of the row with this number, wider by `grow` at each end.
+fn answer<const D: usize>(
+    alloc: Global,
+    tree: &Tree<D>,
+    question: Question,
+    shape: Shape,
+    row: u64,
+    grow: i64,
+    rows: &mut Vec<Row<D>>,
+) -> Result<usize, AllocError>
+    requires some { 1 ≤ D }
+    requires few { D ≤ 3 }
+{
+    match question {
+        Question::Rows => {
+            rows.clear();
+            tree.search_into(alloc, &window_of(shape, row, grow), rows)?;
+            Ok(rows.len())
+        }
+        Question::Count => tree.count(alloc, &window_of(shape, row, grow)),
+        Question::NearestTen => match rect_of(shape, row, grow) {
+            Some(rect) => Ok(tree.nearest(alloc, &rect.lo(), 10)?.len()),
+            None => Ok(0),
+        },
+    }
+}
+
+/// The time of an answer, and the rows in all of them.
+fn time_answers<R: Clock, const D: usize>(
     rt: &R,
     alloc: Global,
     tree: &Tree<D>,
     load: Load,
+    question: Question,
     windows: u64,
     target: u64,
 ) -> io::Result<(u128, u64)>
@@ -241,10 +279,8 @@ fn time_searches<R: Clock, const D: usize>(
             .checked_rem(load.rows)
             .unwrap_or(0)
             .wrapping_add(1);
-        let window = window_of(load.shape, row, grow);
-        rows.clear();
-        tree.search_into(alloc, &window, &mut rows)?;
-        found = found.wrapping_add(rows.len() as u64);
+        let more = answer(alloc, tree, question, load.shape, row, grow, &mut rows)?;
+        found = found.wrapping_add(more as u64);
     }
     Ok((share(rt, &start, windows)?, found))
 }
@@ -265,8 +301,11 @@ fn measure<R: Clock, const D: usize>(
     let insert = time_insertions(rt, &mut tree, load)?;
     let nodes = tree.node_count();
     let look_up = time_look_ups(rt, &tree, load)?;
-    let (few, found_few) = time_searches(rt, alloc, &tree, load, 2000, 10)?;
-    let (many, found_many) = time_searches(rt, alloc, &tree, load, 200, load.rows / 100 + 1)?;
+    let hundredth = load.rows / 100 + 1;
+    let (few, found_few) = time_answers(rt, alloc, &tree, load, Question::Rows, 2000, 10)?;
+    let (many, found_many) = time_answers(rt, alloc, &tree, load, Question::Rows, 200, hundredth)?;
+    let (count, _) = time_answers(rt, alloc, &tree, load, Question::Count, 200, hundredth)?;
+    let (nearest, _) = time_answers(rt, alloc, &tree, load, Question::NearestTen, 2000, 10)?;
     let remove = time_removals(rt, &mut tree, load)?;
     Ok(Times {
         insert,
@@ -274,6 +313,8 @@ fn measure<R: Clock, const D: usize>(
         look_up,
         searches: [few, many],
         found: [found_few, found_many],
+        count,
+        nearest,
         nodes,
     })
 }
@@ -298,14 +339,14 @@ fn report_load<const D: usize>(
     let [few, many] = times.searches;
     let [found_few, found_many] = times.found;
     println!(rt;
-        "{D} {name} {} {} {} {} {few} {many} {bytes}.{tenth} {found_few} {found_many}",
-        load.rows, times.insert, times.remove, times.look_up
+        "{D} {name} {} {} {} {} {few} {many} {bytes}.{tenth} {found_few} {found_many} {} {}",
+        load.rows, times.insert, times.remove, times.look_up, times.count, times.nearest
     )
 }
 
 /// Prints a line for each shape: the axes, the shape, the rows, the nanoseconds of an insertion, a removal, a look-up, a
-/// search of some ten rows and one of a hundredth of the rows, the bytes of the nodes for each row, and the rows that the
-/// searches of both kinds found in all.
+/// search of some ten rows and one of a hundredth of the rows, the bytes of the nodes for each row, the rows that the
+/// searches of both kinds found in all, and the nanoseconds of a count of the latter and of a search of the ten nearest.
 pub fn report(rt: &HostRuntime, axes: u8, rows: u64) -> io::Result<()> {
     for (shape, name) in SHAPES {
         let load = Load { shape, rows };
