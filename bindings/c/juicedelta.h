@@ -59,7 +59,9 @@ typedef enum juicedelta_code {
     /* The script was finished before. */
     JUICEDELTA_ENDED = 11,
     /* With these bytes the script is longer than 2^63 bytes. */
-    JUICEDELTA_TOO_LONG = 12
+    JUICEDELTA_TOO_LONG = 12,
+    /* The text is not the dump of a sound tree of so many axes. */
+    JUICEDELTA_BAD_DUMP = 13
 } juicedelta_code;
 
 /* Holds an object or nothing. Set it to {0} before the first call, and never change or copy it. */
@@ -198,6 +200,14 @@ int32_t juicedelta_tree2_nearest(juicedelta_handle *handle, const juicedelta_poi
 int32_t juicedelta_tree2_dump(juicedelta_handle *handle, uint8_t *text, size_t length, uint64_t *total);
 
 /*
+ * Opens a tree with the rows of a dump of `length` bytes: each is inserted, those with lower ids first, so that the new
+ * tree's own dump may differ. The capacity is the dump's. The keys are as for juicedelta_tree2_open.
+ * ALREADY_OPEN, TREE_FULL, OUT_OF_MEMORY.
+ * BAD_DUMP: the text is no dump, or one of another number of axes, or `rtsh check` finds a problem in its tree.
+ */
+int32_t juicedelta_tree2_open_dump(juicedelta_handle *handle, const uint8_t *text, size_t length, uint64_t first_key, uint64_t second_key);
+
+/*
  * Takes all rows out, and gives their memory back. The capacity stays.
  * CLOSED, OTHER_KIND, OUT_OF_MEMORY: a new tree takes the place of the old one.
  */
@@ -213,6 +223,7 @@ int32_t juicedelta_tree1_count(juicedelta_handle *handle, const juicedelta_box1 
 int32_t juicedelta_tree1_search_rows(juicedelta_handle *handle, const juicedelta_box1 *box, juicedelta_row1 *rows, size_t length, uint64_t *total);
 int32_t juicedelta_tree1_nearest(juicedelta_handle *handle, const juicedelta_point1 *point, juicedelta_row1 *rows, size_t length, uint64_t *total);
 int32_t juicedelta_tree1_dump(juicedelta_handle *handle, uint8_t *text, size_t length, uint64_t *total);
+int32_t juicedelta_tree1_open_dump(juicedelta_handle *handle, const uint8_t *text, size_t length, uint64_t first_key, uint64_t second_key);
 int32_t juicedelta_tree1_clear(juicedelta_handle *handle);
 
 int32_t juicedelta_tree3_open(juicedelta_handle *handle, uint32_t capacity, uint64_t first_key, uint64_t second_key);
@@ -225,6 +236,7 @@ int32_t juicedelta_tree3_count(juicedelta_handle *handle, const juicedelta_box3 
 int32_t juicedelta_tree3_search_rows(juicedelta_handle *handle, const juicedelta_box3 *box, juicedelta_row3 *rows, size_t length, uint64_t *total);
 int32_t juicedelta_tree3_nearest(juicedelta_handle *handle, const juicedelta_point3 *point, juicedelta_row3 *rows, size_t length, uint64_t *total);
 int32_t juicedelta_tree3_dump(juicedelta_handle *handle, uint8_t *text, size_t length, uint64_t *total);
+int32_t juicedelta_tree3_open_dump(juicedelta_handle *handle, const uint8_t *text, size_t length, uint64_t first_key, uint64_t second_key);
 int32_t juicedelta_tree3_clear(juicedelta_handle *handle);
 
 /* ---- Script shells ----------------------------------------------------------------------------------------------

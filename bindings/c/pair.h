@@ -214,8 +214,8 @@ static void PAIR(nearest)(source *from, TWO *pair)
     CHECK(memcmp(rows, wanted, total * sizeof *rows) == 0 && is_untouched(rows, total * sizeof *rows, sizeof rows));
 }
 
-/* The tree's dump has the rows of the list. */
-static void PAIR(dump)(TWO *pair)
+/* The tree's dump is opened by both in place of what they hold; and once with another byte, which may make it bad. */
+static void PAIR(dump)(source *from, TWO *pair)
 {
     uint64_t total = 77, length = 77;
     uint8_t none = 0x5a;
@@ -227,10 +227,30 @@ static void PAIR(dump)(TWO *pair)
     memset(text, 0x5a, length + 1);
     TRY(code, TREE(dump)(&pair->tree, text, length, &total), total == 77 && is_untouched(text, 0, length));
     CHECK(code == JUICEDELTA_OK && total == length && text[length] == 0x5a);
+    TWO read = {{NULL, 0}, {NULL, 0}};
+    TRY(code, TREE(open_dump)(&read.tree, text, length, 1, 2), juicedelta_close(&read.tree) == JUICEDELTA_CLOSED);
+    CHECK(code == JUICEDELTA_OK && LIST(open_dump)(&read.list, text, length, 1, 2) == JUICEDELTA_OK);
+    PAIR(same)(&read);
     PAIR(same)(pair);
-    CHECK(plain_close(&pair->list) == JUICEDELTA_OK);
-    CHECK(LIST(open_dump)(&pair->list, text, length, 1, 2) == JUICEDELTA_OK);
-    PAIR(same)(pair);
+    CHECK(TREE(open_dump)(&read.tree, text, length, 1, 2) == JUICEDELTA_ALREADY_OPEN);
+    PAIR(close)(pair);
+    *pair = read;
+
+    TWO broken = {{NULL, 0}, {NULL, 0}};
+    static const char bytes[] = "0123456789- \n";
+    uint8_t *changed = &text[below(from, (uint32_t)length)];
+    *changed = below(from, 20) == 0 ? (uint8_t)below(from, 256) : (uint8_t)bytes[below(from, sizeof bytes - 1)];
+    if (below(from, 20) == 0)
+        length = below(from, (uint32_t)length);
+    code = TREE(open_dump)(&broken.tree, text, length, 1, 2);
+    int32_t plain = LIST(open_dump)(&broken.list, text, length, 1, 2);
+    CHECK(code == JUICEDELTA_OK || code == JUICEDELTA_BAD_DUMP);
+    /* The list doesn't look for problems of the tree. */
+    CHECK(code != JUICEDELTA_OK || plain == JUICEDELTA_OK);
+    if (code == JUICEDELTA_OK)
+        PAIR(same)(&broken);
+    CHECK(juicedelta_close(&broken.tree) == (code == JUICEDELTA_OK ? JUICEDELTA_OK : JUICEDELTA_CLOSED));
+    CHECK(plain_close(&broken.list) == (plain == JUICEDELTA_OK ? JUICEDELTA_OK : JUICEDELTA_CLOSED));
     free(text);
 }
 
@@ -283,7 +303,7 @@ static void PAIR(step)(source *from, TWO *pair)
             CHECK(code == JUICEDELTA_OK && LIST(clear)(&pair->list) == JUICEDELTA_OK);
             PAIR(same)(pair);
         } else if (below(from, 40) == 0) {
-            PAIR(dump)(pair);
+            PAIR(dump)(from, pair);
         }
     }
 }

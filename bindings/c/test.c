@@ -187,9 +187,11 @@ static void script_codes(void)
         CHECK(juicedelta_tree##D##_open(&tree, 4, 1, 2) == JUICEDELTA_BAD_CAPACITY);                                   \
         CHECK(juicedelta_tree##D##_open(&tree, 52, 1, 2) == JUICEDELTA_BAD_CAPACITY);                                  \
         CHECK(juicedelta_tree##D##_open(&tree, 256 + 51, 1, 2) == JUICEDELTA_BAD_CAPACITY);                            \
+        CHECK(juicedelta_tree##D##_open_dump(&tree, text, 1, 1, 2) == JUICEDELTA_BAD_DUMP);                            \
         CHECK(rows == 77 && got.min[0] == 0x07070707);                                                                 \
         CHECK(juicedelta_tree##D##_open(&tree, 51, 1, 2) == JUICEDELTA_OK);                                            \
         CHECK(juicedelta_tree##D##_open(&tree, 51, 1, 2) == JUICEDELTA_ALREADY_OPEN);                                  \
+        CHECK(juicedelta_tree##D##_open_dump(&tree, text, 0, 1, 2) == JUICEDELTA_ALREADY_OPEN);                        \
         CHECK(juicedelta_tree##D##_insert(&tree, INT64_MIN, &box) == JUICEDELTA_OK);                                   \
         CHECK(juicedelta_tree##D##_insert(&tree, INT64_MIN, &box) == JUICEDELTA_ID_TAKEN);                             \
         CHECK(juicedelta_tree##D##_insert(&tree, 5, &upside) == JUICEDELTA_BAD_BOX);                                   \

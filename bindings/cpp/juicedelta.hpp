@@ -37,8 +37,8 @@ private:
         static const char *const all[] = {"done", "nothing is held", "an object of another kind is held", "open already",
             "the capacity is not from 5 to 51", "on some axis min is above max", "the id is taken", "no row has that id",
             "the result is longer than the buffer", "no memory is left", "the tree has 1,048,576 rows", "the script has ended",
-            "the script is longer than 2^63 bytes"};
-        return code >= 0 && code <= JUICEDELTA_TOO_LONG ? all[code] : "unknown code";
+            "the script is longer than 2^63 bytes", "the text is not the dump of a sound tree"};
+        return code >= 0 && code <= JUICEDELTA_BAD_DUMP ? all[code] : "unknown code";
     }
     juicedelta_code code_;
 };
@@ -57,7 +57,7 @@ template <int D> struct Calls;
 #define JUICEDELTA_CALLS(D)                                                                                            \
     template <> struct Calls<D> {                                                                                      \
         using Box = juicedelta_box##D; using Point = juicedelta_point##D; using Row = juicedelta_row##D;               \
-        JUICEDELTA_CALL(D, open) JUICEDELTA_CALL(D, dump) JUICEDELTA_CALL(D, clear)       \
+        JUICEDELTA_CALL(D, open) JUICEDELTA_CALL(D, open_dump) JUICEDELTA_CALL(D, dump) JUICEDELTA_CALL(D, clear)       \
         JUICEDELTA_CALL(D, insert) JUICEDELTA_CALL(D, remove) JUICEDELTA_CALL(D, get) JUICEDELTA_CALL(D, len)           \
         JUICEDELTA_CALL(D, count) JUICEDELTA_CALL(D, search) JUICEDELTA_CALL(D, search_rows) JUICEDELTA_CALL(D, nearest) \
     };
@@ -111,6 +111,13 @@ template <int D> class Tree : public detail::Owner {
 public:
     // No rows, in nodes of at most `capacity` cells.
     explicit Tree(std::uint32_t capacity = 51) { detail::open(Calls::open, handle(), capacity); }
+    // The rows of a dump, which `dump` or a script's `.nodes` wrote.
+    static Tree from_dump(std::string_view text)
+    {
+        Tree tree(Closed{});
+        detail::open(Calls::open_dump, tree.handle(), detail::bytes_of(text), text.size());
+        return tree;
+    }
     void insert(std::int64_t id, const Box<D> &box) { check(Calls::insert(handle(), id, &box)); }
     void remove(std::int64_t id) { check(Calls::remove(handle(), id)); }
     std::optional<Box<D>> get(std::int64_t id)
@@ -147,6 +154,8 @@ public:
     void clear() { check(Calls::clear(handle())); }
 private:
     using Calls = detail::Calls<D>;
+    struct Closed {};
+    explicit Tree(Closed) {}
     template <class Call, class... Words> std::size_t number(Call call, Words... words)
     {
         std::uint64_t number = 0;

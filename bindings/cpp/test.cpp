@@ -61,8 +61,9 @@ template <int D> static void tree()
     CHECK(tree.search(cube<D>(0, 25), buffer) == 3 && buffer[0] + buffer[1] + buffer[2] == 3);
     CHECK(tree.search(cube<D>(0, 2000), buffer) == 199 && tree.search(cube<D>(0, 25), std::span<std::int64_t>()) == 3);
 #endif
-    CHECK(tree.get(199)->min[D - 1] == 1990 && tree.count(cube<D>(995, 1012)) == 2 && tree.dump().substr(0, 6) == "rtree ");
-    Tree<D> moved = std::move(tree);
+    Tree<D> read = Tree<D>::from_dump(tree.dump());
+    CHECK(read.size() == 199 && read.get(199)->min[D - 1] == 1990 && read.count(cube<D>(995, 1012)) == 2);
+    Tree<D> moved = std::move(read);
     CHECK(moved.size() == 199);
     tree = std::move(moved);
     CHECK(tree.size() == 199 && moved.handle()->object == nullptr);
@@ -89,6 +90,7 @@ static void codes()
     CHECK(refused([&] { moved.remove(2); }) == JUICEDELTA_ID_MISSING);
     CHECK(refused([&] { check(juicedelta_tree2_search(moved.handle(), &box, &id, 0, &total)); }) == JUICEDELTA_BUFFER_TOO_SMALL);
     CHECK(refused([] { check(JUICEDELTA_TOO_LONG); }) == JUICEDELTA_TOO_LONG);
+    CHECK(refused([] { Tree<2>::from_dump("rtree 2 5 1 0\n"); }) == JUICEDELTA_BAD_DUMP);
     CHECK(std::string(juicedelta::Error(JUICEDELTA_ID_TAKEN).what()) == "the id is taken");
     CHECK(moved.size() == 1);
 }

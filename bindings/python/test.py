@@ -56,8 +56,8 @@ def test_random(dimension, capacity, turns):
         else:
             assert len(tree) == len(plain) and (id in tree) == (id in plain)
     assert sorted(tree) == sorted(plain) and all(tree.box(id) == box for id, box in plain.items())
-    assert {row.id: row.bbox for row in tree.intersection([-2000] * dimension + [2000] * dimension, objects=True)} == plain
-    assert tree.dump().startswith(f"rtree {dimension} ")
+    read = RTree.from_dump(tree.dump())
+    assert read.dimension == dimension and {row.id: row.bbox for row in read.intersection([-2000] * dimension + [2000] * dimension, objects=True)} == plain
     tree.clear()
     assert len(tree) == 0 and 3 not in tree and list(tree.nearest(low)) == []
 
@@ -76,6 +76,7 @@ def test_codes():
     assert refused(tree.delete, 2) == 7
     ids, total = juicedelta.array.array("q", [0]), juicedelta.ctypes.c_uint64()
     assert refused(tree._do, tree._search, juicedelta._packed(tree._box, (0, 0, 1, 1)), ids.buffer_info()[0], 0, juicedelta.ctypes.byref(total)) == 8
+    assert refused(RTree.from_dump, "rtree 2 5 1 0\n") == 13
     assert JuicedeltaError(12).code == 12 and str(JuicedeltaError(12)) == "the script is longer than 2^63 bytes"
     for words in ((1, (0, 0, 1)), (1, (0, 0, 1, 2**31)), (2**63, (0, 0, 1, 1))):
         try:

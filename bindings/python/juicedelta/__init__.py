@@ -24,6 +24,7 @@ _WORDS = {
     4: "the capacity is not from 5 to 51", 5: "on some axis min is above max", 6: "the id is taken",
     7: "no row has that id", 8: "the result is longer than the buffer", 9: "no memory is left",
     10: "the tree has 1,048,576 rows", 11: "the script has ended", 12: "the script is longer than 2^63 bytes",
+    13: "the text is not the dump of a sound tree",
 }
 _ID_MISSING, _BUFFER_TOO_SMALL = 7, 8
 
@@ -70,9 +71,9 @@ _library = _load()
 _POINTER, _SIZE, _WORD, _ID, _BYTES = ctypes.c_void_p, ctypes.c_size_t, ctypes.c_uint64, ctypes.c_int64, ctypes.c_char_p
 _LIST = [_POINTER, _SIZE, _POINTER]
 _TREE_CALLS = {
-    "open": [ctypes.c_uint32, _WORD, _WORD], "insert": [_ID, _BYTES], "remove": [_ID], "get": [_ID, _POINTER],
-    "len": [_POINTER], "count": [_BYTES, _POINTER], "search": [_BYTES, *_LIST], "search_rows": [_BYTES, *_LIST],
-    "nearest": [_BYTES, *_LIST], "dump": _LIST, "clear": [],
+    "open": [ctypes.c_uint32, _WORD, _WORD], "open_dump": [_BYTES, _SIZE, _WORD, _WORD], "insert": [_ID, _BYTES],
+    "remove": [_ID], "get": [_ID, _POINTER], "len": [_POINTER], "count": [_BYTES, _POINTER], "search": [_BYTES, *_LIST],
+    "search_rows": [_BYTES, *_LIST], "nearest": [_BYTES, *_LIST], "dump": _LIST, "clear": [],
 }
 _SCRIPT_CALLS = {
     "open": [ctypes.c_uint32, _WORD, _WORD], "exec": [_BYTES, _SIZE], "finish": [_POINTER], "output_length": [_POINTER],
@@ -137,6 +138,8 @@ class RTree(_Owner):
     ([1], [2], 1)
     >>> list(shops.intersection((42, 6, 50, 50), objects=True))
     [Item(id=2, bbox=(30, 0, 42, 6))]
+    >>> sorted(RTree.from_dump(shops.dump()))
+    [1, 2]
     """
 
     def __init__(self, dimension: int = 2, capacity: int = 51) -> None:
@@ -151,6 +154,14 @@ class RTree(_Owner):
         self._box, self._point = struct.Struct(f"={2 * dimension}i"), struct.Struct(f"={dimension}i")
         self._row = struct.Struct(f"=q{2 * dimension}i")
         self._room = 64
+
+    @classmethod
+    def from_dump(cls, text: str) -> RTree:
+        """The rows of a dump, which `dump`, or `.nodes` in a script, wrote."""
+        tree, axes, data = cls.__new__(cls), re.match("rtree ([123]) ", text), text.encode()
+        tree._set(int(axes.group(1)) if axes else 2)
+        tree._do(tree._open_dump, data, len(data), secrets.randbits(64), secrets.randbits(64))
+        return tree
 
     def insert(self, id: int, coordinates: Sequence[int]) -> None:
         """Inserts a row. An id that is taken is an error."""

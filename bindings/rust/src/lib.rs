@@ -43,7 +43,7 @@ errors! {
     BadCapacity: "the capacity is not from 5 to 51", BadBox: "on some axis min is above max",
     IdTaken: "the id is taken", IdMissing: "no row has that id", BufferTooSmall: "the result is longer than the buffer",
     OutOfMemory: "no memory is left", TreeFull: "the tree has 1,048,576 rows", Ended: "the script has ended",
-    TooLong: "the script is longer than 2^63 bytes"
+    TooLong: "the script is longer than 2^63 bytes", BadDump: "the text is not the dump of a sound tree"
 }
 
 impl fmt::Display for Error {
@@ -151,6 +151,7 @@ macro_rules! tree {
         impl Tree<$D> {
             methods! { self call $prefix
                 fn open(&self, capacity: u32, first_key: u64, second_key: u64) -> () { check(call()) }
+                fn open_dump(&self, text: *const u8, length: usize, first_key: u64, second_key: u64) -> () { check(call()) }
                 /// Inserts a row (`BadBox`, `IdTaken`, `TreeFull`).
                 pub fn insert(&mut self, id: i64, rect: &Rect<$D>) -> () { check(call()) }
                 /// Removes a row (`IdMissing`). It needs no memory.
@@ -175,6 +176,11 @@ macro_rules! tree {
                 }
                 /// The dump, as `.nodes` prints it in a script.
                 pub fn dump(&self)[..u8] -> Vec<u8> { filled(4096, call) }
+            }
+
+            /// The rows of a dump, which `dump` or a script's `.nodes` wrote (`BadDump`, `TreeFull`).
+            pub fn from_dump(text: &[u8]) -> Result<Self, Error> {
+                Self::opened(|new, first, second| new.open_dump(text.as_ptr(), text.len(), first, second))
             }
 
             /// Whether there are no rows.

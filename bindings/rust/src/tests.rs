@@ -25,7 +25,8 @@ macro_rules! tree {
         let ids = |most| tree.nearest(&[-10; $D], most).map(|rows| rows.iter().map(|row| row.id).collect::<Vec<_>>());
         assert_eq!((ids(3)?, ids(0)?, ids(1000)?.len()), (vec![0, 1, 2], vec![], 199));
         assert_eq!((tree.get(7)?, tree.get(100)?), (Some(cube(70, 75)), None));
-        assert!(tree.dump()?.starts_with(concat!("rtree ", $D, " ").as_bytes()));
+        let read = Tree::<$D>::from_dump(&tree.dump()?)?;
+        assert_eq!((read.len()?, read.get(199)?, read.count(&cube(995, 1012))?), (199, Some(cube(1990, 1995)), 2));
         tree.clear()?;
         assert_eq!((tree.is_empty()?, tree.search(&cube(0, 2000))?), (true, vec![]));
     };
@@ -66,6 +67,7 @@ fn codes() -> Result<(), Error> {
     assert_eq!(tree.insert(2, &cube(1, 0)), Err(Error::BadBox));
     assert_eq!(tree.insert(1, &rect), Err(Error::IdTaken));
     assert_eq!(tree.remove(2), Err(Error::IdMissing));
+    assert_eq!(Tree::<2>::from_dump(b"rtree 2 5 1 0\n").err(), Some(Error::BadDump));
     assert_eq!((check(8), check(12)), (Err(Error::BufferTooSmall), Err(Error::TooLong)));
     assert_eq!((tree.len()?, Error::IdTaken.to_string().as_str()), (1, "the id is taken"));
     Ok(())
