@@ -1,2 +1,6 @@
+pub mod Cells
+pub mod Dumped
+pub mod Entries
+pub mod Loaded
 pub mod Picking
 pub mod Reaching

@@ -30,7 +30,7 @@ admits [] (z ∷ zs) = false
 admits (i ∷ window) [] = false
 admits (i ∷ window) (z ∷ zs) = int_le i.lo z && (int_le z i.hi && admits window zs)
 
-both_true : (a b : Bool) → (a && b) ≡ true → (a ≡ true) × (b ≡ true)
+pub both_true : (a b : Bool) → (a && b) ≡ true → (a ≡ true) × (b ≡ true)
 both_true true b e = (refl, e)
 both_true false b e = (e, clash false e refl)
 

@@ -83,7 +83,7 @@ reaches_of_common min max rect h = (zip_trans (los rect) h.point max h.there.0 h
 pub least_of_common : (min max : List ℤ) (rect : List Interval) → HasCommonPoint min max rect → AllZip ◌≤ℤ◌ min max
 least_of_common min max rect h = zip_trans min h.point max h.here.0 h.here.1
 
-zip_below : (xs ys : List ℤ) → length xs ≡ length ys → ((k : ℕ) → k < length xs → get_or xs k (pos 0) ≤ℤ get_or ys k (pos 0)) → AllZip ◌≤ℤ◌ xs ys
+pub zip_below : (xs ys : List ℤ) → length xs ≡ length ys → ((k : ℕ) → k < length xs → get_or xs k (pos 0) ≤ℤ get_or ys k (pos 0)) → AllZip ◌≤ℤ◌ xs ys
 zip_below [] [] e h = tt
 zip_below [] (y ∷ ys) e h = absurd (omega arith)
 zip_below (x ∷ xs) [] e h = absurd (omega arith)

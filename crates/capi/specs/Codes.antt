@@ -1,7 +1,7 @@
 -- The numbers of codes (own).
 use Rattle.std.specs.Prelude.{ℤ, pos}
 use Rattle.capi.specs.declared.code.Code.{Code}
-use Rattle.capi.specs.declared.code.Code.TheVariants.{Done, Closed, OtherKind, AlreadyOpen, BadCapacity, BadBox, IdTaken, IdMissing, BufferTooSmall, OutOfMemory, TreeFull, Ended, TooLong}
+use Rattle.capi.specs.declared.code.Code.TheVariants.{Done, Closed, OtherKind, AlreadyOpen, BadCapacity, BadBox, IdTaken, IdMissing, BufferTooSmall, OutOfMemory, TreeFull, Ended, TooLong, BadDump}
 
 abbrev pub number_of : Code → ℤ
 number_of Done = pos 0
@@ -17,3 +17,4 @@ number_of OutOfMemory = pos 9
 number_of TreeFull = pos 10
 number_of Ended = pos 11
 number_of TooLong = pos 12
+number_of BadDump = pos 13

@@ -1,6 +1,7 @@
 pub mod Buffers
 pub mod Calls
 pub mod Codes
+pub mod Loading
 pub mod Plain
 pub mod Scripts
 pub mod Touching

@@ -1,10 +1,14 @@
 -- What a call does to a tree, by its code (own).
-use Rattle.std.specs.Prelude.{◌≡◌, ℕ, ◌^◌, ◌≤◌, ℤ, ◌≤ℤ◌, List, length, map, Result, Ok, Err, Some, None, IsSome}
+use Rattle.std.specs.Prelude.{◌≡◌, ℕ, ◌^◌, ◌<◌, ◌≤◌, Bool, ℤ, ◌≤ℤ◌, List, length, map, count_by, Result, Ok, Err, Some, None, IsSome}
 use Rattle.std.specs.List.{AllZip}
 use Rattle.rt_box.specs.declared.interval.Interval.{Interval}
 use Rattle.rt_box.specs.Capacity.{IsCapacity}
 use Rattle.rt_box.specs.Rect.{los, his}
+use Rattle.rt_check.specs.Shadow.{ShadowLists}
+use Rattle.rt_check.specs.Conditions.{IsSound}
+use Rattle.rt_check_dump.specs.declared.dump.AnyShadow.{AnyShadow}
 use Rattle.rt_check_dump.specs.Dump.{shadow_text}
+use Rattle.rt_check_dump.specs.Faults.{IsTextOf}
 use Rattle.rt_handle.specs.declared.object.Kept.{Kept}
 use Rattle.rt_tree.specs.Lists.{TreeLists, empty_lists}
 use Rattle.rt_tree.specs.Rows.{box_of, rows_of, GainsRow, LosesRow}
@@ -13,7 +17,7 @@ use Rattle.rt_tree_walk.specs.declared.searching.Row.{Row}
 use Rattle.capi.specs.Buffers.{Copies, GivesText}
 use Rattle.capi.specs.Touching.{FindsTouching}
 use Rattle.capi.specs.declared.code.Code.{Code}
-use Rattle.capi.specs.declared.code.Code.TheVariants.{Done, BadCapacity, BadBox, IdTaken, IdMissing, OutOfMemory, TreeFull}
+use Rattle.capi.specs.declared.code.Code.TheVariants.{Done, BadCapacity, BadBox, IdTaken, IdMissing, OutOfMemory, TreeFull, BadDump}
 
 -- why there is no tree
 abbrev pub MakesNone : ℕ → Code → Type 0
@@ -32,6 +36,29 @@ module _ {D : ℕ} where
   abbrev pub Makes : ℕ → Result (Kept D) Code → Type 0
   Makes capacity (Ok kept) = IsNew capacity kept
   Makes capacity (Err code) = MakesNone capacity code
+
+  -- the tree has exactly the rows of the shadow, ids and boxes: as many of either pass any test; and its capacity
+  pub record HasRowsOf (s : ShadowLists D) (kept : Kept D) : Type 0 where
+    pub rows : (test : Row D → Bool) → count_by test (rows_of kept.tree.lists) ≡ count_by test (rows_of s)
+    pub most_cells : kept.tree.lists.capacity ≡ s.capacity
+    pub capacity : kept.capacity ≡ s.capacity
+
+  -- the text is the dump of the shadow, which is of the kind that the number of axes gives, and the checker finds no problem
+  -- in it
+  abbrev pub IsSoundDump : (ShadowLists D → AnyShadow) → List ℕ → ShadowLists D → Type 0
+  IsSoundDump of_kind text s = IsTextOf (of_kind s) text × IsSound s
+
+  -- the tree has the rows of a shadow of which the text is the dump
+  abbrev pub IsOfDump : (ShadowLists D → AnyShadow) → List ℕ → Kept D → Type 0
+  IsOfDump of_kind text kept = (s : ShadowLists D) × IsSoundDump of_kind text s × HasRowsOf s kept
+
+  -- Why there is no tree of the text: it is the dump of no such shadow, or of one with more rows than a tree may have, or
+  -- there is no memory.
+  abbrev pub LoadsNone : (ShadowLists D → AnyShadow) → List ℕ → Code → Type 0
+  LoadsNone of_kind text BadDump = (s : ShadowLists D) → ¬ IsSoundDump of_kind text s
+  LoadsNone of_kind text TreeFull = (s : ShadowLists D) × IsSoundDump of_kind text s × (2 ^ 20 < length (rows_of s))
+  LoadsNone of_kind text OutOfMemory = Unit {0}
+  LoadsNone of_kind text code = ⊥
 
   -- The row came. Or the box has a least number above its greatest, the id is taken, there are 2^20 rows, or there is no
   -- memory, and the rows are as before.

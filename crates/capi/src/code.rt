@@ -19,6 +19,7 @@ pub enum Code {
     TreeFull,
     Ended,
     TooLong,
+    BadDump,
 }
 
 impl Code {
@@ -40,6 +41,7 @@ impl Code {
             Code::TreeFull => 10,
             Code::Ended => 11,
             Code::TooLong => 12,
+            Code::BadDump => 13,
         }
     }
 }

@@ -1,22 +1,27 @@
 //! Trees of two axes.
 
 ghost use Rattle.std.specs.Prelude.{◌≡◌, ◌≢◌, pos};
+ghost use Rattle.rt_check_dump.specs.declared.dump.AnyShadow.TheVariants.{Two};
 ghost use Rattle.capi.specs.Calls.{Opens, OnPlane, IsPlane};
+ghost use Rattle.capi.specs.Loading.{IsOfKind, LoadsDump};
 ghost use Rattle.capi.specs.Plain.{box2, row2};
-ghost use Rattle.capi.specs.Trees.{IsNew, MakesNone, Inserts, Removes, GetsInto, Clears, Counts, CountsTouching, Searches, FindsNearest, Dumps};
+ghost use Rattle.capi.specs.Trees.{IsNew, IsOfDump, LoadsNone, MakesNone, Inserts, Removes, GetsInto, Clears, Counts, CountsTouching, Searches, FindsNearest, Dumps};
 
 use crate::code::Code;
 use crate::dump::dump;
 use crate::finding::{count, nearest, search};
 use crate::holding::fill;
 use crate::keys::Keys;
+use crate::loading::{load, read};
 use crate::plain::{FromRect, FromRow};
 use crate::tree::{clear, get, insert, len, new_tree, remove};
 use rt_box::Rect;
+use rt_check::Shadow;
 use rt_check_dump::AnyShadow;
 use rt_handle::{Handle, Kept, Object};
 use rt_tree::Row;
 use std::alloc::Global;
+use std::hash::RandomState;
 
 /// A point of two axes.
 #[repr(C)]
@@ -83,6 +88,56 @@ pub extern "C" fn juicedelta_tree2_open(
         second: second_key,
     };
     let kept = match new_tree(alloc, capacity, &keys) {
+        Ok(kept) => kept,
+        Err(code) => return code.number(),
+    };
+    fill(alloc, handle, Object::Plane(kept)).number()
+}
+
+/// The shadow, where it has two axes.
+fn shadow_of(any: AnyShadow) -> Option<Shadow<2>>
+    ensures { IsOfKind Two any result }
+{
+    match any {
+        AnyShadow::Two(shadow) => Some(shadow),
+        AnyShadow::One(_) => None,
+        AnyShadow::Three(_) => None,
+    }
+}
+
+/// A tree with the rows of a dump.
+fn load_dump(alloc: Global, keys: &Keys, text: &[u8]) -> Result<Kept<2>, Code>
+    ensures { LoadsDump Two text.now result }
+{
+    let Ok(keys) = RandomState::new(keys) else {
+        return Err(Code::OutOfMemory);
+    };
+    match shadow_of(read(alloc, keys, text)?) {
+        Some(shadow) => load(alloc, keys, &shadow),
+        None => Err(Code::BadDump),
+    }
+}
+
+/// Opens a tree with the rows of a dump.
+#[unsafe(no_mangle)]
+pub extern "C" fn juicedelta_tree2_open_dump(
+    alloc: Global,
+    handle: &mut Handle,
+    text: &[u8],
+    first_key: u64,
+    second_key: u64,
+) -> i32
+    ensures { Opens handle.old.held handle.new.held (IsPlane (IsOfDump Two text.now)) (LoadsNone Two text.now) result }
+{
+    if let Some(object) = handle.take(alloc) {
+        handle.put(object);
+        return Code::AlreadyOpen.number();
+    }
+    let keys = Keys {
+        first: first_key,
+        second: second_key,
+    };
+    let kept = match load_dump(alloc, &keys, text) {
         Ok(kept) => kept,
         Err(code) => return code.number(),
     };

@@ -14,7 +14,7 @@ use std::alloc::Global;
 use std::hash::RandomState;
 
 /// The most rows of a tree.
-const FULL: usize = 1 << 20;
+pub const FULL: usize = 1 << 20;
 
 /// A tree without rows.
 pub fn new_tree<const D: usize>(alloc: Global, capacity: u32, keys: &Keys) -> Result<Kept<D>, Code>

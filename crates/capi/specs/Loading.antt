@@ -1,0 +1,59 @@
+-- How a dump is loaded, step by step. No contract of an exported call cites this module.
+use Rattle.std.specs.Prelude.{◌≡◌, ℕ, ◌+◌, ◌^◌, ◌≤◌, ◌<◌, ℤ, List, length, Bool, true, All, count_by, Option, Some, None, Result, Ok, Err}
+use Rattle.rt_check.specs.declared.node.RawCell.{RawCell}
+use Rattle.rt_check.specs.Shadow.{ShadowLists}
+use Rattle.rt_check.specs.Conditions.{IsSound, is_ordered, times_named}
+use Rattle.rt_check_dump.specs.declared.dump.AnyShadow.{AnyShadow}
+use Rattle.rt_check_dump.specs.Faults.{IsTextOf, IsDump}
+use Rattle.rt_handle.specs.declared.object.Kept.{Kept}
+use Rattle.rt_tree.specs.Lists.{TreeLists}
+use Rattle.rt_tree.specs.Rows.{row_in, rows_of}
+use Rattle.rt_tree_walk.specs.declared.searching.Row.{Row}
+use Rattle.capi.specs.declared.code.Code.{Code}
+use Rattle.capi.specs.declared.code.Code.TheVariants.{BadDump, TreeFull, OutOfMemory}
+use Rattle.capi.specs.Trees.{HasRowsOf, IsOfDump, LoadsNone}
+
+-- the text is the dump of this shadow, and of no other; or of none
+abbrev pub ReadsText : List ℕ → Result AnyShadow Code → Type 0
+ReadsText text (Ok shadow) = IsTextOf shadow text × ((other : AnyShadow) → IsTextOf other text → other ≡ shadow)
+ReadsText text (Err BadDump) = ¬ IsDump text
+ReadsText text (Err OutOfMemory) = Unit {0}
+ReadsText text (Err code) = ⊥
+
+module _ {D : ℕ} where
+  -- no number is that of two cells
+  abbrev pub AreUnique : List (RawCell D) → Type 0
+  AreUnique cells = (number : ℤ) → times_named number cells ≤ 1
+
+  abbrev pub AreOrdered : List (RawCell D) → Type 0
+  AreOrdered cells = All (λ c. is_ordered c ≡ true) cells
+
+  -- the tree's rows are those of the cells: as many of either pass any test
+  abbrev pub HasCells : List (RawCell D) → ShadowLists D → Type 0
+  HasCells cells tree = (test : Row D → Bool) → count_by test (rows_of tree) ≡ count_by (λ c. test (row_in c)) cells
+
+  -- a tree of such rows, whose nodes have that many cells at most; or there are too many, or there is no memory
+  abbrev pub GivesTree : ℕ → List (RawCell D) → Result (TreeLists D) Code → Type 0
+  GivesTree capacity cells (Ok tree) = HasCells cells tree.lists × (tree.lists.capacity ≡ capacity)
+  GivesTree capacity cells (Err TreeFull) = 2 ^ 20 < length cells
+  GivesTree capacity cells (Err OutOfMemory) = Unit {0}
+  GivesTree capacity cells (Err code) = ⊥
+
+  -- a shadow in which the checker finds no problem is loaded, where it has no more rows than a tree may have
+  abbrev pub Loads : ShadowLists D → Result (Kept D) Code → Type 0
+  Loads s (Ok kept) = IsSound s × HasRowsOf s kept
+  Loads s (Err BadDump) = ¬ IsSound s
+  Loads s (Err TreeFull) = IsSound s × (2 ^ 20 < length (rows_of s))
+  Loads s (Err OutOfMemory) = Unit {0}
+  Loads s (Err code) = ⊥
+
+module _ {D : ℕ} (of_kind : ShadowLists D → AnyShadow) where
+  -- the shadow is this one of the kind, and no other; or it is of another kind
+  abbrev pub IsOfKind : AnyShadow → Option (ShadowLists D) → Type 0
+  IsOfKind any (Some s) = (any ≡ of_kind s) × ((other : ShadowLists D) → of_kind other ≡ any → other ≡ s)
+  IsOfKind any None = (other : ShadowLists D) → of_kind other ≡ any → ⊥
+
+  -- the text is loaded, or why it isn't
+  abbrev pub LoadsDump : List ℕ → Result (Kept D) Code → Type 0
+  LoadsDump text (Ok kept) = IsOfDump of_kind text kept
+  LoadsDump text (Err code) = LoadsNone of_kind text code
