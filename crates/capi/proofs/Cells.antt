@@ -1,12 +1,12 @@
 -- Cells as rows: their boxes, and how many there are.
-use Rattle.std.proofs.Common.{◌≡◌, ℕ, zero, suc, ◌+◌, ◌<◌, ◌≤◌, Bool, true, false, ◌&&◌, cond, ℤ, pos, ◌≤ℤ◌, List, [], ◌∷◌, length, get_or, take, Some, None, arith, refl, sym, ap, ◌∙◌, inl, inr}
+use Rattle.std.proofs.Common.{◌≡◌, ℕ, zero, suc, ◌+◌, ◌<◌, ◌≤◌, Bool, true, cond, ℤ, ◌≤ℤ◌, List, [], ◌∷◌, length, get_or, take, None, arith, refl, sym, ap, ◌∙◌, inl, inr}
 use Rattle.std.specs.Prelude.{int_le, count_by}
 use Rattle.std.proofs.lemmas.Bool.Decides.{Decides-int_eq}
 use Rattle.std.proofs.lemmas.List.{length-take-le}
 use Rattle.std.specs.List.{AllZip}
 use Rattle.std.specs.Ordering.{int_eq}
 use Rattle.std.specs.Option.{option_map}
-use Rattle.std.proofs.lemmas.Bool.{cases_eq, true≢false}
+use Rattle.std.proofs.lemmas.Bool.{cases_eq}
 use Rattle.std.proofs.lemmas.List.Sums.{sum_by-cons, sum_by_more, sum_by-take-le}
 use Rattle.rt_box.specs.declared.interval.Interval.{Interval}
 use Rattle.rt_box.specs.Rect.{los, his}
@@ -16,7 +16,7 @@ use Rattle.rt_check.specs.Conditions.{coordinate, each_axis, times_named}
 use Rattle.rt_tree_walk.specs.declared.searching.Row.{Row}
 use Rattle.rt_tree_walk.proofs.Ints.{int_le-true}
 use Rattle.rt_tree.specs.Lists.{IsInShape}
-use Rattle.rt_tree.specs.Rows.{intervals, box_in, row_in, rows_of, box_of}
+use Rattle.rt_tree.specs.Rows.{intervals, box_in, rows_of, box_of}
 use Rattle.rt_tree.proofs.Members.{find-nothing}
 use Rattle.rt_tree.proofs.Rows.{intervals-back}
 use Rattle.capi.proofs.Entries.{entries-counted}

@@ -1,5 +1,5 @@
 -- A shadow that was read, as one of its kind.
-use Rattle.std.proofs.Common.{◌≡◌, ℕ, List, Option, Some, None, Result, Ok, Err, sym, ap, ◌∙◌, subst}
+use Rattle.std.proofs.Common.{ℕ, List, Some, None, Result, Ok, Err, subst}
 use Rattle.rt_check.specs.Shadow.{ShadowLists}
 use Rattle.rt_check.specs.Conditions.{IsSound}
 use Rattle.rt_check_dump.specs.declared.dump.AnyShadow.{AnyShadow}

@@ -1,10 +1,10 @@
 -- What a shadow has in which the checker finds no problem: as many entries as rows, no id twice, and boxes.
-use Rattle.std.proofs.Common.{◌≡◌, ◌⊎◌, ℕ, ◌+◌, ◌≤◌, Bool, true, false, not, ◌||◌, cond, ℤ, List, [], ◌∷◌, ◌++◌, length, map, Option, Some, None, All, Contains, arith, refl, sym, ap, ◌∙◌, subst, inl, inr}
+use Rattle.std.proofs.Common.{◌≡◌, ℕ, Bool, true, false, not, ◌||◌, cond, ℤ, List, [], ◌++◌, length, Option, Some, None, Contains, arith, refl, sym, subst, inl, inr}
 use Rattle.std.specs.Prelude.{count_by}
-use Rattle.std.specs.List.{flat_map, enumerate_from}
+use Rattle.std.specs.List.{enumerate_from}
 use Rattle.std.specs.Option.{option_map_or}
 use Rattle.std.specs.Ordering.{int_eq}
-use Rattle.std.proofs.lemmas.Bool.{cases_Bool, cases_lt, eqb-true, true≢false}
+use Rattle.std.proofs.lemmas.Bool.{cases_lt, eqb-true, true≢false}
 use Rattle.std.proofs.lemmas.Bool.Decides.{Decides-int_eq}
 use Rattle.std.proofs.lemmas.List.Elements.{All-contains_itself, All-weaker}
 use Rattle.indexmap.specs.Layout.{hash_map}

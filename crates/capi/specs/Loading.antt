@@ -1,17 +1,17 @@
 -- How a dump is loaded, step by step. No contract of an exported call cites this module.
-use Rattle.std.specs.Prelude.{◌≡◌, ℕ, ◌+◌, ◌^◌, ◌≤◌, ◌<◌, ℤ, List, length, Bool, true, All, count_by, Option, Some, None, Result, Ok, Err}
+use Rattle.std.specs.Prelude.{◌≡◌, ℕ, ◌^◌, ◌≤◌, ◌<◌, ℤ, List, length, Bool, true, All, count_by, Option, Some, None, Result, Ok, Err}
 use Rattle.rt_check.specs.declared.node.RawCell.{RawCell}
 use Rattle.rt_check.specs.Shadow.{ShadowLists}
 use Rattle.rt_check.specs.Conditions.{IsSound, is_ordered, times_named}
 use Rattle.rt_check_dump.specs.declared.dump.AnyShadow.{AnyShadow}
 use Rattle.rt_check_dump.specs.Faults.{IsTextOf, IsDump}
 use Rattle.rt_handle.specs.declared.object.Kept.{Kept}
-use Rattle.rt_tree.specs.Lists.{TreeLists}
+use Rattle.rt_tree.specs.Lists.{TreeLists, empty_lists}
 use Rattle.rt_tree.specs.Rows.{row_in, rows_of}
 use Rattle.rt_tree_walk.specs.declared.searching.Row.{Row}
 use Rattle.capi.specs.declared.code.Code.{Code}
 use Rattle.capi.specs.declared.code.Code.TheVariants.{BadDump, TreeFull, OutOfMemory}
-use Rattle.capi.specs.Trees.{HasRowsOf, IsOfDump, LoadsNone}
+use Rattle.capi.specs.Trees.{InsertsInTurn, HasRowsOf, IsOfDump, LoadsNone}
 
 -- the text is the dump of this shadow, and of no other; or of none
 abbrev pub ReadsText : List ℕ → Result AnyShadow Code → Type 0
@@ -32,9 +32,11 @@ module _ {D : ℕ} where
   abbrev pub HasCells : List (RawCell D) → ShadowLists D → Type 0
   HasCells cells tree = (test : Row D → Bool) → count_by test (rows_of tree) ≡ count_by (λ c. test (row_in c)) cells
 
-  -- a tree of such rows, whose nodes have that many cells at most; or there are too many, or there is no memory
+  -- a tree of such rows, inserted in this order, whose nodes have that many cells at most; or there are too many, or there is
+  -- no memory
   abbrev pub GivesTree : ℕ → List (RawCell D) → Result (TreeLists D) Code → Type 0
-  GivesTree capacity cells (Ok tree) = HasCells cells tree.lists × (tree.lists.capacity ≡ capacity)
+  GivesTree capacity cells (Ok tree) =
+      HasCells cells tree.lists × (tree.lists.capacity ≡ capacity) × InsertsInTurn (empty_lists capacity) cells tree.lists
   GivesTree capacity cells (Err TreeFull) = 2 ^ 20 < length cells
   GivesTree capacity cells (Err OutOfMemory) = Unit {0}
   GivesTree capacity cells (Err code) = ⊥

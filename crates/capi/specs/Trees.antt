@@ -1,17 +1,22 @@
 -- What a call does to a tree, by its code (own).
-use Rattle.std.specs.Prelude.{◌≡◌, ℕ, ◌^◌, ◌<◌, ◌≤◌, Bool, ℤ, ◌≤ℤ◌, List, length, map, count_by, Result, Ok, Err, Some, None, IsSome}
+use Rattle.std.specs.Prelude.{◌≡◌, ℕ, ◌^◌, ◌<◌, ◌≤◌, Bool, ℤ, ◌≤ℤ◌, List, [], ◌∷◌, ◌++◌, length, map, count_by, Result, Ok, Err, Some, None, IsSome}
 use Rattle.std.specs.List.{AllZip}
+use Rattle.std.specs.List.Sorted.{IsPermutation, IsSortedByKey}
+use Rattle.std.specs.Ordering.{int_cmp}
 use Rattle.rt_box.specs.declared.interval.Interval.{Interval}
 use Rattle.rt_box.specs.Capacity.{IsCapacity}
 use Rattle.rt_box.specs.Rect.{los, his}
+use Rattle.rt_check.specs.declared.node.RawCell.{RawCell}
 use Rattle.rt_check.specs.Shadow.{ShadowLists}
-use Rattle.rt_check.specs.Conditions.{IsSound}
+use Rattle.rt_check.specs.Conditions.{IsSound, leaf_cells}
 use Rattle.rt_check_dump.specs.declared.dump.AnyShadow.{AnyShadow}
 use Rattle.rt_check_dump.specs.Dump.{shadow_text}
 use Rattle.rt_check_dump.specs.Faults.{IsTextOf}
 use Rattle.rt_handle.specs.declared.object.Kept.{Kept}
 use Rattle.rt_tree.specs.Lists.{TreeLists, empty_lists}
-use Rattle.rt_tree.specs.Rows.{box_of, rows_of, GainsRow, LosesRow}
+use Rattle.rt_tree.specs.Rows.{box_in, box_of, rows_of, GainsRow, LosesRow}
+use Rattle.rt_tree.specs.Changes.{IsInsertion}
+use Rattle.rt_tree_node.specs.declared.arena.Work.{Work}
 use Rattle.rt_tree_nearest.specs.Nearest.{nearest_rows}
 use Rattle.rt_tree_walk.specs.declared.searching.Row.{Row}
 use Rattle.capi.specs.Buffers.{Copies, GivesText}
@@ -37,11 +42,22 @@ module _ {D : ℕ} where
   Makes capacity (Ok kept) = IsNew capacity kept
   Makes capacity (Err code) = MakesNone capacity code
 
-  -- the tree has exactly the rows of the shadow, ids and boxes: as many of either pass any test; and its capacity
+  -- the rows of the cells are inserted into the first tree one after another
+  pub data InsertsInTurn (first : ShadowLists D) : List (RawCell D) → ShadowLists D → Type 0 where
+    none : InsertsInTurn first [] first
+    more : {cells : List (RawCell D)} {old new : ShadowLists D} (cell : RawCell D) (work : Work) → InsertsInTurn first cells old →
+        IsInsertion old new cell.number (box_in cell) work → InsertsInTurn first (cells ++ cell ∷ []) new
+
+  -- The tree has exactly the rows of the shadow, ids and boxes: as many of either pass any test. They are inserted into a
+  -- tree without rows and of the shadow's capacity, those with lower ids first.
   pub record HasRowsOf (s : ShadowLists D) (kept : Kept D) : Type 0 where
     pub rows : (test : Row D → Bool) → count_by test (rows_of kept.tree.lists) ≡ count_by test (rows_of s)
     pub most_cells : kept.tree.lists.capacity ≡ s.capacity
     pub capacity : kept.capacity ≡ s.capacity
+    pub cells : List (RawCell D)
+    pub same : IsPermutation (leaf_cells s.nodes) cells
+    pub sorted : IsSortedByKey (λ c. c.number) int_cmp cells
+    pub turns : InsertsInTurn (empty_lists s.capacity) cells kept.tree.lists
 
   -- the text is the dump of the shadow, which is of the kind that the number of axes gives, and the checker finds no problem
   -- in it

@@ -1,9 +1,12 @@
 //! A tree made of the rows of a dump.
 
 ghost use Rattle.std.specs.Prelude.{◌≡◌, ◌+◌, ◌^◌, ◌≤◌, ◌<◌, ◌↔◌, [], true, length, IsTrue, IfOk, None};
-ghost use Rattle.std.specs.List.Sorted.{IsPermutation};
+ghost use Rattle.std.specs.List.Sorted.{IsPermutation, IsSortedByKey};
+ghost use Rattle.std.specs.Ordering.{int_cmp};
 ghost use Rattle.rt_check.specs.Conditions.{is_ordered, leaf_cells, IsSound};
 ghost use Rattle.rt_tree.specs.Rows.{box_in, box_of, rows_of, GainsRow};
+ghost use Rattle.rt_tree.specs.Changes.{IsInsertion};
+ghost use Rattle.capi.specs.Trees.{InsertsInTurn};
 ghost use Rattle.capi.specs.Loading.{ReadsText, AreUnique, AreOrdered, HasCells, GivesTree, Loads};
 
 use crate::code::Code;
@@ -13,7 +16,7 @@ use rt_check::{RawCell, Shadow, check};
 use rt_check_dump::laws::dumps_are_read;
 use rt_check_dump::{AnyShadow, DumpFault, read_dump};
 use rt_handle::Kept;
-use rt_tree::Tree;
+use rt_tree::{Tree, Work};
 use std::alloc::{AllocError, Global};
 use std::hash::RandomState;
 
@@ -50,7 +53,8 @@ fn sorted_cells<const D: usize>(
     alloc: Global,
     shadow: &Shadow<D>,
 ) -> Result<Vec<RawCell<D>>, AllocError>
-    ensures { IfOk result (λ cells. IsPermutation (leaf_cells shadow.now.nodes) cells.items) }
+    ensures same { IfOk result (λ cells. IsPermutation (leaf_cells shadow.now.nodes) cells.items) }
+    ensures sorted { IfOk result (λ cells. IsSortedByKey (λ c. c.number) int_cmp cells.items) }
 {
     let mut cells = row_cells(alloc, shadow)?;
     cells.sort_unstable_by_key(
@@ -62,7 +66,7 @@ fn sorted_cells<const D: usize>(
 }
 
 /// Inserts the row of a cell.
-fn insert_cell<const D: usize>(tree: &mut Tree<D>, cell: &RawCell<D>)
+fn insert_cell<const D: usize>(tree: &mut Tree<D>, cell: &RawCell<D>) -> Work
     requires some { 1 ≤ D }
     requires few { D ≤ 3 }
     requires ordered { is_ordered cell.now ≡ true }
@@ -70,12 +74,13 @@ fn insert_cell<const D: usize>(tree: &mut Tree<D>, cell: &RawCell<D>)
     requires most { length tree.old.lists.rows < 2 ^ 20 }
     requires spare { 1 ≤ tree.old.spare }
     ensures row { GainsRow tree.old.lists tree.new.lists cell.now.number (box_in cell.now) }
+    ensures insertion { IsInsertion tree.old.lists tree.new.lists cell.now.number (box_in cell.now) result }
     ensures spare { tree.new.spare + 1 ≡ tree.old.spare }
     ensures capacity { tree.new.lists.capacity ≡ tree.old.lists.capacity }
 {
     cell.axes();
     let rect = Rect::new(cell.lo, cell.hi).unwrap();
-    let _ = tree.insert(&cell.number, &rect);
+    tree.insert(&cell.number, &rect)
 }
 
 /// Inserts the rows of the cells into a tree without rows.
@@ -88,12 +93,13 @@ fn insert_all<const D: usize>(tree: &mut Tree<D>, cells: &[RawCell<D>])
     requires empty { rows_of tree.old.lists ≡ [] }
     requires spare { length cells.now ≤ tree.old.spare }
     ensures rows { HasCells cells.now tree.new.lists }
+    ensures turns { InsertsInTurn tree.old.lists cells.now tree.new.lists }
     ensures capacity { tree.new.lists.capacity ≡ tree.old.lists.capacity }
 {
     for cell in cells {
         // What is known of the tree's shape tells how many entries it has.
         tree.is_in_shape();
-        insert_cell(tree, cell);
+        let _ = insert_cell(tree, cell);
     }
 }
 

@@ -1,4 +1,4 @@
-use Rattle.std.proofs.Common.{◌≡◌, Ok, Err, sym, ◌∙◌}
+use Rattle.std.proofs.Common.{◌≡◌, Ok, sym, ◌∙◌}
 use Rattle.rt_check_dump.specs.Reading.{read_text}
 use Rattle.capi.proofs.loading.read.Goals as goal
 
