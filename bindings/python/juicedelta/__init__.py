@@ -103,14 +103,14 @@ class _Owner:
         return number.value
 
     def _filled(self, kind: str, width: int, room: int, call: Any, *words: object) -> array.array[int]:
-        """The items that a call writes, of `width` numbers each; it is called again with more room where they need it."""
+        """The items that a call writes, of `width` bytes each; it is called again with more room where they need it."""
         total = ctypes.c_uint64()
         while True:
-            data = array.array(kind, bytes(struct.calcsize(kind) * width * max(room, 1)))
+            data = array.array(kind, bytes(width * room or width))
             code = call(self._at, *words, data.buffer_info()[0], room, ctypes.byref(total))
             room = total.value
             if code == 0:
-                return data[: width * room]
+                return data[: width * room // data.itemsize]
             if code != _BUFFER_TOO_SMALL:
                 raise JuicedeltaError(code)
 
@@ -183,11 +183,18 @@ class RTree(_Owner):
 
     def intersection(self, coordinates: Sequence[int], objects: bool = False) -> Iterator[Any]:
         """The ids of the rows that have a point in common with the box, in no stated order; with `objects` the rows."""
-        width, call = (self._row.size // 8, self._search_rows) if objects else (1, self._search)
-        data = self._filled("q", width, self._room, call, _packed(self._box, coordinates))
-        # The next window may have as many.
-        self._room = max(self._room, min(len(data) // width, 4096))
-        return self._items(data) if objects else iter(data)
+        # Not by _filled, which would take longer than a small search.
+        box, total, room = _packed(self._box, coordinates), ctypes.c_uint64(), self._room
+        width, call = (self._row.size, self._search_rows) if objects else (8, self._search)
+        while True:
+            data = array.array("q", bytes(width * room))
+            code = call(self._at, box, data.buffer_info()[0], room, ctypes.byref(total))
+            room = total.value
+            if code == 0:
+                return self._items(data[: width * room // 8]) if objects else iter(data[:room])
+            if code != _BUFFER_TOO_SMALL:
+                raise JuicedeltaError(code)
+            self._room = max(self._room, min(room, 4096))  # The next window may have as many.
 
     def nearest(self, coordinates: Sequence[int], num_results: int = 1, objects: bool = False) -> Iterator[Any]:
         """The ids of the rows nearest to a point, the nearest first, of equal ones the lower id; with `objects` the rows."""
@@ -195,7 +202,7 @@ class RTree(_Owner):
         if len(high) > 0 and tuple(low) != tuple(high):
             raise ValueError("nearest takes a number for each axis, or a box that is a point")
         room = min(max(num_results, 0), len(self))
-        rows = self._items(self._filled("q", self._row.size // 8, room, self._nearest, _packed(self._point, low)))
+        rows = self._items(self._filled("q", self._row.size, room, self._nearest, _packed(self._point, low)))
         return rows if objects else (row.id for row in rows)
 
     def _items(self, data: array.array[int]) -> Iterator[Item]:
