@@ -3,10 +3,10 @@
 //! The greatest ids stand in a list, the largest last; it has room for `MOST_IDS`, and all others are in the tree alone.
 //! An id whose row has left stays in the list until it comes to its end (`specs/Ranked.antt`).
 //!
-//! Nothing here takes memory but `new`. Only where the rows of all listed ids have left is the list filled anew from the
-//! ids of the tree. Between two such fillings at least half of `MOST_IDS` rows leave, or as many rows come as the tree has
-//! more than the list has room for. So each statement pays for some hundred ids at most, also where a script deletes
-//! all rows from the top down, and for none in others.
+//! Nothing here takes memory but `new`. Only where the rows of all listed ids have left is the list filled anew, from
+//! all ids of the tree. Between two such fillings half of `MOST_IDS` rows leave at least, or as many rows come as there
+//! are then. So a row that leaves pays for a thousand ids at most, as where a script deletes a million rows from the top
+//! down; one that comes pays for one.
 
 ghost use Rattle.std.specs.Prelude.{◌≡◌, ◌≤◌, ◌<◌, ◌≤ℤ◌, ◌<ℤ◌, ◌+◌, ◌||◌, ℤ, Bool, [], true, false, length, is_some, vec_len, vec_capacity, insert, drop, IfOk};
 ghost use Rattle.std.specs.List.{list_any};
