@@ -4,12 +4,14 @@ ghost use Rattle.std.specs.Prelude.{◌≤◌, IfOk};
 ghost use Rattle.capi.specs.Touching.{FindsTouching};
 ghost use Rattle.capi.specs.Trees.{Gives, CountsTouching, Searches, FindsNearest};
 
-use crate::buffer::copy_to;
 use crate::code::Code;
-use crate::plain::{FromRow, from_rows};
+use crate::plain::{FromRow, write_rows};
 use crate::touching::touching;
-use rt_tree::{Found, Row, Tree};
+use rt_tree::{Row, Tree};
 use std::alloc::{AllocError, Global};
+
+/// For how many rows a list has room at first, at most: a caller with a longer buffer mostly asks for fewer.
+const MOST_ROOM: usize = 1024;
 
 /// Writes the number of the rows that have a point in common with the box from `min` to `max`.
 pub fn count<const D: usize>(
@@ -33,35 +35,30 @@ pub fn count<const D: usize>(
     }
 }
 
-/// The rows that have a point in common with the box from `min` to `max`.
+/// The rows that have a point in common with the box from `min` to `max`. The list has room for `room` rows at first.
 fn find<const D: usize>(
     alloc: Global,
     tree: &Tree<D>,
     min: &[i32; D],
     max: &[i32; D],
-) -> Result<Found<D>, AllocError>
+    room: usize,
+) -> Result<Vec<Row<D>>, AllocError>
     requires some { 1 ≤ D }
     requires few { D ≤ 3 }
-    ensures { IfOk result (λ found. FindsTouching tree.now.lists min.now max.now found.rows.items) }
+    ensures { IfOk result (λ rows. FindsTouching tree.now.lists min.now max.now rows.items) }
 {
     tree.has_boxes();
-    tree.search(alloc, &touching(min, max))
+    let mut rows = Vec::with_capacity(alloc, room)?;
+    let _visited = tree.search_into(alloc, &touching(min, max), &mut rows)?;
+    Ok(rows)
 }
 
 /// Writes what the caller gets of the rows to the front of the buffer, and their number to `total`.
-fn give<const D: usize, R: FromRow<D>>(
-    alloc: Global,
-    rows: &[Row<D>],
-    buffer: &mut [R],
-    total: &mut u64,
-) -> Code
+fn give<const D: usize, R: FromRow<D>>(rows: &[Row<D>], buffer: &mut [R], total: &mut u64) -> Code
     ensures { Gives R.of_row rows.now buffer.old buffer.new total.old total.new result }
 {
-    let Ok(given) = from_rows(alloc, rows) else {
-        return Code::OutOfMemory;
-    };
-    *total = given.len() as u64;
-    copy_to(&given, buffer)
+    *total = rows.len() as u64;
+    write_rows(rows, buffer)
 }
 
 /// Writes what the caller gets of the rows that have a point in common with the box from `min` to `max`, in no stated order,
@@ -78,8 +75,8 @@ pub fn search<const D: usize, R: FromRow<D>>(
     requires few { D ≤ 3 }
     ensures { Searches R.of_row min.now max.now buffer.old buffer.new total.old total.new tree.now tree.now result }
 {
-    match find(alloc, tree, min, max) {
-        Ok(found) => give(alloc, &found.rows, buffer, total),
+    match find(alloc, tree, min, max, buffer.len().min(MOST_ROOM)) {
+        Ok(rows) => give(&rows, buffer, total),
         Err(_) => Code::OutOfMemory,
     }
 }
@@ -98,7 +95,7 @@ pub fn nearest<const D: usize, R: FromRow<D>>(
     ensures { FindsNearest R.of_row point.now buffer.old buffer.new total.old total.new tree.now tree.now result }
 {
     match tree.nearest(alloc, point, buffer.len()) {
-        Ok(rows) => give(alloc, &rows, buffer, total),
+        Ok(rows) => give(&rows, buffer, total),
         Err(_) => Code::OutOfMemory,
     }
 }

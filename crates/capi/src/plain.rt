@@ -1,13 +1,14 @@
 //! What a caller gets of boxes and rows.
 
-ghost use Rattle.std.specs.Prelude.{◌≡◌, List, map, IfOk};
+ghost use Rattle.std.specs.Prelude.{◌≡◌, List, map};
 ghost use Rattle.rt_box.specs.declared.interval.Interval.{Interval};
 ghost use Rattle.rt_tree_walk.specs.declared.searching.Row.{Row};
+ghost use Rattle.capi.specs.Buffers.{Copies};
 ghost use Rattle.capi.specs.Plain.{id_of};
 
+use crate::code::Code;
 use rt_box::Rect;
 use rt_tree::Row;
-use std::alloc::{AllocError, Global};
 
 /// A box of `D` axes as a caller has it.
 pub trait FromRect<const D: usize>: Copy {
@@ -35,16 +36,15 @@ impl<const D: usize> FromRow<D> for i64 {
     }
 }
 
-/// What the caller gets of each row.
-pub fn from_rows<const D: usize, R: FromRow<D>>(
-    alloc: Global,
-    rows: &[Row<D>],
-) -> Result<Vec<R>, AllocError>
-    ensures { IfOk result (λ given. given.items ≡ map R.of_row rows.now) }
+/// Writes what the caller gets of each row to the front of the buffer.
+pub fn write_rows<const D: usize, R: FromRow<D>>(rows: &[Row<D>], buffer: &mut [R]) -> Code
+    ensures { Copies (map R.of_row rows.now) buffer.old buffer.new result }
 {
-    let mut given = Vec::with_capacity(alloc, rows.len())?;
-    for row in rows {
-        given.push(R::from_row(row))?;
+    if rows.len() > buffer.len() {
+        return Code::BufferTooSmall;
     }
-    Ok(given)
+    for at in 0..rows.len() {
+        buffer[at] = R::from_row(&rows[at]);
+    }
+    Code::Done
 }
