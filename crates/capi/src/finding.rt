@@ -7,11 +7,8 @@ ghost use Rattle.capi.specs.Trees.{Gives, CountsTouching, Searches, FindsNearest
 use crate::code::Code;
 use crate::plain::{FromRow, write_rows};
 use crate::touching::touching;
-use rt_tree::{Row, Tree};
+use rt_tree::{Found, Row, Tree};
 use std::alloc::{AllocError, Global};
-
-/// For how many rows a list has room at first, at most: a caller with a longer buffer mostly asks for fewer.
-const MOST_ROOM: usize = 1024;
 
 /// Writes the number of the rows that have a point in common with the box from `min` to `max`.
 pub fn count<const D: usize>(
@@ -35,22 +32,19 @@ pub fn count<const D: usize>(
     }
 }
 
-/// The rows that have a point in common with the box from `min` to `max`. The list has room for `room` rows at first.
+/// The rows that have a point in common with the box from `min` to `max`.
 fn find<const D: usize>(
     alloc: Global,
     tree: &Tree<D>,
     min: &[i32; D],
     max: &[i32; D],
-    room: usize,
-) -> Result<Vec<Row<D>>, AllocError>
+) -> Result<Found<D>, AllocError>
     requires some { 1 ≤ D }
     requires few { D ≤ 3 }
-    ensures { IfOk result (λ rows. FindsTouching tree.now.lists min.now max.now rows.items) }
+    ensures { IfOk result (λ found. FindsTouching tree.now.lists min.now max.now found.rows.items) }
 {
     tree.has_boxes();
-    let mut rows = Vec::with_capacity(alloc, room)?;
-    let _visited = tree.search_into(alloc, &touching(min, max), &mut rows)?;
-    Ok(rows)
+    tree.search(alloc, &touching(min, max))
 }
 
 /// Writes what the caller gets of the rows to the front of the buffer, and their number to `total`.
@@ -75,8 +69,8 @@ pub fn search<const D: usize, R: FromRow<D>>(
     requires few { D ≤ 3 }
     ensures { Searches R.of_row min.now max.now buffer.old buffer.new total.old total.new tree.now tree.now result }
 {
-    match find(alloc, tree, min, max, buffer.len().min(MOST_ROOM)) {
-        Ok(rows) => give(&rows, buffer, total),
+    match find(alloc, tree, min, max) {
+        Ok(found) => give(&found.rows, buffer, total),
         Err(_) => Code::OutOfMemory,
     }
 }
