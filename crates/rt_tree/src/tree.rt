@@ -35,6 +35,14 @@ const NODES_AHEAD: usize = 33;
 /// The most nodes that a tree has room for, so that a key is a cell's number.
 const MOST_NODES: usize = 1 << 62;
 
+/// The most nodes that room grows to by doubling.
+const FEW_NODES: usize = 512;
+
+/// How many nodes a larger tree has room for at least. They take more than 32 MB of addresses, and memory only as nodes
+/// come. The C library gives such a block back whole once it is free; of a smaller one it would infer that it does better
+/// to keep blocks of that size, and what the map of leaves grows out of would be lost.
+const MANY_NODES: usize = 40_000;
+
 /// The most rows that room is asked for. No machine holds more.
 const MOST_ROOM: usize = 1 << 42;
 
@@ -104,6 +112,31 @@ fn with_room<const D: usize>(
     Ok(copy)
 }
 
+/// The nodes for which room is made where there is to be some for so many.
+fn likely_room(room: usize) -> usize
+    ensures { room ≤ result }
+{
+    if room > FEW_NODES && room < MANY_NODES {
+        return MANY_NODES;
+    }
+    room
+}
+
+/// A copy of the nodes that has room for so many, and for more where there is memory for that.
+fn with_likely_room<const D: usize>(
+    nodes: &Slab<Node<D>>,
+    room: usize,
+) -> Result<Slab<Node<D>>, AllocError>
+    ensures same { IfOk result (λ copy. copy.slots ≡ nodes.now.slots) }
+    ensures room { IfOk result (λ copy. room ≤ copy.capacity) }
+    ensures keys { IfOk result (λ copy. copy.capacity ≤ 2 ^ 62) }
+{
+    match with_room(nodes, likely_room(room)) {
+        Ok(copy) => Ok(copy),
+        Err(_) => with_room(nodes, room),
+    }
+}
+
 /// Makes room for so many nodes, where there is none yet.
 fn make_room<const D: usize>(nodes: &mut Slab<Node<D>>, room: usize) -> Result<(), AllocError>
     requires { nodes.old.capacity ≤ 2 ^ 62 }
@@ -115,7 +148,7 @@ fn make_room<const D: usize>(nodes: &mut Slab<Node<D>>, room: usize) -> Result<(
     if room <= nodes.capacity() {
         return Ok(());
     }
-    *nodes = with_room(nodes, room)?;
+    *nodes = with_likely_room(nodes, room)?;
     Ok(())
 }
 
