@@ -5,7 +5,7 @@ use Rattle.rt_sql_statement.specs.declared.statement.Stmt.{Stmt}
 use Rattle.rt_check_dump.specs.declared.dump.AnyShadow.{AnyShadow}
 use Rattle.rt_check_dump.specs.declared.dump.AnyShadow.TheVariants.{One}
 use Rattle.rt_tree.specs.Lists.{empty_lists}
-use Rattle.rt_session.specs.declared.reply.Reply.{Reply}
+use Rattle.rt_reply.specs.declared.reply.Reply.{Reply}
 use Rattle.rt_session.specs.Session.{State, Outcome, answer, MayChoose, CarriesOut}
 use Rattle.rt_session.specs.Steps.{AnswersUnlessMemory, AnswersByTree}
 

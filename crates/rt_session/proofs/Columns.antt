@@ -11,9 +11,10 @@ use Rattle.rt_table_row.specs.Rows.{TableRow, values_of}
 use Rattle.rt_table_row.specs.Tables.{TableLists, select}
 use Rattle.rt_table_row.proofs.Filters.{present}
 use Rattle.rt_table.specs.Replies.{Shows}
-use Rattle.rt_session.specs.declared.reply.Reply.TheVariants.{Rows}
+use Rattle.rt_reply.specs.declared.reply.Reply.TheVariants.{Rows}
 use Rattle.rt_session.specs.Session.{State, selected, shown, is_by_id}
-use Rattle.rt_session.specs.Selecting.{ArePlaces, values_at}
+use Rattle.rt_session.specs.Selecting.{ArePlaces}
+use Rattle.rt_reply.specs.Shown.{values_at}
 
 pub one_fails : {X : Type 0} (p : X → Bool) (xs : List X) (at : ℕ) (x : X) → at < length xs → x ≡ get_or xs at x → p x ≡ false → list_all p xs ≡ false
 one_fails p [] at x within read fails = absurd (omega arith)

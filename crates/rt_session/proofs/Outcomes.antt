@@ -20,11 +20,11 @@ use Rattle.rt_table_row.specs.Tables.{TableLists, edited, new_table, watch, view
 use Rattle.rt_check_dump.specs.declared.dump.AnyShadow.{AnyShadow}
 use Rattle.rt_table.specs.Held.{TableAndTree}
 use Rattle.rt_table.specs.AnyTrees.{new_tree}
-use Rattle.rt_table.specs.Watching.{change_of as view_change}
+use Rattle.rt_table_view.specs.Watching.{change_of as view_change}
 use Rattle.rt_table.specs.Replies.{Refuses, Shows}
 use Rattle.rt_sql_statement.specs.declared.statement.Edit.{Edit}
-use Rattle.rt_table.specs.declared.watched.Change.{Change}
-use Rattle.rt_session.specs.declared.reply.Reply.TheVariants.{Nothing, Rows, Changes}
+use Rattle.rt_reply.specs.declared.change.Change.{Change}
+use Rattle.rt_reply.specs.declared.reply.Reply.TheVariants.{Nothing, Rows, Changes}
 use Rattle.rt_session.specs.declared.tables.Named.{Named}
 use Rattle.rt_session.specs.Session.{State, NamedTable, is_named, table_of, with_table, with_tree, without_table, created, dropped, is_watched, count_views, watched_by, now_watched, viewed, carried_out, on_table, change_of}
 use Rattle.rt_table_row.specs.Edits.{steps_of}

@@ -1,8 +1,6 @@
 -- Columns that a SELECT shows, looked up once (own).
-use Rattle.std.specs.Prelude.{◌≡◌, ◌≢◌, ℕ, false, List, map, Some, slice_index_or}
+use Rattle.std.specs.Prelude.{◌≡◌, ◌≢◌, ℕ, false, List, map, Some}
 use Rattle.std.specs.List.{list_all}
-use Rattle.rt_sql_statement.specs.declared.value.Value.{Value}
-use Rattle.rt_sql_statement.specs.declared.value.Value.TheVariants.{Null}
 use Rattle.rt_sql_statement.specs.declared.refusal.Refusal.{Refusal}
 use Rattle.rt_sql_statement.specs.declared.refusal.Refusal.TheVariants.{OutOfMemory, NoSuchColumn}
 use Rattle.rt_table_row.specs.Columns.{place_of, has_name}
@@ -14,7 +12,3 @@ ArePlaces columns names places = map Some places ≡ map (place_of columns) name
 -- one of the names is no column's
 abbrev pub IsMissing : List (List ℕ) → List (List ℕ) → Refusal → Type 0
 IsMissing columns names refusal = refusal ≢ OutOfMemory → (refusal ≡ NoSuchColumn) × (list_all (has_name columns) names ≡ false)
-
--- the values at these places
-abbrev pub values_at : List ℕ → List Value → List Value
-values_at places values = map (λ place. slice_index_or values place Null) places

@@ -20,10 +20,10 @@ use Rattle.rt_table_row.specs.Edits.{Steps, and_then, steps_of}
 use Rattle.rt_table_row.specs.Views.{ViewChange}
 use Rattle.rt_table_row.specs.Tables.{TableLists, new_table, edited, select, watch, unwatch, view, has_view}
 use Rattle.rt_check_dump.specs.declared.dump.AnyShadow.{AnyShadow}
-use Rattle.rt_table.specs.declared.watched.Change.{Change}
+use Rattle.rt_reply.specs.declared.change.Change.{Change}
 use Rattle.rt_table.specs.AnyTrees.{new_tree, FollowsIfTaken}
-use Rattle.rt_session.specs.declared.reply.Reply.{Reply}
-use Rattle.rt_session.specs.declared.reply.Reply.TheVariants.{Nothing, Rows, Changes, Verdict, Dump}
+use Rattle.rt_reply.specs.declared.reply.Reply.{Reply}
+use Rattle.rt_reply.specs.declared.reply.Reply.TheVariants.{Nothing, Rows, Changes, Verdict, Dump}
 
 -- a table under its name, and the tree of its rows
 pub record NamedTable : Type 0 where

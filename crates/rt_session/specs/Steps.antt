@@ -7,9 +7,9 @@ use Rattle.rt_sql_statement.specs.declared.value.Value.{Value}
 use Rattle.rt_table_row.specs.Edits.{and_then, steps_of}
 use Rattle.rt_table_row.specs.Tables.{TableLists, edited}
 use Rattle.rt_check_dump.specs.declared.dump.AnyShadow.{AnyShadow}
-use Rattle.rt_table.specs.declared.watched.Change.{Change}
-use Rattle.rt_session.specs.declared.reply.Reply.{Reply}
-use Rattle.rt_session.specs.declared.reply.Reply.TheVariants.{Rows}
+use Rattle.rt_reply.specs.declared.change.Change.{Change}
+use Rattle.rt_reply.specs.declared.reply.Reply.{Reply}
+use Rattle.rt_reply.specs.declared.reply.Reply.TheVariants.{Rows}
 use Rattle.rt_session.specs.Session.{State, Outcome, change_of}
 
 -- Ok is the reply and the state that were expected. A refusal leaves the state, and is the one expected or want of memory.

@@ -22,9 +22,9 @@ use Rattle.rt_table_row.specs.Tables.{new_table}
 use Rattle.rt_check_dump.specs.declared.dump.AnyShadow.{AnyShadow}
 use Rattle.rt_check_dump.specs.declared.dump.AnyShadow.TheVariants.{One, Two, Three}
 use Rattle.rt_tree.specs.Lists.{empty_lists}
-use Rattle.rt_table.specs.declared.watched.Change.{Change}
-use Rattle.rt_session.specs.declared.reply.Reply.{Reply}
-use Rattle.rt_session.specs.declared.reply.Reply.TheVariants.{Nothing, Rows, Changes, Verdict, Dump}
+use Rattle.rt_reply.specs.declared.change.Change.{Change}
+use Rattle.rt_reply.specs.declared.reply.Reply.{Reply}
+use Rattle.rt_reply.specs.declared.reply.Reply.TheVariants.{Nothing, Rows, Changes, Verdict, Dump}
 use Rattle.rt_session.specs.Session.{State, Outcome, state_after, empty, answer}
 
 -- ---- statements to work with

@@ -2,25 +2,20 @@
 //!
 //! - `Session`: the tables under their names. `step` carries a statement out, or refuses it, and a
 //!   refusal leaves the tables as they were.
-//! - `Reply`, `Change`: what a statement answers. `Shown` is the rows of a reply with the columns that it shows of them,
-//!   and `TreeDump` a tree.
+//! - `Reply`, `Change`: what a statement answers (`rt_reply`).
 //! - `laws`: whatever statements are carried out, the rows of a table stand by rising id, and its tree is one of its rows
 //!   in which the checker finds no problem.
 //!
 //! Any statement may be refused for want of memory, and that refusal too leaves the tables.
 //!
-//! Stands on `rt_table`. Definitions: `specs/Session.antt` (the answer to each statement), `Selecting.antt`,
-//! `Shown.antt`, `Laws.antt`; `Worked.antt` holds them against worked examples.
+//! Stands on `rt_table` and `rt_reply`. Definitions: `specs/Session.antt` (the answer to each statement),
+//! `Selecting.antt`, `Laws.antt`; `Worked.antt` holds them against worked examples.
 #![tactic(auto)]
 
 pub mod laws;
-mod reply;
 mod selecting;
 mod session;
-mod shown;
 mod tables;
 
-pub use reply::{Reply, TreeDump};
-pub use rt_table::Change;
+pub use rt_reply::{Change, Reply};
 pub use session::Session;
-pub use shown::{Shown, ShownView};

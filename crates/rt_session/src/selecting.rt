@@ -7,7 +7,7 @@ ghost use Rattle.rt_session.specs.Session.{is_by_id, selected};
 ghost use Rattle.rt_session.specs.Selecting.{ArePlaces, IsMissing};
 ghost use Rattle.rt_session.specs.Steps.{ShowsRows};
 
-use crate::shown::Shown;
+use rt_reply::Shown;
 use rt_sql_statement::{Cond, Items, Name, Refusal};
 use rt_table::AnyTable;
 use rt_table_row::Schema;

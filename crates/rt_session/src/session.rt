@@ -8,13 +8,12 @@ ghost use Rattle.rt_table_row.specs.Edits.{steps_of};
 ghost use Rattle.rt_session.specs.Session.{empty, CarriesOut, MayChooseFor, created, dropped, carried_out, on_table, table_of, now_watched, on_watched, watched_by, now_unwatched, viewed, selected, checked, dumped};
 ghost use Rattle.rt_session.specs.Steps.{AnswersUnlessMemory, AnswersByTree};
 
-use crate::reply::{Reply, TreeDump};
 use crate::selecting::select;
-use crate::shown::Shown;
 use crate::tables::{Named, have_views, place_of, place_of_view};
 use rt_box::Capacity;
+use rt_reply::{AnyRows, Reply, Shown, TreeDump};
 use rt_sql_statement::{ColumnDef, Cond, Edit, Items, Name, Refusal, Stmt};
-use rt_table::{AnyRows, AnyTable};
+use rt_table::AnyTable;
 use rt_table_row::Schema;
 use std::alloc::Global;
 use std::hash::RandomState;

@@ -16,8 +16,8 @@ use Rattle.rt_table_row.specs.Rows.{values_of}
 use Rattle.rt_table_row.specs.Edits.{Steps, and_then, steps_of}
 use Rattle.rt_table_row.specs.Tables.{TableLists, new_table, edited, select, watch, unwatch, view, has_view}
 use Rattle.rt_table.specs.AnyTrees.{new_tree}
-use Rattle.rt_session.specs.declared.reply.Reply.{Reply}
-use Rattle.rt_session.specs.declared.reply.Reply.TheVariants.{Nothing, Rows, Verdict, Dump}
+use Rattle.rt_reply.specs.declared.reply.Reply.{Reply}
+use Rattle.rt_reply.specs.declared.reply.Reply.TheVariants.{Nothing, Rows, Verdict, Dump}
 use Rattle.rt_session.specs.Session.{State, NamedTable, Outcome, is_named, table_of, with_table, with_tree, without_table, on_table, most_tables, created, is_watched, dropped, carried_out, is_by_id, are_columns, shown, selected, most_views, count_views, watched_by, now_watched, on_watched, now_unwatched, viewed, dumped, answer}
 
 -- ---- tables

@@ -13,7 +13,7 @@ use Rattle.rt_sql_statement.specs.declared.refusal.Refusal.TheVariants.{OutOfMem
 use Rattle.rt_sql_cut.proofs.CutterFront.{nothing_ready}
 use Rattle.rt_sql_cut.proofs.CutterLaws.{cut_somehow}
 use Rattle.rt_bytes.specs.declared.device.WriteFault.{WriteFault}
-use Rattle.rt_session.specs.declared.reply.Reply.{Reply}
+use Rattle.rt_reply.specs.declared.reply.Reply.{Reply}
 use Rattle.rt_shell.specs.declared.engine.Engine.{Engine}
 use Rattle.rt_bytes.specs.declared.outcome.Status.{Status}
 use Rattle.rt_bytes.specs.declared.outcome.Status.TheVariants.{Refused}
@@ -21,7 +21,7 @@ use Rattle.rt_shell.specs.declared.engine.Flow.{Flow}
 use Rattle.rt_shell.specs.declared.engine.Flow.TheVariants.{Goes, Stops}
 use Rattle.rt_shell.specs.declared.engine.Options.{Options}
 use Rattle.rt_session.specs.Session.{State, Outcome}
-use Rattle.rt_shell.specs.Lines.{answer_lines, echo_of}
+use Rattle.rt_shell_lines.specs.Lines.{answer_lines, echo_of}
 use Rattle.rt_shell.specs.Transcript.{Marks, Progress, MayGive, after, Prints, PrintsText, lines_of, part_of, status_of}
 use Rattle.rt_shell.specs.Engine.{outcome_of, GivesAnswer, AnswersNext, progress_of, echo_ready, AnswersPiece, ready_lines, flow_of, CutInto, Gives, Moves, StopsWith, Reaches, AnswersReady, Finishes}
 

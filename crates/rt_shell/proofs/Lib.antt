@@ -1,14 +1,7 @@
 pub mod Alike
-pub mod Columns
 pub mod EngineLemmas
-pub mod Groups
-pub mod Listed
-pub mod Numbers
-pub mod Parts
 pub mod Printed
 pub mod Pumping
-pub mod Quotes
-pub mod Sequences
 pub mod Shells
 pub mod Standing
 pub mod StepLemmas

@@ -28,7 +28,7 @@ use Rattle.rt_table_row.specs.Tables.{TableLists, new_table, select, view, has_v
 use Rattle.rt_table_row.specs.Views.{View as WatchedView}
 use Rattle.rt_table_store.specs.Trees.{IsTreeOf}
 use Rattle.rt_table.specs.AnyTrees.{new_tree, StandsFor, Follows, FollowsIfTaken}
-use Rattle.rt_session.specs.declared.reply.Reply.TheVariants.{Nothing, Rows}
+use Rattle.rt_reply.specs.declared.reply.Reply.TheVariants.{Nothing, Rows}
 use Rattle.rt_session.specs.Session.{State, NamedTable, Outcome, state_after, is_named, table_of, with_table, without_table, on_table, most_tables, created, is_watched, dropped, carried_out, is_by_id, are_columns, shown, selected, most_views, count_views, watched_by, now_watched, on_watched, now_unwatched, viewed, checked, dumped, answer, MayChooseFor, MayChoose, Answers}
 
 -- ---- names

@@ -6,7 +6,7 @@ use Rattle.rt_sql.specs.Parse.{ParsesUnlessMemory}
 use Rattle.rt_sql_statement.specs.declared.statement.Stmt.{Stmt}
 use Rattle.rt_sql_statement.specs.declared.refusal.Refusal.{Refusal}
 use Rattle.rt_sql_statement.specs.declared.refusal.Refusal.TheVariants.{OutOfMemory}
-use Rattle.rt_session.specs.declared.reply.Reply.{Reply}
+use Rattle.rt_reply.specs.declared.reply.Reply.{Reply}
 use Rattle.rt_session.specs.Session.{State, CarriesOut}
 use Rattle.rt_shell.specs.Engine.{GivesAnswer}
 

@@ -16,10 +16,10 @@ use Rattle.rt_sql_statement.specs.declared.refusal.Refusal.{Refusal}
 use Rattle.rt_sql_statement.specs.declared.refusal.Refusal.TheVariants.{OutOfMemory}
 use Rattle.rt_table_row.specs.Tables.{TableLists}
 use Rattle.rt_table.specs.AnyTrees.{StandsFor}
-use Rattle.rt_session.specs.declared.reply.Reply.{Reply}
+use Rattle.rt_reply.specs.declared.reply.Reply.{Reply}
 use Rattle.rt_session.specs.Session.{State, NamedTable, Outcome, table_of, is_named, state_after, answer, Answers}
 use Rattle.rt_shell.specs.declared.engine.Options.{Options}
-use Rattle.rt_shell.specs.Lines.{reply_lines, refusal_line, echo_of}
+use Rattle.rt_shell_lines.specs.Lines.{reply_lines, refusal_line, echo_of}
 use Rattle.rt_shell.specs.Transcript.{Marks, Progress, start, AnswersParsed, MayGive, after, lines_of, part_of, status_of, Prints}
 use Rattle.rt_shell.specs.Laws.{EqualButDumps, AreDumps, HaveSameRows, TranscriptIsDetermined, TranscriptSoFarIsDetermined, no_tree, PlainlyAnswersParsed, PlainlyGives, PlainlyPrints, AnyTrees, EveryScriptHasAPlainTranscript}
 use Rattle.rt_shell.proofs.Alike.{FoundAlike, SameTables, table_alike, SameAnswer, FoundRelated, AreRelated, both_answer}

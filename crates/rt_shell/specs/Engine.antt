@@ -7,7 +7,7 @@ use Rattle.rt_sql_cut.specs.Piece.{PieceText}
 use Rattle.rt_sql_cut.specs.Pieces.{IsGap, IsWholePiece, IsLastPiece, Pieces, EndedPieces}
 use Rattle.rt_sql_cut.specs.Cutter.{StandsAt, FinishedAt, ready_piece}
 use Rattle.rt_sql_statement.specs.declared.refusal.Refusal.{Refusal}
-use Rattle.rt_session.specs.declared.reply.Reply.{Reply}
+use Rattle.rt_reply.specs.declared.reply.Reply.{Reply}
 use Rattle.rt_shell.specs.declared.engine.Engine.{Engine}
 use Rattle.rt_shell.specs.declared.engine.Flow.{Flow}
 use Rattle.rt_shell.specs.declared.engine.Flow.TheVariants.{Goes, Stops}
@@ -15,7 +15,7 @@ use Rattle.rt_bytes.specs.declared.outcome.Status.{Status}
 use Rattle.rt_bytes.specs.declared.outcome.Status.TheVariants.{Refused}
 use Rattle.rt_shell.specs.declared.engine.Options.{Options}
 use Rattle.rt_session.specs.Session.{State, Outcome, state_after}
-use Rattle.rt_shell.specs.Lines.{answer_lines, echo_of}
+use Rattle.rt_shell_lines.specs.Lines.{answer_lines, echo_of}
 use Rattle.rt_shell.specs.Transcript.{Marks, Progress, start, MayGive, after, PrintsText}
 
 -- an answer with the state that it leaves

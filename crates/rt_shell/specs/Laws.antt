@@ -20,7 +20,7 @@ use Rattle.rt_table_row.specs.Rows.{TableRow}
 use Rattle.rt_table.specs.AnyTrees.{StandsFor}
 use Rattle.rt_session.specs.Session.{State, Outcome, answer}
 use Rattle.rt_shell.specs.declared.engine.Options.{Options}
-use Rattle.rt_shell.specs.Lines.{echo_of}
+use Rattle.rt_shell_lines.specs.Lines.{echo_of}
 use Rattle.rt_shell.specs.Transcript.{Marks, Progress, start, after, Prints, part_of, status_of, IsTranscriptByPieces}
 use Rattle.rt_shell.specs.declared.shell.Shell.{Shell}
 use Rattle.rt_shell.specs.Shell.{HasPrinted}

@@ -1,4 +1,3 @@
-pub mod Lines
 pub mod Engine
 pub mod Shell
 pub mod Transcript

@@ -13,7 +13,7 @@ use Rattle.rt_sql_statement.specs.declared.refusal.Refusal.{Refusal}
 use Rattle.rt_sql_statement.specs.declared.refusal.Refusal.TheVariants.{OutOfMemory}
 use Rattle.rt_shell.specs.declared.engine.Options.{Options}
 use Rattle.rt_session.specs.Session.{State, empty, Outcome, state_after, Answers}
-use Rattle.rt_shell.specs.Lines.{reply_lines, refusal_line, echo_of}
+use Rattle.rt_shell_lines.specs.Lines.{reply_lines, refusal_line, echo_of}
 
 -- which pieces memory refuses, by their numbers from 1 on
 abbrev pub Marks : Type 0

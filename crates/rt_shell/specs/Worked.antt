@@ -8,10 +8,10 @@ use Rattle.rt_sql_statement.specs.declared.statement.ColumnDef.{ColumnDef}
 use Rattle.rt_sql_statement.specs.declared.statement.Stmt.{Stmt}
 use Rattle.rt_sql_statement.specs.declared.statement.Stmt.TheVariants.{Create, Check, Nodes}
 use Rattle.rt_check.specs.declared.problem.Condition.TheVariants.{FitsChild, HasCell}
-use Rattle.rt_session.specs.declared.reply.Reply.TheVariants.{Nothing, Rows, Changes, Verdict}
+use Rattle.rt_reply.specs.declared.reply.Reply.TheVariants.{Nothing, Rows, Changes, Verdict}
 use Rattle.rt_session.specs.Session.{State, empty, state_after, answer}
 use Rattle.rt_sql_cut.specs.declared.piece.Ending.TheVariants.{Whole, Incomplete, TooLong}
-use Rattle.rt_shell.specs.Lines.{value_text, row_line, change_line, reply_lines, echo_of}
+use Rattle.rt_shell_lines.specs.Lines.{value_text, row_line, change_line, reply_lines, echo_of}
 use Rattle.rt_shell.specs.Transcript.{lines_of}
 use Rattle.rt_shell.specs.Laws.{no_tree}
 

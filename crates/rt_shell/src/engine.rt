@@ -7,12 +7,13 @@ ghost use Rattle.std.specs.Prelude.{◌≡◌, ℕ, ◌+◌, ◌-◌, ◌<◌, �
 ghost use Rattle.rt_shell.specs.Engine.{IsFresh, GivesAnswer, AnswersReady, TakesAll, Finishes, flow_of};
 ghost use Rattle.rt_sql_cut.specs.Cutter.{ready_piece};
 ghost use Rattle.rt_bytes.specs.Devices.{WritesTo};
-ghost use Rattle.rt_shell.specs.Lines.{answer_lines, echo_of};
+ghost use Rattle.rt_shell_lines.specs.Lines.{answer_lines, echo_of};
 
-use crate::reply::{write_refusal, write_reply};
 use rt_box::Capacity;
 use rt_bytes::{ByteWriter, Status, WriteFault, write_parts};
-use rt_session::{Reply, Session};
+use rt_reply::Reply;
+use rt_session::Session;
+use rt_shell_lines::{write_refusal, write_reply};
 use rt_sql::parse;
 use rt_sql_cut::{Cutter, Ending, Piece};
 use rt_sql_statement::Refusal;

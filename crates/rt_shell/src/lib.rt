@@ -1,7 +1,7 @@
 //! A script shell over the tables of a session: it takes a script, carries out its pieces one by one, and
 //! writes what they print.
 //!
-//! - `write_reply`: the lines that an answer prints.
+//! - `write_reply`: the lines that an answer prints (`rt_shell_lines`).
 //! - `Shell`: is fed a script in whatever parts. After each of them it has printed the transcript so far of all
 //!   that it was fed, and after the last the transcript of the script.
 //! - `run`: reads a script into a shell. Its contract names the transcript of the script: the lines of its pieces in order, each
@@ -13,9 +13,8 @@
 //!
 //! Any piece may be refused for want of memory, and that refusal too leaves the tables.
 //!
-//! Stands on `rt_session` (answers), `rt_sql_cut` and `rt_sql` (pieces and their statements), `rt_check_report` and `rt_check_dump`
-//! (verdicts and dumps) and `rt_bytes`. Definitions: `specs/Transcript.antt` (what a whole script prints),
-//! `Lines.antt` (what an answer prints), `Shell.antt` (what a shell has printed of what it was fed), `Run.antt`
+//! Stands on `rt_session` (answers), `rt_shell_lines` (their lines), `rt_sql_cut` and `rt_sql` (pieces and their statements)
+//! and `rt_bytes`. Definitions: `specs/Transcript.antt` (what a whole script prints), `Shell.antt` (what a shell has printed of what it was fed), `Run.antt`
 //! (what a run does to its reader and writer), `Laws.antt`;
 //! `Engine.antt` says how steps of a run join.
 //!
@@ -35,13 +34,10 @@
 
 mod engine;
 pub mod laws;
-mod lines;
-mod reply;
 mod runner;
 mod shell;
-mod value;
 
 pub use engine::{Flow, Options};
-pub use reply::write_reply;
+pub use rt_shell_lines::write_reply;
 pub use runner::run;
 pub use shell::{FeedFault, Shell};

@@ -22,8 +22,8 @@ use Rattle.rt_table_row.specs.Edits.{Step, Leaves, Comes, Becomes, Steps, after_
 use Rattle.rt_table_store.proofs.Order.{eq_same, eq_below}
 use Rattle.rt_table_store.proofs.Sorted.{at_key-taken, at_key-placed, Rises, rises}
 use Rattle.rt_table_plan.specs.Plans.{Plans}
-use Rattle.rt_table.specs.Preparing.{ApplyInTurn, ApplyTo, FitsColumns}
-use Rattle.rt_table.proofs.Showing.{if_ok}
+use Rattle.rt_table_view.specs.Preparing.{ApplyInTurn, ApplyTo, FitsColumns}
+use Rattle.rt_table_view.proofs.Looking.{if_ok}
 use Rattle.rt_table.specs.Applying.{StepsApply}
 
 -- ---- which ids there are

@@ -1,13 +1,4 @@
-pub mod Picking
 pub mod Viewing
-pub mod Fates
-pub mod Refreshing
-pub mod Deltas
 pub mod Readying
-pub mod Touching
 pub mod Showing
-pub mod Replaying
 pub mod Applying
-pub mod Moving
-pub mod Counting
-pub mod Bare

@@ -12,8 +12,8 @@ use Rattle.rt_table_row.specs.Filters.{Placed, admits, IsFilterOf}
 use Rattle.rt_table_row.specs.Tables.{TableLists, select, unwatch, has_view, is_view}
 use Rattle.rt_table_row.specs.Views.{View}
 use Rattle.rt_sql_statement.specs.Name.{same_name}
-use Rattle.rt_table.specs.declared.watched.Watched.{Watched}
-use Rattle.rt_table.specs.Watching.{view_of}
+use Rattle.rt_table_view.specs.declared.watched.Watched.{Watched}
+use Rattle.rt_table_view.specs.Watching.{view_of}
 use Rattle.rt_table.specs.Replies.{Shows}
 
 pub any_mapped : {X Y : Type 0} (p : Y → Bool) (f : X → Y) (xs : List X) → list_any p (map f xs) ≡ list_any (λ x. p (f x)) xs

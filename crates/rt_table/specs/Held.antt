@@ -4,13 +4,7 @@ use Rattle.rt_check.specs.Shadow.{ShadowLists}
 use Rattle.rt_check_dump.specs.declared.dump.AnyShadow.{AnyShadow}
 use Rattle.rt_table_row.specs.Tables.{TableLists}
 use Rattle.rt_table_row.specs.Views.{View, ViewChange}
-use Rattle.rt_table.specs.declared.watched.Shift.{Shift}
-
--- what a view has ready for the next plan: room for ids that come, and which ids come and leave
-pub record Awaited : Type 0 where
-  pub view : View
-  pub room : ℕ
-  pub shifts : List Shift
+use Rattle.rt_table_view.specs.Watching.{Awaited}
 
 -- the table as statements see it, the tree of its rows, and what was made ready for the next plan: how many more rows
 -- there is room for, in all and of those with auxiliary values, what each view has ready, and what the plan changes in

@@ -1,11 +1,7 @@
 pub mod Held
-pub mod Watching
 pub mod Replies
-pub mod AnyRows
+pub mod Ready
 pub mod TableInside
-pub mod Preparing
-pub mod Fates
-pub mod Laws
 pub mod AnyTrees
 pub mod AnyAxes
 pub mod Applying

@@ -4,7 +4,7 @@ use Rattle.std.specs.List.{All}
 use Rattle.rt_table_row.specs.Rows.{AreRising}
 use Rattle.rt_table.specs.declared.table.Table.TheInside.{Inside}
 use Rattle.rt_table.specs.Held.{Held}
-use Rattle.rt_table.specs.Watching.{view_of, change_of, awaited_of, IsKept}
+use Rattle.rt_table_view.specs.Watching.{view_of, change_of, awaited_of, IsKept}
 
 abbrev pub held : {D : _} → Inside D → Held D
 held t = record {

@@ -6,14 +6,14 @@
 ghost use Rattle.std.specs.Prelude.{◌≡◌, ◌<◌, List, [], map, length, nat_lt, Ok, IfOk, IfErr, OnOk, OnErr};
 ghost use Rattle.rt_box.specs.declared.interval.Interval.{Interval};
 
-use crate::any_rows::AnyRows;
 use crate::table::Table;
-use crate::watched::{Change, Picked};
 use rt_box::Capacity;
 use rt_check::Problem;
 use rt_check_dump::AnyShadow;
+use rt_reply::{AnyRows, Change};
 use rt_sql_statement::{Cond, Edit, Name, Refusal};
 use rt_table_row::Schema;
+use rt_table_view::Picked;
 use std::alloc::{AllocError, Global};
 use std::hash::RandomState;
 use std::marker::Model;
@@ -45,7 +45,7 @@ impl AnyTable {
     ghost use Rattle.rt_table_row.specs.Tables.{new_table, has_view, select, watch, unwatch, view};
     ghost use Rattle.rt_table_row.specs.Edits.{steps_of};
     ghost use Rattle.rt_table_row.specs.Tables.{edited};
-    ghost use Rattle.rt_table.specs.Watching.{change_of};
+    ghost use Rattle.rt_table_view.specs.Watching.{change_of};
     ghost use Rattle.rt_table.specs.Replies.{Refuses, Shows};
     ghost use Rattle.rt_table_row.specs.Windows.{IsWindowOf};
     ghost use Rattle.rt_table.specs.AnyTrees.{new_tree, FollowsIfTaken, VisitsAny};

@@ -8,17 +8,17 @@ ghost use Rattle.std.specs.List.{list_any};
 ghost use Rattle.rt_box.specs.declared.interval.Interval.{Interval};
 ghost use Rattle.rt_sql_statement.specs.Name.{same_name};
 
-use crate::any_rows::Rows;
-use crate::carrying::{apply, refresh_all};
-use crate::preparing::stage;
-use crate::room::{auxiliary_rows_all, inserts_all};
-use crate::watched::{Change, Picked, Watched, pick, rows_of, rows_picked, watch};
 use rt_box::Capacity;
 use rt_check::{Problem, Shadow, check};
+use rt_reply::{Change, Rows};
 use rt_sql_statement::{Cond, Edit, Name, Refusal};
 use rt_table_plan::Plan;
 use rt_table_row::{Filter, Schema, Step};
 use rt_table_store::Store;
+use rt_table_view::{
+    Picked, Watched, apply, auxiliary_rows_all, inserts_all, pick, refresh_all, rows_of,
+    rows_picked, stage, watch,
+};
 use std::alloc::{AllocError, Global};
 use std::hash::RandomState;
 use std::marker::Model;
@@ -90,9 +90,10 @@ impl<const D: usize> Table<D> {
     ghost use Rattle.rt_table_row.specs.Tables.{edited};
     ghost use Rattle.rt_table_plan.specs.Plans.{Plans};
     ghost use Rattle.rt_table.specs.Replies.{Refuses, Shows};
-    ghost use Rattle.rt_table.specs.AnyRows.{values_of_rows};
-    ghost use Rattle.rt_table.specs.Preparing.{ApplyTo, IsReady};
-    ghost use Rattle.rt_table.specs.Watching.{change_of};
+    ghost use Rattle.rt_reply.specs.AnyRows.{values_of_rows};
+    ghost use Rattle.rt_table_view.specs.Preparing.{ApplyTo};
+    ghost use Rattle.rt_table.specs.Ready.{IsReady};
+    ghost use Rattle.rt_table_view.specs.Watching.{change_of};
     ghost use Rattle.rt_table_row.specs.Windows.{IsWindowOf};
     ghost use Rattle.rt_tree.specs.Lists.{empty_lists};
     ghost use Rattle.rt_table_store.specs.Trees.{Visits};

@@ -1,35 +1,29 @@
 //! The shell's program: `rtsh run` runs a script, and `rtsh check` says whether a dump is sound.
 //!
-//! - It reads the command line (`command`), opens the file, and hands over to `rt_shell::run` or
-//!   `rt_check_report::run_check`, whose contracts say what is written.
-//! - `fault` has what goes to the error output where a run comes to no end, `terminal` what a person at a terminal
-//!   sees there, and `trail` what it shows of a script that is read from a file or a pipe.
+//! - It reads the command line (`rtsh_command`), opens the file, and hands over to `rt_shell::run`,
+//!   `rt_check_report::run_check` or `rt_check_draw::run_draw`, whose contracts say what is written.
+//! - `rtsh_terminal` has what goes to the error output.
 //! - Exit status: 0 where nothing was refused and no problem found (or help was asked for), 1 where something was,
 //!   2 where the command line was refused, and 3 where a file couldn't be opened, a device failed or memory ran out.
 //!
 //! No contract can say what a file or a terminal gave, so the program itself is proved safe and to end, no more.
 #![tactic(auto)]
 
-mod command;
-mod fault;
-mod terminal;
-mod trail;
-
 use clap::error::ErrorKind;
-use command::{Asked, Manner, asked_by, program};
-use fault::{Cause, Fault, Noting};
 use rt_bytes::{ByteReader, ByteWriter, OverRead, OverWrite, RunFault, Status};
 use rt_check_draw::run_draw;
 use rt_check_report::run_check;
-use rt_shell::run;
+use rt_shell::{Options, run};
+use rtsh_command::{Asked, Manner, asked_by, program};
+use rtsh_terminal::{
+    Cause, Fault, Noting, Prompting, Traced, Tracing, Trail, hint_at_dump, is_attended,
+};
 use std::alloc::{AllocError, Global};
 use std::env;
 use std::fs::{self, File, Metadata};
 use std::hash::RandomState;
 use std::io::{self, BufWriter, IsTerminal, Read, Write};
 use std::process::ExitCode;
-use terminal::{Prompting, hint_at_dump, is_attended};
-use trail::{Traced, Tracing, Trail};
 
 /// How many bytes of the output are gathered before they are written, where nobody waits for them.
 const GATHERED: usize = 65_536;
@@ -186,7 +180,7 @@ fn read_unattended<'a, R: Read + Drop>(
     if !rt.stderr().is_terminal() {
         return read_from(rt, reader, name, asked, None);
     }
-    let trail = Trail::new(name, length, manner.options.echo, rt.stdout().is_terminal());
+    let trail = Trail::new(name, length, manner.echo, rt.stdout().is_terminal());
     let Ok(reader) = Traced::new(rt.alloc(), reader, rt, &trail) else {
         return Err(Fault::Run(RunFault::Memory));
     };
@@ -270,6 +264,15 @@ fn read_and_write<'a, R: Read + Drop, W: Write + Drop>(
     (answer, writer)
 }
 
+/// What the shell is told.
+fn options_of(manner: &Manner) -> Options {
+    Options {
+        capacity: manner.capacity,
+        bail: manner.bail,
+        echo: manner.echo,
+    }
+}
+
 fn answer<R: ByteReader, W: ByteWriter>(
     alloc: Global,
     keys: RandomState,
@@ -278,7 +281,7 @@ fn answer<R: ByteReader, W: ByteWriter>(
     asked: &Asked<'_>,
 ) -> Result<Status, RunFault> {
     match asked {
-        Asked::Run(manner, _) => run(alloc, keys, reader, writer, &manner.options),
+        Asked::Run(manner, _) => run(alloc, keys, reader, writer, &options_of(manner)),
         Asked::Check(_) => run_check(alloc, keys, reader, writer),
         Asked::Draw(choice, _) => run_draw(alloc, keys, choice, reader, writer),
     }

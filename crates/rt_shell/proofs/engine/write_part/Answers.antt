@@ -1,5 +1,5 @@
 use Rattle.rt_bytes.proofs.Writing.{Writes-after}
-use Rattle.rt_shell.specs.Lines.{answer_lines, echo_of}
+use Rattle.rt_shell_lines.specs.Lines.{answer_lines, echo_of}
 use Rattle.rt_shell.proofs.engine.write_part.Goals as goal
 
 pub returns : goal.returns

@@ -1,7 +1,7 @@
 use Rattle.std.proofs.Common.{◌≡◌, [], ap, subst, ◌∙◌}
 use Rattle.rt_check.specs.Conditions.{problems_of}
 use Rattle.rt_table.specs.Held.{Held}
-use Rattle.rt_table.proofs.Showing.{if_ok}
+use Rattle.rt_table_view.proofs.Looking.{if_ok}
 use Rattle.rt_table.proofs.table.Table.check.Goals as goal
 
 pub returns : goal.returns

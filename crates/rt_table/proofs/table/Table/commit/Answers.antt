@@ -6,11 +6,11 @@ use Rattle.rt_table_row.specs.Edits.{outcome}
 use Rattle.rt_table_row.specs.Entries.{step_of}
 use Rattle.rt_table_store.specs.Trees.{IsTreeOf}
 use Rattle.rt_table_store.specs.Moves.{FollowsSteps}
-use Rattle.rt_table.specs.declared.watched.Watched.{Watched}
+use Rattle.rt_table_view.specs.declared.watched.Watched.{Watched}
 use Rattle.rt_table.specs.Held.{Held}
-use Rattle.rt_table.specs.Preparing.{IsAwaited}
-use Rattle.rt_table.specs.Watching.{awaited_of}
-use Rattle.rt_table.proofs.Refreshing.{All-unmapped}
+use Rattle.rt_table_view.specs.Preparing.{IsAwaited}
+use Rattle.rt_table_view.specs.Watching.{awaited_of}
+use Rattle.rt_table_view.proofs.Refreshing.{All-unmapped}
 use Rattle.rt_table.proofs.table.Table.commit.Goals as goal
 
 pub refresh_all-requires : goal.refresh_all-requires

@@ -1,6 +1,6 @@
 use Rattle.std.proofs.Common.{sym, ◌∙◌}
 use Rattle.rt_table_row.specs.Tables.{is_view}
-use Rattle.rt_table.specs.Watching.{view_of}
+use Rattle.rt_table_view.specs.Watching.{view_of}
 use Rattle.rt_table.proofs.Viewing.{any_mapped}
 use Rattle.rt_table.proofs.table.Table.has_view.Goals as goal
 

@@ -1,6 +1,6 @@
 use Rattle.std.proofs.Common.{sym, rules, ◌∙◌}
 use Rattle.std.proofs.lemmas.List.Elements.{All-nil}
-use Rattle.rt_table.specs.Watching.{IsKept}
+use Rattle.rt_table_view.specs.Watching.{IsKept}
 use Rattle.rt_table.proofs.table.Table.new.Goals as goal
 
 pub invariant_of-result : goal.invariant_of-result

@@ -2,10 +2,10 @@ use Rattle.std.proofs.Common.{map, arith, lit<, sym, subst}
 use Rattle.std.proofs.lemmas.List.Elements.{All-weaker}
 use Rattle.rt_table_row.specs.Entries.{step_of}
 use Rattle.rt_table_row.specs.Filters.{admits}
-use Rattle.rt_table.specs.declared.watched.Watched.{Watched}
-use Rattle.rt_table.specs.Watching.{KeepsIds, IsKept}
+use Rattle.rt_table_view.specs.declared.watched.Watched.{Watched}
+use Rattle.rt_table_view.specs.Watching.{KeepsIds, IsKept}
 use Rattle.rt_table.specs.Held.{Held}
-use Rattle.rt_table.specs.Preparing.{ApplyTo}
+use Rattle.rt_table_view.specs.Preparing.{ApplyTo}
 use Rattle.rt_table.proofs.Readying.{ready}
 use Rattle.rt_table.proofs.table.Table.prepare.Goals as goal
 

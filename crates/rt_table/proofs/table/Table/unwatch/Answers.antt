@@ -2,7 +2,7 @@ use Rattle.std.proofs.Common.{◌≡◌, true, refl, sym, subst, not}
 use Rattle.std.proofs.lemmas.List.Elements.{All-filter}
 use Rattle.rt_sql_statement.specs.Name.{same_name}
 use Rattle.rt_table_row.specs.Tables.{has_view}
-use Rattle.rt_table.specs.Watching.{IsKept}
+use Rattle.rt_table_view.specs.Watching.{IsKept}
 use Rattle.rt_table.specs.Held.{Held}
 use Rattle.rt_table.specs.TableInside.{held}
 use Rattle.rt_table.proofs.Viewing.{unwatched_of}

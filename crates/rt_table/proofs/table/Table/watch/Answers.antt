@@ -1,5 +1,5 @@
 use Rattle.std.proofs.lemmas.List.Elements.{All-push}
-use Rattle.rt_table.specs.Watching.{IsKept}
+use Rattle.rt_table_view.specs.Watching.{IsKept}
 use Rattle.rt_table.proofs.table.Table.watch.Goals as goal
 
 pub invariant_of-self : goal.invariant_of-self

@@ -1,0 +1,2 @@
+pub mod AnyRows
+pub mod Shown

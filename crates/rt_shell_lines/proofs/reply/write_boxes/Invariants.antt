@@ -1,0 +1,17 @@
+use Rattle.std.proofs.Common.{◌≡◌, List, ◌++◌, length}
+use Rattle.std.specs.List.{flat_map}
+use Rattle.rt_bytes.specs.Bytes.{WritesAll}
+use Rattle.rt_tree_walk.specs.declared.searching.Row.{Row}
+use Rattle.rt_reply.specs.AnyRows.{box_values}
+use Rattle.rt_shell_lines.specs.Lines.{row_line}
+use Rattle.rt_shell_lines.proofs.reply.write_boxes.Given as goal
+
+-- the lines of what stands before the rest are written
+abbrev pub invariant-loop-rest : goal.invariant-loop-rest
+invariant-loop-rest g l =
+    (done : List (Row g.row.D)) × (done ++ l.rest ≡ l.rows)
+    × WritesAll (g.W.ByteWriter.written l.initial.writer) (g.W.ByteWriter.written l.writer)
+    (g.W.ByteWriter.faults l.initial.writer) (g.W.ByteWriter.faults l.writer) (flat_map (λ row. row_line (box_values row)) done)
+
+abbrev pub decreases-loop-rest : goal.decreases-loop-rest
+decreases-loop-rest g l = length l.rest

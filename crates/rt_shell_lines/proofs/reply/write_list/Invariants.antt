@@ -1,0 +1,14 @@
+use Rattle.std.proofs.Common.{◌≤◌, ◌-◌, take, length}
+use Rattle.std.specs.List.{flat_map}
+use Rattle.rt_bytes.specs.Bytes.{WritesAll}
+use Rattle.rt_shell_lines.specs.Lines.{row_line}
+use Rattle.rt_shell_lines.proofs.reply.write_list.Given as goal
+
+-- the lines of the rows before this one are written
+abbrev pub invariant-loop-from : goal.invariant-loop-from
+invariant-loop-from g l = (l.from ≤ length l.rows) × (1 ≤ l.at_once) × (l.at_once ≤ 8) × WritesAll (g.W.ByteWriter.written l.initial.writer) (g.W.ByteWriter.written l.writer)
+    (g.W.ByteWriter.faults l.initial.writer) (g.W.ByteWriter.faults l.writer)
+    (flat_map row_line (take l.from l.rows))
+
+abbrev pub decreases-loop-from : goal.decreases-loop-from
+decreases-loop-from g l = length l.rows - l.from

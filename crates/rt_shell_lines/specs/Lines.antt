@@ -1,0 +1,71 @@
+-- The lines that a script's run prints (own; values as SQLite's documentation has them of quote(), Built-In Scalar SQL
+-- Functions).
+use Rattle.std.specs.Prelude.{ℕ, ◌/◌, ◌%◌, Bool, true, false, if◌then◌else◌, List, [], ◌∷◌, ◌++◌, codes, decimal, slice_index_or, Result, Ok, Err}
+use Rattle.std.specs.Fmt.{digit_glyph, signed_decimal}
+use Rattle.std.specs.List.{flat_map, join_by}
+use Rattle.rt_sql_cut.specs.Piece.{PieceText}
+use Rattle.rt_sql_cut.specs.declared.piece.Ending.{Ending}
+use Rattle.rt_sql_cut.specs.declared.piece.Ending.TheVariants.{Whole, Incomplete, TooLong}
+use Rattle.rt_sql.specs.Token.{doubled}
+use Rattle.rt_sql_statement.specs.Refusal.{code_of, text_of}
+use Rattle.rt_sql_statement.specs.declared.refusal.Refusal.{Refusal}
+use Rattle.rt_sql_statement.specs.declared.value.Value.{Value}
+use Rattle.rt_sql_statement.specs.declared.value.Value.TheVariants.{Null, Int, Text, Blob}
+use Rattle.rt_check_dump.specs.Dump.{any_text}
+use Rattle.rt_check_report.specs.Report.{verdict_lines}
+use Rattle.rt_reply.specs.declared.change.Change.{Change}
+use Rattle.rt_reply.specs.declared.reply.Reply.{Reply}
+use Rattle.rt_reply.specs.declared.reply.Reply.TheVariants.{Nothing, Rows, Changes, Verdict, Dump}
+
+-- a byte in two hexadecimal digits, with letters in upper case
+abbrev pub hex_pair : ℕ → List ℕ
+hex_pair b = digit_glyph true (b / 16) ∷ digit_glyph true (b % 16) ∷ []
+
+-- a value as a statement could write it: a text in quotes (39), those inside it doubled
+abbrev pub value_text : Value → List ℕ
+value_text Null = codes "NULL"
+value_text (Int n) = signed_decimal n
+value_text (Text t) = codes "'" ++ doubled 39 t ++ codes "'"
+value_text (Blob bytes) = codes "X'" ++ flat_map hex_pair bytes ++ codes "'"
+
+-- the value of a row at that place; NULL past the last one
+abbrev pub column_text : List Value → ℕ → List ℕ
+column_text row place = value_text (slice_index_or row place Null)
+
+-- a row's values with bars between them
+abbrev pub row_line : List Value → List ℕ
+row_line row = join_by value_text (codes "|") row ++ codes "\n"
+
+-- the row that came into the view of that name, or left it
+abbrev pub change_line : Change → List ℕ
+change_line c = (if c.came then codes "+" else codes "-") ++ c.view ++ codes " " ++ row_line c.row
+
+abbrev pub reply_lines : Reply → List ℕ
+reply_lines Nothing = []
+reply_lines (Rows rows) = flat_map row_line rows
+reply_lines (Changes changes) = flat_map change_line changes
+reply_lines (Verdict problems) = verdict_lines problems
+reply_lines (Dump tree) = any_text tree
+
+-- the refusal of the piece of this number
+abbrev pub refusal_line : ℕ → Refusal → List ℕ
+refusal_line number refusal =
+    codes "refused " ++ decimal number ++ codes " " ++ decimal (code_of refusal) ++ codes ": " ++ text_of refusal ++ codes "\n"
+
+-- what an answer to the piece of this number prints
+abbrev pub answer_lines : ℕ → Result Reply Refusal → List ℕ
+answer_lines number (Ok reply) = reply_lines reply
+answer_lines number (Err refusal) = refusal_line number refusal
+
+-- a piece's text that ended so, as it is echoed
+abbrev pub echo_by : Ending → List ℕ → List ℕ
+echo_by Whole text = text ++ codes "\n"
+echo_by Incomplete text = text ++ codes "\n"
+echo_by TooLong text = []
+
+-- with echo a piece is printed before its answer, as `sqlite3 -echo` does: its bytes as they stand in the script, and a
+-- line feed. What stands before it, white space, comments and `;`, belongs to no piece and isn't printed. Of a piece that
+-- is too long nothing is held, and nothing is printed.
+abbrev pub echo_of : Bool → PieceText → List ℕ
+echo_of false piece = []
+echo_of true piece = echo_by piece.ending piece.text

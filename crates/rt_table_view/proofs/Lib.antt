@@ -1,0 +1,11 @@
+pub mod Picking
+pub mod Rising
+pub mod Fates
+pub mod Refreshing
+pub mod Deltas
+pub mod Touching
+pub mod Looking
+pub mod Replaying
+pub mod Moving
+pub mod Counting
+pub mod Bare

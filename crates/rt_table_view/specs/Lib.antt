@@ -1,0 +1,4 @@
+pub mod Watching
+pub mod Preparing
+pub mod Fates
+pub mod Laws

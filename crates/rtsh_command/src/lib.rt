@@ -1,0 +1,246 @@
+//! The command line of `rtsh`.
+//!
+//! `program` has the words, options and help texts that `clap` parses by. `asked_by` makes an `Asked` of what it
+//! found.
+//!
+//! Stands on `rt_box` and `rt_check_draw`, for what is asked for. It is proved safe and to end, no more.
+#![tactic(auto)]
+
+use clap::{Arg, ArgAction, ArgMatches, Command, Error, value_parser};
+use rt_box::Capacity;
+use rt_check_draw::{Axes, Choice};
+use std::alloc::{AllocError, Global};
+
+/// What the command line asks for, and of which file; none is the standard input.
+#[derive(Drop)]
+pub enum Asked<'a> {
+    /// `rtsh run`: the script is run so.
+    Run(Manner, Option<&'a str>),
+    /// `rtsh check`: the dump is checked.
+    Check(Option<&'a str>),
+    /// `rtsh draw`: this is drawn of the dump.
+    Draw(Choice, Option<&'a str>),
+}
+
+/// How `rtsh run` runs a script.
+#[derive(Clone, Copy)]
+pub struct Manner {
+    /// How many cells a node of a table's tree holds at most.
+    pub capacity: Capacity,
+    /// The run ends after the first refusal.
+    pub bail: bool,
+    /// Each statement is printed before its answer.
+    pub echo: bool,
+    /// Each answer is written before the next piece is read.
+    pub is_unbuffered: bool,
+}
+
+const VERSION: &str = "0.1.0";
+
+const ABOUT: &str = "Tables of boxes, as SQLite's rtree_i32 keeps them: the shell of Juicedelta";
+
+const RUN_HELP: &str = "A script is statements, each ended by `;`, and lines that begin with `.`:
+
+  CREATE VIRTUAL TABLE shops USING rtree_i32(id, west, east, +name);
+  INSERT INTO shops VALUES(7, -3, 10, 'baker');
+  SELECT * FROM shops WHERE west <= 5 AND east >= 0;
+
+A statement that is refused prints `refused N CODE: TEXT`, N its number in the script, and changes
+nothing. The dot commands are
+
+  .watch NAME FROM TABLE [WHERE ..]  names a view, and prints each change in it
+  .view NAME                         prints the rows of a view
+  .unwatch NAME                      forgets a view
+  .nodes TABLE                       prints the dump of a table's tree, which `rtsh check` reads
+
+At a terminal the error output has a prompt. There .help lists the statements, and .quit, .exit
+or Ctrl-D on an empty line ends the input.";
+
+const CHECK_HELP: &str =
+    "A dump is what `.nodes TABLE` prints. Its tree is sound where nine conditions hold:
+
+  C1  the root is listed, and has no parent
+  C2  each other node has a listed parent one level up, and exactly one cell names it
+  C3  a cell above the leaves names a listed node, whose parent is the cell's node
+  C4  a cell's low end is at most its high end on each axis
+  C5  a cell above the leaves holds the cells of the node that it names
+  C6  and is the least box around them
+  C7  a node has at most M cells, and at least 2M/5, rounded down; a root above the leaves has at
+      least 2, and one that is a leaf any number
+  C8  a leaf's cell has a row line with its id and this leaf
+  C9  a row line's id is that of exactly one cell of all leaves
+
+It prints `ok`, or a line for each problem, such as `C6 node 1 at 2`: the condition, the node, and
+the position of the cell in it, from 1 on, or 0 for the node as a whole. For C9 that is the leaf
+that the row line names, and the row line's position. Of a text that is no dump it prints
+`bad dump LINE CODE: TEXT`.";
+
+const DRAW_HELP: &str =
+    "Each cell is a box in the colour of its node's level, and leaves, on level 0, are filled. A browser
+shows the number of a box under the pointer. A tree of one axis is drawn as bars. Above 20000 boxes
+the cells of leaves are left out. Problems of the tree, as `rtsh check` prints them, are red. Of a
+text that is no dump it prints `bad dump LINE CODE: TEXT`.";
+
+const STATUS_HELP: &str = "Exit status:
+  0  nothing was refused, and no problem was found
+  1  a statement was refused, a problem was found, the dump was bad, or its tree lacks an axis
+     to be drawn
+  2  the command line was refused
+  3  a file couldn't be opened, a read or a write failed, or memory ran out";
+
+/// The program's command.
+pub fn program<'a>(alloc: Global) -> Result<Command<'a>, AllocError> {
+    Ok(
+        Command::new(alloc, "rtsh")
+            .version(VERSION)
+            .about(ABOUT)
+            .after_help(STATUS_HELP)
+            .subcommand_required(true)
+            .arg_required_else_help(true)
+            .subcommand(run(alloc)?)?
+            .subcommand(check(alloc)?)?
+            .subcommand(draw(alloc)?)?,
+    )
+}
+
+fn run<'a>(alloc: Global) -> Result<Command<'a>, AllocError> {
+    let capacity = Arg::new(alloc, "capacity")
+        .long("capacity")
+        .value_name("M")
+        .help(
+            "How many cells a node of a table's tree holds at most, from 5 to 51; it changes the dumps that .nodes prints, and no other line",
+        )
+        .value_parser(value_parser!(u8).range(5..=51))
+        .default_value("51");
+    let bail = Arg::new(alloc, "bail")
+        .long("bail")
+        .help("Ends after the first refusal")
+        .action(ArgAction::SetTrue);
+    let echo = Arg::new(alloc, "echo")
+        .long("echo")
+        .help("Prints each statement and dot line before its answer")
+        .action(ArgAction::SetTrue);
+    let unbuffered = Arg::new(alloc, "unbuffered")
+        .long("unbuffered")
+        .help("Writes each answer before the next statement is read, into a pipe too")
+        .action(ArgAction::SetTrue);
+    Ok(
+        Command::new(alloc, "run")
+            .about("Runs a script, and prints what it gives")
+            .after_help(RUN_HELP)
+            .arg(capacity)?
+            .arg(bail)?
+            .arg(echo)?
+            .arg(unbuffered)?
+            .arg(file(
+                alloc,
+                "The script; without it, or with `-`, standard input is read",
+            ))?,
+    )
+}
+
+fn check<'a>(alloc: Global) -> Result<Command<'a>, AllocError> {
+    Ok(
+        Command::new(alloc, "check")
+            .about("Says of a dump of a tree whether it is sound, or what is wrong in it")
+            .after_help(CHECK_HELP)
+            .arg(file(
+                alloc,
+                "The dump; without it, or with `-`, standard input is read",
+            ))?,
+    )
+}
+
+fn draw<'a>(alloc: Global) -> Result<Command<'a>, AllocError> {
+    let axes = Arg::new(alloc, "axes")
+        .long("axes")
+        .value_name("AXES")
+        .help(
+            "The axes to the right and upwards; one alone draws bars; without it 1,2, or of a tree of one axis 1",
+        )
+        .value_parser(["1", "2", "3", "1,2", "1,3", "2,1", "2,3", "3,1", "3,2"].as_slice());
+    let levels = Arg::new(alloc, "levels")
+        .long("levels")
+        .value_name("LEVELS")
+        .help("Draws the cells of these levels alone, as 0-2 or 1; leaves are on level 0")
+        .value_delimiter('-')
+        .value_parser(value_parser!(u8));
+    let all = Arg::new(alloc, "all")
+        .long("all")
+        .help("Draws the cells of leaves however many boxes there are")
+        .action(ArgAction::SetTrue);
+    Ok(
+        Command::new(alloc, "draw")
+            .about("Draws the tree of a dump, as an SVG")
+            .after_help(DRAW_HELP)
+            .arg(axes)?
+            .arg(levels)?
+            .arg(all)?
+            .arg(file(
+                alloc,
+                "The dump; without it, or with `-`, standard input is read",
+            ))?,
+    )
+}
+
+fn file<'a>(alloc: Global, help: &'a str) -> Arg<'a> {
+    Arg::new(alloc, "file").value_name("FILE").help(help)
+}
+
+/// What the parsed command line asks for.
+pub fn asked_by<'a>(matches: &ArgMatches<'a>) -> Option<Asked<'a>> {
+    let (name, matches) = matches.subcommand()?;
+    let file = matches.get_str("file").filter(|file| *file != "-");
+    if name == "check" {
+        return Some(Asked::Check(file));
+    }
+    if name == "draw" {
+        return Some(Asked::Draw(choice_of(matches), file));
+    }
+    let capacity = Capacity::new(matches.get_one::<u8>("capacity")?)?;
+    let manner = Manner {
+        capacity,
+        bail: matches.get_flag("bail"),
+        echo: matches.get_flag("echo"),
+        is_unbuffered: matches.get_flag("unbuffered"),
+    };
+    Some(Asked::Run(manner, file))
+}
+
+/// What is to be drawn.
+fn choice_of(matches: &ArgMatches<'_>) -> Choice {
+    let (lowest, highest) = levels_of(matches);
+    Choice {
+        axes: matches.get_str("axes").and_then(axes_of),
+        lowest,
+        highest,
+        all: matches.get_flag("all"),
+    }
+}
+
+/// The least and the greatest of the levels that are named, or all levels.
+fn levels_of(matches: &ArgMatches<'_>) -> (u8, u8) {
+    let (mut lowest, mut highest) = (u8::MAX, 0);
+    if let Some(levels) = matches.get_many::<u8>("levels") {
+        for level in levels {
+            // The parser took it, so it is a number.
+            if let Ok(level) = level {
+                lowest = level.min(lowest);
+                highest = level.max(highest);
+            }
+        }
+        return (lowest, highest);
+    }
+    (0, u8::MAX)
+}
+
+/// The axes by their numbers, as `1,3`.
+fn axes_of(numbers: &str) -> Option<Axes> {
+    let mut numbers = numbers.split(',');
+    let across = numbers.next()?.parse::<usize>().ok()?.checked_sub(1)?;
+    let up = match numbers.next() {
+        Some(number) => Some(number.parse::<usize>().ok()?.checked_sub(1)?),
+        None => None,
+    };
+    Some(Axes { across, up })
+}
