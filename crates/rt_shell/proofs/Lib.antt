@@ -1,9 +1,6 @@
-pub mod Alike
 pub mod EngineLemmas
 pub mod Printed
 pub mod Pumping
 pub mod Shells
-pub mod Standing
 pub mod StepLemmas
 pub mod Taking
-pub mod TranscriptLemmas

@@ -2,5 +2,3 @@ pub mod Engine
 pub mod Shell
 pub mod Transcript
 pub mod Run
-pub mod Laws
-pub mod Worked

@@ -7,16 +7,13 @@
 //! - `run`: reads a script into a shell. Its contract names the transcript of the script: the lines of its pieces in order, each
 //!   answered from the tables that those before it left. It says so however the reader parts the
 //!   bytes, and of a failed read or write how much of the transcript was written.
-//! - `laws`: a script, its options and the pieces that memory refuses have one transcript, but that the
-//!   dump of a tree may be that of another tree of the same rows. So have the pieces that have ended in the bytes
-//!   that a shell was fed.
 //!
 //! Any piece may be refused for want of memory, and that refusal too leaves the tables.
 //!
 //! Stands on `rt_session` (answers), `rt_shell_lines` (their lines), `rt_sql_cut` and `rt_sql` (pieces and their statements)
-//! and `rt_bytes`. Definitions: `specs/Transcript.antt` (what a whole script prints), `Shell.antt` (what a shell has printed of what it was fed), `Run.antt`
-//! (what a run does to its reader and writer), `Laws.antt`;
-//! `Engine.antt` says how steps of a run join.
+//! and `rt_bytes`. Definitions: `specs/Transcript.antt` (what a whole script prints), `Shell.antt` (what a shell has printed
+//! of what it was fed), `Run.antt` (what a run does to its reader and writer); `Engine.antt` says how steps of a run join.
+//! What holds of every script is said in `rt_shell_laws`.
 //!
 //! ```text
 //! let keys = RandomState::new(&rt)?;
@@ -33,7 +30,6 @@
 #![tactic(auto)]
 
 mod engine;
-pub mod laws;
 mod runner;
 mod shell;
 

@@ -20,9 +20,9 @@ use Rattle.rt_tree.specs.Lists.{empty_lists}
 use Rattle.rt_table_store.specs.Trees.{IsTreeOf}
 use Rattle.rt_table.specs.AnyTrees.{new_tree, StandsFor, Follows}
 use Rattle.rt_session.specs.Session.{NamedTable}
-use Rattle.rt_session.specs.Laws.{TreesAlwaysStand}
+use Rattle.rt_session_laws.specs.Laws.{TreesAlwaysStand}
 use Rattle.rt_session.proofs.Outcomes.{many}
-use Rattle.rt_session.proofs.Always.{always}
+use Rattle.rt_session_laws.proofs.Always.{always}
 
 -- ---- the tree of no rows
 

@@ -21,9 +21,9 @@ use Rattle.rt_session.specs.Session.{State, NamedTable, Outcome, table_of, is_na
 use Rattle.rt_shell.specs.declared.engine.Options.{Options}
 use Rattle.rt_shell_lines.specs.Lines.{reply_lines, refusal_line, echo_of}
 use Rattle.rt_shell.specs.Transcript.{Marks, Progress, start, AnswersParsed, MayGive, after, lines_of, part_of, status_of, Prints}
-use Rattle.rt_shell.specs.Laws.{EqualButDumps, AreDumps, HaveSameRows, TranscriptIsDetermined, TranscriptSoFarIsDetermined, no_tree, PlainlyAnswersParsed, PlainlyGives, PlainlyPrints, AnyTrees, EveryScriptHasAPlainTranscript}
-use Rattle.rt_shell.proofs.Alike.{FoundAlike, SameTables, table_alike, SameAnswer, FoundRelated, AreRelated, both_answer}
-use Rattle.rt_shell.proofs.Standing.{IsStanding, found_stands, stands_after}
+use Rattle.rt_shell_laws.specs.Laws.{EqualButDumps, AreDumps, HaveSameRows, TranscriptIsDetermined, TranscriptSoFarIsDetermined, no_tree, PlainlyAnswersParsed, PlainlyGives, PlainlyPrints, AnyTrees, EveryScriptHasAPlainTranscript}
+use Rattle.rt_shell_laws.proofs.Alike.{FoundAlike, SameTables, table_alike, SameAnswer, FoundRelated, AreRelated, both_answer}
+use Rattle.rt_shell_laws.proofs.Standing.{IsStanding, found_stands, stands_after}
 
 -- ---- the lines of answers
 

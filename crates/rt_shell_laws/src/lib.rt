@@ -1,7 +1,13 @@
-//! What holds of every script, as laws of the definitions that the contracts cite. Each function does
+//! What holds of every script, as laws of the definitions that the contracts of `rt_shell` cite. Each function does
 //! nothing: its contract is the law.
+//!
+//! A script, its options and the pieces that memory refuses have one transcript, but that the dump of a tree may be that of
+//! another tree of the same rows. So have the pieces that have ended in the bytes that a shell was fed.
+//!
+//! Definitions: `specs/Laws.antt`; `Worked.antt` holds what is printed against worked examples.
+#![tactic(auto)]
 
-ghost use Rattle.rt_shell.specs.Laws.{TranscriptIsDetermined, TranscriptSoFarIsDetermined, ShellPrintsTheTranscriptSoFar, EveryScriptHasAPlainTranscript};
+ghost use Rattle.rt_shell_laws.specs.Laws.{TranscriptIsDetermined, TranscriptSoFarIsDetermined, ShellPrintsTheTranscriptSoFar, EveryScriptHasAPlainTranscript};
 
 /// Given the options and the pieces that memory refuses, each piece of a script prints one thing at most, and the run ends
 /// in one status; but a piece that prints the dump of a tree may print that of another tree of the same rows.

@@ -1,7 +1,10 @@
-//! What holds of every session, as laws of the definitions that the contracts cite. Each function does
+//! What holds of every session, as laws of the definitions that the contracts of `rt_session` cite. Each function does
 //! nothing: its contract is the law.
+//!
+//! Definitions: `specs/Laws.antt`; `Worked.antt` holds the answers to statements against worked examples.
+#![tactic(auto)]
 
-ghost use Rattle.rt_session.specs.Laws.{RowsAlwaysRise, TreesAlwaysStand};
+ghost use Rattle.rt_session_laws.specs.Laws.{RowsAlwaysRise, TreesAlwaysStand};
 
 /// Whatever statements a session carries out, the rows of each of its tables stand by rising id.
 pub fn rows_always_rise()

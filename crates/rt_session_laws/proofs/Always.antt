@@ -25,7 +25,7 @@ use Rattle.rt_table.specs.AnyTrees.{new_tree, Follows, FollowsIfTaken}
 use Rattle.rt_reply.specs.declared.reply.Reply.{Reply}
 use Rattle.rt_reply.specs.declared.reply.Reply.TheVariants.{Nothing, Rows}
 use Rattle.rt_session.specs.Session.{State, NamedTable, empty, Outcome, state_after, answer, Answers, MayChoose, MayChooseFor, created, dropped, carried_out, selected, now_watched, on_watched, now_unwatched, viewed, checked, dumped, on_table, table_of, watched_by, is_named, is_watched, is_by_id, are_columns, shown, count_views, with_table, without_table}
-use Rattle.rt_session.specs.Laws.{LeadTo}
+use Rattle.rt_session_laws.specs.Laws.{LeadTo}
 use Rattle.rt_session.proofs.Places.{Distinct, replaced_by, replaced, distinct-filter, distinct-one_more, any_mapped, same_self}
 use Rattle.rt_session.proofs.Outcomes.{any_found}
 

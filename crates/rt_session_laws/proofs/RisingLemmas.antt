@@ -8,8 +8,8 @@ use Rattle.std.proofs.lemmas.List.Elements.{All-cons, All-head, All-tail, All-ap
 use Rattle.rt_table_row.specs.Rows.{TableRow, AreRising, with_row, without_id}
 use Rattle.rt_table_row.specs.Edits.{Step, Leaves, Comes, Becomes, after_step, outcome}
 use Rattle.rt_session.specs.Session.{NamedTable}
-use Rattle.rt_session.specs.Laws.{RowsAlwaysRise}
-use Rattle.rt_session.proofs.Always.{always}
+use Rattle.rt_session_laws.specs.Laws.{RowsAlwaysRise}
+use Rattle.rt_session_laws.proofs.Always.{always}
 
 -- ---- the rows of one table
 

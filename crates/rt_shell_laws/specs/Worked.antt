@@ -13,7 +13,7 @@ use Rattle.rt_session.specs.Session.{State, empty, state_after, answer}
 use Rattle.rt_sql_cut.specs.declared.piece.Ending.TheVariants.{Whole, Incomplete, TooLong}
 use Rattle.rt_shell_lines.specs.Lines.{value_text, row_line, change_line, reply_lines, echo_of}
 use Rattle.rt_shell.specs.Transcript.{lines_of}
-use Rattle.rt_shell.specs.Laws.{no_tree}
+use Rattle.rt_shell_laws.specs.Laws.{no_tree}
 
 -- ---- values
 

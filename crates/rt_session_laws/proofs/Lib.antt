@@ -1,0 +1,3 @@
+pub mod Always
+pub mod RisingLemmas
+pub mod Standing

@@ -1,0 +1,4 @@
+pub mod Alike
+pub mod Standing
+pub mod TranscriptLemmas
+pub mod Parts
