@@ -131,7 +131,11 @@ fn with_likely_room<const D: usize>(
     ensures room { IfOk result (λ copy. room ≤ copy.capacity) }
     ensures keys { IfOk result (λ copy. copy.capacity ≤ 2 ^ 62) }
 {
-    match with_room(nodes, likely_room(room)) {
+    let likely = likely_room(room);
+    if likely == room {
+        return with_room(nodes, room);
+    }
+    match with_room(nodes, likely) {
         Ok(copy) => Ok(copy),
         Err(_) => with_room(nodes, room),
     }
