@@ -38,9 +38,9 @@ const MOST_NODES: usize = 1 << 62;
 /// The most nodes that room grows to by doubling.
 const FEW_NODES: usize = 512;
 
-/// How many nodes a larger tree has room for at least. They take more than 32 MB of addresses, and memory only as nodes
-/// come. The C library gives such a block back whole once it is free; of a smaller one it would infer that it does better
-/// to keep blocks of that size, and what the map of leaves grows out of would be lost.
+/// How many nodes a larger tree has room for at least: more than 32 MB of addresses, which take memory only as nodes come.
+/// Once glibc has freed a mapped block of at most 32 MB, it takes blocks of up to that size from its heap. The map of
+/// leaves would then grow there, and leave holes.
 const MANY_NODES: usize = 40_000;
 
 /// The most rows that room is asked for. No machine holds more.
@@ -112,7 +112,7 @@ fn with_room<const D: usize>(
     Ok(copy)
 }
 
-/// The nodes for which room is made where there is to be some for so many.
+/// How many nodes to make room for, where so many are needed.
 fn likely_room(room: usize) -> usize
     ensures { room ≤ result }
 {
