@@ -1,3 +1,4 @@
 pub mod Always
 pub mod RisingLemmas
 pub mod Standing
+pub mod Replaying

@@ -1,4 +1,4 @@
 pub mod Viewing
 pub mod Readying
 pub mod Showing
-pub mod Applying
+pub mod Planned

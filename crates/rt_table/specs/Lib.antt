@@ -4,4 +4,3 @@ pub mod Ready
 pub mod TableInside
 pub mod AnyTrees
 pub mod AnyAxes
-pub mod Applying

@@ -3,7 +3,8 @@ use Rattle.std.specs.Prelude.{◌≡◌, ℕ, ◌≤◌, List}
 use Rattle.std.specs.List.{All}
 use Rattle.rt_table_row.specs.Edits.{Step, outcome}
 use Rattle.rt_table_row.specs.Views.{deltas}
-use Rattle.rt_table_view.specs.Preparing.{ApplyTo, inserts_all, auxiliary_rows_all, IsAwaited}
+use Rattle.rt_table_apply.specs.Applying.{ApplyTo, inserts_all, auxiliary_rows_all}
+use Rattle.rt_table_view.specs.Preparing.{IsAwaited}
 use Rattle.rt_table.specs.Held.{Held}
 
 -- the steps apply, there is room for the rows that they insert, each view awaits them, and the changes of the views lie

@@ -5,17 +5,14 @@
 //!   the plan takes and stages what it changes in the views. `commit` then carries the plan out, with no memory and no
 //!   refusal, and hands out the changes. `edit` does all three at once.
 //! - `AnyTable` is a table whatever its number of axes.
-//! - `laws`: the steps of each statement apply to the rows, and the changes of a view turn the rows that it showed into those
-//!   that it shows.
 //!
-//! Stands on `rt_table_plan`, `rt_table_view` (views, and plans carried out), `rt_table_store` and `rt_reply` (rows and
-//! changes that are answered). Definitions: `specs/Held.antt` (what a table holds), `Ready.antt` (when it is ready for a
-//! plan), `Replies.antt` (answers for which memory may run out), `AnyAxes.antt` and `AnyTrees.antt` (tables of any number
-//! of axes, and their trees), `Applying.antt` (the law); what a statement does to rows and views is in `rt_table_row`.
+//! Stands on `rt_table_plan`, `rt_table_apply` (plans carried out), `rt_table_view`, `rt_table_store` and `rt_reply` (rows
+//! and changes that are answered). Definitions: `specs/Held.antt` (what a table holds), `Ready.antt` (when it is ready for
+//! a plan), `Replies.antt` (answers for which memory may run out), `AnyAxes.antt` and `AnyTrees.antt` (tables of any number
+//! of axes, and their trees); what a statement does to rows and views is in `rt_table_row`.
 #![tactic(auto)]
 
 mod any_table;
-pub mod laws;
 mod table;
 
 pub use any_table::AnyTable;

@@ -12,13 +12,11 @@ use rt_box::Capacity;
 use rt_check::{Problem, Shadow, check};
 use rt_reply::{Change, Rows};
 use rt_sql_statement::{Cond, Edit, Name, Refusal};
+use rt_table_apply::{apply, auxiliary_rows_all, inserts_all};
 use rt_table_plan::Plan;
 use rt_table_row::{Filter, Schema, Step};
 use rt_table_store::Store;
-use rt_table_view::{
-    Picked, Watched, apply, auxiliary_rows_all, inserts_all, pick, refresh_all, rows_of,
-    rows_picked, stage, watch,
-};
+use rt_table_view::{Picked, Watched, pick, refresh_all, rows_of, rows_picked, stage, watch};
 use std::alloc::{AllocError, Global};
 use std::hash::RandomState;
 use std::marker::Model;
@@ -91,7 +89,7 @@ impl<const D: usize> Table<D> {
     ghost use Rattle.rt_table_plan.specs.Plans.{Plans};
     ghost use Rattle.rt_table.specs.Replies.{Refuses, Shows};
     ghost use Rattle.rt_reply.specs.AnyRows.{values_of_rows};
-    ghost use Rattle.rt_table_view.specs.Preparing.{ApplyTo};
+    ghost use Rattle.rt_table_apply.specs.Applying.{ApplyTo};
     ghost use Rattle.rt_table.specs.Ready.{IsReady};
     ghost use Rattle.rt_table_view.specs.Watching.{change_of};
     ghost use Rattle.rt_table_row.specs.Windows.{IsWindowOf};

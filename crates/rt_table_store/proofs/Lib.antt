@@ -1,6 +1,4 @@
 pub mod Order
-pub mod Borders
-pub mod Buckets
 pub mod Sorted
 pub mod Standing
 pub mod Picked

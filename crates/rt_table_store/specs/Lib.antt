@@ -4,4 +4,3 @@ pub mod Picking
 pub mod Moves
 pub mod Ranked
 pub mod StoreInside
-pub mod Buckets

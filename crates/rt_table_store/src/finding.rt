@@ -15,11 +15,11 @@ ghost use Rattle.rt_table_row.specs.Windows.{IsWindowAt};
 ghost use Rattle.rt_table_store.specs.Trees.{leaf_row, Visits};
 ghost use Rattle.rt_table_store.specs.Picking.{Stands, passes};
 
-use crate::sorting::sort_by_id;
 use crate::store::Store;
 use rt_box::Window;
 use rt_table_row::Filter;
 use rt_tree::{Found, Row, Tree};
+use rt_tree_sort::sort_by_id;
 use std::alloc::{AllocError, Global};
 
 /// How many rows a list has room for at first, where a window has limits.

@@ -6,14 +6,13 @@
 //!
 //! What callers know of a store is the list of its rows, the tree of their boxes, and its room.
 //!
-//! Stands on `rt_table_row` and `rt_tree`. Definitions: `specs/Stored.antt` (rows, tree and room), `Picking.antt`,
-//! `Ranked.antt` (the largest id), `Buckets.antt` (how rows are sorted), `Trees.antt` and `Moves.antt` (the tree that
-//! stands for the rows, and when it changes).
+//! Stands on `rt_table_row`, `rt_tree` and `rt_tree_sort`. Definitions: `specs/Stored.antt` (rows, tree and room),
+//! `Picking.antt`, `Ranked.antt` (the largest id), `Trees.antt` and `Moves.antt` (the tree that stands for the rows, and
+//! when it changes).
 #![tactic(auto)]
 
 mod finding;
 mod largest;
-mod sorting;
 mod store;
 
 pub use finding::Selected;

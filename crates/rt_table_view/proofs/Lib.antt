@@ -5,7 +5,4 @@ pub mod Refreshing
 pub mod Deltas
 pub mod Touching
 pub mod Looking
-pub mod Replaying
-pub mod Moving
-pub mod Counting
 pub mod Bare

@@ -1,4 +1,3 @@
 pub mod Watching
 pub mod Preparing
 pub mod Fates
-pub mod Laws

@@ -9,12 +9,11 @@
 //! No contract can say what a file or a terminal gave, so the program itself is proved safe and to end, no more.
 #![tactic(auto)]
 
-use clap::error::ErrorKind;
 use rt_bytes::{ByteReader, ByteWriter, OverRead, OverWrite, RunFault, Status};
-use rt_check_draw::run_draw;
+use rt_check_draw::{Axes, Choice, run_draw};
 use rt_check_report::run_check;
 use rt_shell::{Options, run};
-use rtsh_command::{Asked, Manner, asked_by, program};
+use rtsh_command::{Asked, Drawing, Manner, Unasked};
 use rtsh_terminal::{
     Cause, Fault, Noting, Prompting, Traced, Tracing, Trail, hint_at_dump, is_attended,
 };
@@ -75,50 +74,18 @@ fn words(rt: &HostRuntime) -> Result<Vec<String>, AllocError> {
     words.collect(rt.alloc())
 }
 
-/// Judges the command line, and does what it asks for.
+/// Reads the command line, and does what it asks for.
 fn start<'a>(rt: &HostRuntime, words: &'a [String]) -> Result<ExitCode, Fault<'a>> {
-    let parsed = program(rt.alloc())?.try_get_matches_from(words);
-    let matches = match parsed {
-        Ok(matches) => matches,
-        Err(error) => return refused(rt, words, &error),
-    };
-    let Some(asked) = asked_by(&matches) else {
-        return Ok(ExitCode::from(2));
+    let asked = match rtsh_command::read(rt, words) {
+        Ok(asked) => asked,
+        Err(Unasked::Helped) => return Ok(ExitCode::SUCCESS),
+        Err(Unasked::Refused) => return Ok(ExitCode::from(2)),
+        Err(Unasked::OutOfMemory) => return Err(Fault::Run(RunFault::Memory)),
+        Err(Unasked::Write(reason)) => return Err(Fault::write(Some(reason))),
     };
     match carry_out(rt, &asked)? {
         Status::Clean => Ok(ExitCode::SUCCESS),
         Status::Refused => Ok(ExitCode::from(1)),
-    }
-}
-
-/// Prints what is wrong with the command line, or the help that it asked for.
-fn refused<'a>(
-    rt: &HostRuntime,
-    words: &[String],
-    error: &clap::Error,
-) -> Result<ExitCode, Fault<'a>> {
-    if error.kind() == ErrorKind::OutOfMemory {
-        return Err(Fault::Run(RunFault::Memory));
-    }
-    if error.use_stderr() {
-        let _ = error.print(rt);
-        hint_at_run(rt, words, error.kind());
-        return Ok(ExitCode::from(2));
-    }
-    match error.print(rt) {
-        Ok(()) => Ok(ExitCode::SUCCESS),
-        Err(reason) => Err(Fault::write(Some(reason))),
-    }
-}
-
-/// A word in the place of a command may be the path of a script.
-fn hint_at_run(rt: &HostRuntime, words: &[String], kind: ErrorKind) {
-    if kind == ErrorKind::InvalidSubcommand
-        && let Some(word) = words.get(1)
-        && let Ok(found) = fs::metadata(rt, word.as_str())
-        && found.is_file()
-    {
-        let _ = eprintln!(rt; "\nTo run the script {word}: rtsh run {word}");
     }
 }
 
@@ -273,6 +240,16 @@ fn options_of(manner: &Manner) -> Options {
     }
 }
 
+/// What is drawn.
+fn choice_of(drawing: &Drawing) -> Choice {
+    Choice {
+        axes: drawing.axes.map(|(across, up)| Axes { across, up }),
+        lowest: drawing.lowest,
+        highest: drawing.highest,
+        all: drawing.all,
+    }
+}
+
 fn answer<R: ByteReader, W: ByteWriter>(
     alloc: Global,
     keys: RandomState,
@@ -283,6 +260,6 @@ fn answer<R: ByteReader, W: ByteWriter>(
     match asked {
         Asked::Run(manner, _) => run(alloc, keys, reader, writer, &options_of(manner)),
         Asked::Check(_) => run_check(alloc, keys, reader, writer),
-        Asked::Draw(choice, _) => run_draw(alloc, keys, choice, reader, writer),
+        Asked::Draw(drawing, _) => run_draw(alloc, keys, &choice_of(drawing), reader, writer),
     }
 }

@@ -1,15 +1,16 @@
 //! The command line of `rtsh`.
 //!
-//! `program` has the words, options and help texts that `clap` parses by. `asked_by` makes an `Asked` of what it
-//! found.
+//! `read` says what its words ask for, as an `Asked`. Where they ask for help, or for nothing that there is, it prints
+//! that, and an `Unasked` says how it went. `clap` parses the words.
 //!
-//! Stands on `rt_box` and `rt_check_draw`, for what is asked for. It is proved safe and to end, no more.
+//! Stands on `rt_box`. It is proved safe and to end, no more.
 #![tactic(auto)]
 
+use clap::error::ErrorKind;
 use clap::{Arg, ArgAction, ArgMatches, Command, Error, value_parser};
 use rt_box::Capacity;
-use rt_check_draw::{Axes, Choice};
 use std::alloc::{AllocError, Global};
+use std::{fs, io};
 
 /// What the command line asks for, and of which file; none is the standard input.
 #[derive(Drop)]
@@ -19,7 +20,26 @@ pub enum Asked<'a> {
     /// `rtsh check`: the dump is checked.
     Check(Option<&'a str>),
     /// `rtsh draw`: this is drawn of the dump.
-    Draw(Choice, Option<&'a str>),
+    Draw(Drawing, Option<&'a str>),
+}
+
+/// Why a command line asks for nothing that is to be done.
+#[derive(Clone, Copy, Debug)]
+pub enum Unasked {
+    /// It asked for help or the version, which is printed.
+    Helped,
+    /// It was refused, and what is wrong is printed.
+    Refused,
+    /// No memory was left.
+    OutOfMemory,
+    /// The help couldn't be printed.
+    Write(io::Error),
+}
+
+impl From<AllocError> for Unasked {
+    fn from(_error: AllocError) -> Unasked {
+        Unasked::OutOfMemory
+    }
 }
 
 /// How `rtsh run` runs a script.
@@ -33,6 +53,19 @@ pub struct Manner {
     pub echo: bool,
     /// Each answer is written before the next piece is read.
     pub is_unbuffered: bool,
+}
+
+/// What `rtsh draw` draws of a tree.
+#[derive(Clone, Copy)]
+pub struct Drawing {
+    /// The axis to the right and the one upwards, from 0 on; one alone is drawn as bars. Without them, the first ones.
+    pub axes: Option<(usize, Option<usize>)>,
+    /// The lowest level.
+    pub lowest: u8,
+    /// The highest level.
+    pub highest: u8,
+    /// The leaves' cells are drawn however many boxes there are.
+    pub all: bool,
 }
 
 const VERSION: &str = "0.1.0";
@@ -88,8 +121,52 @@ const STATUS_HELP: &str = "Exit status:
   2  the command line was refused
   3  a file couldn't be opened, a read or a write failed, or memory ran out";
 
+/// What the words of a command line ask for. Help that they ask for is printed, and so is what is wrong with them.
+///
+/// # Errors
+///
+/// An `Unasked` where nothing is to be done.
+pub fn read<'a>(rt: &HostRuntime, words: &'a [String]) -> Result<Asked<'a>, Unasked> {
+    let parsed = program(rt.alloc())?.try_get_matches_from(words);
+    let matches = match parsed {
+        Ok(matches) => matches,
+        Err(error) => return Err(tell(rt, words, &error)),
+    };
+    match asked_by(&matches) {
+        Some(asked) => Ok(asked),
+        None => Err(Unasked::Refused),
+    }
+}
+
+/// Prints what is wrong with the command line, or the help that it asked for.
+fn tell(rt: &HostRuntime, words: &[String], error: &Error) -> Unasked {
+    if error.kind() == ErrorKind::OutOfMemory {
+        return Unasked::OutOfMemory;
+    }
+    let printed = error.print(rt);
+    if error.use_stderr() {
+        hint_at_run(rt, words, error.kind());
+        return Unasked::Refused;
+    }
+    match printed {
+        Ok(()) => Unasked::Helped,
+        Err(reason) => Unasked::Write(reason),
+    }
+}
+
+/// A word in the place of a command may be the path of a script.
+fn hint_at_run(rt: &HostRuntime, words: &[String], kind: ErrorKind) {
+    if kind == ErrorKind::InvalidSubcommand
+        && let Some(word) = words.get(1)
+        && let Ok(found) = fs::metadata(rt, word.as_str())
+        && found.is_file()
+    {
+        let _ = eprintln!(rt; "\nTo run the script {word}: rtsh run {word}");
+    }
+}
+
 /// The program's command.
-pub fn program<'a>(alloc: Global) -> Result<Command<'a>, AllocError> {
+fn program<'a>(alloc: Global) -> Result<Command<'a>, AllocError> {
     Ok(
         Command::new(alloc, "rtsh")
             .version(VERSION)
@@ -188,14 +265,14 @@ fn file<'a>(alloc: Global, help: &'a str) -> Arg<'a> {
 }
 
 /// What the parsed command line asks for.
-pub fn asked_by<'a>(matches: &ArgMatches<'a>) -> Option<Asked<'a>> {
+fn asked_by<'a>(matches: &ArgMatches<'a>) -> Option<Asked<'a>> {
     let (name, matches) = matches.subcommand()?;
     let file = matches.get_str("file").filter(|file| *file != "-");
     if name == "check" {
         return Some(Asked::Check(file));
     }
     if name == "draw" {
-        return Some(Asked::Draw(choice_of(matches), file));
+        return Some(Asked::Draw(drawing_of(matches), file));
     }
     let capacity = Capacity::new(matches.get_one::<u8>("capacity")?)?;
     let manner = Manner {
@@ -208,9 +285,9 @@ pub fn asked_by<'a>(matches: &ArgMatches<'a>) -> Option<Asked<'a>> {
 }
 
 /// What is to be drawn.
-fn choice_of(matches: &ArgMatches<'_>) -> Choice {
+fn drawing_of(matches: &ArgMatches<'_>) -> Drawing {
     let (lowest, highest) = levels_of(matches);
-    Choice {
+    Drawing {
         axes: matches.get_str("axes").and_then(axes_of),
         lowest,
         highest,
@@ -235,12 +312,12 @@ fn levels_of(matches: &ArgMatches<'_>) -> (u8, u8) {
 }
 
 /// The axes by their numbers, as `1,3`.
-fn axes_of(numbers: &str) -> Option<Axes> {
+fn axes_of(numbers: &str) -> Option<(usize, Option<usize>)> {
     let mut numbers = numbers.split(',');
     let across = numbers.next()?.parse::<usize>().ok()?.checked_sub(1)?;
     let up = match numbers.next() {
         Some(number) => Some(number.parse::<usize>().ok()?.checked_sub(1)?),
         None => None,
     };
-    Some(Axes { across, up })
+    Some((across, up))
 }

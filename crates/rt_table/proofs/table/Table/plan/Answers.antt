@@ -1,8 +1,9 @@
 use Rattle.std.proofs.Common.{IfOk, subst}
 use Rattle.rt_table_row.specs.Edits.{steps_of}
 use Rattle.rt_table.specs.Held.{Held}
-use Rattle.rt_table_view.specs.Preparing.{ApplyTo}
-use Rattle.rt_table.proofs.Applying.{steps_apply, planned}
+use Rattle.rt_table_apply.specs.Applying.{ApplyTo}
+use Rattle.rt_table_apply.proofs.Applying.{steps_apply}
+use Rattle.rt_table.proofs.Planned.{planned}
 use Rattle.rt_table.proofs.table.Table.plan.Goals as goal
 
 pub returns-clause-applies : goal.returns-clause-applies
