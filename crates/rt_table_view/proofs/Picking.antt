@@ -1,18 +1,14 @@
 -- The rows that a condition picks, and their ids.
 use Rattle.std.proofs.Common.{◌≡◌, ℕ, ◌+◌, ◌<◌, ℤ, pos, Bool, true, false, cond, ◌||◌, List, [], ◌∷◌, ◌++◌, map, filter, take, length, get_or, Option, Some, None, refl, sym, ap, ◌∙◌}
-use Rattle.std.specs.Prelude.{◌<ℤ◌, is_some}
-use Rattle.std.specs.List.{All, AllByRecursion, list_any, filter_map, cons_option}
-use Rattle.std.specs.Option.{option_map}
+use Rattle.std.specs.Prelude.{is_some}
+use Rattle.std.specs.List.{list_any, filter_map, cons_option}
 use Rattle.std.specs.Ordering.{int_eq}
-use Rattle.std.proofs.lemmas.List.Elements.{All-filter, All-from_recursion, recursion_from_All, filter_map-append}
+use Rattle.std.proofs.lemmas.List.Elements.{filter_map-append}
 use Rattle.std.proofs.lemmas.List.{take_more, map-append, append-nil}
 use Rattle.std.proofs.lemmas.Cmp.{int_eq_equiv}
 use Rattle.rt_sql_statement.specs.declared.value.Value.{Value}
 use Rattle.rt_table_row.specs.Rows.{TableRow, AreRising, row_at, values_of}
-use Rattle.rt_table_store.proofs.Order.{eq_same, eq_above}
-use Rattle.rt_table_store.proofs.Sorted.{kept, at_key, Rises, rises, at_key-filter}
-use Rattle.rt_tree_walk.specs.declared.searching.Row.{Row}
-use Rattle.rt_table_store.specs.Trees.{leaf_row}
+use Rattle.rt_table_store.proofs.Sorted.{kept, at_key, rises, at_key-filter}
 use Rattle.rt_table_view.specs.Watching.{is_picked}
 
 module _ {X : Type 0} (key : X → ℤ) where

@@ -1,4 +1,4 @@
-use Rattle.std.proofs.Common.{◌≡◌, ◌≤◌, ◌<◌, ℕ, length, get_or, sym, ap, rules, arith, lit<, ◌∙◌, ◌++◌, map, subst}
+use Rattle.std.proofs.Common.{◌≡◌, get_or, sym, ap, rules, arith, lit<, ◌∙◌, ◌++◌, map, subst}
 use Rattle.std.specs.List.{flat_map}
 use Rattle.std.proofs.lemmas.List.{get_or_default}
 use Rattle.rt_table_view.specs.declared.watched.Watched.{Watched}
