@@ -164,7 +164,7 @@ cover-holder a b h =
     let hi : int_max a.hi b.hi ≡ a.hi = omega (arith, ints, clamps, h.1) in
     ap (λ x. interval x (int_max a.hi b.hi)) lo ∙ ap (λ y. interval a.lo y) hi
 
-union-holder : (a b : List Interval) → Holds a b → union_box a b ≡ a
+pub union-holder : (a b : List Interval) → Holds a b → union_box a b ≡ a
 union-holder [] b h = refl
 union-holder (x ∷ a) [] h = absurd h
 union-holder (x ∷ a) (y ∷ b) h = ap (λ i. i ∷ union_box a b) (cover-holder x y h.0) ∙ ap (λ is. x ∷ is) (union-holder a b h.1)

@@ -6,5 +6,6 @@ pub mod Keys
 pub mod Lists
 pub mod Outliers
 pub mod Areas
+pub mod Holders
 pub mod Partings
 pub mod Sorted
