@@ -1,8 +1,9 @@
 -- Lemmas on lists: a product, and what holds of two lists place by place.
-use Rattle.std.proofs.Common.{◌≡◌, ℕ, zero, suc, ◌+◌, ◌*◌, ◌<◌, List, [], ◌∷◌, ◌++◌, length, map, get_or, take, arith, ap, sym, ◌∙◌}
+use Rattle.std.proofs.Common.{◌≡◌, ℕ, zero, suc, ◌+◌, ◌*◌, ◌<◌, List, [], ◌∷◌, ◌++◌, length, map, get_or, take, inl, inr, arith, ap, sym, subst, ◌∙◌}
 use Rattle.std.specs.List.{AllZip}
 use Rattle.std.proofs.Math.Nat.{mul_assoc}
-use Rattle.std.proofs.lemmas.List.{take_more, map-append}
+use Rattle.std.proofs.lemmas.Bool.{cases_eq}
+use Rattle.std.proofs.lemmas.List.{take_more, map-append, get_or_default}
 use Rattle.rt_box.specs.Rect.{product}
 
 pub product-push : (xs : List ℕ) (y : ℕ) → product (xs ++ y ∷ []) ≡ product xs * y
@@ -28,3 +29,14 @@ AllZip-get_or_both R [] ys i d e h l = absurd (omega arith)
 AllZip-get_or_both R (x ∷ xs) [] i d e h l = absurd h
 AllZip-get_or_both R (x ∷ xs) (y ∷ ys) zero d e h l = h.0
 AllZip-get_or_both R (x ∷ xs) (y ∷ ys) (suc i) d e h l = AllZip-get_or_both R xs ys i d e h.1 (omega arith)
+
+-- what holds at each place before one, and there, holds at each place up to it
+pub one_more : {X Y : Type 0} (R : X → Y → Type 0) (xs : List X) (ys : List Y) (n : ℕ) (a : X) (b : Y) → n < length xs → n < length ys →
+    ((i : ℕ) → i < n → (d : X) (e : Y) → R (get_or xs i d) (get_or ys i e)) → R (get_or xs n a) (get_or ys n b) →
+    (i : ℕ) → i < n + 1 → (d : X) (e : Y) → R (get_or xs i d) (get_or ys i e)
+one_more R xs ys n a b within within' before here i below d e = elim (cases_eq i n) [
+  | inl same ↦
+      subst (λ k. R (get_or xs k d) (get_or ys k e)) (sym same)
+      (subst (λ x. R x (get_or ys n e)) (get_or_default xs n a d within) (subst (λ y. R (get_or xs n a) y) (get_or_default ys n b e within') here))
+  | inr other ↦ before i (omega arith) d e
+]

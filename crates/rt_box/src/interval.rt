@@ -77,13 +77,6 @@ impl Interval {
         distance * distance
     }
 
-    /// Whether neither end of `inner` goes past this interval's.
-    pub(crate) fn covers(self, inner: Interval) -> bool
-        ensures { IsTrue result ↔ Covers self inner }
-    {
-        self.lo <= inner.lo && inner.hi <= self.hi
-    }
-
     /// Whether the number isn't below it.
     pub(crate) fn begins_by(&self, number: i32) -> bool
         ensures { IsTrue result ↔ (self.now.lo ≤ℤ number) }

@@ -5,6 +5,7 @@
 
 ghost use Rattle.std.specs.Prelude.{◌≡◌, ◌+◌, ◌*◌, ◌^◌, ◌<◌, ◌≤◌, ◌↔◌, ◌≤ℤ◌, IsTrue, IsSome, IfSome, slice_index_or};
 ghost use Rattle.std.specs.List.{AllZip};
+ghost use Rattle.rt_box.specs.Interval.{Covers};
 ghost use Rattle.rt_box.specs.Rect.{IsBox, los, his, area, margin, overlap, union_box, Holds, centre_distance};
 
 use crate::interval::Interval;
@@ -18,6 +19,15 @@ fn product(first: u32, second: u32) -> u128
     ensures bound { result ≤ 2 ^ 64 }
 {
     u128::from(u64::from(first) * u64::from(second))
+}
+
+/// Whether the ends before were inside, and neither of the inner ones goes past the outer interval's. All are compared:
+/// which of them goes past is by chance, so a branch for each would mostly be guessed wrong.
+#[inline]
+fn are_inside(before: bool, outer: &Interval, inner: &Interval) -> bool
+    ensures { IsTrue result ↔ (IsTrue before × Covers outer.now inner.now) }
+{
+    before & (outer.lo <= inner.lo) & (inner.hi <= outer.hi)
 }
 
 /// A box of `D` axes, from one to three: on each an interval of 32-bit numbers whose `lo` is not above
@@ -196,12 +206,11 @@ impl<const D: usize> Rect<D> {
         ensures { IsTrue result ↔ Holds self.now inner.now }
     {
         let (outer_sides, inner_sides) = (&self.sides, &inner.sides);
+        let mut inside = true;
         for axis in 0..D {
-            if !outer_sides[axis].covers(inner_sides[axis]) {
-                return false;
-            }
+            inside = are_inside(inside, &outer_sides[axis], &inner_sides[axis]);
         }
-        true
+        inside
     }
 
     /// By how much the area grows where this box is widened to hold `other` too.
