@@ -1,13 +1,14 @@
 -- What a row becomes by its looked-up sets.
-use Rattle.std.proofs.Common.{◌≡◌, ℕ, suc, ◌+◌, ◌*◌, ◌<◌, ◌≤◌, ◌+ℤ◌, ◌-ℤ◌, Bool, true, false, not, ◌&&◌, ◌||◌, nat_lt, List, [], ◌∷◌, ◌++◌, append_assoc, get_or, map, length, take, cond, position, Option, Some, None, Err, arith, refl, sym, ap, subst, ◌∙◌}
+use Rattle.std.proofs.Common.{◌≡◌, ℕ, suc, ◌+◌, ◌*◌, ◌<◌, ◌≤◌, ◌-◌, ◌+ℤ◌, ◌-ℤ◌, Bool, true, false, not, ◌&&◌, ◌||◌, nat_lt, List, [], ◌∷◌, ◌++◌, append_assoc, get_or, map, length, take, drop, cond, position, Option, Some, None, Err, arith, refl, sym, ap, subst, ◌∙◌}
 use Rattle.std.specs.List.{list_all, list_any, position_or_len, find}
 use Rattle.std.specs.Option.{option_map, option_map_or}
-use Rattle.std.proofs.lemmas.List.{take-map}
+use Rattle.std.proofs.lemmas.List.{take-map, take_all, drop-map}
+use Rattle.std.proofs.lemmas.Simd.{map-map}
 use Rattle.std.proofs.lemmas.List.Folds.{list_all-map}
 use Rattle.std.specs.Str.{str_to_ascii_lowercase}
 use Rattle.std.proofs.lemmas.Slice.Eq.{bytes_eq-Decides}
 use Rattle.rt_sql_statement.specs.declared.value.Value.{Value}
-use Rattle.rt_sql_statement.specs.declared.value.Value.TheVariants.{Null, Int}
+use Rattle.rt_sql_statement.specs.declared.value.Value.TheVariants.{Null, Int, Text, Blob}
 use Rattle.rt_sql_statement.specs.declared.refusal.Refusal.TheVariants.{WrongType, IntegerOutOfRange}
 use Rattle.rt_sql_statement.specs.Name.{same_name}
 use Rattle.rt_sql_statement.specs.declared.statement.Source.{Source}
@@ -16,7 +17,7 @@ use Rattle.rt_table_row.specs.declared.settings.Reading.{Reading}
 use Rattle.rt_table_row.specs.declared.settings.Reading.TheVariants.{Literal, Column, Plus, Minus}
 use Rattle.rt_table_row.specs.declared.settings.Fill.{Fill}
 use Rattle.rt_table_row.specs.declared.settings.Fill.TheVariants.{Kept, Set}
-use Rattle.rt_table_row.specs.Candidates.{is_integer, number_in, fits_bits, id_value, coordinate_values, candidate_of}
+use Rattle.rt_table_row.specs.Candidates.{is_id, is_integer, id_in, number_in, fits_bits, id_value, coordinate_values, candidate_of, candidate_with}
 use Rattle.rt_table_row.specs.Columns.{place_of, has_name, are_distinct}
 use Rattle.rt_table_row.proofs.Names.{own_place}
 use Rattle.rt_table_row.specs.Conditions.{value_in}
@@ -48,6 +49,46 @@ pub set_all : (axes : ℕ) (sets : LookedUp) (old : List Value) → list_all (re
     (is_integer (id_value (values_set sets old)) && list_all is_integer (coordinate_values axes (values_set sets old))) ≡ true →
     list_all (reading_fits old) sets.readings ≡ true → candidate_set axes sets old ≡ candidate_of axes (values_set sets old)
 set_all axes sets old summable types fits = rw (summable, types, fits)
+
+-- ---- its numbers
+
+integer_is_id : (v : Value) → is_integer v ≡ true → is_id v ≡ true
+integer_is_id Null e = cc
+integer_is_id (Int z) e = refl
+integer_is_id (Text t) e = cc
+integer_is_id (Blob b) e = cc
+
+integer_in : (v : Value) → is_integer v ≡ true → id_in v ≡ Some (number_in v)
+integer_in Null e = cc
+integer_in (Int z) e = refl
+integer_in (Text t) e = cc
+integer_in (Blob b) e = cc
+
+candidate_parts : (axes : ℕ) (values : List Value) → is_id (id_value values) ≡ true → list_all is_integer (coordinate_values axes values) ≡ true →
+    candidate_of axes values ≡ candidate_with (id_in (id_value values)) (map number_in (coordinate_values axes values)) (drop (1 + 2 * axes) values)
+candidate_parts axes values id integers = rw (id, integers)
+
+-- where the id and the coordinates are integers, the candidate is that of their numbers
+pub candidate_filled : (n : ℕ) (f : Fill → Value) (fills plain rest : List Fill) → 1 + 2 * n ≤ length fills →
+    plain ≡ take (1 + 2 * n) fills → rest ≡ drop (1 + 2 * n) fills →
+    list_all (λ (x : Fill). is_integer (f x)) (take (1 + 2 * n) fills) ≡ true →
+    candidate_of n (map f fills) ≡ candidate_with (Some (number_in (f (get_or plain 0 (Kept 0))))) (map (λ (x : Fill). number_in (f x)) (take (length plain - 1) (drop 1 plain))) (map f rest)
+candidate_filled n f [] plain rest h p r ints = absurd (omega arith)
+candidate_filled n f (x ∷ fills) plain rest h p r ints =
+    let one : 1 + 2 * n ≡ suc (2 * n) = omega arith in
+    let plain_is : plain ≡ x ∷ take (2 * n) fills = p ∙ rw one refl in
+    let first_is : get_or plain 0 (Kept 0) ≡ x = rw plain_is refl in
+    let both : (is_integer (f x) && list_all (λ (y : Fill). is_integer (f y)) (take (2 * n) fills)) ≡ true = rw one at ints in
+    let here = head (is_integer (f x)) (list_all (λ (y : Fill). is_integer (f y)) (take (2 * n) fills)) both in
+    let later = tail (is_integer (f x)) (list_all (λ (y : Fill). is_integer (f y)) (take (2 * n) fills)) both in
+    let integers : list_all is_integer (take (2 * n) (map f fills)) ≡ true = rw take-map (list_all-map is_integer f (take (2 * n) fills) ∙ later) in
+    let long : length (take (2 * n) fills) ≤ length (x ∷ take (2 * n) fills) - 1 = omega arith in
+    let behind : take (length plain - 1) (drop 1 plain) ≡ take (2 * n) fills = rw plain_is (take_all (length (x ∷ take (2 * n) fills) - 1) (take (2 * n) fills) long) in
+    let numbers : map number_in (take (2 * n) (map f fills)) ≡ map (λ (y : Fill). number_in (f y)) (take (length plain - 1) (drop 1 plain)) = rw (behind, take-map) (map-map number_in f (take (2 * n) fills)) in
+    let auxiliary : drop (1 + 2 * n) (f x ∷ map f fills) ≡ map f rest = rw r (drop-map f (1 + 2 * n) (x ∷ fills)) in
+    let id : id_in (f x) ≡ Some (number_in (f (get_or plain 0 (Kept 0)))) = rw first_is (integer_in (f x) here) in
+    candidate_parts n (f x ∷ map f fills) (integer_is_id (f x) here) integers
+    ∙ rw (id, numbers, auxiliary) refl
 
 -- ---- how they are looked up
 

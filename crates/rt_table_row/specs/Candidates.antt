@@ -68,3 +68,12 @@ candidate_of axes values =
     else (if not (list_all (fits_bits 31) numbers) then Err IntegerOutOfRange
     else (if not (is_ordered (box_of numbers)) then Err MinimumAboveMaximum
     else Ok (record { id = id_in (id_value values); box = box_of numbers; auxiliary = drop (1 + 2 * axes) values })))
+
+-- ---- by its parts
+
+-- the candidate of an id, or none, of coordinates, and of auxiliary values
+abbrev pub candidate_with : Option ℤ → List ℤ → List Value → Result Candidate Refusal
+candidate_with id numbers auxiliary =
+    if not (list_all (fits_bits 31) numbers) then Err IntegerOutOfRange
+    else (if not (is_ordered (box_of numbers)) then Err MinimumAboveMaximum
+    else Ok (record { id = id; box = box_of numbers; auxiliary = auxiliary }))

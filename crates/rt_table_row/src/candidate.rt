@@ -5,14 +5,18 @@
 
 ghost use Rattle.std.specs.Prelude.{◌≡◌, ◌*◌, ◌+◌, ◌≤◌, ◌<◌, ◌++◌, IfOk, pos, true, map, length, Some, None, if◌then◌else◌, slice_index_or};
 ghost use Rattle.std.specs.List.{list_all};
-ghost use Rattle.rt_table_row.specs.Candidates.{is_id, is_integer, id_in, number_in, fits_bits, box_of, is_ordered, candidate_of};
+ghost use Rattle.rt_table_row.specs.Candidates.{is_id, is_integer, id_in, number_in, fits_bits, box_of, is_ordered, candidate_of, candidate_with};
 ghost use Rattle.rt_table_row.specs.Answers.{GivesAs};
 ghost use Rattle.rt_table_row.specs.Entries.{candidate_as};
 
 use crate::entry::push_copies;
+use arrayvec::ArrayVec;
 use rt_box::Rect;
 use rt_sql_statement::{Items, Refusal, Value};
 use std::alloc::{AllocError, Global};
+
+/// Two for each of at most three axes.
+pub(crate) const MOST_COORDINATES: usize = 6;
 
 fn is_id(value: &Value) -> bool
     ensures { result ≡ is_id value.now }
@@ -52,41 +56,53 @@ fn are_integers(values: &[Value]) -> bool
     values.iter().all(is_integer)
 }
 
-/// Whether the value's number has 32 bits.
-fn is_short(value: &Value) -> bool
-    ensures { result ≡ fits_bits 31 (number_in value.now) }
+/// The number of each value.
+fn numbers_in(values: &[Value]) -> ArrayVec<i64, MOST_COORDINATES>
+    requires { length values.now ≤ 6 }
+    ensures { result.items ≡ map number_in values.now }
 {
-    i32::try_from(number_in(value)).is_ok()
+    let mut numbers = ArrayVec::new();
+    for value in values {
+        numbers.push(number_in(value));
+    }
+    numbers
 }
 
-fn are_short(values: &[Value]) -> bool
-    ensures { result ≡ list_all (λ value. fits_bits 31 (number_in value)) values.now }
+/// Whether the number has 32 bits.
+fn is_short(number: &i64) -> bool
+    ensures { result ≡ fits_bits 31 number.now }
 {
-    values.iter().all(is_short)
+    i32::try_from(*number).is_ok()
+}
+
+fn are_short(numbers: &[i64]) -> bool
+    ensures { result ≡ list_all (fits_bits 31) numbers.now }
+{
+    numbers.iter().all(is_short)
 }
 
 /// The number at that place.
-fn coordinate(values: &[Value], place: usize) -> i32
-    requires within { place < length values.now }
-    requires short { list_all (λ value. fits_bits 31 (number_in value)) values.now ≡ true }
-    ensures { result ≡ slice_index_or (map number_in values.now) place (pos 0) }
+fn coordinate(numbers: &[i64], place: usize) -> i32
+    requires within { place < length numbers.now }
+    requires short { list_all (fits_bits 31) numbers.now ≡ true }
+    ensures { result ≡ slice_index_or numbers.now place (pos 0) }
 {
-    number_in(&values[place]) as i32
+    numbers[place] as i32
 }
 
 /// The box from each axis' minimum to its maximum, where none is above it.
-fn rect_of<const D: usize>(values: &[Value]) -> Option<Rect<D>>
+fn rect_of<const D: usize>(numbers: &[i64]) -> Option<Rect<D>>
     requires some { 1 ≤ D }
     requires few { D ≤ 3 }
-    requires long { length values.now ≡ 2 * D }
-    requires short { list_all (λ value. fits_bits 31 (number_in value)) values.now ≡ true }
-    ensures { let b = box_of (map number_in values.now) in result ≡ (if is_ordered b then Some b else None) }
+    requires long { length numbers.now ≡ 2 * D }
+    requires short { list_all (fits_bits 31) numbers.now ≡ true }
+    ensures { let b = box_of numbers.now in result ≡ (if is_ordered b then Some b else None) }
 {
     let mut lo = [0; D];
     let mut hi = [0; D];
     for axis in 0..D {
-        lo[axis] = coordinate(values, 2 * axis);
-        hi[axis] = coordinate(values, 2 * axis + 1);
+        lo[axis] = coordinate(numbers, 2 * axis);
+        hi[axis] = coordinate(numbers, 2 * axis + 1);
     }
     Rect::new(lo, hi)
 }
@@ -113,6 +129,30 @@ pub struct Candidate<const D: usize> {
 }
 
 impl<const D: usize> Candidate<D> {
+    /// The candidate with that id, coordinates and auxiliary values; with no id it asks for a new one.
+    pub(crate) fn from_numbers(
+        id: Option<i64>,
+        coordinates: &[i64],
+        auxiliary: Items<Value>,
+    ) -> Result<Candidate<D>, Refusal>
+        requires some { 1 ≤ D }
+        requires few { D ≤ 3 }
+        requires long { length coordinates.now ≡ 2 * D }
+        ensures { GivesAs candidate_as (candidate_with id coordinates.now auxiliary) result }
+    {
+        if !are_short(coordinates) {
+            return Err(Refusal::IntegerOutOfRange);
+        }
+        match rect_of(coordinates) {
+            None => Err(Refusal::MinimumAboveMaximum),
+            Some(rect) => Ok(Candidate {
+                id,
+                rect,
+                auxiliary,
+            }),
+        }
+    }
+
     /// The candidate that an id or NULL, the coordinates, and auxiliary values are.
     fn with(plain: &[Value], auxiliary: Items<Value>) -> Result<Candidate<D>, Refusal>
         requires some { 1 ≤ D }
@@ -123,17 +163,8 @@ impl<const D: usize> Candidate<D> {
         if !is_id(&plain[0]) || !are_integers(&plain[1..]) {
             return Err(Refusal::WrongType);
         }
-        if !are_short(&plain[1..]) {
-            return Err(Refusal::IntegerOutOfRange);
-        }
-        match rect_of(&plain[1..]) {
-            None => Err(Refusal::MinimumAboveMaximum),
-            Some(rect) => Ok(Candidate {
-                id: id_in(&plain[0]),
-                rect,
-                auxiliary,
-            }),
-        }
+        let coordinates = numbers_in(&plain[1..]);
+        Candidate::from_numbers(id_in(&plain[0]), coordinates.as_slice(), auxiliary)
     }
 
     /// The candidate that the values are: an id or NULL, the coordinates, and then the auxiliary values.

@@ -16,7 +16,7 @@
 //! What inserting, deleting, updating and watching do to the rows of a table is defined in `specs/` over plain
 //! lists; the crates above carry them out.
 //!
-//! Stands on `rt_sql_statement` (statements, values, refusals) and `rt_box`. Definitions:
+//! Stands on `rt_sql_statement` (statements, values, refusals), `rt_box` and `arrayvec`. Definitions:
 //!
 //! - of SQL: `specs/Values.antt` (how values compare), `Columns.antt`, `Rows.antt` (a row, and the rows of a table),
 //!   `Conditions.antt` (which rows a condition picks), `Windows.antt` (what it asks of boxes), `Candidates.antt` (what the

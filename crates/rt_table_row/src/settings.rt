@@ -15,10 +15,11 @@ ghost use Rattle.rt_table_row.specs.Settings.{read, reads_integer, reading_fits,
 ghost use Rattle.rt_sql_statement.specs.Name.{same_name};
 ghost use Rattle.rt_table_row.specs.Answers.{GivesAs};
 
-use crate::candidate::{Candidate, is_integer, number_in};
+use crate::candidate::{Candidate, MOST_COORDINATES, is_integer, number_in};
 use crate::entry::{Field, RowView};
 use crate::schema::{FEW_NAMES, Schema, are_listed_once, has_name, place_of};
-use rt_sql_statement::{Name, Refusal, Source, Value};
+use arrayvec::ArrayVec;
+use rt_sql_statement::{Items, Name, Refusal, Source, Value};
 use std::alloc::{AllocError, Global};
 use std::marker::Model;
 
@@ -216,6 +217,19 @@ fn reading_fits<const D: usize>(row: &RowView<'_, D>, reading: &Reading) -> bool
     }
 }
 
+/// The number that a set gives, where it gives one.
+fn number_read<const D: usize>(row: &RowView<'_, D>, reading: &Reading) -> i64
+    requires { reading_fits (values_of (view_row row.now)) reading.now ≡ true }
+    ensures { result ≡ number_in (read (values_of (view_row row.now)) reading.now) }
+{
+    match reading {
+        Reading::Literal(value) => number_in(value),
+        Reading::Column(place) => field_number(row.value_at(*place)),
+        Reading::Plus(place, number) => field_number(row.value_at(*place)) + *number,
+        Reading::Minus(place, number) => field_number(row.value_at(*place)) - *number,
+    }
+}
+
 fn read<const D: usize>(
     alloc: Global,
     row: &RowView<'_, D>,
@@ -227,14 +241,7 @@ fn read<const D: usize>(
     match reading {
         Reading::Literal(value) => value.try_clone(alloc),
         Reading::Column(place) => row.value_at(*place).try_clone(alloc),
-        Reading::Plus(place, number) => {
-            let sum = field_number(row.value_at(*place)) + *number;
-            Ok(Value::Int(sum))
-        }
-        Reading::Minus(place, number) => {
-            let difference = field_number(row.value_at(*place)) - *number;
-            Ok(Value::Int(difference))
-        }
+        Reading::Plus(..) | Reading::Minus(..) => Ok(Value::Int(number_read(row, reading))),
     }
 }
 
@@ -252,6 +259,18 @@ fn filled<const D: usize>(
         Fill::Kept(place) => row.value_at(place).try_clone(alloc),
         Fill::Set(at) if at < readings.len() => read(alloc, row, &readings[at]),
         Fill::Set(_) => Ok(Value::Null),
+    }
+}
+
+/// The number of the new value of a column; 0 where that is none.
+fn number_filled<const D: usize>(row: &RowView<'_, D>, readings: &[Reading], fill: Fill) -> i64
+    requires { list_all (reading_fits (values_of (view_row row.now))) readings.now ≡ true }
+    ensures { result ≡ number_in (filled readings.now (values_of (view_row row.now)) fill) }
+{
+    match fill {
+        Fill::Kept(place) => field_number(row.value_at(place)),
+        Fill::Set(at) if at < readings.len() => number_read(row, &readings[at]),
+        Fill::Set(_) => 0,
     }
 }
 
@@ -331,6 +350,23 @@ fn all_filled<const D: usize>(
     Ok(values)
 }
 
+/// The numbers of the new values of some columns.
+fn numbers_filled<const D: usize>(
+    row: &RowView<'_, D>,
+    readings: &[Reading],
+    fills: &[Fill],
+) -> ArrayVec<i64, MOST_COORDINATES>
+    requires few { length fills.now ≤ 6 }
+    requires fit { list_all (reading_fits (values_of (view_row row.now))) readings.now ≡ true }
+    ensures { result.items ≡ map (λ fill. number_in (filled readings.now (values_of (view_row row.now)) fill)) fills.now }
+{
+    let mut numbers = ArrayVec::new();
+    for fill in fills {
+        numbers.push(number_filled(row, readings, *fill));
+    }
+    numbers
+}
+
 /// What a row becomes.
 fn candidate<const D: usize>(
     alloc: Global,
@@ -352,7 +388,11 @@ fn candidate<const D: usize>(
     if !do_sums_fit(row, readings) {
         return Err(Refusal::IntegerOutOfRange);
     }
-    Candidate::new(all_filled(alloc, row, readings, fills)?)
+    let (plain, auxiliary) = fills.split_at(1 + 2 * D);
+    let id = number_filled(row, readings, plain[0]);
+    let coordinates = numbers_filled(row, readings, &plain[1..]);
+    let auxiliary = all_filled(alloc, row, readings, auxiliary)?;
+    Candidate::from_numbers(Some(id), coordinates.as_slice(), Items::from_vec(auxiliary))
 }
 
 /// What an UPDATE sets, with its columns looked up once, so that no name is compared for a row.
