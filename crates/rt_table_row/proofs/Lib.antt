@@ -7,3 +7,4 @@ pub mod Windows
 pub mod RowLists
 pub mod Names
 pub mod Same
+pub mod Filling

@@ -76,7 +76,7 @@ apart [] name k d h e = absurd (omega arith)
 apart (x ∷ xs) name zero d h e = (neither (same_name name x) (has_name xs name) e).0
 apart (x ∷ xs) name (suc k) d h e = apart xs name k d (omega arith) (neither (same_name name x) (has_name xs name) e).1
 
-steps_to : (names : List (List ℕ)) (k : ℕ) (d : List ℕ) → are_distinct names ≡ true → k < length names → position_or_len (same_name (get_or names k d)) names ≡ k
+pub steps_to : (names : List (List ℕ)) (k : ℕ) (d : List ℕ) → are_distinct names ≡ true → k < length names → position_or_len (same_name (get_or names k d)) names ≡ k
 steps_to [] k d e h = absurd (omega arith)
 steps_to (x ∷ xs) zero d e h = rw (same_laws.refl x) refl
 steps_to (x ∷ xs) (suc k) d e h =

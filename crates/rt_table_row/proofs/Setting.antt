@@ -230,7 +230,7 @@ news_there names values sets readings (name ∷ some) e h =
     rw (new_there names values sets readings name e (head (has_name names name) (list_all (has_name names) some) h), news_there names values sets readings some e (tail (has_name names name) (list_all (has_name names) some) h))
 
 -- each column has its own name
-name_itself : (name : List ℕ) → same_name name name ≡ true
+pub name_itself : (name : List ℕ) → same_name name name ≡ true
 name_itself name = (bytes_eq-Decides (str_to_ascii_lowercase name) (str_to_ascii_lowercase name)).1 refl
 
 true_later : (a b : Bool) → b ≡ true → (a || b) ≡ true

@@ -3,13 +3,12 @@
 //! A `Reading` is what one set gives, and a `Fill` says where a column's new value comes from. Each refusal is
 //! looked for over all columns before the next (`update_row` in `specs/Edits.antt`; `specs/Settings.antt`).
 
-ghost use Rattle.std.specs.Prelude.{◌≡◌, ◌⊎◌, ◌≤◌, ◌+◌, ◌*◌, true, false, length, map, position, IfOk, MatchResult};
+ghost use Rattle.std.specs.Prelude.{◌≡◌, ◌⊎◌, ◌≤◌, ◌+◌, ◌*◌, [], true, false, length, map, IfOk, MatchOption, MatchResult};
 ghost use Rattle.std.specs.List.{list_all, list_any};
 ghost use Rattle.rt_sql_statement.specs.declared.value.Value.TheVariants.{Null};
 ghost use Rattle.rt_table_row.specs.Rows.{values_of};
 ghost use Rattle.rt_table_row.specs.Entries.{view_row, field_value, candidate_as};
 ghost use Rattle.rt_table_row.specs.Candidates.{is_integer, number_in, id_value, coordinate_values};
-ghost use Rattle.std.specs.Option.{option_map_or};
 ghost use Rattle.rt_table_row.specs.Columns.{are_distinct, has_name};
 ghost use Rattle.rt_table_row.specs.Settings.{read, reads_integer, reading_fits, filled, candidate_set, set_names, reading_of, AreReadings, fill_of, reads_columns};
 ghost use Rattle.rt_sql_statement.specs.Name.{same_name};
@@ -17,7 +16,7 @@ ghost use Rattle.rt_table_row.specs.Answers.{GivesAs};
 
 use crate::candidate::{Candidate, MOST_COORDINATES, is_integer, number_in};
 use crate::entry::{Field, RowView};
-use crate::schema::{FEW_NAMES, Schema, are_listed_once, has_name, place_of};
+use crate::schema::{FEW_NAMES, Schema, are_listed_once, place_of};
 use arrayvec::ArrayVec;
 use rt_sql_statement::{Items, Name, Refusal, Source, Value};
 use std::alloc::{AllocError, Global};
@@ -39,13 +38,6 @@ enum Fill {
     Kept(usize),
     /// What the set at that place gives.
     Set(usize),
-}
-
-/// The place of the first set of that column.
-fn set_of(sets: &[(Name, Source)], name: &Name) -> Option<usize>
-    ensures { result ≡ position (λ set. same_name name.now set.0) sets.now }
-{
-    sets.iter().position(|set| name.is_same(&set.0))
 }
 
 /// The columns that are set, in their order.
@@ -98,13 +90,6 @@ fn are_set_once(alloc: Global, sets: &[(Name, Source)]) -> Result<bool, AllocErr
     are_listed_once(alloc, names.as_slice())
 }
 
-/// Whether each set is of a column of the table.
-fn are_of_columns(columns: &[Name], sets: &[(Name, Source)]) -> bool
-    ensures { result ≡ list_all (λ set. has_name columns.now set.0) sets.now }
-{
-    sets.iter().all(|set| has_name(columns, &set.0))
-}
-
 /// What a set gives; none where it reads no column of the table.
 fn reading_of(
     alloc: Global,
@@ -142,30 +127,37 @@ fn readings_of(
     Ok(readings)
 }
 
-/// What the column at that place holds afterwards.
-fn fill_of(sets: &[(Name, Source)], name: &Name, place: usize) -> Fill
-    ensures { result ≡ option_map_or (λ at. Fill.Set at) (position (λ set. same_name name.now set.0) sets.now) (Fill.Kept place) }
+/// What each column holds where none is set: what it held. No two have one name, so a column's own place is that of its name.
+fn all_kept(alloc: Global, columns: &[Name]) -> Result<Vec<Fill>, AllocError>
+    requires { are_distinct columns.now ≡ true }
+    ensures { IfOk result (λ fills. fills.items ≡ map (fill_of columns.now []) columns.now) }
 {
-    match set_of(sets, name) {
-        Some(at) => Fill::Set(at),
-        None => Fill::Kept(place),
+    let mut fills = Vec::with_capacity(alloc, columns.len())?;
+    for place in 0..columns.len() {
+        fills.push(Fill::Kept(place))?;
     }
+    Ok(fills)
 }
 
-/// What each column holds afterwards. No two have one name, so a column's own place is that of its name.
+/// What each column holds afterwards; none where a set is of no column. Each column that is set is looked up once.
 fn fills_of(
     alloc: Global,
     columns: &[Name],
     sets: &[(Name, Source)],
-) -> Result<Vec<Fill>, AllocError>
-    requires { are_distinct columns.now ≡ true }
-    ensures { IfOk result (λ fills. fills.items ≡ map (fill_of columns.now sets.now) columns.now) }
+) -> Result<Option<Vec<Fill>>, AllocError>
+    requires columns { are_distinct columns.now ≡ true }
+    requires sets { are_distinct (set_names sets.now) ≡ true }
+    ensures { IfOk result (λ found. MatchOption found (list_all (has_name columns.now) (set_names sets.now) ≡ false)
+        (λ fills. (list_all (has_name columns.now) (set_names sets.now) ≡ true) × (fills.items ≡ map (fill_of columns.now sets.now) columns.now))) }
 {
-    let mut fills = Vec::with_capacity(alloc, columns.len())?;
-    for place in 0..columns.len() {
-        fills.push(fill_of(sets, &columns[place], place))?;
+    let mut fills = all_kept(alloc, columns)?;
+    for at in 0..sets.len() {
+        let Some(place) = place_of(columns, &sets[at].0) else {
+            return Ok(None);
+        };
+        fills[place] = Fill::Set(at);
     }
-    Ok(fills)
+    Ok(Some(fills))
 }
 
 fn is_field_integer(field: Field<'_>) -> bool
@@ -425,13 +417,12 @@ impl Settings {
         if !are_set_once(alloc, sets)? {
             return Err(Refusal::BadColumnList);
         }
-        if !are_of_columns(schema.names(), sets) {
-            return Err(Refusal::NoSuchColumn);
-        }
         // No two columns have one name.
         schema.facts();
+        let Some(fills) = fills_of(alloc, schema.names(), sets)? else {
+            return Err(Refusal::NoSuchColumn);
+        };
         let readings = readings_of(alloc, schema.names(), sets)?;
-        let fills = fills_of(alloc, schema.names(), sets)?;
         Ok(Settings { readings, fills })
     }
 
