@@ -1,6 +1,6 @@
 -- A plan grows by one step: the ids that have rows, and the steps that are left.
-use Rattle.std.proofs.Common.{◌≡◌, if◌then◌else◌, ◌&&◌, ◌<ℤ◌, filter, ℕ, ◌+◌, ◌<◌, ℤ, Bool, true, false, cond, not, List, [], ◌∷◌, ◌++◌, append_assoc, append-nil, map, length, get_or, drop, Option, Some, None, Result, Ok, Err, ◌⊎◌, inl, inr, ⊎_elim, refl, sym, ap, subst, ◌∙◌}
-use Rattle.std.specs.List.{list_all, filter_map, AllByRecursion}
+use Rattle.std.proofs.Common.{◌≡◌, if◌then◌else◌, ◌&&◌, filter, ℕ, ◌+◌, ◌<◌, ℤ, Bool, true, false, cond, not, List, [], ◌∷◌, ◌++◌, append_assoc, append-nil, map, length, get_or, drop, Option, Some, None, Result, Ok, Err, ◌⊎◌, inl, inr, ⊎_elim, refl, sym, ap, subst, ◌∙◌}
+use Rattle.std.specs.List.{list_all, filter_map}
 use Rattle.std.specs.Option.{is_some, option_map_or}
 use Rattle.std.specs.Ordering.{int_eq}
 use Rattle.std.proofs.lemmas.List.{at_drop_more}
@@ -16,9 +16,9 @@ use Rattle.rt_table_row.specs.Rows.{TableRow, AreRising, values_of, row_at, has_
 use Rattle.rt_table_row.specs.Candidates.{Candidate, is_integer, id_value, coordinate_values, candidate_of}
 use Rattle.rt_table_row.specs.Edits.{Setting, Step, Steps, new_values, is_summable, sum_fits, become_candidate, update_row, update_all, update, Leaves, Comes, Becomes, after_step, outcome, and_then, steps_and}
 use Rattle.rt_table_row.specs.Settings.{LookedUp, reads_integer, reading_fits, IsSettingsOf}
-use Rattle.rt_table_store.proofs.Order.{eq_same, eq_above, eq_from}
+use Rattle.rt_table_store.proofs.Order.{eq_same, eq_from}
 use Rattle.rt_table_store.specs.Trees.{leaf_row}
-use Rattle.rt_table_store.proofs.Sorted.{Rises, rises, at_key-taken, at_key-placed}
+use Rattle.rt_table_store.proofs.Sorted.{at_key-taken, at_key-placed}
 use Rattle.rt_table_store.proofs.Standing.{found_up}
 use Rattle.rt_table_plan.specs.Drafts.{Knows, touched_by, row_of, row_set, all_set}
 use Rattle.rt_table_plan.specs.Plans.{Plans}

@@ -1,6 +1,6 @@
 -- Which ids have rows.
-use Rattle.std.proofs.Common.{◌≡◌, ℤ, Bool, true, false, cond, ◌||◌, List, [], ◌∷◌, map, filter, Option, Some, None, Ok, refl}
-use Rattle.std.specs.Option.{is_some, option_map}
+use Rattle.std.proofs.Common.{◌≡◌, ◌∙◌, ℕ, ℤ, MatchOption, Bool, true, false, cond, ◌||◌, List, [], ◌∷◌, map, filter, Option, Some, None, Ok, refl}
+use Rattle.std.specs.Option.{is_some, option_map, option_to_list}
 use Rattle.std.specs.Ordering.{int_eq}
 use Rattle.rt_sql_statement.specs.declared.statement.Test.{Test}
 use Rattle.rt_table_row.specs.Columns.{Columns}
@@ -8,6 +8,8 @@ use Rattle.rt_table_row.specs.Conditions.{holds}
 use Rattle.rt_table_row.specs.Filters.{Placed, admits, IsFilterOf}
 use Rattle.rt_table_row.specs.Rows.{TableRow, row_at, has_id}
 use Rattle.rt_table_row.specs.Edits.{Step, Leaves, delete}
+use Rattle.rt_tree_walk.specs.declared.searching.Row.{Row}
+use Rattle.rt_table_store.specs.Trees.{leaf_row}
 use Rattle.rt_table_plan.specs.Drafts.{is_there}
 
 has_step : (b : Bool) (x : TableRow) (h : Bool) (o : Option TableRow) → h ≡ is_some o → (b || h) ≡ is_some (cond b (Some x) o)
@@ -30,13 +32,18 @@ pub filter_same : {X : Type 0} (p q : X → Bool) (xs : List X) → ((x : X) →
 filter_same p q [] same = refl
 filter_same p q (x ∷ xs) same = rw (same x, filter_same p q xs same)
 
--- the ids of rows, each in a step of its own
-pub map_ids : (f : ℤ → Step) (rows : List TableRow) → map f (map (λ (r : TableRow). r.id) rows) ≡ map (λ (r : TableRow). f r.id) rows
-map_ids f [] = refl
-map_ids f (r ∷ rows) = rw (map_ids f rows)
+-- rows of a tree, each in a step of its own
+leaving_rows : (D : ℕ) (rows : List TableRow) → map (λ (row : Row D). Leaves row.id) (map leaf_row rows) ≡ map (λ (r : TableRow). Leaves r.id) rows
+leaving_rows D [] = refl
+leaving_rows D (r ∷ rows) = rw (leaving_rows D rows)
 
 -- the steps of a DELETE, by the filter that its condition made
-pub deletes : (columns : Columns) (rows : List TableRow) (cond : List Test) (filter_ : Placed) (ids : List ℤ) (steps : List Step) → IsFilterOf columns cond filter_ →
-    ids ≡ map (λ (r : TableRow). r.id) (filter (admits filter_) rows) → steps ≡ map (λ (id : ℤ). Leaves id) ids → delete columns rows cond ≡ Ok steps
-deletes columns rows cond filter_ ids steps is ids_are steps_are =
-    rw (is.known, steps_are, ids_are, map_ids, filter_same (admits filter_) (holds columns cond) rows is.same)
+pub deletes : (D : ℕ) (columns : Columns) (rows : List TableRow) (cond : List Test) (filter_ : Placed) (steps : List Step) → IsFilterOf columns cond filter_ →
+    steps ≡ map (λ (row : Row D). Leaves row.id) (map leaf_row (filter (admits filter_) rows)) → delete columns rows cond ≡ Ok steps
+deletes D columns rows cond filter_ steps is steps_are =
+    rw (is.known, steps_are, leaving_rows D, filter_same (admits filter_) (holds columns cond) rows is.same)
+
+-- a row that may be there, as a slice and as a list
+pub slice_is : {X : Type 0} (o : Option X) (slice rows : List X) → MatchOption o (slice ≡ []) (λ x. slice ≡ x ∷ []) → option_to_list o ≡ rows → slice ≡ rows
+slice_is None slice rows none same = none ∙ same
+slice_is (Some x) slice rows one same = one ∙ same

@@ -3,13 +3,15 @@
 //! The rows are picked at the start, and then change one after the other. So an id is taken while a row has it,
 //! even if that row gets another id later.
 
-ghost use Rattle.std.specs.Prelude.{◌≡◌, ◌≤◌, ◌+◌, ◌*◌, All, length, map, List};
+ghost use Rattle.std.specs.Prelude.{◌≡◌, ◌≤◌, ◌+◌, ◌*◌, All, length, map, filter, List};
 ghost use Rattle.std.specs.List.{filter_map};
 ghost use Rattle.rt_table_row.specs.Answers.{GivesAs};
 ghost use Rattle.rt_table_row.specs.Rows.{TableRow};
 ghost use Rattle.rt_table_row.specs.Edits.{become_candidate, update};
 ghost use Rattle.rt_table_row.specs.Entries.{view_row, step_of, candidate_as};
+ghost use Rattle.rt_table_row.specs.Filters.{admits};
 ghost use Rattle.rt_table_store.specs.Picking.{Stands};
+ghost use Rattle.rt_table_store.specs.Trees.{leaf_row};
 ghost use Rattle.rt_table_plan.specs.Drafts.{Knows, known_of, one_step, row_of, row_set, all_set};
 ghost use Rattle.rt_table_plan.specs.Plans.{Plans};
 
@@ -83,6 +85,30 @@ fn all_steps<const D: usize>(
     Ok(draft.steps)
 }
 
+/// The steps of the rows of which the condition holds. Where it fixes an id, that is one row at most, and no list of rows
+/// is made.
+fn picked_steps<const D: usize>(
+    alloc: Global,
+    keys: RandomState,
+    store: &Store<D>,
+    settings: &Settings,
+    condition: &Filter,
+) -> Result<Vec<Step<D>>, Refusal>
+    requires some { 1 ≤ D }
+    requires few { D ≤ 3 }
+    requires long { 1 + 2 * D ≤ length settings.now.fills }
+    ensures { GivesAs (λ steps. map step_of steps.items) (all_set D settings.now store.now.rows (filter_map (row_of {D = D} store.now.rows) (map leaf_row (filter (admits condition.now) store.now.rows)))) result }
+{
+    // The rows rise by id.
+    store.facts();
+    if let Some(id) = condition.id() {
+        let row = store.passing_row(condition, &id);
+        return all_steps(alloc, keys, store, settings, row.as_slice());
+    }
+    let rows = store.picked_rows(alloc, condition)?;
+    all_steps(alloc, keys, store, settings, rows.as_slice())
+}
+
 /// The plan of an UPDATE: the rows of which the condition holds at its start, by rising id, each among the rows as
 /// those before it left them.
 pub(crate) fn plan_update<const D: usize>(
@@ -100,7 +126,6 @@ pub(crate) fn plan_update<const D: usize>(
     store.facts();
     schema.facts();
     let settings = Settings::new(alloc, schema, sets)?;
-    let filter = Filter::new(alloc, schema, cond)?;
-    let rows = store.picked_rows(alloc, &filter)?;
-    Ok(Plan::of(all_steps(alloc, keys, store, &settings, rows.as_slice())?))
+    let condition = Filter::new(alloc, schema, cond)?;
+    Ok(Plan::of(picked_steps(alloc, keys, store, &settings, &condition)?))
 }

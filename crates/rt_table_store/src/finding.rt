@@ -130,8 +130,8 @@ impl<const D: usize> Store<D> {
         Ok(Selected { rows, visited })
     }
 
-    /// The row of an id that the condition fixes, where the condition holds of it.
-    fn passing_row(&self, condition: &Filter, id: &i64) -> Option<Row<D>>
+    /// The row of an id that the condition fixes, where the condition holds of it: no other row passes. It takes no memory.
+    pub fn passing_row(&self, condition: &Filter, id: &i64) -> Option<Row<D>>
         requires { (row : TableRow) → admits condition.now row ≡ true → row.id ≡ id.now }
         ensures { option_to_list result ≡ map leaf_row (filter (admits condition.now) self.now.rows) }
     {

@@ -1,7 +1,8 @@
-use Rattle.std.proofs.Common.{◌≡◌, ℤ, map, take}
+use Rattle.std.proofs.Common.{◌≡◌, map, take}
 use Rattle.rt_table_row.specs.Edits.{Leaves}
 use Rattle.rt_table_row.specs.Entries.{step_of}
+use Rattle.rt_tree_walk.specs.declared.searching.Row.{Row}
 use Rattle.rt_table_plan.proofs.delete.leaving.Given as goal
 
-abbrev pub invariant-loop-id : goal.invariant-loop-id
-invariant-loop-id g l = map step_of l.steps.items ≡ map (λ (id : ℤ). Leaves id) (take l.id-index l.ids)
+abbrev pub invariant-loop-row : goal.invariant-loop-row
+invariant-loop-row g l = map step_of l.steps.items ≡ map (λ (row : Row g.row.D). Leaves row.id) (take l.row-index l.rows)

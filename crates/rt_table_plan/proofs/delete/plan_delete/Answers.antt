@@ -1,9 +1,8 @@
-use Rattle.std.proofs.Common.{ℤ, map, ap, ◌∙◌}
-use Rattle.rt_table_row.specs.Edits.{Leaves}
+use Rattle.std.proofs.Common.{◌∙◌}
 use Rattle.rt_table_plan.proofs.Ids.{deletes}
 use Rattle.rt_table_plan.proofs.delete.plan_delete.Goals as goal
 
 pub returns : goal.returns
 returns g c =
-    deletes c.args.schema.now c.args.store.now.rows c.args.cond c.in_ok-filter.filter c.in_ok-ids.ids.items c.of.result c.in_ok-filter.ensures c.in_ok-ids.ensures
-    (c.of.ensures ∙ c.in_ok-leaving.ensures ∙ ap (map (λ (id : ℤ). Leaves id)) c.as_slice.ensures.value)
+    deletes g.row.D c.args.schema.now c.args.store.now.rows c.args.cond c.in_ok-condition.condition c.of.result c.in_ok-condition.ensures
+    (c.of.ensures ∙ c.in_ok-picked_leaving.ensures)
