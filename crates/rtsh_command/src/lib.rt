@@ -1,9 +1,10 @@
 //! The command line of `rtsh`.
 //!
-//! `read` says what its words ask for, as an `Asked`. Where they ask for help, or for nothing that there is, it prints
-//! that, and an `Unasked` says how it went. `clap` parses the words.
+//! `read` returns what its words ask for, as an `Asked`. If they ask for help, or are wrong, it prints the help or what is
+//! wrong, and returns an `Unasked`. `clap` parses the words.
 //!
-//! Stands on `rt_box`. It is proved safe and to end, no more.
+//! Stands on `rt_box` alone, so that it is proved beside the tree. So it has a type of its own for what is drawn, of which
+//! `rtsh` makes that of `rt_check_draw`. It is proved safe and to end, no more.
 #![tactic(auto)]
 
 use clap::error::ErrorKind;
@@ -23,7 +24,7 @@ pub enum Asked<'a> {
     Draw(Drawing, Option<&'a str>),
 }
 
-/// Why a command line asks for nothing that is to be done.
+/// Why nothing is to be done for a command line.
 #[derive(Clone, Copy, Debug)]
 pub enum Unasked {
     /// It asked for help or the version, which is printed.
@@ -121,11 +122,12 @@ const STATUS_HELP: &str = "Exit status:
   2  the command line was refused
   3  a file couldn't be opened, a read or a write failed, or memory ran out";
 
-/// What the words of a command line ask for. Help that they ask for is printed, and so is what is wrong with them.
+/// What the words of a command line ask for. Prints the help that they ask for, or what is wrong with them.
 ///
 /// # Errors
 ///
-/// An `Unasked` where nothing is to be done.
+/// `Helped` where help or the version is printed, `Refused` where what is wrong is printed, `Write` where the help
+/// couldn't be printed, and `OutOfMemory`.
 pub fn read<'a>(rt: &HostRuntime, words: &'a [String]) -> Result<Asked<'a>, Unasked> {
     let parsed = program(rt.alloc())?.try_get_matches_from(words);
     let matches = match parsed {
