@@ -1,10 +1,11 @@
 -- A row that left its leaf.
 use Rattle.std.proofs.Common.{◌≡◌, ◌≢◌, ℕ, zero, suc, ◌+◌, ◌<◌, ◌≤◌, Bool, true, false, cond, ℤ, pos, List, [], ◌∷◌, length, get_or, Option, Some, None, count_by, arith, refl, ap, sym, subst, ◌∙◌, inl, inr}
+use Rattle.std.specs.Prelude.{slice_get}
 use Rattle.std.specs.List.{All, remove}
 use Rattle.std.specs.Ordering.{int_eq}
 use Rattle.std.proofs.lemmas.Bool.{cases_eq, cases_lt, false_from_ne_true}
 use Rattle.std.proofs.lemmas.Bool.Decides.{Decides-int_eq}
-use Rattle.std.proofs.lemmas.Option.{same_Some, none-some, slice_get-get_or}
+use Rattle.std.proofs.lemmas.Option.{same_Some, none-some, slice_get_within, get_or_from_slice_get}
 use Rattle.std.proofs.lemmas.List.{get_or_read}
 use Rattle.std.proofs.lemmas.List.Edits.{length-remove}
 use Rattle.std.proofs.lemmas.List.Elements.{All-nil}
@@ -75,9 +76,18 @@ module _ {D : ℕ} (t : Arena D) (id : ℤ) (leaf : ℕ) (whole : IsWhole t) (id
       let once = row-listed in
       (fitted.boxes leaf 0 c (listed-some id (cells_at t.nodes leaf) (omega arith))).few
 
-  module _ (b : Slab (NodeCells D)) (at : ℕ) (n : NodeCells D) (c : Cell D) (has : get t.nodes leaf ≡ Some n)
-      (within : at < length (cells_at t.nodes leaf)) (c_is : (d : Cell D) → get_or (cells_at t.nodes leaf) at d ≡ c) (c_id : c.number ≡ id)
+  module _ (b : Slab (NodeCells D)) (at : ℕ) (n : NodeCells D) (rect : List Interval) (has : get t.nodes leaf ≡ Some n)
+      (was : slice_get (cells_at t.nodes leaf) at ≡ Some record { number = id; rect = rect })
       (puts : Puts t.nodes b leaf (record n { cells = remove n.cells at })) where
+    abbrev row : Cell D
+    row = record { number = id; rect = rect }
+
+    within : at < length (cells_at t.nodes leaf)
+    within = slice_get_within (cells_at t.nodes leaf) at row was
+
+    row-is : (d : Cell D) → get_or (cells_at t.nodes leaf) at d ≡ row
+    row-is d = get_or_from_slice_get (cells_at t.nodes leaf) at row d was
+
     levels : (k : ℕ) → level_at b k ≡ level_at t.nodes k
     levels = changed-levels t.nodes b leaf n (remove n.cells at) has puts
 
@@ -144,10 +154,10 @@ module _ {D : ℕ} (t : Arena D) (id : ℤ) (leaf : ℕ) (whole : IsWhole t) (id
     leaf-removed = leaf-at_leaf b leaf (levels leaf ∙ leaf-level) ∙ shorter
 
     -- one row less passes where the row passed
-    pub removed-count : (test : Cell D → Bool) → count_by test (leaf_cells_at b leaf) + cond (test c) 1 0 ≡ count_by test (leaf_cells_at t.nodes leaf)
+    pub removed-count : (test : Cell D → Bool) → count_by test (leaf_cells_at b leaf) + cond (test row) 1 0 ≡ count_by test (leaf_cells_at t.nodes leaf)
     removed-count test =
-        let step = sum_by-remove (λ x. cond (test x) 1 0) (cells_at t.nodes leaf) at c within in
-        let it : ◌≡◌ {A = ℕ} (cond (test (get_or (cells_at t.nodes leaf) at c)) 1 0) (cond (test c) 1 0) = ap (λ x. cond (test x) 1 0) (c_is c) in
+        let step = sum_by-remove (λ x. cond (test x) 1 0) (cells_at t.nodes leaf) at row within in
+        let it : ◌≡◌ {A = ℕ} (cond (test (get_or (cells_at t.nodes leaf) at row)) 1 0) (cond (test row) 1 0) = ap (λ x. cond (test x) 1 0) (row-is row) in
         let p = ap (count_by test) leaf-removed in
         let q = ap (count_by test) leaf-cells in
         omega arith
@@ -155,21 +165,21 @@ module _ {D : ℕ} (t : Arena D) (id : ℤ) (leaf : ℕ) (whole : IsWhole t) (id
     listed-own : times_listed id (leaf_cells_at b leaf) ≡ 0
     listed-own =
         let step = removed-count (has_id id) in
-        let one : ◌≡◌ {A = ℕ} (cond (has_id id c) 1 0) 1 = ap (λ b. cond b 1 0) ((Decides-int_eq id c.number).1 (sym c_id)) in
+        let one : ◌≡◌ {A = ℕ} (cond (has_id id row) 1 0) 1 = ap (λ b. cond b 1 0) ((Decides-int_eq id id).1 refl) in
         let once = listed-once in omega arith
 
     listed-other : (other : ℤ) → other ≢ id → (k : ℕ) → times_listed other (leaf_cells_at b k) ≡ times_listed other (leaf_cells_at t.nodes k)
     listed-other other differs k = elim (cases_eq k leaf) [
       | inl e ↦
           let step = removed-count (has_id other) in
-          let none : ◌≡◌ {A = ℕ} (cond (has_id other c) 1 0) 0 = not-it (int_eq other c.number) refl in
+          let none : ◌≡◌ {A = ℕ} (cond (has_id other row) 1 0) 0 = not-it (int_eq other id) refl in
           let p = ap (λ y. times_listed other (leaf_cells_at b y)) e in
           let q = ap (λ y. times_listed other (leaf_cells_at t.nodes y)) e in omega arith
       | inr away ↦ ap (times_listed other) (leaf-same t.nodes b k (levels k) (others k away))
     ]
       where
-        not-it : (v : Bool) → int_eq other c.number ≡ v → ◌≡◌ {A = ℕ} (cond (int_eq other c.number) 1 0) 0
-        not-it true e = absurd (differs ((Decides-int_eq other c.number).0 e ∙ c_id))
+        not-it : (v : Bool) → int_eq other id ≡ v → ◌≡◌ {A = ℕ} (cond (int_eq other id) 1 0) 0
+        not-it true e = absurd (differs ((Decides-int_eq other id).0 e))
         not-it false e = ap (λ v. cond v 1 0) e
 
     taken-homes : (g : ℤ → Option ℕ) → g id ≡ None → ((other : ℤ) → other ≢ id → g other ≡ leaf_of int_eq t.leaves other) → HasHomes g b t.waiting.items
@@ -196,7 +206,7 @@ module _ {D : ℕ} (t : Arena D) (id : ℤ) (leaf : ℕ) (whole : IsWhole t) (id
       waiting = λ other some. let none = none-listed other in absurd (omega arith);
     }
 
-    taken-rows : (test : Cell D → Bool) → count_rows test b t.waiting.items + cond (test c) 1 0 ≡ count_rows test t.nodes t.waiting.items
+    taken-rows : (test : Cell D → Bool) → count_rows test b t.waiting.items + cond (test row) 1 0 ≡ count_rows test t.nodes t.waiting.items
     taken-rows test =
         let F : Option (NodeCells D) → ℕ = λ place. count_by test (leaf_cells_of place) in
         let sums = sums-but F refl t.nodes.slots b.slots leaf (λ k ne. ap (count_by test) (leaf-same t.nodes b k (levels k) (others k ne))) in
@@ -225,17 +235,17 @@ module _ {D : ℕ} (t : Arena D) (id : ℤ) (leaf : ℕ) (whole : IsWhole t) (id
               let two = branched (omega arith) in omega arith;
         }
 
-    pub takes : IsBranched t → (u : Arena D) → Forgets t.leaves u.leaves id → (rect : List Interval) → c ≡ record { number = id; rect = rect } →
+    pub takes : IsBranched t → (u : Arena D) → Forgets t.leaves u.leaves id →
         Changes (λ m. record m { cells = remove m.cells at }) t.nodes b leaf →
         Takes t (record t { nodes = b; leaves = u.leaves }) id leaf at rect
-    takes branched u forgets rect cell change = record {
+    takes branched u forgets change = record {
       but = taken-but branched u forgets.gone forgets.others;
       home = home;
       bottom = levels leaf ∙ leaf-level;
-      cell = slice_get-get_or (cells_at t.nodes leaf) at c within ∙ ap Some (c_is c ∙ cell);
+      cell = was;
       change = change;
       forgets = forgets;
-      rows = λ test. ap (λ x. count_rows test b t.waiting.items + cond (test x) 1 0) (sym cell) ∙ taken-rows test;
+      rows = taken-rows;
       waiting = refl;
       root = refl;
       level = refl;

@@ -18,6 +18,7 @@ use Rattle.rt_tree_node.specs.Homes.{KeepsIds}
 use Rattle.rt_tree_node.specs.Path.{KeepsShape}
 use Rattle.rt_tree_place.specs.Steps.{HasLeastBox}
 use Rattle.rt_tree_insert.specs.Settling.{PlacesInTurn}
+use Rattle.rt_tree_remove.specs.declared.location.Location.{Location}
 use Rattle.rt_tree_remove.specs.Above.{way_up}
 
 -- the box touches no side of the other one, in which it lies
@@ -136,6 +137,13 @@ module _ {D : ℕ} where
     pub capacity : new.capacity ≡ old.capacity
     pub room : new.nodes.capacity ≡ old.nodes.capacity
     pub still : IsBranched old → new ≡ old
+
+  -- where the row with the id lies: the map has the id at the index and leads it to the leaf, and there the cell at the
+  -- position has it and the box
+  pub record IsLocationOf (t : Arena D) (id : ℤ) (location : Location D) : Type 0 where
+    pub entry : slice_get t.leaves.entries location.index ≡ Some (id, location.leaf)
+    pub home : leaf_of int_eq t.leaves id ≡ Some location.leaf
+    pub cell : slice_get (cells_at t.nodes location.leaf) location.at ≡ Some record { number = id; rect = location.rect }
 
   -- the row with the id left its leaf, and its id the map of leaves
   pub record Takes (old new : Arena D) (id : ℤ) (leaf at : ℕ) (rect : List Interval) : Type 0 where

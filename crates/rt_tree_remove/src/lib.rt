@@ -3,6 +3,8 @@
 //!
 //! - `remove_row`: exactly one row fewer in a whole tree, which is whole again; its box is answered. Where the
 //!   row's leaf was the root or had cells to spare, no other row moves.
+//! - `find_row` says where a row lies, as a `Location`; `remove_found` removes the row from there, without looking its id
+//!   up again.
 //!
 //! Stands on `rt_tree_insert`, `rt_tree_place` and `rt_tree_node`. Definitions: `specs/Removal.antt` (what it comes to),
 //! `Steps.antt`, `Above.antt`.
@@ -12,8 +14,10 @@ mod climb;
 mod condense;
 mod find;
 mod give_way;
+mod location;
 mod remove;
 mod settle;
 mod take;
 
-pub use remove::remove_row;
+pub use location::{Location, find_row};
+pub use remove::{remove_found, remove_row};

@@ -1,60 +1,8 @@
-use Rattle.std.proofs.Common.{◌≡◌, ◌+◌, ◌-◌, ◌*◌, ◌^◌, ◌≤◌, Some, vec_len, vec_capacity, arith, rules, ap, ◌∙◌}
-use Rattle.rt_box.specs.Capacity.{least_fill}
-use Rattle.rt_tree_node.specs.declared.arena.Arena.{Arena}
-use Rattle.rt_tree_node.specs.Places.{level_at}
-use Rattle.rt_tree_node.specs.Whole.{IsWhole, HasRoom, row_count}
-use Rattle.rt_tree_remove.specs.Steps.{IsSoundBut, HasLeastWhereInside}
-use Rattle.rt_tree_remove.proofs.Climbs.{node-there}
-use Rattle.rt_tree_remove.proofs.Removed.{removes, axes-known, whole-reversed, fewer-rows, ready-room, ready-waiting}
-use Rattle.rt_tree_remove.proofs.Inside.{inside-before}
-use Rattle.rt_tree_remove.proofs.Taken.{leaf-level}
+use Rattle.std.proofs.Common.{◌≤◌, rules}
+use Rattle.rt_tree_remove.proofs.Removed.{axes-known}
 use Rattle.rt_tree_remove.proofs.remove.remove_row.Goals as goal
 
-pub take_row-leaf-requires : goal.take_row-leaf-requires
-take_row-leaf-requires g c =
+pub find_row-location-requires : goal.find_row-location-requires
+find_row-location-requires g c =
     let few : g.row.D ≤ 3 = axes-known c.args.tree.now c.args.id.now c.requires.whole c.requires.idle c.requires.known in
     search rules
-
-pub condense-requires : goal.condense-requires
-condense-requires g c =
-    let s0 = c.args.tree.now in
-    let s1 = c.take_row-leaf.new.tree in
-    let leaf = c.take_row-leaf.result.leaf in
-    let takes = c.take_row-leaf.ensures.1 in
-    let few : g.row.D ≤ 3 = axes-known s0 c.args.id.now c.requires.whole c.requires.idle c.requires.known in
-    let there = node-there s0.nodes leaf 0 (leaf-level s0 c.args.id.now leaf c.requires.whole c.requires.idle takes.home) in
-    let but : IsSoundBut s1 leaf = takes.but in
-    let keys : s1.nodes.capacity ≤ 2 ^ 62 = omega (arith, (takes.change there.0 there.1).room, c.requires.room.keys) in
-    let bottom : level_at s1.nodes leaf ≡ Some 0 = takes.bottom in
-    let product : (least_fill s1.capacity - 1) * s1.level ≡ (least_fill s0.capacity - 1) * s0.level =
-    ap (λ m. (least_fill m - 1) * s1.level) takes.capacity ∙ ap (λ l. (least_fill s0.capacity - 1) * l) takes.level in
-    let room : (least_fill s1.capacity - 1) * s1.level ≤ vec_capacity s1.waiting = omega (arith, product, ap vec_capacity takes.waiting, c.requires.waiting_room) in
-    let inside : HasLeastWhereInside s1.nodes leaf c.take_row-leaf.result.rect =
-    inside-before s0 s1 c.args.id.now leaf c.take_row-leaf.ensures.0 c.take_row-leaf.result.rect there.0 there.1 c.requires.whole takes in
-    search rules
-
-pub place_waiting-requires : goal.place_waiting-requires
-place_waiting-requires g c =
-    let s0 = c.args.tree.now in
-    let s2 = c.condense.new.tree in
-    let s3 : Arena g.row.D = record s2 { waiting = c.turn_round.new.waiting } in
-    let taken = c.take_row-leaf.ensures in
-    let whole : IsWhole s3 = whole-reversed s2 s3 c.turn_round.ensures.items c.condense.ensures.whole in
-    let fewer = fewer-rows s0 c.take_row-leaf.new.tree s2 s3 c.args.id.now c.take_row-leaf.result.leaf taken.0 c.take_row-leaf.result.rect taken.1
-    c.condense.ensures c.turn_round.ensures.items c.turn_round.ensures.room in
-    let old = c.requires.rows in
-    let rows : row_count s3 ≤ 2 ^ 20 = omega arith in
-    let room : HasRoom s3 (row_count s3) = ready-room s0 c.take_row-leaf.new.tree s2 s3 c.args.id.now c.take_row-leaf.result.leaf taken.0
-    c.take_row-leaf.result.rect taken.1 c.condense.ensures c.turn_round.ensures.items c.turn_round.ensures.room c.requires.room in
-    let waiting_room : vec_len s3.waiting + 512 ≤ vec_capacity s3.waiting = ready-waiting s0 c.take_row-leaf.new.tree s2 s3 c.args.id.now
-    c.take_row-leaf.result.leaf taken.0 c.take_row-leaf.result.rect taken.1 c.condense.ensures c.turn_round.ensures.items c.turn_round.ensures.room
-    c.requires.waiting_room in
-    search rules
-
-pub returns : goal.returns
-returns g c =
-    let s2 = c.condense.new.tree in
-    removes c.args.tree.now c.take_row-leaf.new.tree s2 (record s2 { waiting = c.turn_round.new.waiting }) c.place_waiting.new.tree c.give_way.new.tree
-    c.args.id.now c.take_row-leaf.result.leaf c.take_row-leaf.ensures.0 c.take_row-leaf.result.rect c.requires.branched c.requires.idle
-    c.take_row-leaf.ensures.1 c.condense.ensures c.turn_round.ensures.items c.turn_round.ensures.room c.place_waiting.ensures.places
-    c.place_waiting.ensures.none_waits c.give_way.ensures

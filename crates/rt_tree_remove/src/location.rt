@@ -1,0 +1,43 @@
+//! Where a row lies.
+//!
+//! One look-up of its id finds it (`IsLocationOf` in `specs/Steps.antt`). A removal that begins there hashes no id.
+
+ghost use Rattle.std.specs.Prelude.{◌≡◌, [], IsSome};
+ghost use Rattle.std.specs.Ordering.{int_eq};
+ghost use Rattle.indexmap.specs.IndexMap.{get as leaf_of};
+ghost use Rattle.rt_tree_node.specs.Whole.{IsWhole};
+ghost use Rattle.rt_tree_remove.specs.Steps.{IsLocationOf};
+
+use rt_box::Rect;
+use rt_tree_node::{Arena, Key, node_at};
+
+/// Where a row lies, until the tree changes.
+#[derive(Clone, Copy)]
+pub struct Location<const D: usize> {
+    /// The index of its id in the map of leaves.
+    pub index: usize,
+    /// The key of its leaf.
+    pub leaf: Key,
+    /// The position of its cell in the leaf.
+    pub at: usize,
+    /// Its box.
+    pub rect: Rect<D>,
+}
+
+/// Finds the row with the id.
+pub fn find_row<const D: usize>(tree: &Arena<D>, id: &i64) -> Location<D>
+    requires whole { IsWhole tree.now }
+    requires idle { tree.now.waiting.items ≡ [] }
+    requires known { IsSome (leaf_of int_eq tree.now.leaves id.now) }
+    ensures { IsLocationOf tree.now id.now result }
+{
+    let (index, _, leaf) = tree.leaves.get_full(id).unwrap();
+    let node = node_at(&tree.nodes, *leaf);
+    let at = node.position(id);
+    Location {
+        index,
+        leaf: *leaf,
+        at,
+        rect: node.cell(at).rect,
+    }
+}
