@@ -95,7 +95,7 @@ module _ {D : ℕ} where
       inserted-exact = insertion t.arena u (settled t k) (record { whole = i.whole; none = i.none_waits }) id rect work i
 
     module _ (r : Removes t.arena u id rect) where
-      fewer-rows : row_count u + 1 ≡ row_count t.arena
+      pub fewer-rows : row_count u + 1 ≡ row_count t.arena
       fewer-rows = r.rows (λ c. true)
 
       pub removed-kept : IsKept {D = D} record { arena = u; spare = t.spare }

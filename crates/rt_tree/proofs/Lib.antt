@@ -8,6 +8,7 @@ pub mod Reached
 pub mod Fresh
 pub mod Lookup
 pub mod Changed
+pub mod Replaced
 pub mod Roomier
 pub mod Along
 pub mod Entries

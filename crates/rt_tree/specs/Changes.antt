@@ -1,5 +1,5 @@
--- What an insertion and a removal make of a tree, and what an insertion takes (Beckmann, Kriegel, Schneider, Seeger
--- 1990, section 4; Guttman 1984, section 3.3; the counts own).
+-- What an insertion, a removal and a replacement make of a tree, and what an insertion takes (Beckmann, Kriegel,
+-- Schneider, Seeger 1990, section 4; Guttman 1984, section 3.3; the counts and the replacement own).
 use Rattle.std.specs.Prelude.{◌≡◌, ◌↔◌, ◌⊎◌, ℕ, ◌+◌, ◌*◌, ◌≤◌, ◌<◌, ℤ, pos, List, [], ◌∷◌, ◌++◌, Some, map, length, slice_index_or}
 use Rattle.rt_box.specs.declared.interval.Interval.{Interval}
 use Rattle.rt_box.specs.Capacity.{least_fill, reinsertion_share}
@@ -16,7 +16,8 @@ use Rattle.rt_tree_insert.specs.Settling.{PlacesInTurn}
 use Rattle.rt_tree_remove.specs.Removal.{RemovesInSteps}
 use Rattle.rt_tree_walk.specs.Outside.{outside}
 use Rattle.rt_tree_walk.specs.InOrder.{cells_of_number}
-use Rattle.rt_tree.specs.Lists.{root_level}
+use Rattle.rt_tree.specs.Lists.{root_level, IsInShape}
+use Rattle.rt_tree.specs.Rows.{GainsRow, LosesRow}
 use Rattle.rt_tree.specs.Way.{boxes_in, cell_with, LeadsTo, JoinsLeaf, LeavesLeaf}
 
 module _ {D : ℕ} where
@@ -99,3 +100,15 @@ module _ {D : ℕ} where
     pub entry : entry_of old.rows id ≡ Some record { id = id; leaf = leaf }
     pub leaves : (leaf ≡ old.root) ⊎ (least_fill old.capacity < length (cells_of_number old.nodes leaf)) →
         (at : ℕ) × LeavesLeaf old new leaf at (cell_with id rect)
+
+  -- a row gets another box: it is taken out, and taken again with that box
+  pub record IsReplacement (old new : ShadowLists D) (id : ℤ) (rect : List Interval) : Type 0 where
+    pub was : List Interval
+    pub between : ShadowLists D
+    pub shape : IsInShape between
+    pub capacity : between.capacity ≡ old.capacity
+    pub loses : LosesRow old between id was
+    pub removal : IsRemoval old between id was
+    pub work : Work
+    pub gains : GainsRow between new id rect
+    pub insertion : IsInsertion between new id rect work

@@ -3,14 +3,14 @@
 //! Rows come and go without taking memory: `reserve` makes room for the nodes of any tree with so many rows.
 //! Between two calls no cell waits and no node is out of shape (`IsKept` in `specs/TreeInside.antt`).
 
-ghost use Rattle.std.specs.Prelude.{◌≡◌, ◌<◌, ◌≤◌, ◌+◌, ◌-◌, ◌*◌, ◌/◌, ◌^◌, ℤ, max, length, is_some, Some, None, IsSome, IfOk, OnOk, OnErr};
+ghost use Rattle.std.specs.Prelude.{◌≡◌, ◌≢◌, ◌<◌, ◌≤◌, ◌+◌, ◌-◌, ◌*◌, ◌/◌, ◌^◌, ℤ, max, length, is_some, Some, None, IsSome, IfOk, OnOk, OnErr};
 ghost use Rattle.std.specs.List.{list_any};
 ghost use Rattle.std.specs.Ordering.{int_eq};
 ghost use Rattle.rt_box.specs.Capacity.{least_fill};
 ghost use Rattle.rt_tree.specs.Lists.{root_level, empty_lists, IsInShape};
 ghost use Rattle.rt_tree.specs.Rows.{box_of, rows_of, GainsRow, LosesRow};
 ghost use Rattle.rt_tree.specs.Boxes.{HasBoxes};
-ghost use Rattle.rt_tree.specs.Changes.{IsInsertion, IsRemoval};
+ghost use Rattle.rt_tree.specs.Changes.{IsInsertion, IsRemoval, IsReplacement};
 ghost use Rattle.rt_tree.specs.Finding.{FindsIn, FindsInAfter, CountsIn};
 ghost use Rattle.rt_tree_walk.specs.Search.{StaysInFront};
 ghost use Rattle.rt_tree_nearest.specs.Nearest.{nearest_rows};
@@ -21,7 +21,7 @@ use rt_check::Shadow;
 use rt_tree_insert::{insert_row, levels_are_few, nodes_are_few};
 use rt_tree_nearest::nearest;
 use rt_tree_node::{Arena, Node, Work, add_node, leaves_facts, node_at};
-use rt_tree_remove::remove_row;
+use rt_tree_remove::{find_row, remove_found, remove_row};
 use rt_tree_walk::{Found, Row, count, search, search_into, shadow_of};
 use slab::Slab;
 use std::alloc::{AllocError, Global};
@@ -400,5 +400,28 @@ impl<const D: usize> Tree<D> {
         // The waiting cells have room: there are few levels.
         levels_are_few(&self.arena);
         remove_row(&mut self.arena, id)
+    }
+
+    /// Gives the row with the id another box: the row is removed and inserted again, and its id is looked up once. Where it
+    /// has that box already, the tree stays. It takes no memory.
+    pub fn replace(&mut self, id: &i64, rect: &Rect<D>)
+        requires there { IsSome (box_of self.old.lists id.now) }
+        requires spare { 1 ≤ self.old.spare }
+        ensures same { box_of self.old.lists id.now ≡ Some rect.now → self.new.lists ≡ self.old.lists }
+        ensures other { box_of self.old.lists id.now ≢ Some rect.now → IsReplacement self.old.lists self.new.lists id.now rect.now }
+        ensures spare { self.old.spare ≤ self.new.spare + 1 }
+        ensures capacity { self.new.lists.capacity ≡ self.old.lists.capacity }
+    {
+        let location = find_row(&self.arena, id);
+        if location.rect == *rect {
+            return;
+        }
+        // The waiting cells have room: there are few levels.
+        levels_are_few(&self.arena);
+        remove_found(&mut self.arena, id, &location);
+        // The tree is in shape between the two: no id stands twice in the map of leaves.
+        leaves_facts(&self.arena.leaves);
+        let _ = insert_row(&mut self.arena, id, rect);
+        self.spare -= 1;
     }
 }
