@@ -9,6 +9,7 @@ pub mod Top
 pub mod Moved
 pub mod Kept
 pub mod Staying
+pub mod Replaced
 pub mod Soundness
 pub mod Everywhere
 pub mod Alike

@@ -10,15 +10,15 @@ ghost use Rattle.indexmap.specs.IndexMap.{get, spare};
 ghost use Rattle.rt_tree_node.specs.declared.arena.Work.{Work};
 ghost use Rattle.rt_tree.specs.Lists.{empty_lists};
 ghost use Rattle.rt_tree.specs.Changes.{IsInsertion, IsRemoval};
-ghost use Rattle.rt_table_row.specs.Rows.{TableRow, AreRising, row_at, has_id, with_row, without_id, largest_id};
+ghost use Rattle.rt_table_row.specs.Rows.{AreRising, row_at, has_id, with_row, without_id, largest_id};
 ghost use Rattle.rt_table_row.specs.Edits.{Becomes, most_rows};
 ghost use Rattle.rt_table_row.specs.Entries.{row_of, view_row};
 ghost use Rattle.rt_table_store.specs.Trees.{leaf_row, IsTreeOf};
-ghost use Rattle.rt_table_store.specs.Moves.{stays, Replaces, TakesStep};
+ghost use Rattle.rt_table_store.specs.Moves.{TakesStep};
 
 use crate::largest::Largest;
 use indexmap::IndexMap;
-use rt_box::{Capacity, Rect};
+use rt_box::Capacity;
 use rt_check::Shadow;
 use rt_sql_statement::{Items, Value};
 use rt_table_row::{Entry, RowView};
@@ -293,53 +293,28 @@ impl<const D: usize> Store<D> {
         }
     }
 
-    /// Whether the row has the id, and the box that is there.
-    fn stays(&self, id: &i64, row: &Entry<D>) -> bool
-        ensures { result ≡ stays self.now.rows id.now (row_of row.entry.now) }
-    {
-        self.tree.is_in_shape();
-        if *id != row.id {
-            return false;
-        }
-        match self.tree.get(id) {
-            Some(rect) => rect == row.rect,
-            None => false,
-        }
-    }
-
-    /// The row of that id has these auxiliary values from now on. It takes no memory.
-    fn replace_auxiliary(&mut self, id: &i64, auxiliary: Items<Value>)
+    /// Replaces the row of that id by another that keeps the id: the tree looks it up once, and the largest id stays. It
+    /// takes no memory.
+    fn update(&mut self, id: &i64, row: Entry<D>)
         requires there { has_id self.old.rows id.now ≡ true }
-        requires auxiliary_room { (auxiliary ≡ []) ⊎ (1 ≤ self.old.auxiliary_room) }
-        ensures rows { (row : TableRow) → option_map (λ old. old.box) (row_at self.old.rows id.now) ≡ Some row.box → row.id ≡ id.now → row.auxiliary ≡ auxiliary → self.new.rows ≡ with_row (without_id self.old.rows id.now) row }
-        ensures tree { self.new.tree ≡ self.old.tree }
-        ensures room { self.old.room ≤ self.new.room }
-        ensures auxiliary_room { self.old.auxiliary_room ≤ self.new.auxiliary_room + 1 }
-        ensures no_auxiliary { auxiliary ≡ [] → self.old.auxiliary_room ≤ self.new.auxiliary_room }
-    {
-        self.tree.is_in_shape();
-        set_auxiliary(&mut self.auxiliary, id, auxiliary);
-    }
-
-    /// The row of that id has this box and these auxiliary values from now on: its box is removed, and the new one inserted.
-    /// The ids stay, and the largest of them. It takes no memory.
-    fn move_row(&mut self, id: &i64, rect: &Rect<D>, auxiliary: Items<Value>)
-        requires there { has_id self.old.rows id.now ≡ true }
+        requires same { row.id ≡ id.now }
         requires room { 1 ≤ self.old.room }
-        requires auxiliary_room { (auxiliary ≡ []) ⊎ (1 ≤ self.old.auxiliary_room) }
-        ensures rows { (row : TableRow) → row.id ≡ id.now → row.box ≡ rect.now → row.auxiliary ≡ auxiliary → self.new.rows ≡ with_row (without_id self.old.rows id.now) row }
-        ensures tree { (row : TableRow) → row.id ≡ id.now → row.box ≡ rect.now → Replaces self.old.rows id.now row self.old.tree self.new.tree }
+        requires auxiliary_room { (row.auxiliary ≡ []) ⊎ (1 ≤ self.old.auxiliary_room) }
+        ensures rows { self.new.rows ≡ with_row (without_id self.old.rows id.now) (row_of row.entry) }
+        ensures tree { TakesStep self.old.rows (Becomes id.now (row_of row.entry)) self.old.tree self.new.tree }
         ensures capacity { self.new.tree.capacity ≡ self.old.tree.capacity }
         ensures room { self.old.room ≤ self.new.room + 1 }
         ensures auxiliary_room { self.old.auxiliary_room ≤ self.new.auxiliary_room + 1 }
-        ensures no_auxiliary { auxiliary ≡ [] → self.old.auxiliary_room ≤ self.new.auxiliary_room }
+        ensures no_auxiliary { row.entry.auxiliary ≡ [] → self.old.auxiliary_room ≤ self.new.auxiliary_room }
     {
-        // The law says before, between and after which ids the tree has.
+        // The law says before and after which ids the tree has.
         self.tree.is_in_shape();
-        let _ = self.tree.remove(id);
-        self.tree.is_in_shape();
-        // A table has no use for the `Work` of it.
-        let _ = self.tree.insert(id, rect);
+        let Entry {
+            id: _,
+            rect,
+            auxiliary,
+        } = row;
+        self.tree.replace(id, &rect);
         self.tree.is_in_shape();
         set_auxiliary(&mut self.auxiliary, id, auxiliary);
     }
@@ -360,13 +335,8 @@ impl<const D: usize> Store<D> {
     {
         // There are few enough rows, and fewer once the old one is out.
         self.facts();
-        if self.stays(id, &row) {
-            self.replace_auxiliary(id, row.auxiliary);
-            return;
-        }
         if *id == row.id {
-            let rect = row.rect;
-            self.move_row(id, &rect, row.auxiliary);
+            self.update(id, row);
             return;
         }
         let _ = self.remove(id);
