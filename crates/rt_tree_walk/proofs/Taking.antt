@@ -1,10 +1,10 @@
 -- What a search takes from a node, cell by cell.
-use Rattle.std.proofs.Common.{◌≡◌, ℕ, Bool, ◌+◌, ◌<◌, List, [], ◌∷◌, ◌++◌, length, map, get_or, take, append_assoc, append-nil, arith, refl, ap, sym, ◌∙◌, subst, inl, inr}
+use Rattle.std.proofs.Common.{◌≡◌, ℕ, Bool, ◌+◌, ◌<◌, List, [], ◌∷◌, ◌++◌, length, map, get_or, take, append_assoc, append-nil, arith, refl, ap, sym, ◌∙◌, subst, inl, inr, Vec, vec_len, ◌-◌}
 use Rattle.std.specs.Prelude.{slice_get, Some}
 use Rattle.std.specs.List.{All, count_by}
 use Rattle.std.specs.Option.{option_to_list}
 use Rattle.std.proofs.lemmas.Bool.{cases_Bool, cases_eq}
-use Rattle.std.proofs.lemmas.List.{take_more, get_or_default, get_or-map}
+use Rattle.std.proofs.lemmas.List.{take_at, take_more, get_or_default, get_or-map}
 use Rattle.std.proofs.lemmas.List.Elements.{All-nil, All-cons, All-head, All-tail, All-push, Contains-append_left, Contains-push, Contains-push_cases}
 use Rattle.rt_box.specs.declared.interval.Interval.{Interval}
 use Rattle.rt_box.specs.Window.{Admits, MayHold}
@@ -16,6 +16,12 @@ use Rattle.rt_tree_walk.specs.declared.searching.Row.{Row}
 use Rattle.rt_tree_walk.specs.Search.{times, row_of, LeadsInto}
 use Rattle.rt_tree_walk.specs.Visits.{rows_at, keys_at, TakesRows, TakesChildren}
 use Rattle.rt_tree_walk.proofs.Totals.{times-append, times-one, times-other}
+
+-- what was pushed last was given back
+pub given-back : {X Z : Type 0} (list pushed popped : Vec X Z) (x : X) → pushed.items ≡ list.items ++ x ∷ [] →
+    popped.items ≡ take (vec_len pushed - 1) pushed.items → vec_len pushed ≡ vec_len list + 1 → popped.items ≡ list.items
+given-back list pushed popped x grown rest long =
+    rest ∙ ap (take (vec_len pushed - 1)) grown ∙ take_at list.items (x ∷ []) (vec_len pushed - 1) (omega (arith, long, list.ok))
 
 module _ {D : ℕ} where
   -- the cell whose box was read

@@ -1,23 +1,35 @@
-use Rattle.std.proofs.Common.{subst, take}
-use Rattle.std.specs.List.{All}
-use Rattle.std.proofs.lemmas.Result.{on_ok_weaker}
-use Rattle.rt_box.specs.Window.{Admits}
-use Rattle.rt_tree_walk.specs.Visits.{rows_at}
-use Rattle.rt_tree_walk.proofs.Taking.{TakesRows-all, TakesRows-behind}
+use Rattle.std.proofs.Common.{◌≡◌, ℕ, ◌<◌, ◌++◌, [], ◌∷◌, ◌+◌, length, take, arith, ap, sym, ◌∙◌, subst, Vec, Global, vec_len, vec_capacity}
+use Rattle.std.proofs.lemmas.Bool.{iff_false}
+use Rattle.std.proofs.lemmas.List.{length-map}
+use Rattle.rt_tree_walk.specs.declared.searching.Row.{Row}
+use Rattle.rt_tree_walk.specs.Search.{row_of}
+use Rattle.rt_tree_walk.specs.Visits.{TakesRows}
+use Rattle.rt_tree_walk.proofs.Taking.{cell-next, given-back, TakesRows-takes, TakesRows-keeps}
+use Rattle.rt_tree_walk.proofs.searching.take_rows.Goals.{then-not-admitted, else-not-admitted}
 use Rattle.rt_tree_walk.proofs.searching.take_rows.Goals as goal
 
-pub returns-then-admits_all-clause-ok : goal.returns-then-admits_all-clause-ok
-returns-then-admits_all-clause-ok g c =
+pub loop-at-preserved : goal.loop-at-preserved
+loop-at-preserved g c =
+    let cells = c.args.leaf.now.cells in
+    let at : ℕ = c.loop-at.at in
+    let rect = c.index-boxes-at.result in
+    let list = c.loop-at.list in
+    let old = c.args.rows.now.items in
     let window = c.args.window.now in
-    let all = subst (All (Admits window)) c.boxes.ensures.value (c.admits_all.ensures.0 c.if-admits_all.true) in
-    on_ok_weaker c.push_all_rows.result
-    (TakesRows-all window c.args.node.now.cells c.args.rows.now.items c.push_all_rows.new.rows.items all)
-    c.push_all_rows.ensures.ok
-
-pub returns-clause-ok : goal.returns-clause-ok
-returns-clause-ok g c =
-    let cells = c.args.node.now.cells in
-    on_ok_weaker c.push_rows.result
-    (TakesRows-behind c.args.window.now cells c.args.rows.now.items c.push_rows.new.rows.items
-    (rows_at cells (take c.put_admitted-count.result c.put_admitted-count.new.positions)) c.put_admitted-count.ensures.rows)
-    c.push_rows.ensures.ok
+    let within : at < length cells =
+    omega (arith, c.loop-at-test.true, ap length c.boxes-boxes.ensures.value, length-map cells (λ x. x.rect)) in
+    let next = cell-next cells c.boxes-boxes.result.now at rect c.boxes-boxes.ensures.value within c.index-boxes-at.is in
+    let grown : c.push_reserved.new.self.items ≡ list.items ++ row_of next.0 ∷ [] =
+    c.push_reserved.ensures.items ∙ ap (λ (r : Row g.row.D). list.items ++ r ∷ []) (c.row_of.ensures ∙ ap row_of (c.cell.ensures ∙ next.1.read c.cell.result)) in
+    elim c.if-not-admitted.branch [
+      | then-not-admitted w ↦ (
+        subst (λ rs. TakesRows window (take (at + 1) cells) old rs) (sym (ap (λ (l : Vec (Row g.row.D) Global). l.items) w.list-is ∙ given-back list c.push_reserved.new.self w.pop.new.self (row_of next.0) grown w.pop.ensures.rest c.push_reserved.ensures.len))
+            (TakesRows-keeps window cells at rect next.0 old list.items next.1 c.loop-at.invariant.0 (iff_false c.admits-admitted.ensures w.if-not-admitted.true)),
+        omega (arith, ap vec_len w.list-is, ap vec_capacity w.list-is, w.pop.ensures.capacity, w.pop.ensures.len, c.push_reserved.ensures.len, c.push_reserved.ensures.capacity, c.loop-at.invariant.1),
+      )
+      | else-not-admitted w ↦ (
+        subst (λ rs. TakesRows window (take (at + 1) cells) old rs) (sym (ap (λ (l : Vec (Row g.row.D) Global). l.items) w.list-is))
+            (TakesRows-takes window cells at rect next.0 old list.items c.push_reserved.new.self.items next.1 c.loop-at.invariant.0 (c.admits-admitted.ensures.0 w.if-not-admitted.false) grown),
+        omega (arith, ap vec_len w.list-is, ap vec_capacity w.list-is, c.push_reserved.ensures.len, c.push_reserved.ensures.capacity, c.loop-at.invariant.1),
+      )
+    ]
