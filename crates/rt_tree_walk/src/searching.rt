@@ -3,13 +3,14 @@
 //! A stack of keys takes the place of recursion. Rows are tested by the window, and children by its reach. Tests
 //! without branches are there for speed alone, and so is `ahead` (`specs/Search.antt`).
 
-ghost use Rattle.std.specs.Prelude.{◌≡◌, ◌≤◌, [], IfOk, OnOk, OnErr};
+ghost use Rattle.std.specs.Prelude.{◌≡◌, ◌≤◌, ◌<◌, ◌++◌, [], All, length, take, List, IfOk, OnOk, OnErr};
+ghost use Rattle.rt_box.specs.declared.interval.Interval.{Interval};
 ghost use Rattle.slab.specs.Slab.{ContainsKey};
 ghost use Rattle.rt_box.specs.Window.{IsReach};
 ghost use Rattle.rt_tree_node.specs.Whole.{IsWhole};
 ghost use Rattle.rt_tree_node.specs.Places.{key_of};
 ghost use Rattle.rt_tree_walk.specs.Search.{row_of, Finds, FindsAfter, StaysInFront};
-ghost use Rattle.rt_tree_walk.specs.Visits.{TakesRows, TakesChildren, Visits};
+ghost use Rattle.rt_tree_walk.specs.Visits.{rows_at, keys_at, TakesRows, TakesChildren, Visits};
 
 use crate::ahead::look_ahead;
 use rt_box::{Rect, Window};
@@ -19,6 +20,9 @@ use std::mem;
 
 /// How many rows a search has room for before it finds the first one.
 const FIRST_ROOM: usize = 32;
+
+/// From so many rows on, a search takes the rows of a leaf in the way that suits many.
+const MANY_ROWS: usize = 16;
 
 /// A row that a search found.
 #[derive(Clone, Copy, Debug)]
@@ -65,12 +69,70 @@ pub(crate) fn child_of<const D: usize>(cell: &Cell<D>) -> Key
     key_of(cell.number)
 }
 
-// Which cells pass a window's test can't be foreseen. So each is taken, and given back where it doesn't pass: the end of
-// the list moves by what the test gave, with no branch. While nothing else names the list, its end stays in a register,
-// and so do the numbers of a window that is a copy.
+// Which cells pass a window's test can't be foreseen. So each is taken, and the next one in its place where it doesn't
+// pass: the end of what is taken moves by what the test gave, with no branch.
 
-/// Takes the rows of a leaf that the window admits.
-fn take_rows<const D: usize>(
+/// Puts the positions of the cells whose boxes the window admits in front, and answers how many there are. Where the
+/// window is the reach of another one, these cells name the children that a search by the other one goes into.
+fn put_admitted<const D: usize>(positions: &mut [u8], node: &Node<D>, window: &Window<D>) -> usize
+    requires { length node.now.cells ≤ length positions.old }
+    ensures some { result ≤ length positions.new }
+    ensures within { All (λ at. at < length node.now.cells) (take result positions.new) }
+    ensures rows { TakesRows window.now node.now.cells [] (rows_at node.now.cells (take result positions.new)) }
+    ensures keys { (outer : List Interval) → IsReach D outer window.now → TakesChildren outer node.now.cells [] (keys_at node.now.cells (take result positions.new)) }
+{
+    // A copy, which nothing that is written can change, stays in registers.
+    let (boxes, window) = (node.boxes(), *window);
+    node.facts();
+    let mut count = 0;
+    for at in 0..boxes.len() {
+        let rect = &boxes[at];
+        rect.facts();
+        positions[count] = at as u8;
+        count += usize::from(window.admits(rect));
+    }
+    count
+}
+
+/// Takes the rows of a leaf's cells at these positions.
+fn push_rows<const D: usize>(
+    rows: &mut Vec<Row<D>>,
+    node: &Node<D>,
+    positions: &[u8],
+) -> Result<(), AllocError>
+    requires { All (λ at. at < length node.now.cells) positions.now }
+    ensures ok { OnOk result (rows.new.items ≡ rows.old.items ++ rows_at node.now.cells positions.now) }
+    ensures err { OnErr result (rows.new.items ≡ rows.old.items) }
+{
+    rows.reserve(positions.len())?;
+    // While nothing else names the list, where it ends stays in a register.
+    let alloc = *rows.allocator();
+    let mut list = mem::replace(rows, Vec::new(alloc));
+    for at in positions {
+        list.push_reserved(row_of(&node.cell(usize::from(*at))));
+    }
+    *rows = list;
+    Ok(())
+}
+
+/// Takes the rows of a leaf that the window admits, where few do: their positions come first.
+fn take_few<const D: usize>(
+    rows: &mut Vec<Row<D>>,
+    leaf: &Node<D>,
+    window: &Window<D>,
+) -> Result<(), AllocError>
+    ensures ok { OnOk result (TakesRows window.now leaf.now.cells rows.old.items rows.new.items) }
+    ensures err { OnErr result (rows.new.items ≡ rows.old.items) }
+{
+    leaf.facts();
+    let mut positions = [0; MOST_CELLS];
+    let count = put_admitted(&mut positions, leaf, window);
+    push_rows(rows, leaf, &positions[..count])
+}
+
+/// Takes the rows of a leaf that the window admits, where many do: each row is put into the list at once, and given back
+/// where the window refuses it.
+fn take_many<const D: usize>(
     rows: &mut Vec<Row<D>>,
     leaf: &Node<D>,
     window: &Window<D>,
@@ -95,6 +157,40 @@ fn take_rows<const D: usize>(
     Ok(())
 }
 
+/// Takes the rows of a leaf that the window admits. A search that has found many is likely to find many more.
+fn take_rows<const D: usize>(
+    rows: &mut Vec<Row<D>>,
+    leaf: &Node<D>,
+    window: &Window<D>,
+) -> Result<(), AllocError>
+    ensures ok { OnOk result (TakesRows window.now leaf.now.cells rows.old.items rows.new.items) }
+    ensures err { OnErr result (rows.new.items ≡ rows.old.items) }
+{
+    if rows.len() < MANY_ROWS {
+        return take_few(rows, leaf, window);
+    }
+    take_many(rows, leaf, window)
+}
+
+/// Takes the keys in a node's cells at these positions.
+fn push_keys<const D: usize>(
+    keys: &mut Vec<Key>,
+    node: &Node<D>,
+    positions: &[u8],
+) -> Result<(), AllocError>
+    requires { All (λ at. at < length node.now.cells) positions.now }
+    ensures { OnOk result (keys.new.items ≡ keys.old.items ++ keys_at node.now.cells positions.now) }
+{
+    keys.reserve(positions.len())?;
+    let alloc = *keys.allocator();
+    let mut list = mem::replace(keys, Vec::new(alloc));
+    for at in positions {
+        list.push_reserved(child_of(&node.cell(usize::from(*at))));
+    }
+    *keys = list;
+    Ok(())
+}
+
 /// Takes the children in which a box may lie that the window admits.
 fn take_children<const D: usize>(
     keys: &mut Vec<Key>,
@@ -104,21 +200,10 @@ fn take_children<const D: usize>(
     requires { IsReach D asked.now.window asked.now.reach }
     ensures { OnOk result (TakesChildren asked.now.window node.now.cells keys.old.items keys.new.items) }
 {
-    keys.reserve(node.len())?;
-    let alloc = *keys.allocator();
-    let mut list = mem::replace(keys, Vec::new(alloc));
-    let (boxes, reach) = (node.boxes(), asked.reach);
-    for at in 0..boxes.len() {
-        let rect = &boxes[at];
-        rect.facts();
-        let admitted = reach.admits(rect);
-        list.push_reserved(child_of(&node.cell(at)));
-        if !admitted {
-            let _ = list.pop();
-        }
-    }
-    *keys = list;
-    Ok(())
+    node.facts();
+    let mut positions = [0; MOST_CELLS];
+    let count = put_admitted(&mut positions, node, &asked.reach);
+    push_keys(keys, node, &positions[..count])
 }
 
 /// Takes the children of a node above the leaves in which a box may lie that the window admits, and looks ahead at those

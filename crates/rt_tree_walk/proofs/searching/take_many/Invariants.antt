@@ -1,6 +1,6 @@
 use Rattle.std.proofs.Common.{◌+◌, ◌≤◌, length, take, vec_len, vec_capacity}
 use Rattle.rt_tree_walk.specs.Visits.{TakesRows}
-use Rattle.rt_tree_walk.proofs.searching.take_rows.Given as goal
+use Rattle.rt_tree_walk.proofs.searching.take_many.Given as goal
 
 -- the cells so far gave their rows, and there is room for the rest
 abbrev pub invariant-loop-at : goal.invariant-loop-at

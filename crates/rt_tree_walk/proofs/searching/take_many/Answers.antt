@@ -5,8 +5,8 @@ use Rattle.rt_tree_walk.specs.declared.searching.Row.{Row}
 use Rattle.rt_tree_walk.specs.Search.{row_of}
 use Rattle.rt_tree_walk.specs.Visits.{TakesRows}
 use Rattle.rt_tree_walk.proofs.Taking.{cell-next, given-back, TakesRows-takes, TakesRows-keeps}
-use Rattle.rt_tree_walk.proofs.searching.take_rows.Goals.{then-not-admitted, else-not-admitted}
-use Rattle.rt_tree_walk.proofs.searching.take_rows.Goals as goal
+use Rattle.rt_tree_walk.proofs.searching.take_many.Goals.{then-not-admitted, else-not-admitted}
+use Rattle.rt_tree_walk.proofs.searching.take_many.Goals as goal
 
 pub loop-at-preserved : goal.loop-at-preserved
 loop-at-preserved g c =
