@@ -1,19 +1,21 @@
 -- The map of leaves, after each kind of change.
-use Rattle.std.proofs.Common.{◌≡◌, ◌≢◌, ◌⊎◌, ℕ, zero, suc, ◌+◌, ◌<◌, ◌≤◌, Bool, true, false, cond, ℤ, List, [], ◌∷◌, ◌++◌, length, get_or, set, Option, Some, None, count_by, is_some, IsSome, arith, refl, ap, ◌∙◌, sym, subst, inl, inr}
+use Rattle.std.proofs.Common.{◌≡◌, ◌≢◌, ◌⊎◌, ℕ, zero, suc, ◌+◌, Bool, true, false, ℤ, List, [], ◌∷◌, ◌++◌, slice_get, Option, Some, None, is_some, IsSome, arith, refl, ap, ◌∙◌, sym, inl, inr}
+use Rattle.indexmap.specs.IndexMap.{IndexMap, IsUnique, with_value_at}
+use Rattle.indexmap.proofs.CallerLemmas.{keys-with_value_at, index_map_len-with_value_at, updates-with_value_at}
+use Rattle.std.proofs.lemmas.Cmp.{int_eq_equiv}
 use Rattle.std.specs.Ordering.{int_eq}
-use Rattle.std.proofs.lemmas.Option.{same_Some, none-some}
+use Rattle.std.proofs.lemmas.Option.{same_Some}
 use Rattle.std.proofs.lemmas.Bool.{cases_eq, cases_Bool, true≢false}
 use Rattle.std.proofs.lemmas.Bool.Decides.{Decides-int_eq}
-use Rattle.std.proofs.lemmas.List.Sums.{sum_by-set}
 use Rattle.slab.specs.Slab.{Slab, get, Updates}
 use Rattle.rt_tree_node.specs.declared.cell.Cell.{Cell}
 use Rattle.rt_tree_node.specs.declared.cell.Waiting.{Waiting}
 use Rattle.rt_tree_node.specs.Node.{NodeCells}
 use Rattle.rt_tree_node.specs.Places.{times_listed, leaf_part, leaf_cells_of, leaf_cells_at, waiting_rows, waiting_at}
 use Rattle.rt_tree_node.specs.Sound.{HasHomes}
+use Rattle.rt_tree_node.specs.Homes.{Moves}
 use Rattle.rt_tree_node.proofs.Counts.{count-one_yes, count-one_no}
 use Rattle.rt_tree_node.proofs.Places.{count-leaf_push, rows-middle, rows-joined, has_id}
-use Rattle.rt_tree_node.proofs.Links.{same-at, new-at}
 
 pub same-id : (x y : ℤ) → (x ≡ y) ⊎ (x ≢ y)
 same-id x y = elim (cases_Bool (int_eq x y)) [
@@ -178,3 +180,16 @@ module _ {D : ℕ} where
           no-cells : (l : ℕ) → leaf_part {D = D} l [] ≡ []
           no-cells zero = refl
           no-cells (suc l) = refl
+
+-- a row whose entry at that place was written
+pub moved-at : {S : Type 0} (m : IndexMap ℤ ℕ S) (i : ℕ) (id : ℤ) (leaf old : ℕ) → IsUnique int_eq m → slice_get m.entries i ≡ Some (id, old) →
+    Moves m (with_value_at m i leaf) id leaf
+moved-at m i id leaf old unique at =
+    let u = updates-with_value_at m i leaf int_eq_equiv unique id old at in record {
+      keeps = record { ids = keys-with_value_at m i leaf; len = index_map_len-with_value_at m i leaf; room = refl };
+      here = u.1;
+      others = λ other differs. u.2 other (elim (cases_Bool (int_eq id other)) [
+        | inl same ↦ absurd (differs (sym ((Decides-int_eq id other).0 same)))
+        | inr fails ↦ fails
+      ]);
+    }

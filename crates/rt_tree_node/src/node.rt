@@ -3,7 +3,7 @@
 //! Numbers and boxes stand in two arrays, so a search reads boxes alone. Contracts see one list of cells
 //! (`specs/NodeInside.antt`).
 
-ghost use Rattle.std.specs.Prelude.{◌≡◌, ◌≢◌, ℕ, pos, All, ◌+◌, ◌<◌, ◌≤◌, [], ◌∷◌, ◌++◌, map, length, slice_index_or, slice_set, remove};
+ghost use Rattle.std.specs.Prelude.{◌≡◌, ◌≢◌, ℕ, pos, false, All, ◌+◌, ◌<◌, ◌≤◌, [], ◌∷◌, ◌++◌, map, length, slice_index_or, slice_set, remove};
 ghost use Rattle.rt_tree_node.specs.declared.cell.Cell.{Cell};
 ghost use Rattle.rt_tree_node.specs.Places.{picked};
 
@@ -232,14 +232,41 @@ impl<const D: usize> Node<D> {
     }
 }
 
+/// So many numbers are compared at once.
+const NUMBERS_TOGETHER: usize = 4;
+
+/// Whether one of the four numbers from one on is this one. Without a branch, so that all are compared at once.
+fn is_among_four(numbers: &[i64], number: &i64, from: usize) -> bool
+    requires { from + 4 ≤ length numbers.now }
+    ensures { result ≡ false → (k : ℕ) → k < 4 → slice_index_or numbers.now (from + k) (pos 0) ≢ number.now }
+{
+    let mut found = false;
+    for offset in 0..NUMBERS_TOGETHER {
+        found |= numbers[from + offset] == *number;
+    }
+    found
+}
+
+/// How many numbers, counted by fours, stand before the four among which the number is, or before those that are left.
+fn skip_fours(numbers: &[i64], number: &i64) -> usize
+    ensures within { result ≤ length numbers.now }
+    ensures none { (k : ℕ) → k < result → slice_index_or numbers.now k (pos 0) ≢ number.now }
+{
+    let mut skipped = 0;
+    while numbers.len() - skipped >= NUMBERS_TOGETHER && !is_among_four(numbers, number, skipped) {
+        skipped += NUMBERS_TOGETHER;
+    }
+    skipped
+}
+
 /// The position of the first such number, or the length where it isn't there.
 fn position_in(numbers: &[i64], number: &i64) -> usize
     ensures within { result ≤ length numbers.now }
     ensures found { result < length numbers.now → slice_index_or numbers.now result (pos 0) ≡ number.now }
     ensures first { (k : ℕ) → k < result → slice_index_or numbers.now k (pos 0) ≢ number.now }
 {
-    for (at, other) in numbers.iter().enumerate() {
-        if *other == *number {
+    for at in skip_fours(numbers, number)..numbers.len() {
+        if numbers[at] == *number {
             return at;
         }
     }
