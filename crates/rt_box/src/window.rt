@@ -3,7 +3,7 @@
 //! A window has two intervals for each axis, one for `lo` and one for `hi`. Rows are tested by the window itself,
 //! and the boxes around them by its `reach` (`specs/Window.antt`; `specs/Ends.antt` for one axis).
 
-ghost use Rattle.std.specs.Prelude.{◌≡◌, ℕ, ◌+◌, ◌*◌, ◌<◌, ◌≤◌, ◌↔◌, List, length, slice_index_or, All, IsTrue};
+ghost use Rattle.std.specs.Prelude.{◌≡◌, ◌*◌, ◌<◌, ◌≤◌, ◌↔◌, IsTrue};
 ghost use Rattle.rt_box.specs.declared.interval.Interval.{Interval};
 ghost use Rattle.rt_box.specs.Ends.{AdmitsSide, KeepsLeast, KeepsGreatest, OnAxes, Reaches};
 ghost use Rattle.rt_box.specs.Window.{IsUnlimited, Narrows, Admits, MayHold, IsReach};
@@ -19,9 +19,6 @@ use std::marker::Model;
 
 /// How many axes of a box are compared together.
 const AXES_TOGETHER: usize = 2;
-
-/// How many boxes are compared together where all are to be admitted.
-const BOXES_TOGETHER: usize = 4;
 
 /// The numbers that a window allows the two ends of a box on one axis.
 #[derive(Clone, Copy, Debug, PartialEq, Eq)]
@@ -109,23 +106,6 @@ fn admits_axes<const D: usize>(axes: &[Ends; D], rect: &Rect<D>, from: usize, to
     keeps_least(axes, rect, from, to) & keeps_greatest(axes, rect, from, to)
 }
 
-/// Whether the four boxes from one on are admitted.
-#[inline]
-fn admits_four<const D: usize>(axes: &[Ends; D], boxes: &[Rect<D>], from: usize) -> bool
-    requires { from + 4 ≤ length boxes.now }
-    ensures value { IsTrue result ↔ ((k : ℕ) (b : List Interval) → k < 4 → OnAxes AdmitsSide axes.now (slice_index_or boxes.now (from + k) b) 0 D) }
-    ensures axes_are { (k : ℕ) (b : List Interval) → k < 4 → length (slice_index_or boxes.now (from + k) b) ≡ D }
-{
-    let (mut least, mut greatest) = (true, true);
-    for offset in 0..BOXES_TOGETHER {
-        let rect = &boxes[from + offset];
-        rect.facts();
-        least &= keeps_least(axes, rect, 0, D);
-        greatest &= keeps_greatest(axes, rect, 0, D);
-    }
-    least & greatest
-}
-
 /// What a search asks of each coordinate of a box: an interval of 32-bit numbers, which may be empty.
 ///
 /// The coordinates are those of a table's columns: `lo` and `hi` of the first axis, then of the next.
@@ -194,32 +174,6 @@ impl<const D: usize> Window<D> {
     {
         let first = rect.axes().min(AXES_TOGETHER);
         admits_axes(&self.axes, rect, first, D) & admits_axes(&self.axes, rect, 0, first)
-    }
-
-    /// Whether the boxes from one on are admitted.
-    fn admits_from(&self, boxes: &[Rect<D>], from: usize) -> bool
-        ensures { IsTrue result ↔ ((i : ℕ) (b : List Interval) → from ≤ i → i < length boxes.now → Admits self.now (slice_index_or boxes.now i b)) }
-    {
-        for at in from..boxes.len() {
-            if !self.admits(&boxes[at]) {
-                return false;
-            }
-        }
-        true
-    }
-
-    /// Whether all boxes are admitted.
-    #[inline(never)]
-    pub fn admits_all(&self, boxes: &[Rect<D>]) -> bool
-        ensures { IsTrue result ↔ All (Admits self.now) boxes.now }
-    {
-        let fours = boxes.len() / BOXES_TOGETHER;
-        for four in 0..fours {
-            if !admits_four(&self.axes, boxes, four * BOXES_TOGETHER) {
-                return false;
-            }
-        }
-        self.admits_from(boxes, fours * BOXES_TOGETHER)
     }
 
     /// Whether a box that this window admits may lie in the box. A search that asks it of many boxes makes the `reach`
