@@ -1,5 +1,5 @@
 -- Lemmas on windows.
-use Rattle.std.proofs.Common.{◌≡◌, ℕ, zero, suc, ◌+◌, ◌-◌, ◌*◌, ◌<◌, ◌≤◌, ◌↔◌, inl, inr, Bool, ℤ, pos, ◌≤ℤ◌, List, [], ◌∷◌, length, get_or, set, replicate, All, arith, refl, ap, ◌∙◌, subst, w32, FitsSigned}
+use Rattle.std.proofs.Common.{◌≡◌, ℕ, zero, suc, ◌+◌, ◌*◌, ◌<◌, ◌≤◌, ◌↔◌, inl, inr, Bool, ℤ, pos, ◌≤ℤ◌, List, [], ◌∷◌, length, get_or, set, replicate, All, arith, refl, ap, ◌∙◌, w32, FitsSigned}
 use Rattle.std.specs.Int.{int_min, int_max}
 use Rattle.std.proofs.lemmas.Bool.{cases_eq, cases_lt}
 use Rattle.std.proofs.lemmas.Int.{ints, clamps}
@@ -237,28 +237,6 @@ pub axis_fewer : (P : Ends → Interval → Type 0) (es : List Ends) (b : List I
     from ≤ axis → x ≡ get_or b axis x →
     OnAxes P es b from (axis + 1) → P (get_or es axis here) x
 axis_fewer P es b from axis here x low x_is h = side_here P es b axis here x x_is (h axis low (omega arith))
-
--- one box more
-pub box_more : (P : List Interval → Type 0) (boxes : List (List Interval)) (from offset : ℕ) (here : List Interval) →
-    from + offset < length boxes → here ≡ get_or boxes (from + offset) here →
-    ((k : ℕ) (b : List Interval) → k < offset → P (get_or boxes (from + k) b)) → P here →
-    (k : ℕ) (b : List Interval) → k < offset + 1 → P (get_or boxes (from + k) b)
-box_more P boxes from offset here within here_is before holds k b below = elim (cases_eq k offset) [
-  | inl same ↦ rw (same, get_or_default boxes (from + offset) b here within, ← here_is) holds
-  | inr ne ↦ before k b (omega (arith, ne, below))
-]
-
-pub box_last : (P : List Interval → Type 0) (boxes : List (List Interval)) (from offset : ℕ) (here : List Interval) →
-    here ≡ get_or boxes (from + offset) here →
-    ((k : ℕ) (b : List Interval) → k < offset + 1 → P (get_or boxes (from + k) b)) → P here
-box_last P boxes from offset here here_is h = rw here_is (h offset here (omega arith))
-
--- one of four boxes from one on
-pub box_at : (P : List Interval → Type 0) (boxes : List (List Interval)) (from i : ℕ) (b : List Interval) → from ≤ i → i < from + 4 →
-    ((k : ℕ) (b : List Interval) → k < 4 → P (get_or boxes (from + k) b)) → P (get_or boxes i b)
-box_at P boxes from i b low high h =
-    let is : from + (i - from) ≡ i = omega (arith, low) in
-    subst (λ (n : ℕ). P (get_or boxes n b)) is (h (i - from) b (omega (arith, low, high)))
 
 -- a side is admitted exactly where its least and its greatest numbers are kept
 pub both_kept : (es : List Ends) (b : List Interval) (from to : ℕ) → OnAxes KeepsLeast es b from to → OnAxes KeepsGreatest es b from to →
