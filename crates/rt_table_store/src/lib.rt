@@ -1,7 +1,8 @@
 //! The rows of a table, by rising id.
 //!
 //! - `Store` keeps them: a row is found by its id, inserted, replaced or removed; `picked_rows` finds those of which a
-//!   condition holds, `picked` their ids, and `select` searches for them by the condition's window.
+//!   condition holds, `passing_row` the only one where it fixes an id, `picked` their ids, and `select` searches for them
+//!   by the condition's window.
 //! - Inserting takes no memory: `reserve` makes the room for it before.
 //!
 //! What callers know of a store is the list of its rows, the tree of their boxes, and its room.
