@@ -15,11 +15,15 @@ use std::marker::Model;
 /// The most bytes of a name that are kept in place; a longer one stands on the heap.
 const MOST_IN_PLACE: usize = 16;
 
-/// Whether both bytes are the same but for ASCII case. Mostly they are the same, and no case is folded.
+/// A letter in lower case stands so far behind the same letter in upper case.
+const CASES_APART: u8 = 32;
+
+/// Whether both bytes are the same but for ASCII case. Mostly they are the same, or differ in what case doesn't change, and
+/// no case is folded.
 fn is_same_byte(own: u8, other: u8) -> bool
     ensures { result ≡ eq_ignore_ascii_case own other }
 {
-    own == other || own.eq_ignore_ascii_case(&other)
+    own == other || (own % CASES_APART == other % CASES_APART && own.eq_ignore_ascii_case(&other))
 }
 
 /// Whether both texts are one name. Most names of a table differ in their lengths, or in one of their first bytes.
