@@ -2,7 +2,7 @@
 use Rattle.std.proofs.Common.{◌≡◌, ℕ, zero, suc, ◌+◌, ◌<◌, nat_lt, Some, arith, ◌∙◌, Bool, true, false, not, ◌&&◌, ◌||◌, List, [], ◌∷◌, get_or, drop, length, cond, refl}
 use Rattle.std.proofs.lemmas.List.{drop_more}
 use Rattle.std.proofs.lemmas.Bool.Decides.{nat_tests}
-use Rattle.std.specs.List.{list_all, position_or_len}
+use Rattle.std.specs.List.{list_all, list_any, position_or_len}
 use Rattle.std.specs.Cmp.{IsEquivalence}
 use Rattle.std.specs.Cmp.Lexicographic.{on_texts_equal}
 use Rattle.std.specs.Str.{str_to_ascii_lowercase}
@@ -14,11 +14,11 @@ pub either : (a b : Bool) → cond a true b ≡ (a || b)
 either true b = refl
 either false b = refl
 
-neither : (a b : Bool) → (a || b) ≡ false → (a ≡ false) × (b ≡ false)
+pub neither : (a b : Bool) → (a || b) ≡ false → (a ≡ false) × (b ≡ false)
 neither true b e = cc
 neither false b e = (refl, e)
 
-denied : (a : Bool) → not a ≡ true → a ≡ false
+pub denied : (a : Bool) → not a ≡ true → a ≡ false
 denied true e = cc
 denied false e = refl
 
@@ -68,20 +68,21 @@ new_first seen names e = rw (none_seen seen names e) refl
 
 -- ---- where distinct names stand
 
-same_laws : IsEquivalence same_name
+pub same_laws : IsEquivalence same_name
 same_laws = on_texts_equal str_to_ascii_lowercase
 
-apart : (names : List (List ℕ)) (name : List ℕ) (k : ℕ) (d : List ℕ) → k < length names → has_name names name ≡ false → same_name name (get_or names k d) ≡ false
-apart [] name k d h e = absurd (omega arith)
-apart (x ∷ xs) name zero d h e = (neither (same_name name x) (has_name xs name) e).0
-apart (x ∷ xs) name (suc k) d h e = apart xs name k d (omega arith) (neither (same_name name x) (has_name xs name) e).1
+-- where none passes, each fails
+pub fails_each : {X : Type 0} (q : X → Bool) (xs : List X) (k : ℕ) (d : X) → k < length xs → list_any q xs ≡ false → q (get_or xs k d) ≡ false
+fails_each q [] k d h e = absurd (omega arith)
+fails_each q (x ∷ xs) zero d h e = (neither (q x) (list_any q xs) e).0
+fails_each q (x ∷ xs) (suc k) d h e = fails_each q xs k d (omega arith) (neither (q x) (list_any q xs) e).1
 
-pub steps_to : (names : List (List ℕ)) (k : ℕ) (d : List ℕ) → are_distinct names ≡ true → k < length names → position_or_len (same_name (get_or names k d)) names ≡ k
+steps_to : (names : List (List ℕ)) (k : ℕ) (d : List ℕ) → are_distinct names ≡ true → k < length names → position_or_len (same_name (get_or names k d)) names ≡ k
 steps_to [] k d e h = absurd (omega arith)
 steps_to (x ∷ xs) zero d e h = rw (same_laws.refl x) refl
 steps_to (x ∷ xs) (suc k) d e h =
     let first : has_name xs x ≡ false = denied (has_name xs x) (head (not (has_name xs x)) (are_distinct xs) e) in
-    let other : same_name (get_or xs k d) x ≡ false = same_laws.symm (get_or xs k d) x ∙ apart xs x k d (omega arith) first in
+    let other : same_name (get_or xs k d) x ≡ false = same_laws.symm (get_or xs k d) x ∙ fails_each (same_name x) xs k d (omega arith) first in
     let later : position_or_len (same_name (get_or xs k d)) xs ≡ k = steps_to xs k d (tail (not (has_name xs x)) (are_distinct xs) e) (omega arith) in
     rw (other, later) (omega arith)
 

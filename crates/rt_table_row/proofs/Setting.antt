@@ -1,8 +1,8 @@
 -- What a row becomes by its looked-up sets.
-use Rattle.std.proofs.Common.{◌≡◌, ℕ, suc, ◌+◌, ◌*◌, ◌<◌, ◌≤◌, ◌-◌, ◌+ℤ◌, ◌-ℤ◌, Bool, true, false, not, ◌&&◌, ◌||◌, nat_lt, List, [], ◌∷◌, ◌++◌, append_assoc, get_or, map, length, take, drop, cond, position, Option, Some, None, Err, arith, refl, sym, ap, subst, ◌∙◌}
-use Rattle.std.specs.List.{list_all, list_any, position_or_len, find}
-use Rattle.std.specs.Option.{option_map, option_map_or}
-use Rattle.std.proofs.lemmas.List.{take-map, take_all, drop-map}
+use Rattle.std.proofs.Common.{◌≡◌, ℕ, suc, ◌+◌, ◌*◌, ◌≤◌, ◌-◌, ◌+ℤ◌, ◌-ℤ◌, Bool, true, false, ◌&&◌, ◌||◌, List, [], ◌∷◌, ◌++◌, append_assoc, get_or, map, length, take, drop, Option, Some, None, Err, arith, refl, sym, ap, subst, ◌∙◌}
+use Rattle.std.specs.List.{list_all, list_any}
+use Rattle.std.specs.Option.{option_map}
+use Rattle.std.proofs.lemmas.List.{take-map, take_all, drop-map, get_or_at, length_push}
 use Rattle.std.proofs.lemmas.Simd.{map-map}
 use Rattle.std.proofs.lemmas.List.Folds.{list_all-map}
 use Rattle.std.specs.Str.{str_to_ascii_lowercase}
@@ -15,40 +15,55 @@ use Rattle.rt_sql_statement.specs.declared.statement.Source.{Source}
 use Rattle.rt_sql_statement.specs.declared.statement.Source.TheVariants as source
 use Rattle.rt_table_row.specs.declared.settings.Reading.{Reading}
 use Rattle.rt_table_row.specs.declared.settings.Reading.TheVariants.{Literal, Column, Plus, Minus}
-use Rattle.rt_table_row.specs.declared.settings.Fill.{Fill}
-use Rattle.rt_table_row.specs.declared.settings.Fill.TheVariants.{Kept, Set}
 use Rattle.rt_table_row.specs.Candidates.{is_id, is_integer, id_in, number_in, fits_bits, id_value, coordinate_values, candidate_of, candidate_with}
-use Rattle.rt_table_row.specs.Columns.{place_of, has_name, are_distinct}
-use Rattle.rt_table_row.proofs.Names.{own_place}
-use Rattle.rt_table_row.specs.Conditions.{value_in}
-use Rattle.rt_table_row.specs.Edits.{Setting, columns_read, given, is_summable, sum_fits, new_value}
-use Rattle.rt_table_row.specs.Settings.{LookedUp, set_names, read, reads_integer, reading_fits, filled, values_set, candidate_set, reading_of, AreReadings, fill_of, reads_columns}
-use Rattle.rt_table_row.proofs.Filters.{absent, present, value_there, less, first}
+use Rattle.rt_table_row.specs.Columns.{place_of, has_name}
+use Rattle.rt_table_row.specs.Edits.{Setting, columns_read, given, is_summable, sum_fits}
+use Rattle.rt_table_row.specs.Settings.{set_names, read, reads_integer, reading_fits, filled, values_set, candidate_set, reading_of, own_fills, looked_up}
+use Rattle.rt_table_row.proofs.Filters.{absent, present, value_there}
 use Rattle.rt_table_row.proofs.Boxes.{head, tail}
 
+-- ---- each column holds what its own reading gives
+
+pub length-own_fills : (place : ℕ) (readings : List Reading) → length (own_fills place readings) ≡ length readings
+length-own_fills place [] = refl
+length-own_fills place (r ∷ rs) = ap suc (length-own_fills (suc place) rs)
+
+own_values : (values : List Value) (before readings all : List Reading) (place : ℕ) → all ≡ before ++ readings → length before ≡ place →
+    map (filled all values) (own_fills place readings) ≡ map (read values) readings
+own_values values before [] all place is long = refl
+own_values values before (r ∷ rs) all place is long =
+    let here : read values (get_or all place (Literal Null)) ≡ read values r = rw (is, get_or_at before r rs (Literal Null) place long) refl in
+    let more : length (before ++ r ∷ []) ≡ suc place = omega (arith, length_push before r) in
+    rw (here, own_values values (before ++ r ∷ []) rs all (suc place) (is ∙ sym (append_assoc before (r ∷ []) rs)) more) refl
+
+pub values_read : (values : List Value) (readings : List Reading) → values_set (looked_up readings) values ≡ map (read values) readings
+values_read values readings = own_values values [] readings readings 0 refl refl
+
+-- ---- what is wrong with a row, or isn't
+
 -- the id and the coordinates are the first values
-pub front_integers : (n : ℕ) (f : Fill → Value) (fills : List Fill) → 1 + 2 * n ≤ length fills →
-    list_all (λ (x : Fill). is_integer (f x)) (take (1 + 2 * n) fills) ≡ (is_integer (id_value (map f fills)) && list_all is_integer (coordinate_values n (map f fills)))
+pub front_integers : (n : ℕ) (f : Reading → Value) (readings : List Reading) → 1 + 2 * n ≤ length readings →
+    list_all (λ (x : Reading). is_integer (f x)) (take (1 + 2 * n) readings) ≡ (is_integer (id_value (map f readings)) && list_all is_integer (coordinate_values n (map f readings)))
 front_integers n f [] h = absurd (omega arith)
-front_integers n f (x ∷ fills) h =
+front_integers n f (x ∷ readings) h =
     let one : 1 + 2 * n ≡ suc (2 * n) = omega arith in
-    let rest : list_all (λ (y : Fill). is_integer (f y)) (take (2 * n) fills) ≡ list_all is_integer (take (2 * n) (map f fills)) = rw take-map (sym (list_all-map is_integer f (take (2 * n) fills))) in
+    let rest : list_all (λ (y : Reading). is_integer (f y)) (take (2 * n) readings) ≡ list_all is_integer (take (2 * n) (map f readings)) = rw take-map (sym (list_all-map is_integer f (take (2 * n) readings))) in
     rw (one, rest)
 
-pub set_type : (axes : ℕ) (sets : LookedUp) (old : List Value) → list_all (reads_integer old) sets.readings ≡ true →
-    (is_integer (id_value (values_set sets old)) && list_all is_integer (coordinate_values axes (values_set sets old))) ≡ false →
-    candidate_set axes sets old ≡ Err WrongType
-set_type axes sets old summable types = rw (summable, types)
+pub set_type : (axes : ℕ) (readings : List Reading) (old : List Value) → list_all (reads_integer old) readings ≡ true →
+    (is_integer (id_value (map (read old) readings)) && list_all is_integer (coordinate_values axes (map (read old) readings))) ≡ false →
+    candidate_set axes (looked_up readings) old ≡ Err WrongType
+set_type axes readings old summable types = rw (summable, values_read old readings, types)
 
-pub set_sum : (axes : ℕ) (sets : LookedUp) (old : List Value) → list_all (reads_integer old) sets.readings ≡ true →
-    (is_integer (id_value (values_set sets old)) && list_all is_integer (coordinate_values axes (values_set sets old))) ≡ true →
-    list_all (reading_fits old) sets.readings ≡ false → candidate_set axes sets old ≡ Err IntegerOutOfRange
-set_sum axes sets old summable types fits = rw (summable, types, fits)
+pub set_sum : (axes : ℕ) (readings : List Reading) (old : List Value) → list_all (reads_integer old) readings ≡ true →
+    (is_integer (id_value (map (read old) readings)) && list_all is_integer (coordinate_values axes (map (read old) readings))) ≡ true →
+    list_all (reading_fits old) readings ≡ false → candidate_set axes (looked_up readings) old ≡ Err IntegerOutOfRange
+set_sum axes readings old summable types fits = rw (summable, values_read old readings, types, fits)
 
-pub set_all : (axes : ℕ) (sets : LookedUp) (old : List Value) → list_all (reads_integer old) sets.readings ≡ true →
-    (is_integer (id_value (values_set sets old)) && list_all is_integer (coordinate_values axes (values_set sets old))) ≡ true →
-    list_all (reading_fits old) sets.readings ≡ true → candidate_set axes sets old ≡ candidate_of axes (values_set sets old)
-set_all axes sets old summable types fits = rw (summable, types, fits)
+pub set_all : (axes : ℕ) (readings : List Reading) (old : List Value) → list_all (reads_integer old) readings ≡ true →
+    (is_integer (id_value (map (read old) readings)) && list_all is_integer (coordinate_values axes (map (read old) readings))) ≡ true →
+    list_all (reading_fits old) readings ≡ true → candidate_set axes (looked_up readings) old ≡ candidate_of axes (map (read old) readings)
+set_all axes readings old summable types fits = rw (summable, values_read old readings, types, fits)
 
 -- ---- its numbers
 
@@ -69,25 +84,25 @@ candidate_parts : (axes : ℕ) (values : List Value) → is_id (id_value values)
 candidate_parts axes values id integers = rw (id, integers)
 
 -- where the id and the coordinates are integers, the candidate is that of their numbers
-pub candidate_filled : (n : ℕ) (f : Fill → Value) (fills plain rest : List Fill) → 1 + 2 * n ≤ length fills →
-    plain ≡ take (1 + 2 * n) fills → rest ≡ drop (1 + 2 * n) fills →
-    list_all (λ (x : Fill). is_integer (f x)) (take (1 + 2 * n) fills) ≡ true →
-    candidate_of n (map f fills) ≡ candidate_with (Some (number_in (f (get_or plain 0 (Kept 0))))) (map (λ (x : Fill). number_in (f x)) (take (length plain - 1) (drop 1 plain))) (map f rest)
-candidate_filled n f [] plain rest h p r ints = absurd (omega arith)
-candidate_filled n f (x ∷ fills) plain rest h p r ints =
+pub candidate_read : (n : ℕ) (f : Reading → Value) (readings plain rest : List Reading) → 1 + 2 * n ≤ length readings →
+    plain ≡ take (1 + 2 * n) readings → rest ≡ drop (1 + 2 * n) readings →
+    list_all (λ (x : Reading). is_integer (f x)) (take (1 + 2 * n) readings) ≡ true →
+    candidate_of n (map f readings) ≡ candidate_with (Some (number_in (f (get_or plain 0 (Literal Null))))) (map (λ (x : Reading). number_in (f x)) (take (length plain - 1) (drop 1 plain))) (map f rest)
+candidate_read n f [] plain rest h p r ints = absurd (omega arith)
+candidate_read n f (x ∷ readings) plain rest h p r ints =
     let one : 1 + 2 * n ≡ suc (2 * n) = omega arith in
-    let plain_is : plain ≡ x ∷ take (2 * n) fills = p ∙ rw one refl in
-    let first_is : get_or plain 0 (Kept 0) ≡ x = rw plain_is refl in
-    let both : (is_integer (f x) && list_all (λ (y : Fill). is_integer (f y)) (take (2 * n) fills)) ≡ true = rw one at ints in
-    let here = head (is_integer (f x)) (list_all (λ (y : Fill). is_integer (f y)) (take (2 * n) fills)) both in
-    let later = tail (is_integer (f x)) (list_all (λ (y : Fill). is_integer (f y)) (take (2 * n) fills)) both in
-    let integers : list_all is_integer (take (2 * n) (map f fills)) ≡ true = rw take-map (list_all-map is_integer f (take (2 * n) fills) ∙ later) in
-    let long : length (take (2 * n) fills) ≤ length (x ∷ take (2 * n) fills) - 1 = omega arith in
-    let behind : take (length plain - 1) (drop 1 plain) ≡ take (2 * n) fills = rw plain_is (take_all (length (x ∷ take (2 * n) fills) - 1) (take (2 * n) fills) long) in
-    let numbers : map number_in (take (2 * n) (map f fills)) ≡ map (λ (y : Fill). number_in (f y)) (take (length plain - 1) (drop 1 plain)) = rw (behind, take-map) (map-map number_in f (take (2 * n) fills)) in
-    let auxiliary : drop (1 + 2 * n) (f x ∷ map f fills) ≡ map f rest = rw r (drop-map f (1 + 2 * n) (x ∷ fills)) in
-    let id : id_in (f x) ≡ Some (number_in (f (get_or plain 0 (Kept 0)))) = rw first_is (integer_in (f x) here) in
-    candidate_parts n (f x ∷ map f fills) (integer_is_id (f x) here) integers
+    let plain_is : plain ≡ x ∷ take (2 * n) readings = p ∙ rw one refl in
+    let first_is : get_or plain 0 (Literal Null) ≡ x = rw plain_is refl in
+    let both : (is_integer (f x) && list_all (λ (y : Reading). is_integer (f y)) (take (2 * n) readings)) ≡ true = rw one at ints in
+    let here = head (is_integer (f x)) (list_all (λ (y : Reading). is_integer (f y)) (take (2 * n) readings)) both in
+    let later = tail (is_integer (f x)) (list_all (λ (y : Reading). is_integer (f y)) (take (2 * n) readings)) both in
+    let integers : list_all is_integer (take (2 * n) (map f readings)) ≡ true = rw take-map (list_all-map is_integer f (take (2 * n) readings) ∙ later) in
+    let long : length (take (2 * n) readings) ≤ length (x ∷ take (2 * n) readings) - 1 = omega arith in
+    let behind : take (length plain - 1) (drop 1 plain) ≡ take (2 * n) readings = rw plain_is (take_all (length (x ∷ take (2 * n) readings) - 1) (take (2 * n) readings) long) in
+    let numbers : map number_in (take (2 * n) (map f readings)) ≡ map (λ (y : Reading). number_in (f y)) (take (length plain - 1) (drop 1 plain)) = rw (behind, take-map) (map-map number_in f (take (2 * n) readings)) in
+    let auxiliary : drop (1 + 2 * n) (f x ∷ map f readings) ≡ map f rest = rw r (drop-map f (1 + 2 * n) (x ∷ readings)) in
+    let id : id_in (f x) ≡ Some (number_in (f (get_or plain 0 (Literal Null)))) = rw first_is (integer_in (f x) here) in
+    candidate_parts n (f x ∷ map f readings) (integer_is_id (f x) here) integers
     ∙ rw (id, numbers, auxiliary) refl
 
 -- ---- how they are looked up
@@ -148,19 +163,8 @@ fits_same names values (source.Minus name z) r e =
     let found = place_in (place_of names name) (λ place. Minus place z) r e in
     rw (← found.2) (ap (λ (v : Value). fits_bits 63 (number_in v -ℤ z)) (value_there names values name found.0 found.1))
 
--- a test of what each set reads
-pub tests_same : (names : List (List ℕ)) (f : Reading → Bool) (g : Source → Bool) → ((s : Source) (r : Reading) → reading_of names s ≡ Some r → f r ≡ g s) →
-    (sets : List Setting) (readings : List Reading) → AreReadings names sets readings → list_all f readings ≡ list_all (λ (set : Setting). g set.1) sets
-tests_same names f g each [] [] e = refl
-tests_same names f g each [] (r ∷ rs) e = cc
-tests_same names f g each (set ∷ sets) [] e = cc
-tests_same names f g each (set ∷ sets) (r ∷ rs) e =
-    let here : reading_of names set.1 ≡ Some r = cc in
-    let later : AreReadings names sets rs = cc in
-    rw (each set.1 r here, tests_same names f g each sets rs later)
-
 -- each column that a set reads is the table's
-read_known : (names : List (List ℕ)) (s : Source) (r : Reading) → reading_of names s ≡ Some r → list_all (has_name names) (columns_read s) ≡ true
+pub read_known : (names : List (List ℕ)) (s : Source) (r : Reading) → reading_of names s ≡ Some r → list_all (has_name names) (columns_read s) ≡ true
 read_known names (source.Literal v) r e = refl
 read_known names (source.Column name) r e =
     let found = place_in (place_of names name) (λ place. Column place) r e in rw (present names name found.0 found.1)
@@ -168,66 +172,6 @@ read_known names (source.Plus name z) r e =
     let found = place_in (place_of names name) (λ place. Plus place z) r e in rw (present names name found.0 found.1)
 read_known names (source.Minus name z) r e =
     let found = place_in (place_of names name) (λ place. Minus place z) r e in rw (present names name found.0 found.1)
-
-pub reads_known : (names : List (List ℕ)) (sets : List Setting) (readings : List Reading) → AreReadings names sets readings → reads_columns names sets ≡ true
-reads_known names [] readings e = refl
-reads_known names (set ∷ sets) [] e = cc
-reads_known names (set ∷ sets) (r ∷ rs) e =
-    let here : reading_of names set.1 ≡ Some r = cc in
-    let later : AreReadings names sets rs = cc in
-    rw (read_known names set.1 r here) (reads_known names sets rs later)
-
--- what the first set that passes gives
-given_behind : (b : Bool) (n : ℕ) (values : List Value) (r : Reading) (rs : List Reading) (d : Value) →
-    option_map_or (λ at. read values (get_or (r ∷ rs) at (Literal Null))) (cond b (Some (suc n)) None) d
-    ≡ option_map_or (λ at. read values (get_or rs at (Literal Null))) (cond b (Some n) None) d
-given_behind true n values r rs d = refl
-given_behind false n values r rs d = refl
-
-given_step : (b : Bool) (n len : ℕ) (values : List Value) (r : Reading) (rs : List Reading) (s : Setting) (later : Option Setting) (g : Setting → Value) (d : Value) →
-    read values r ≡ g s →
-    option_map_or (λ at. read values (get_or rs at (Literal Null))) (cond (nat_lt n len) (Some n) None) d ≡ option_map_or g later d →
-    option_map_or (λ at. read values (get_or (r ∷ rs) at (Literal Null))) (cond (nat_lt (cond (not b) (1 + n) 0) (suc len)) (Some (cond (not b) (1 + n) 0)) None) d
-    ≡ option_map_or g (cond b (Some s) later) d
-given_step true n len values r rs s later g d here e = rw (← first len) here
-given_step false n len values r rs s later g d here e =
-    let one : 1 + n ≡ suc n = omega arith in
-    let back : nat_lt (1 + n) (suc len) ≡ nat_lt n len = sym (less n len) in
-    let same = rw one at back in
-    rw (one, same) (given_behind (nat_lt n len) n values r rs d ∙ e)
-
-given_there : (names : List (List ℕ)) (values : List Value) (p : Setting → Bool) (sets : List Setting) (readings : List Reading) (d : Value) → AreReadings names sets readings →
-    option_map_or (λ at. read values (get_or readings at (Literal Null))) (position p sets) d ≡ option_map_or (λ (set : Setting). given names values set.1) (find p sets) d
-given_there names values p [] readings d e = refl
-given_there names values p (set ∷ sets) [] d e = cc
-given_there names values p (set ∷ sets) (r ∷ rs) d e =
-    let here : reading_of names set.1 ≡ Some r = cc in
-    let later : AreReadings names sets rs = cc in
-    given_step (p set) (position_or_len p sets) (length sets) values r rs set (find p sets) (λ (s : Setting). given names values s.1) d
-    (reads_same names values set.1 r here) (given_there names values p sets rs d later)
-
-filled_by : (readings : List Reading) (values : List Value) (o : Option ℕ) (k : Fill) →
-    filled readings values (option_map_or (λ at. Set at) o k) ≡ option_map_or (λ at. read values (get_or readings at (Literal Null))) o (filled readings values k)
-filled_by readings values None k = refl
-filled_by readings values (Some at) k = refl
-
-kept_by : (o : Option ℕ) (names : List (List ℕ)) (values : List Value) (name : List ℕ) → place_of names name ≡ o → has_name names name ≡ true →
-    get_or values (option_map_or (λ place. place) o 0) Null ≡ value_in names values name
-kept_by None names values name e h = let no_name : has_name names name ≡ false = absent names name e in absurd (let off : true ≡ false = sym h ∙ no_name in cc)
-kept_by (Some p) names values name e h = value_there names values name p e
-
-new_there : (names : List (List ℕ)) (values : List Value) (sets : List Setting) (readings : List Reading) (name : List ℕ) → AreReadings names sets readings → has_name names name ≡ true →
-    filled readings values (fill_of names sets name) ≡ new_value names values sets name
-new_there names values sets readings name e h =
-    filled_by readings values (position (λ (set : Setting). same_name name set.0) sets) (Kept (option_map_or (λ place. place) (place_of names name) 0))
-    ∙ given_there names values (λ (set : Setting). same_name name set.0) sets readings (get_or values (option_map_or (λ place. place) (place_of names name) 0) Null) e
-    ∙ ap (λ (v : Value). option_map_or (λ (set : Setting). given names values set.1) (find (λ (set : Setting). same_name name set.0) sets) v) (kept_by (place_of names name) names values name refl h)
-
-news_there : (names : List (List ℕ)) (values : List Value) (sets : List Setting) (readings : List Reading) (some : List (List ℕ)) → AreReadings names sets readings → list_all (has_name names) some ≡ true →
-    map (filled readings values) (map (fill_of names sets) some) ≡ map (new_value names values sets) some
-news_there names values sets readings [] e h = refl
-news_there names values sets readings (name ∷ some) e h =
-    rw (new_there names values sets readings name e (head (has_name names name) (list_all (has_name names) some) h), news_there names values sets readings some e (tail (has_name names name) (list_all (has_name names) some) h))
 
 -- each column has its own name
 pub name_itself : (name : List ℕ) → same_name name name ≡ true
@@ -250,17 +194,6 @@ own_rest before [] = refl
 own_rest before (name ∷ rest) =
     let later = subst (λ (xs : List (List ℕ)). list_all (has_name xs) rest ≡ true) (append_assoc before (name ∷ []) rest) (own_rest (before ++ name ∷ []) rest) in
     both_true (has_name (before ++ name ∷ rest) name) (list_all (has_name (before ++ name ∷ rest)) rest) (own_there before name rest) later
-
-pub settings_same : (names : List (List ℕ)) (values : List Value) (sets : List Setting) (readings : List Reading) → AreReadings names sets readings →
-    map (filled readings values) (map (fill_of names sets) names) ≡ map (new_value names values sets) names
-settings_same names values sets readings e = news_there names values sets readings names e (own_rest [] names)
-
--- where no two columns have one name, a column's own place is that of its name
-pub own_fill : (names : List (List ℕ)) (sets : List Setting) (k : ℕ) (name : List ℕ) → are_distinct names ≡ true → k < length names → name ≡ get_or names k name →
-    option_map_or (λ at. Set at) (position (λ (set : Setting). same_name name set.0) sets) (Kept k) ≡ fill_of names sets (get_or names k name)
-own_fill names sets k name distinct within is =
-    let place : place_of names name ≡ Some k = ap (place_of names) is ∙ own_place names k name distinct within in
-    subst (λ (other : List ℕ). option_map_or (λ at. Set at) (position (λ (set : Setting). same_name name set.0) sets) (Kept k) ≡ fill_of names sets other) is (rw place refl)
 
 -- a test of the names of sets is a test of the sets
 pub set_among : (sets : List Setting) (name : List ℕ) → list_any (λ (set : Setting). same_name name set.0) sets ≡ has_name (set_names sets) name

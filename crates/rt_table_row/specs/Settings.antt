@@ -1,8 +1,8 @@
 -- What an UPDATE sets, looked up: the columns that the sources read, and where each column's new value comes from.
 -- Source: own.
-use Rattle.std.specs.Prelude.{◌≡◌, ◌⊎◌, ℕ, ◌+ℤ◌, ◌-ℤ◌, Bool, true, false, not, ◌&&◌, if◌then◌else◌, List, map, length, position, Option, Some, Result, Err, slice_index_or}
-use Rattle.std.specs.Option.{option_map, option_map_or}
-use Rattle.std.specs.List.{list_all}
+use Rattle.std.specs.Prelude.{◌≡◌, ◌⊎◌, ℕ, suc, ◌<◌, ◌+ℤ◌, ◌-ℤ◌, Bool, true, false, not, ◌&&◌, if◌then◌else◌, List, [], ◌∷◌, map, length, Option, Some, Result, Err, slice_index_or}
+use Rattle.std.specs.Option.{option_map}
+use Rattle.std.specs.List.{list_all, list_any}
 use Rattle.rt_sql_statement.specs.declared.value.Value.{Value}
 use Rattle.rt_sql_statement.specs.declared.value.Value.TheVariants.{Null, Int}
 use Rattle.rt_sql_statement.specs.declared.refusal.Refusal.{Refusal}
@@ -12,11 +12,14 @@ use Rattle.rt_sql_statement.specs.declared.statement.Source.{Source}
 use Rattle.rt_sql_statement.specs.declared.statement.Source.TheVariants as source
 use Rattle.rt_table_row.specs.declared.settings.Reading.{Reading}
 use Rattle.rt_table_row.specs.declared.settings.Reading.TheVariants.{Literal, Column, Plus, Minus}
-use Rattle.rt_table_row.specs.declared.settings.Fill.{Fill}
-use Rattle.rt_table_row.specs.declared.settings.Fill.TheVariants.{Kept, Set}
 use Rattle.rt_table_row.specs.Columns.{Columns, place_of, has_name, are_distinct}
 use Rattle.rt_table_row.specs.Candidates.{Candidate, is_integer, number_in, fits_bits, id_value, coordinate_values, candidate_of}
-use Rattle.rt_table_row.specs.Edits.{Setting, columns_read, is_summable, sum_fits, new_values}
+use Rattle.rt_table_row.specs.Edits.{Setting, columns_read, is_summable, sum_fits, new_value, new_values}
+
+-- where a column's new value comes from: what the column at that place held, or what the reading at that place gives
+pub data Fill : Type 0 where
+  Kept : ℕ → Fill
+  Set : ℕ → Fill
 
 pub record LookedUp : Type 0 where
   pub readings : List Reading
@@ -94,14 +97,27 @@ reading_of names (source.Column name) = option_map (λ place. Column place) (pla
 reading_of names (source.Plus name number) = option_map (λ place. Plus place number) (place_of names name)
 reading_of names (source.Minus name number) = option_map (λ place. Minus place number) (place_of names name)
 
-abbrev pub AreReadings : List (List ℕ) → List Setting → List Reading → Type 0
-AreReadings names sets readings = map (λ (set : Setting). reading_of names set.1) sets ≡ map Some readings
+-- each column that a set is of or reads is the table's
+abbrev pub are_known : List (List ℕ) → List Setting → Bool
+are_known names sets = list_all (λ (set : Setting). has_name names set.0 && list_all (has_name names) (columns_read set.1)) sets
 
--- a set of this column, or else the column's own place
-abbrev pub fill_of : List (List ℕ) → List Setting → List ℕ → Fill
-fill_of names sets name =
-    option_map_or (λ at. Set at) (position (λ (set : Setting). same_name name set.0) sets) (Kept (option_map_or (λ place. place) (place_of names name) 0))
+abbrev pub has_set : List Setting → List ℕ → Bool
+has_set sets name = list_any (λ (set : Setting). same_name name set.0) sets
 
--- each column that a set reads is the table's
-abbrev pub reads_columns : List (List ℕ) → List Setting → Bool
-reads_columns names sets = list_all (λ (set : Setting). list_all (has_name names) (columns_read set.1)) sets
+-- There is a reading for each column, which gives its new value. Where no set is of the column, it reads itself.
+pub record AreReadings (names : List (List ℕ)) (sets : List Setting) (readings : List Reading) : Type 0 where
+  pub each : length readings ≡ length names
+  pub known : are_known names sets ≡ true
+  pub kept : (place : ℕ) → place < length names → has_set sets (slice_index_or names place []) ≡ false → slice_index_or readings place (Literal Null) ≡ Column place
+  pub summable : (values : List Value) → list_all (reads_integer values) readings ≡ list_all (λ (set : Setting). is_summable names values set.1) sets
+  pub fits : (values : List Value) → list_all (reading_fits values) readings ≡ list_all (λ (set : Setting). sum_fits names values set.1) sets
+  pub same : (values : List Value) (place : ℕ) → place < length names →
+      read values (slice_index_or readings place (Literal Null)) ≡ new_value names values sets (slice_index_or names place [])
+
+-- where there is a reading for each column, a column holds what the one at its own place gives
+abbrev pub own_fills : ℕ → List Reading → List Fill
+own_fills place [] = []
+own_fills place (reading ∷ readings) = Set place ∷ own_fills (suc place) readings
+
+abbrev pub looked_up : List Reading → LookedUp
+looked_up readings = record { readings = readings; fills = own_fills 0 readings }

@@ -1,16 +1,16 @@
 //! What an UPDATE sets.
 //!
-//! A `Reading` is what one set gives, and a `Fill` says where a column's new value comes from. Each refusal is
-//! looked for over all columns before the next (`update_row` in `specs/Edits.antt`; `specs/Settings.antt`).
+//! Each column has a `Reading`, which gives its new value; a column that isn't set reads itself. Each refusal is looked
+//! for over all columns before the next (`update_row` in `specs/Edits.antt`; `specs/Settings.antt`).
 
-ghost use Rattle.std.specs.Prelude.{◌≡◌, ◌⊎◌, ◌≤◌, ◌+◌, ◌*◌, [], true, false, length, map, IfOk, MatchOption, MatchResult};
+ghost use Rattle.std.specs.Prelude.{◌≡◌, ◌⊎◌, ◌≤◌, ◌+◌, ◌*◌, [], true, false, length, map, IfOk, MatchResult};
 ghost use Rattle.std.specs.List.{list_all, list_any};
 ghost use Rattle.rt_sql_statement.specs.declared.value.Value.TheVariants.{Null};
 ghost use Rattle.rt_table_row.specs.Rows.{values_of};
 ghost use Rattle.rt_table_row.specs.Entries.{view_row, field_value, candidate_as};
 ghost use Rattle.rt_table_row.specs.Candidates.{is_integer, number_in, id_value, coordinate_values};
 ghost use Rattle.rt_table_row.specs.Columns.{are_distinct, has_name};
-ghost use Rattle.rt_table_row.specs.Settings.{read, reads_integer, reading_fits, filled, candidate_set, set_names, reading_of, AreReadings, fill_of, reads_columns};
+ghost use Rattle.rt_table_row.specs.Settings.{read, reads_integer, reading_fits, candidate_set, set_names, reading_of, are_known, AreReadings, looked_up};
 ghost use Rattle.rt_sql_statement.specs.Name.{same_name};
 ghost use Rattle.rt_table_row.specs.Answers.{GivesAs};
 
@@ -22,22 +22,13 @@ use rt_sql_statement::{Items, Name, Refusal, Source, Value};
 use std::alloc::{AllocError, Global};
 use std::marker::Model;
 
-/// What a set gives its column; the column that it reads is looked up.
+/// What gives a column its new value. The column that is read is looked up.
 #[derive(Debug, Drop)]
 enum Reading {
     Literal(Value),
     Column(usize),
     Plus(usize, i64),
     Minus(usize, i64),
-}
-
-/// What a column holds afterwards.
-#[derive(Clone, Copy, Debug)]
-enum Fill {
-    /// What the column at that place held.
-    Kept(usize),
-    /// What the set at that place gives.
-    Set(usize),
 }
 
 /// The columns that are set, in their order.
@@ -110,54 +101,40 @@ fn reading_of(
     })
 }
 
+/// Where no column is set, each reads itself. No two have one name, so a column's own place is that of its name.
+fn own_readings(alloc: Global, columns: &[Name]) -> Result<Vec<Reading>, AllocError>
+    requires { are_distinct columns.now ≡ true }
+    ensures { IfOk result (λ readings. AreReadings columns.now [] readings.items) }
+{
+    let mut readings = Vec::with_capacity(alloc, columns.len())?;
+    for place in 0..columns.len() {
+        readings.push(Reading::Column(place))?;
+    }
+    Ok(readings)
+}
+
+/// What gives each column its new value. Each name in the sets is looked up once.
 fn readings_of(
     alloc: Global,
     columns: &[Name],
     sets: &[(Name, Source)],
 ) -> Result<Vec<Reading>, Refusal>
-    ensures { MatchResult result (λ readings. AreReadings columns.now sets.now readings.items) (λ refusal. ((refusal ≡ Refusal.NoSuchColumn) × (reads_columns columns.now sets.now ≡ false)) ⊎ (refusal ≡ Refusal.OutOfMemory)) }
-{
-    let mut readings = Vec::with_capacity(alloc, sets.len())?;
-    for set in sets {
-        match reading_of(alloc, columns, &set.1)? {
-            Some(reading) => readings.push(reading)?,
-            None => return Err(Refusal::NoSuchColumn),
-        }
-    }
-    Ok(readings)
-}
-
-/// What each column holds where none is set: what it held. No two have one name, so a column's own place is that of its name.
-fn all_kept(alloc: Global, columns: &[Name]) -> Result<Vec<Fill>, AllocError>
-    requires { are_distinct columns.now ≡ true }
-    ensures { IfOk result (λ fills. fills.items ≡ map (fill_of columns.now []) columns.now) }
-{
-    let mut fills = Vec::with_capacity(alloc, columns.len())?;
-    for place in 0..columns.len() {
-        fills.push(Fill::Kept(place))?;
-    }
-    Ok(fills)
-}
-
-/// What each column holds afterwards; none where a set is of no column. Each column that is set is looked up once.
-fn fills_of(
-    alloc: Global,
-    columns: &[Name],
-    sets: &[(Name, Source)],
-) -> Result<Option<Vec<Fill>>, AllocError>
     requires columns { are_distinct columns.now ≡ true }
     requires sets { are_distinct (set_names sets.now) ≡ true }
-    ensures { IfOk result (λ found. MatchOption found (list_all (has_name columns.now) (set_names sets.now) ≡ false)
-        (λ fills. (list_all (has_name columns.now) (set_names sets.now) ≡ true) × (fills.items ≡ map (fill_of columns.now sets.now) columns.now))) }
+    ensures { MatchResult result (λ readings. AreReadings columns.now sets.now readings.items)
+        (λ refusal. ((refusal ≡ Refusal.NoSuchColumn) × (are_known columns.now sets.now ≡ false)) ⊎ (refusal ≡ Refusal.OutOfMemory)) }
 {
-    let mut fills = all_kept(alloc, columns)?;
-    for at in 0..sets.len() {
-        let Some(place) = place_of(columns, &sets[at].0) else {
-            return Ok(None);
+    let mut readings = own_readings(alloc, columns)?;
+    for set in sets {
+        let Some(place) = place_of(columns, &set.0) else {
+            return Err(Refusal::NoSuchColumn);
         };
-        fills[place] = Fill::Set(at);
+        let Some(reading) = reading_of(alloc, columns, &set.1)? else {
+            return Err(Refusal::NoSuchColumn);
+        };
+        readings[place] = reading;
     }
-    Ok(Some(fills))
+    Ok(readings)
 }
 
 fn is_field_integer(field: Field<'_>) -> bool
@@ -237,36 +214,7 @@ fn read<const D: usize>(
     }
 }
 
-/// The new value of a column.
-fn filled<const D: usize>(
-    alloc: Global,
-    row: &RowView<'_, D>,
-    readings: &[Reading],
-    fill: Fill,
-) -> Result<Value, AllocError>
-    requires { list_all (reading_fits (values_of (view_row row.now))) readings.now ≡ true }
-    ensures { IfOk result (λ value. value ≡ filled readings.now (values_of (view_row row.now)) fill) }
-{
-    match fill {
-        Fill::Kept(place) => row.value_at(place).try_clone(alloc),
-        Fill::Set(at) if at < readings.len() => read(alloc, row, &readings[at]),
-        Fill::Set(_) => Ok(Value::Null),
-    }
-}
-
-/// The number of the new value of a column; 0 where that is none.
-fn number_filled<const D: usize>(row: &RowView<'_, D>, readings: &[Reading], fill: Fill) -> i64
-    requires { list_all (reading_fits (values_of (view_row row.now))) readings.now ≡ true }
-    ensures { result ≡ number_in (filled readings.now (values_of (view_row row.now)) fill) }
-{
-    match fill {
-        Fill::Kept(place) => field_number(row.value_at(place)),
-        Fill::Set(at) if at < readings.len() => number_read(row, &readings[at]),
-        Fill::Set(_) => 0,
-    }
-}
-
-/// Whether a set gives an integer, whatever its size.
+/// Whether an integer is read, whatever its size.
 fn gives_integer<const D: usize>(row: &RowView<'_, D>, reading: &Reading) -> bool
     ensures { result ≡ is_integer (read (values_of (view_row row.now)) reading.now) }
 {
@@ -274,21 +222,6 @@ fn gives_integer<const D: usize>(row: &RowView<'_, D>, reading: &Reading) -> boo
         Reading::Literal(value) => is_integer(value),
         Reading::Column(place) => is_field_integer(row.value_at(*place)),
         Reading::Plus(..) | Reading::Minus(..) => true,
-    }
-}
-
-/// Whether the new value of a column is an integer, whatever its size.
-fn is_filled_integer<const D: usize>(
-    row: &RowView<'_, D>,
-    readings: &[Reading],
-    fill: &Fill,
-) -> bool
-    ensures { result ≡ is_integer (filled readings.now (values_of (view_row row.now)) fill.now) }
-{
-    match fill {
-        Fill::Kept(place) => is_field_integer(row.value_at(*place)),
-        Fill::Set(at) if *at < readings.len() => gives_integer(row, &readings[*at]),
-        Fill::Set(_) => false,
     }
 }
 
@@ -312,49 +245,43 @@ fn do_sums_fit<const D: usize>(row: &RowView<'_, D>, readings: &[Reading]) -> bo
     )
 }
 
-fn are_filled_integers<const D: usize>(
-    row: &RowView<'_, D>,
-    readings: &[Reading],
-    fills: &[Fill],
-) -> bool
-    ensures { result ≡ list_all (λ fill. is_integer (filled readings.now (values_of (view_row row.now)) fill)) fills.now }
+fn are_integers<const D: usize>(row: &RowView<'_, D>, readings: &[Reading]) -> bool
+    ensures { result ≡ list_all (λ reading. is_integer (read (values_of (view_row row.now)) reading)) readings.now }
 {
-    fills.iter().all(
-        |fill: &Fill| -> bool
-            ensures { result ≡ is_integer (filled readings.entry.now (values_of (view_row row.entry.now)) fill.now) }
-        { is_filled_integer(row, readings, fill) },
+    readings.iter().all(
+        |reading: &Reading| -> bool
+            ensures { result ≡ is_integer (read (values_of (view_row row.entry.now)) reading.now) }
+        { gives_integer(row, reading) },
     )
 }
 
-fn all_filled<const D: usize>(
+fn all_read<const D: usize>(
     alloc: Global,
     row: &RowView<'_, D>,
     readings: &[Reading],
-    fills: &[Fill],
 ) -> Result<Vec<Value>, AllocError>
     requires { list_all (reading_fits (values_of (view_row row.now))) readings.now ≡ true }
-    ensures { IfOk result (λ values. values.items ≡ map (filled readings.now (values_of (view_row row.now))) fills.now) }
+    ensures { IfOk result (λ values. values.items ≡ map (read (values_of (view_row row.now))) readings.now) }
 {
-    let mut values = Vec::with_capacity(alloc, fills.len())?;
-    for fill in fills {
-        values.push(filled(alloc, row, readings, *fill)?)?;
+    let mut values = Vec::with_capacity(alloc, readings.len())?;
+    for reading in readings {
+        values.push(read(alloc, row, reading)?)?;
     }
     Ok(values)
 }
 
-/// The numbers of the new values of some columns.
-fn numbers_filled<const D: usize>(
+/// The numbers that are read.
+fn numbers_read<const D: usize>(
     row: &RowView<'_, D>,
     readings: &[Reading],
-    fills: &[Fill],
 ) -> ArrayVec<i64, MOST_COORDINATES>
-    requires few { length fills.now ≤ 6 }
+    requires few { length readings.now ≤ 6 }
     requires fit { list_all (reading_fits (values_of (view_row row.now))) readings.now ≡ true }
-    ensures { result.items ≡ map (λ fill. number_in (filled readings.now (values_of (view_row row.now)) fill)) fills.now }
+    ensures { result.items ≡ map (λ reading. number_in (read (values_of (view_row row.now)) reading)) readings.now }
 {
     let mut numbers = ArrayVec::new();
-    for fill in fills {
-        numbers.push(number_filled(row, readings, *fill));
+    for reading in readings {
+        numbers.push(number_read(row, reading));
     }
     numbers
 }
@@ -364,42 +291,41 @@ fn candidate<const D: usize>(
     alloc: Global,
     row: &RowView<'_, D>,
     readings: &[Reading],
-    fills: &[Fill],
 ) -> Result<Candidate<D>, Refusal>
     requires some { 1 ≤ D }
     requires few { D ≤ 3 }
-    requires long { 1 + 2 * D ≤ length fills.now }
-    ensures { GivesAs candidate_as (candidate_set D (record { readings = readings.now; fills = fills.now }) (values_of (view_row row.now))) result }
+    requires long { 1 + 2 * D ≤ length readings.now }
+    ensures { GivesAs candidate_as (candidate_set D (looked_up readings.now) (values_of (view_row row.now))) result }
 {
     if !are_summable(row, readings) {
         return Err(Refusal::WrongType);
     }
-    if !are_filled_integers(row, readings, &fills[..1 + 2 * D]) {
+    let (plain, auxiliary) = readings.split_at(1 + 2 * D);
+    if !are_integers(row, plain) {
         return Err(Refusal::WrongType);
     }
     if !do_sums_fit(row, readings) {
         return Err(Refusal::IntegerOutOfRange);
     }
-    let (plain, auxiliary) = fills.split_at(1 + 2 * D);
-    let id = number_filled(row, readings, plain[0]);
-    let coordinates = numbers_filled(row, readings, &plain[1..]);
-    let auxiliary = all_filled(alloc, row, readings, auxiliary)?;
+    let id = number_read(row, &plain[0]);
+    let coordinates = numbers_read(row, &plain[1..]);
+    let auxiliary = all_read(alloc, row, auxiliary)?;
     Candidate::from_numbers(Some(id), coordinates.as_slice(), Items::from_vec(auxiliary))
 }
 
 /// What an UPDATE sets, with its columns looked up once, so that no name is compared for a row.
 #[derive(Debug, Drop)]
 pub struct Settings {
+    /// One for each column, in their order.
     readings: Vec<Reading>,
-    fills: Vec<Fill>,
 }
 
 impl Model for Settings {
-    ghost use Rattle.rt_table_row.specs.Settings.{LookedUp};
+    ghost use Rattle.rt_table_row.specs.Settings.{LookedUp, looked_up};
 
     ghost Value = { LookedUp };
 
-    ghost view = { λ settings. record { readings = settings.readings.items; fills = settings.fills.items } };
+    ghost view = { λ settings. looked_up settings.readings.items };
 }
 
 impl Settings {
@@ -419,11 +345,8 @@ impl Settings {
         }
         // No two columns have one name.
         schema.facts();
-        let Some(fills) = fills_of(alloc, schema.names(), sets)? else {
-            return Err(Refusal::NoSuchColumn);
-        };
         let readings = readings_of(alloc, schema.names(), sets)?;
-        Ok(Settings { readings, fills })
+        Ok(Settings { readings })
     }
 
     /// What a row becomes. Sums are of whole numbers.
@@ -443,6 +366,6 @@ impl Settings {
         requires long { 1 + 2 * D ≤ length self.now.fills }
         ensures { GivesAs candidate_as (candidate_set D self.now (values_of (view_row row.now))) result }
     {
-        candidate(alloc, row, self.readings.as_slice(), self.fills.as_slice())
+        candidate(alloc, row, self.readings.as_slice())
     }
 }

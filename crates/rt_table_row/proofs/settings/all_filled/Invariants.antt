@@ -1,8 +1,0 @@
-use Rattle.std.proofs.Common.{◌≡◌, map, take}
-use Rattle.rt_table_row.specs.Rows.{values_of}
-use Rattle.rt_table_row.specs.Entries.{view_row}
-use Rattle.rt_table_row.specs.Settings.{filled}
-use Rattle.rt_table_row.proofs.settings.all_filled.Given as goal
-
-abbrev pub invariant-loop-fill : goal.invariant-loop-fill
-invariant-loop-fill g l = l.values.items ≡ map (filled l.readings (values_of (view_row l.row))) (take l.fill-index l.fills)
