@@ -12,22 +12,19 @@ use rt_tree_node::{Arena, Key, Node};
 /// processor sees that one line comes after the other, and brings the rest by itself.
 const FURTHER: usize = 8;
 
-/// A sum of what stands at the beginnings of a leaf's numbers and boxes, and at their ends.
+/// A sum of what stands on the lines of memory at which a leaf's numbers and boxes begin, and on one further on.
 fn sum_of<const D: usize>(leaf: &Node<D>) -> i64 {
-    let (numbers, boxes) = (leaf.numbers(), leaf.boxes());
-    let mut sum = numbers.len().min(boxes.len()) as i64;
-    if let Some(number) = numbers.first() {
-        sum = sum.wrapping_add(*number);
+    let count = leaf.len();
+    if count == 0 {
+        return 0;
     }
-    if let Some(rect) = boxes.first() {
-        rect.facts();
-        sum = sum.wrapping_add(i64::from(rect.range(0).lo));
-    }
-    if let Some(rect) = boxes.get(FURTHER) {
-        rect.facts();
-        sum = sum.wrapping_add(i64::from(rect.range(0).lo));
-    }
-    sum
+    let boxes = leaf.boxes();
+    let (first, further) = (&boxes[0], &boxes[FURTHER.min(count - 1)]);
+    first.facts();
+    further.facts();
+    leaf.numbers()[0]
+        .wrapping_add(i64::from(first.range(0).lo))
+        .wrapping_add(i64::from(further.range(0).lo))
 }
 
 /// Looks at all leaves at these keys. It takes few steps for each, since the fewer lie between two lines of memory, the

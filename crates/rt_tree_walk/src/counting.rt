@@ -21,7 +21,7 @@ fn count_admitted<const D: usize>(leaf: &Node<D>, window: &Window<D>) -> usize
     // A copy, which nothing that is written can change, stays in registers.
     let (boxes, window) = (leaf.boxes(), *window);
     let mut count = 0;
-    for at in 0..boxes.len() {
+    for at in 0..leaf.len() {
         let rect = &boxes[at];
         rect.facts();
         count += usize::from(window.admits(rect));

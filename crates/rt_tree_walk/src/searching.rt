@@ -70,7 +70,8 @@ pub(crate) fn child_of<const D: usize>(cell: &Cell<D>) -> Key
 }
 
 // Which cells pass a window's test can't be foreseen. So each is taken, and the next one in its place where it doesn't
-// pass: the end of what is taken moves by what the test gave, with no branch.
+// pass: the end of what is taken moves by what the test gave, with no branch. How many cells there are is read of the
+// numbers, where it lies beside the first box: that of the boxes lies on a line of memory of its own.
 
 /// Puts the positions of the cells whose boxes the window admits in front, and answers how many there are. Where the
 /// window is the reach of another one, these cells name the children that a search by the other one goes into.
@@ -85,7 +86,7 @@ fn put_admitted<const D: usize>(positions: &mut [u8], node: &Node<D>, window: &W
     let (boxes, window) = (node.boxes(), *window);
     node.facts();
     let mut count = 0;
-    for at in 0..boxes.len() {
+    for at in 0..node.len() {
         let rect = &boxes[at];
         rect.facts();
         positions[count] = at as u8;
@@ -144,7 +145,7 @@ fn take_many<const D: usize>(
     let alloc = *rows.allocator();
     let mut list = mem::replace(rows, Vec::new(alloc));
     let (boxes, window) = (leaf.boxes(), *window);
-    for at in 0..boxes.len() {
+    for at in 0..leaf.len() {
         let rect = &boxes[at];
         rect.facts();
         let admitted = window.admits(rect);
