@@ -134,6 +134,16 @@ set_all_done axes sets rows whole done left is none =
     is ∙ ap (λ (l : List TableRow). steps_and done (all_set axes sets (outcome rows done) l)) none
     ∙ ap (λ (l : List Step). let r : Steps = Ok l in r) (append-nil done)
 
+-- a single row
+pub set_one : (axes : ℕ) (sets : LookedUp) (rows found : List TableRow) (row : TableRow) (step : Step) → found ≡ row ∷ [] → row_set axes sets rows row ≡ Ok (step ∷ []) →
+    all_set axes sets rows found ≡ Ok (step ∷ [])
+set_one axes sets rows found row step is one = rw (is, one) refl
+
+pub set_one_refused : (axes : ℕ) (sets : LookedUp) (rows found : List TableRow) (row : TableRow) (refusal : Refusal) → found ≡ row ∷ [] →
+    (row_set axes sets rows row ≡ Err refusal) ⊎ (refusal ≡ OutOfMemory) → (all_set axes sets rows found ≡ Err refusal) ⊎ (refusal ≡ OutOfMemory)
+set_one_refused axes sets rows found row refusal is (inl one) = inl (rw (is, one) refl)
+set_one_refused axes sets rows found row refusal is (inr memory) = inr memory
+
 -- the same by names
 then_after : {A B : Type 0} (a b c : Bool) (e f g : Refusal) (x : Result A Refusal) (next : A → Result B Refusal) →
     and_then (cond (not a) (Err e) (cond (not b) (Err f) (cond (not c) (Err g) x))) next

@@ -3,7 +3,7 @@
 //! The rows are picked at the start, and then change one after the other. So an id is taken while a row has it,
 //! even if that row gets another id later.
 
-ghost use Rattle.std.specs.Prelude.{◌≡◌, ◌≤◌, ◌+◌, ◌*◌, All, length, map, filter, List};
+ghost use Rattle.std.specs.Prelude.{◌≡◌, ◌≤◌, ◌+◌, ◌*◌, All, [], ◌∷◌, length, map, filter, List};
 ghost use Rattle.std.specs.List.{filter_map};
 ghost use Rattle.rt_table_row.specs.Answers.{GivesAs};
 ghost use Rattle.rt_table_row.specs.Rows.{TableRow};
@@ -85,6 +85,27 @@ fn all_steps<const D: usize>(
     Ok(draft.steps)
 }
 
+/// The steps for a single row that stands in the table: one, with none before it.
+fn lone_step<const D: usize>(
+    alloc: Global,
+    keys: RandomState,
+    store: &Store<D>,
+    settings: &Settings,
+    row: &Row<D>,
+) -> Result<Vec<Step<D>>, Refusal>
+    requires some { 1 ≤ D }
+    requires few { D ≤ 3 }
+    requires long { 1 + 2 * D ≤ length settings.now.fills }
+    requires stands { Stands store.now.rows row.now }
+    ensures { GivesAs (λ steps. map step_of steps.items) (all_set D settings.now store.now.rows (filter_map (row_of store.now.rows) (row.now ∷ []))) result }
+{
+    let draft = Draft::new(alloc, keys);
+    let step = row_step(alloc, store, &draft, settings, &store.view(row))?;
+    let mut steps = Vec::with_capacity(alloc, 1)?;
+    steps.push_reserved(step);
+    Ok(steps)
+}
+
 /// The steps of the rows of which the condition holds. Where it fixes an id, that is one row at most, and no list of rows
 /// is made.
 fn picked_steps<const D: usize>(
@@ -102,8 +123,10 @@ fn picked_steps<const D: usize>(
     // The rows rise by id.
     store.facts();
     if let Some(id) = condition.id() {
-        let row = store.passing_row(condition, &id);
-        return all_steps(alloc, keys, store, settings, row.as_slice());
+        return match store.passing_row(condition, &id) {
+            Some(row) => lone_step(alloc, keys, store, settings, &row),
+            None => Ok(Vec::new(alloc)),
+        };
     }
     let rows = store.picked_rows(alloc, condition)?;
     all_steps(alloc, keys, store, settings, rows.as_slice())
