@@ -1,5 +1,5 @@
 -- A condition whose columns were looked up: each test has the place of the column that it looks at. Source: own.
-use Rattle.std.specs.Prelude.{◌≡◌, ◌⊎◌, ℕ, ◌==◌, Bool, true, false, not, ◌&&◌, List, map, zip, Some, slice_index_or}
+use Rattle.std.specs.Prelude.{◌≡◌, ◌⊎◌, ℕ, ◌==◌, Bool, true, false, not, ◌&&◌, List, [], ◌∷◌, map, zip, Some, slice_index_or}
 use Rattle.std.specs.List.{list_all}
 use Rattle.rt_sql_statement.specs.declared.value.Value.{Value}
 use Rattle.rt_sql_statement.specs.declared.value.Value.TheVariants.{Null}
@@ -9,6 +9,8 @@ use Rattle.rt_sql_statement.specs.declared.statement.Test.{Test}
 use Rattle.rt_sql_statement.specs.declared.statement.Test.TheVariants.{Compare, IsNull, IsNotNull}
 use Rattle.rt_sql_statement.specs.declared.refusal.Refusal.{Refusal}
 use Rattle.rt_sql_statement.specs.declared.refusal.Refusal.TheVariants.{NoSuchColumn, OutOfMemory}
+use Rattle.rt_table_row.specs.declared.filter.TestPlaces.{TestPlaces}
+use Rattle.rt_table_row.specs.declared.filter.TestPlaces.TheVariants.{One, Many}
 use Rattle.rt_table_row.specs.Values.{is_null, compares}
 use Rattle.rt_table_row.specs.Columns.{Columns, place_of}
 use Rattle.rt_table_row.specs.Conditions.{column_of, has_columns, holds}
@@ -18,6 +20,11 @@ use Rattle.rt_table_row.specs.Rows.{TableRow, values_of}
 pub record Placed : Type 0 where
   pub cond : List Test
   pub places : List ℕ
+
+-- the places, wherever they stand
+abbrev pub places_at : TestPlaces → List ℕ
+places_at (One place) = place ∷ []
+places_at (Many places) = places.items
 
 -- the value passes the test
 abbrev pub value_passes : Value → Test → Bool

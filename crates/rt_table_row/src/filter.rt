@@ -6,7 +6,7 @@
 ghost use Rattle.std.specs.Prelude.{◌≡◌, zip, true, false, IfSome, IfNone, MatchResult};
 ghost use Rattle.std.specs.List.{list_all, list_any};
 ghost use Rattle.rt_table_row.specs.Conditions.{column_of};
-ghost use Rattle.rt_table_row.specs.Filters.{value_passes, passes_at, fixes_id, ArePlaces, IsFilterOf, IsUnknown};
+ghost use Rattle.rt_table_row.specs.Filters.{value_passes, passes_at, fixes_id, places_at, ArePlaces, IsFilterOf, IsUnknown};
 ghost use Rattle.rt_table_row.specs.Windows.{is_said};
 ghost use Rattle.rt_table_row.specs.Entries.{view_row, field_value};
 ghost use Rattle.rt_table_row.specs.Rows.{TableRow};
@@ -20,6 +20,7 @@ use rt_box::Window;
 use rt_sql_statement::{Compare, Cond, Name, Operator, Refusal, Test, Value};
 use std::alloc::Global;
 use std::marker::Model;
+use std::slice;
 
 fn column_of(test: &Test) -> &Name
     ensures { result.now ≡ column_of test.now }
@@ -129,8 +130,29 @@ fn are_said(coordinates: usize, tests: &[Test], places: &[usize]) -> bool
     )
 }
 
-/// The places of the columns that the tests look at.
-fn places_of(alloc: Global, schema: &Schema, cond: &[Test]) -> Result<Vec<usize>, Refusal>
+/// The places of the columns that a condition's tests look at. Most conditions have one test, whose place takes no memory
+/// beside its own.
+#[derive(Debug, Drop)]
+enum TestPlaces {
+    One(usize),
+    Many(Vec<usize>),
+}
+
+impl TestPlaces {
+    ghost use Rattle.rt_table_row.specs.Filters.{places_at};
+
+    fn as_slice(&self) -> &[usize]
+        ensures { result.now ≡ places_at self.now }
+    {
+        match self {
+            TestPlaces::One(place) => slice::from_ref(place),
+            TestPlaces::Many(places) => places.as_slice(),
+        }
+    }
+}
+
+/// The places one behind the other, in a list.
+fn list_of(alloc: Global, schema: &Schema, cond: &[Test]) -> Result<Vec<usize>, Refusal>
     ensures { MatchResult result (λ places. ArePlaces schema.now.names cond.now places.items) (λ refusal. IsUnknown schema.now cond.now refusal) }
 {
     let mut places = Vec::with_capacity(alloc, cond.len())?;
@@ -143,11 +165,24 @@ fn places_of(alloc: Global, schema: &Schema, cond: &[Test]) -> Result<Vec<usize>
     Ok(places)
 }
 
+/// The places of the columns that the tests look at.
+fn places_of(alloc: Global, schema: &Schema, cond: &[Test]) -> Result<TestPlaces, Refusal>
+    ensures { MatchResult result (λ places. ArePlaces schema.now.names cond.now (places_at places)) (λ refusal. IsUnknown schema.now cond.now refusal) }
+{
+    if let [test] = cond {
+        return match schema.place_of(column_of(test)) {
+            Some(place) => Ok(TestPlaces::One(place)),
+            None => Err(Refusal::NoSuchColumn),
+        };
+    }
+    Ok(TestPlaces::Many(list_of(alloc, schema, cond)?))
+}
+
 /// A condition whose columns were looked up once, so that no name is compared for a row.
 #[derive(Debug)]
 pub struct Filter {
     cond: Cond,
-    places: Vec<usize>,
+    places: TestPlaces,
 }
 
 // By hand, since a derived drop is written out, field by field, wherever such a value ends.
@@ -158,11 +193,11 @@ impl Drop for Filter {
 }
 
 impl Model for Filter {
-    ghost use Rattle.rt_table_row.specs.Filters.{Placed};
+    ghost use Rattle.rt_table_row.specs.Filters.{Placed, places_at};
 
     ghost Value = { Placed };
 
-    ghost view = { λ filter. record { cond = filter.cond; places = filter.places.items } };
+    ghost view = { λ filter. record { cond = filter.cond; places = places_at filter.places } };
 }
 
 impl Filter {

@@ -11,5 +11,5 @@ returns-in-None c =
     let missing : place_of c.args.schema.now.names c.column_of.result.now ≡ None = search rules in
     let unknown : has_name c.args.schema.now.names c.column_of.result.now ≡ false = absent c.args.schema.now.names c.column_of.result.now missing in
     let here : has_name c.args.schema.now.names (column_of c.test-item.result) ≡ false = search rules in
-    let same : get_or c.args.cond.now c.loop-test.test-index c.test-item.result ≡ c.test-item.result = search rules in
-    inl (refl, list_all_at (λ (test : Test). has_name c.args.schema.now.names (column_of test)) c.args.cond.now c.loop-test.test-index c.test-item.result (omega arith) (rw same here))
+    let same : get_or c.args.cond.now 0 c.test-item.result ≡ c.test-item.result = search rules in
+    inl (refl, list_all_at (λ (test : Test). has_name c.args.schema.now.names (column_of test)) c.args.cond.now 0 c.test-item.result (omega arith) (rw same here))
