@@ -71,11 +71,10 @@ fn finish(tokens: &Tokens<'_>) -> Result<(), Refusal>
     Ok(())
 }
 
-/// Refuses what was read of a statement that doesn't end where it should. It stands apart, since to drop a statement takes
-/// long code.
+/// Refuses a statement that doesn't end where it should. It stands apart, since to drop a statement takes long code.
 #[cold]
 #[inline(never)]
-fn refused(_asked: Result<Stmt, Refusal>) -> Result<Stmt, Refusal>
+fn refused(_asked: Stmt) -> Result<Stmt, Refusal>
     ensures { result ≡ Err Refusal.SyntaxError }
 {
     Err(Refusal::SyntaxError)
@@ -108,18 +107,14 @@ fn whole_statement(
 ) -> Result<Stmt, Refusal>
     ensures { Reads (reading.whole_statement (number_by numbers) tokens.old) result tokens.new }
 {
-    // The statement stays where it was put: it is large, and to take it out and back costs two copies.
-    let asked = statement(alloc, tokens, numbers);
-    if asked.is_err() {
-        return asked;
-    }
+    let asked = statement(alloc, tokens, numbers)?;
     if !tokens.eat_sign(Sign::Semicolon) {
         return refused(asked);
     }
     if finish(tokens).is_err() {
         return refused(asked);
     }
-    asked
+    Ok(asked)
 }
 
 /// The statement that all of the tokens spell.

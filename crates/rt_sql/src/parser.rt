@@ -60,10 +60,9 @@ fn refusal(alloc: Global, text: &str) -> Refusal
 fn parse_text(alloc: Global, text: &str) -> Result<Stmt, Refusal>
     ensures { (result ≡ Err Refusal.OutOfMemory) ⊎ ParsesText text.now result }
 {
-    // The statement stays where it was put: it is large, and to take it out and back costs two copies.
-    let parsed = whole(alloc, &mut Tokens::new(text), Numbers::Within64Bits);
-    match &parsed {
-        Ok(_) | Err(Refusal::OutOfMemory) => parsed,
+    match whole(alloc, &mut Tokens::new(text), Numbers::Within64Bits) {
+        Ok(statement) => Ok(statement),
+        Err(Refusal::OutOfMemory) => Err(Refusal::OutOfMemory),
         Err(_) => Err(refusal(alloc, text)),
     }
 }
