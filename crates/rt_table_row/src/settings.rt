@@ -186,7 +186,8 @@ fn reading_fits<const D: usize>(row: &RowView<'_, D>, reading: &Reading) -> bool
     }
 }
 
-/// The number that a set gives, where it gives one.
+/// The number that is read, of an integer.
+#[inline(always)]
 fn number_read<const D: usize>(row: &RowView<'_, D>, reading: &Reading) -> i64
     requires { reading_fits (values_of (view_row row.now)) reading.now ≡ true }
     ensures { result ≡ number_in (read (values_of (view_row row.now)) reading.now) }
@@ -356,6 +357,7 @@ impl Settings {
     /// The first of these that holds: `WrongType` where a sum is of no integer, or an id or a coordinate is
     /// none; `IntegerOutOfRange` where a sum has more than 64 bits, or a coordinate more than 32;
     /// `MinimumAboveMaximum`; or `OutOfMemory`.
+    #[inline(always)]
     pub fn candidate<const D: usize>(
         &self,
         alloc: Global,
