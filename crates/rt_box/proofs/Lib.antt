@@ -4,5 +4,6 @@ pub mod Measures
 pub mod Holding
 pub mod Made
 pub mod Equality
+pub mod Lanes
 pub mod Windows
 pub mod Narrowing

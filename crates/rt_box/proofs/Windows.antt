@@ -1,7 +1,6 @@
 -- Lemmas on windows.
-use Rattle.std.proofs.Common.{◌≡◌, ℕ, zero, suc, ◌+◌, ◌*◌, ◌<◌, ◌≤◌, ◌↔◌, inl, inr, Bool, ℤ, pos, ◌≤ℤ◌, List, [], ◌∷◌, length, get_or, set, replicate, All, arith, refl, ap, ◌∙◌, w32, FitsSigned}
+use Rattle.std.proofs.Common.{◌≡◌, ℕ, zero, suc, ◌+◌, ◌*◌, ◌<◌, ◌↔◌, Bool, ℤ, pos, ◌≤ℤ◌, List, [], ◌∷◌, length, get_or, set, replicate, All, arith, refl, ap, ◌∙◌, w32, FitsSigned}
 use Rattle.std.specs.Int.{int_min, int_max}
-use Rattle.std.proofs.lemmas.Bool.{cases_eq, cases_lt}
 use Rattle.std.proofs.lemmas.Int.{ints, clamps}
 use Rattle.std.proofs.lemmas.List.{length-set, get_or_default, get_or-set_same, get_or-set_other, length-replicate}
 use Rattle.std.proofs.lemmas.List.Elements.{All-head, All-tail, All-nil, All-cons, All-get_or}
@@ -12,7 +11,7 @@ use Rattle.rt_box.specs.declared.window.Ends.{Ends}
 use Rattle.rt_box.specs.Interval.{interval, Includes, Covers, FitsEnds}
 use Rattle.rt_box.specs.Operators.{Keeps}
 use Rattle.rt_box.specs.Rect.{IsBox, Holds}
-use Rattle.rt_box.specs.Ends.{in_order, paired_up, paired_up-in_order, AdmitsSide, KeepsLeast, KeepsGreatest, OnAxes, MayHoldSide, Reaches}
+use Rattle.rt_box.specs.Ends.{in_order, paired_up, paired_up-in_order, AdmitsSide, AdmitsAxis, MayHoldSide, Reaches}
 use Rattle.rt_box.proofs.Made.{IsOrdered}
 use Rattle.rt_box.specs.Window.{Allows, IsUnlimited, Narrows, Admits, MayHold, IsReach}
 
@@ -212,54 +211,16 @@ pub MayHold-side : (axes : ℕ) (es : List Ends) (b : List Interval) (i : ℕ) (
     MayHold axes (in_order es) b → MayHoldSide (get_or es i e) (get_or b i d)
 MayHold-side axes es b i e d l m = side_of es b m.0 i e d l m.1.ordered m.2 m.3
 
--- ---- what the loops over the axes cite: the window's view is the pairs in order, and x is the box's side at i
+-- ---- what the functions on axes cite: the window's view is the pairs in order, and x is the box's side at i
 
-pub sides_here : (P : Ends → Interval → Type 0) (es : List Ends) (b : List Interval) (i : ℕ) (here : Ends) (x : Interval) →
-    i < length es → i < length b → x ≡ get_or b i x → P (get_or es i here) x →
-    (e : Ends) (d : Interval) → P (get_or es i e) (get_or b i d)
-sides_here P es b i here x in_es in_b x_is holds e d =
+pub axis_from_side : (es : List Ends) (b : List Interval) (i : ℕ) (here : Ends) (x : Interval) →
+    i < length es → i < length b → x ≡ get_or b i x → AdmitsSide (get_or es i here) x → AdmitsAxis es b i
+axis_from_side es b i here x in_es in_b x_is holds e d =
     rw (get_or_default es i e here in_es, get_or_default b i d x in_b, ← x_is) holds
 
-pub side_here : (P : Ends → Interval → Type 0) (es : List Ends) (b : List Interval) (i : ℕ) (here : Ends) (x : Interval) → x ≡ get_or b i x →
-    ((e : Ends) (d : Interval) → P (get_or es i e) (get_or b i d)) → P (get_or es i here) x
-side_here P es b i here x x_is holds = rw x_is (holds here x)
-
--- one axis more, from one on
-pub axis_more : (P : Ends → Interval → Type 0) (es : List Ends) (b : List Interval) (from axis : ℕ) (here : Ends) (x : Interval) →
-    axis < length es → axis < length b → x ≡ get_or b axis x →
-    OnAxes P es b from axis → P (get_or es axis here) x → OnAxes P es b from (axis + 1)
-axis_more P es b from axis here x in_es in_b x_is before holds i low high e d = elim (cases_eq i axis) [
-  | inl same ↦ rw same (sides_here P es b axis here x in_es in_b x_is holds e d)
-  | inr ne ↦ before i low (omega (arith, ne)) e d
-]
-
-pub axis_fewer : (P : Ends → Interval → Type 0) (es : List Ends) (b : List Interval) (from axis : ℕ) (here : Ends) (x : Interval) →
-    from ≤ axis → x ≡ get_or b axis x →
-    OnAxes P es b from (axis + 1) → P (get_or es axis here) x
-axis_fewer P es b from axis here x low x_is h = side_here P es b axis here x x_is (h axis low (omega arith))
-
--- a side is admitted exactly where its least and its greatest numbers are kept
-pub both_kept : (es : List Ends) (b : List Interval) (from to : ℕ) → OnAxes KeepsLeast es b from to → OnAxes KeepsGreatest es b from to →
-    OnAxes AdmitsSide es b from to
-both_kept es b from to least greatest i low high e d =
-    let l = least i low high e d in
-    let g = greatest i low high e d in
-    ((l.0, g.0), (l.1, g.1))
-
-pub least_kept : (es : List Ends) (b : List Interval) (from to : ℕ) → OnAxes AdmitsSide es b from to → OnAxes KeepsLeast es b from to
-least_kept es b from to h i low high e d = let here = h i low high e d in (here.0.0, here.1.0)
-
-pub greatest_kept : (es : List Ends) (b : List Interval) (from to : ℕ) → OnAxes AdmitsSide es b from to → OnAxes KeepsGreatest es b from to
-greatest_kept es b from to h i low high e d = let here = h i low high e d in (here.0.1, here.1.1)
-
--- the axes of two ranges that meet are all axes
-pub axes_joined : (es : List Ends) (b : List Interval) (first axes : ℕ) → length es ≡ axes →
-    OnAxes AdmitsSide es b 0 first → OnAxes AdmitsSide es b first axes →
-    (i : ℕ) (e : Ends) (d : Interval) → i < length es → AdmitsSide (get_or es i e) (get_or b i d)
-axes_joined es b first axes long start rest i e d below = elim (cases_lt i first) [
-  | inl before ↦ start i (omega arith) before e d
-  | inr after ↦ rest i (omega (arith, after)) (omega (arith, below, long)) e d
-]
+pub side_from_axis : (es : List Ends) (b : List Interval) (i : ℕ) (here : Ends) (x : Interval) → x ≡ get_or b i x →
+    AdmitsAxis es b i → AdmitsSide (get_or es i here) x
+side_from_axis es b i here x x_is holds = rw x_is (holds here x)
 
 pub Admits-sides : (es : List Ends) (window b : List Interval) (i : ℕ) (e : Ends) (d : Interval) →
     in_order es ≡ window → i < length es → Admits window b → AdmitsSide (get_or es i e) (get_or b i d)

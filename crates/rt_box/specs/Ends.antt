@@ -1,5 +1,5 @@
 -- The pairs in which a window keeps its intervals, one pair for each axis.
-use Rattle.std.specs.Prelude.{◌≡◌, ◌↔◌, ℕ, ◌<◌, ◌≤◌, List, [], ◌∷◌, ◌≤ℤ◌, slice_index_or}
+use Rattle.std.specs.Prelude.{◌≡◌, ◌↔◌, ℕ, List, [], ◌∷◌, ◌≤ℤ◌, slice_index_or}
 use Rattle.std.proofs.Common.{refl, ap}
 use Rattle.rt_box.specs.declared.interval.Interval.{Interval}
 use Rattle.rt_box.specs.declared.window.Ends.{Ends}
@@ -23,17 +23,9 @@ paired_up-in_order (e ∷ es) = ap (λ rest. e ∷ rest) (paired_up-in_order es)
 abbrev pub AdmitsSide : Ends → Interval → Type 0
 AdmitsSide e side = Includes e.lo side.lo × Includes e.hi side.hi
 
--- neither end of a side is below the least number that it is allowed
-abbrev pub KeepsLeast : Ends → Interval → Type 0
-KeepsLeast e side = (e.lo.lo ≤ℤ side.lo) × (e.hi.lo ≤ℤ side.hi)
-
--- neither end of a side is above the greatest number that it is allowed
-abbrev pub KeepsGreatest : Ends → Interval → Type 0
-KeepsGreatest e side = (side.lo ≤ℤ e.lo.hi) × (side.hi ≤ℤ e.hi.hi)
-
--- so it is of the ends and the side on each axis from one on up to another
-abbrev pub OnAxes : (Ends → Interval → Type 0) → List Ends → List Interval → ℕ → ℕ → Type 0
-OnAxes P es b from to = (i : ℕ) → from ≤ i → i < to → (e : Ends) (d : Interval) → P (slice_index_or es i e) (slice_index_or b i d)
+-- both ends of the box's side on the axis are allowed
+abbrev pub AdmitsAxis : List Ends → List Interval → ℕ → Type 0
+AdmitsAxis es b axis = (e : Ends) (d : Interval) → AdmitsSide (slice_index_or es axis e) (slice_index_or b axis d)
 
 -- some interval within the side is admitted
 abbrev pub MayHoldSide : Ends → Interval → Type 0

@@ -5,20 +5,14 @@
 
 ghost use Rattle.std.specs.Prelude.{◌≡◌, ◌*◌, ◌<◌, ◌≤◌, ◌↔◌, IsTrue};
 ghost use Rattle.rt_box.specs.declared.interval.Interval.{Interval};
-ghost use Rattle.rt_box.specs.Ends.{AdmitsSide, KeepsLeast, KeepsGreatest, OnAxes, Reaches};
+ghost use Rattle.rt_box.specs.Ends.{AdmitsAxis, Reaches};
 ghost use Rattle.rt_box.specs.Window.{IsUnlimited, Narrows, Admits, MayHold, IsReach};
 
 use crate::interval::Interval;
 use crate::operator::Operator;
 use crate::rect::Rect;
 use std::marker::Model;
-
-// A search tests each box of a node, and which of them pass can't be foreseen: with `&` in the place of `&&` the tests
-// have no branches. The least numbers are compared apart from the greatest, and the third axis apart from the first two:
-// then four numbers of a box are compared by one instruction.
-
-/// How many axes of a box are compared together.
-const AXES_TOGETHER: usize = 2;
+use std::simd::prelude::*;
 
 /// The numbers that a window allows the two ends of a box on one axis.
 #[derive(Clone, Copy, Debug, PartialEq, Eq)]
@@ -28,20 +22,6 @@ struct Ends {
 }
 
 impl Ends {
-    /// Whether neither end of the side is below the least number that it is allowed.
-    fn keeps_least(&self, side: &Interval) -> bool
-        ensures { IsTrue result ↔ KeepsLeast self.now side.now }
-    {
-        self.lo.begins_by(side.lo) & self.hi.begins_by(side.hi)
-    }
-
-    /// Whether neither end of the side is above the greatest number that it is allowed.
-    fn keeps_greatest(&self, side: &Interval) -> bool
-        ensures { IsTrue result ↔ KeepsGreatest self.now side.now }
-    {
-        self.lo.lasts_to(side.lo) & self.hi.lasts_to(side.hi)
-    }
-
     /// What the ends of a side are where an interval that is admitted fits into it: the side begins no later than such
     /// an interval may, and ends no sooner.
     fn reach(self) -> Ends
@@ -66,44 +46,25 @@ impl Ends {
     }
 }
 
-/// Whether on each axis from one on up to another neither end of the box is below the least number that it is allowed.
-#[inline]
-fn keeps_least<const D: usize>(axes: &[Ends; D], rect: &Rect<D>, from: usize, to: usize) -> bool
-    requires order { from ≤ to }
-    requires within { to ≤ D }
-    ensures { IsTrue result ↔ OnAxes KeepsLeast axes.now rect.now from to }
-{
-    let mut kept = true;
-    for axis in from..to {
-        let ends = &axes[axis];
-        kept &= ends.keeps_least(rect.side(axis));
-    }
-    kept
-}
+// A search tests each box of a node, and which of them pass can't be foreseen, so the test has no branches: numbers are
+// compared four at once, and `&` stands in the place of `&&`.
 
-/// Whether on each axis from one on up to another neither end of the box is above the greatest number that it is allowed.
+/// Whether both ends of the box's side are allowed on one axis and on another. The four numbers are compared at once.
 #[inline]
-fn keeps_greatest<const D: usize>(axes: &[Ends; D], rect: &Rect<D>, from: usize, to: usize) -> bool
-    requires order { from ≤ to }
-    requires within { to ≤ D }
-    ensures { IsTrue result ↔ OnAxes KeepsGreatest axes.now rect.now from to }
+fn admits_two<const D: usize>(axes: &[Ends; D], rect: &Rect<D>, first: usize, second: usize) -> bool
+    requires first { first < D }
+    requires second { second < D }
+    ensures { IsTrue result ↔ (AdmitsAxis axes.now rect.now first × AdmitsAxis axes.now rect.now second) }
 {
-    let mut kept = true;
-    for axis in from..to {
-        let ends = &axes[axis];
-        kept &= ends.keeps_greatest(rect.side(axis));
-    }
-    kept
-}
-
-/// Whether both ends of the box's side are allowed on each axis from one on up to another.
-#[inline]
-fn admits_axes<const D: usize>(axes: &[Ends; D], rect: &Rect<D>, from: usize, to: usize) -> bool
-    requires order { from ≤ to }
-    requires within { to ≤ D }
-    ensures { IsTrue result ↔ OnAxes AdmitsSide axes.now rect.now from to }
-{
-    keeps_least(axes, rect, from, to) & keeps_greatest(axes, rect, from, to)
+    let (one, two) = (&axes[first], &axes[second]);
+    let (side, other) = (rect.side(first), rect.side(second));
+    let numbers = i32x4::from_array([side.lo, side.hi, other.lo, other.hi]);
+    // The window's numbers are read as they stand, each least one before its greatest, and then taken apart: to gather them
+    // one by one takes longer.
+    let ends = i32x4::from_array([one.lo.lo, one.lo.hi, one.hi.lo, one.hi.hi]);
+    let other_ends = i32x4::from_array([two.lo.lo, two.lo.hi, two.hi.lo, two.hi.hi]);
+    let (least, greatest) = ends.deinterleave(other_ends);
+    !(numbers.simd_lt(least) | numbers.simd_gt(greatest)).any()
 }
 
 /// What a search asks of each coordinate of a box: an interval of 32-bit numbers, which may be empty.
@@ -172,8 +133,12 @@ impl<const D: usize> Window<D> {
     pub fn admits(&self, rect: &Rect<D>) -> bool
         ensures { IsTrue result ↔ Admits self.now rect.now }
     {
-        let first = rect.axes().min(AXES_TOGETHER);
-        admits_axes(&self.axes, rect, first, D) & admits_axes(&self.axes, rect, 0, first)
+        // The first two axes, and the last two: the four numbers of neighbours stand side by side, so that they are loaded at
+        // once. Three axes have the second in both pairs. Two axes have the same pair twice, and the compiler keeps one of
+        // them. A single axis is paired with itself.
+        let last = rect.axes() - 1;
+        admits_two(&self.axes, rect, 0, last.min(1))
+            & admits_two(&self.axes, rect, last.saturating_sub(1), last)
     }
 
     /// Whether a box that this window admits may lie in the box. A search that asks it of many boxes makes the `reach`

@@ -1,19 +1,33 @@
-use Rattle.std.proofs.Common.{arith, IsTrue}
-use Rattle.std.proofs.lemmas.Bool.{and_parts, and_from}
-use Rattle.rt_box.proofs.Windows.{Admits-sides, Admits-all, axes_joined}
+use Rattle.std.proofs.Common.{◌≡◌, ℕ, ◌-◌, ◌<◌, length, arith, inl, inr, subst, IsTrue, sym}
+use Rattle.std.proofs.lemmas.Bool.{cases_eq, and_parts, and_from}
+use Rattle.rt_box.specs.Ends.{AdmitsAxis}
+use Rattle.rt_box.proofs.Windows.{Admits-sides, Admits-all}
 use Rattle.rt_box.proofs.window.Window.admits.Goals as goal
 
 pub returns : goal.returns
 returns g c =
     let axes = c.self.inside.axes in
     let rect = c.args.rect.now in
-    let first = c.min-first.result in (
+    let is_box = c.axes-last.ensures.is_box in
+    let last = c.axes-last.result - 1 in (
       (λ t.
-          let rest : IsTrue c.admits_axes.result = (and_parts _ _ t).0 in
-          let start : IsTrue c.admits_axes-2.result = (and_parts _ _ t).1 in
+          let start : IsTrue c.admits_two.result = (and_parts c.admits_two.result c.admits_two-2.result t).0 in
+          let end : IsTrue c.admits_two-2.result = (and_parts c.admits_two.result c.admits_two-2.result t).1 in
+          let first_two : AdmitsAxis axes rect 0 × AdmitsAxis axes rect c.min.result = c.admits_two.ensures.0 start in
+          let last_two : AdmitsAxis axes rect c.saturating_sub.result × AdmitsAxis axes rect last = c.admits_two-2.ensures.0 end in
           Admits-all axes c.args.self.now rect c.self.view_is (omega arith)
-          (axes_joined axes rect first g.row.D (omega arith) (c.admits_axes-2.ensures.0 start) (c.admits_axes.ensures.0 rest))),
-      (λ h. and_from _ _
-          (c.admits_axes.ensures.1 (λ i from below e d. Admits-sides axes c.args.self.now rect i e d c.self.view_is (omega arith) h))
-          (c.admits_axes-2.ensures.1 (λ i from below e d. Admits-sides axes c.args.self.now rect i e d c.self.view_is (omega arith) h))),
+          (λ i e d below. elim (cases_eq i 0) [
+            | inl first ↦ subst (AdmitsAxis axes rect) (sym first) first_two.0 e d
+            | inr later ↦ elim (cases_eq i last) [
+              | inl at_end ↦ subst (AdmitsAxis axes rect) (sym at_end) last_two.1 e d
+              | inr ne ↦
+                  let second : c.min.result ≡ i = omega (arith, later, ne, below, is_box.few) in
+                  subst (AdmitsAxis axes rect) second first_two.1 e d
+            ]
+          ])),
+      (λ h.
+          let each : (i : ℕ) → i < length axes → AdmitsAxis axes rect i = λ i below e d. Admits-sides axes c.args.self.now rect i e d c.self.view_is below h in
+          and_from _ _
+          (c.admits_two.ensures.1 (each 0 (omega arith), each c.min.result (omega arith)))
+          (c.admits_two-2.ensures.1 (each c.saturating_sub.result (omega arith), each last (omega arith)))),
     )

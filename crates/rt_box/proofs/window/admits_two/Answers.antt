@@ -1,0 +1,31 @@
+use Rattle.std.proofs.Common.{arith, rules, get_or, pos}
+use Rattle.rt_box.specs.declared.window.Ends.{Ends}
+use Rattle.rt_box.specs.Interval.{interval}
+use Rattle.rt_box.proofs.Lanes.{none_outside}
+use Rattle.rt_box.proofs.Windows.{axis_from_side, side_from_axis}
+use Rattle.rt_box.proofs.window.admits_two.Goals as goal
+
+-- what a read past the end would give
+abbrev read : Ends
+read = record { lo = interval (pos 0) (pos 0); hi = interval (pos 0) (pos 0) }
+
+pub returns : goal.returns
+returns g c =
+    let axes = c.args.axes.now in
+    let rect = c.args.rect.now in
+    let one = get_or axes c.args.first read in
+    let two = get_or axes c.args.second read in
+    let side = c.side-side.result.now in
+    let other = c.side-other.result.now in
+    let both = none_outside one.lo one.hi two.lo two.hi side.lo side.hi other.lo other.hi
+    (search rules, search rules) (search rules, search rules) (search rules, search rules) (search rules, search rules)
+    (search rules) (search rules) (search rules) (search rules) in (
+      (λ t. (
+        axis_from_side axes rect c.args.first read side (omega arith) (omega arith) c.side-side.ensures.value (both.0 t).0,
+        axis_from_side axes rect c.args.second read other (omega arith) (omega arith) c.side-other.ensures.value (both.0 t).1,
+      )),
+      (λ h. both.1 (
+        side_from_axis axes rect c.args.first read side c.side-side.ensures.value h.0,
+        side_from_axis axes rect c.args.second read other c.side-other.ensures.value h.1,
+      )),
+    )
