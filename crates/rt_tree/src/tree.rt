@@ -21,7 +21,7 @@ use rt_check::Shadow;
 use rt_tree_insert::{insert_row, levels_are_few, nodes_are_few};
 use rt_tree_nearest::nearest;
 use rt_tree_node::{Arena, Node, Work, add_node, leaves_facts, node_at};
-use rt_tree_remove::{find_row, remove_found, remove_row};
+use rt_tree_remove::{find_row, remove_row, replace_found};
 use rt_tree_walk::{Found, Row, count, search, search_into, shadow_of};
 use slab::Slab;
 use std::alloc::{AllocError, Global};
@@ -418,10 +418,7 @@ impl<const D: usize> Tree<D> {
         }
         // The waiting cells have room: there are few levels.
         levels_are_few(&self.arena);
-        remove_found(&mut self.arena, id, &location);
-        // The tree is in shape between the two: no id stands twice in the map of leaves.
-        leaves_facts(&self.arena.leaves);
-        let _ = insert_row(&mut self.arena, id, rect);
+        replace_found(&mut self.arena, id, &location, rect);
         self.spare -= 1;
     }
 }

@@ -108,7 +108,11 @@ module _ {D : ℕ} (old new : Arena D) (id : ℤ) (leaf at : ℕ) (rect : List I
       ∙ hull-inside D (rects cells) at rect boxes below is some inside
 
   pub inside-before : HasLeastWhereInside new.nodes leaf rect
-  inside-before parent place up named inside =
+  inside-before lies =
+      let parent = lies.parent in
+      let place = lies.at in
+      let up = lies.up in
+      let named = lies.named in
       let but = takes.but in
       let above : level_at new.nodes parent ≡ Some (suc but.level) = parent-level new leaf parent but up in
       let away : leaf ≢ new.root = λ e. none-some parent (sym but.sound.linked.root_parent ∙ ap (parent_at new.nodes) (sym e) ∙ up) in
@@ -123,7 +127,7 @@ module _ {D : ℕ} (old new : Arena D) (id : ℤ) (leaf at : ℕ) (rect : List I
       whole.fitted.hulls parent but.level was place no_cell within (λ s. none-some _ s) ∙ ap (hull_at old.nodes) names in
       let here : (get_or (cells_at new.nodes parent) place no_cell).rect ≡ hull_at old.nodes leaf =
       ap (λ (cs : List (Cell D)). (get_or cs place no_cell).rect) same ∙ box in
-      let keeps : hull_at new.nodes leaf ≡ hull_at old.nodes leaf = left away (subst (λ b. LiesInside b rect) here inside) in
+      let keeps : hull_at new.nodes leaf ≡ hull_at old.nodes leaf = left away (subst (λ b. LiesInside b rect) here lies.inside) in
       record {
         at = place;
         within = named.within;

@@ -10,3 +10,4 @@ pub mod Inside
 pub mod Placed
 pub mod Reordered
 pub mod Removed
+pub mod Moved

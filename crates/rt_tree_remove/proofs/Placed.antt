@@ -1,9 +1,10 @@
 -- Cells that wait, and room for them.
-use Rattle.std.proofs.Common.{◌≡◌, ℕ, ◌-◌, ◌*◌, ◌<◌, ◌≤◌, Bool, false, nat_eq, eq-eqb, arith, ap, ◌∙◌, sym, inl, inr}
+use Rattle.std.proofs.Common.{◌≡◌, ℕ, ◌-◌, ◌*◌, ◌<◌, ◌≤◌, Bool, false, nat_eq, eq-eqb, arith, refl, ap, ◌∙◌, sym, inl, inr}
 use Rattle.std.proofs.lemmas.Bool.{true≢false, cases_lt}
 use Rattle.rt_box.specs.Capacity.{least_fill}
 use Rattle.rt_tree_node.specs.declared.arena.Arena.{Arena}
-use Rattle.rt_tree_node.specs.Whole.{HasRoom}
+use Rattle.rt_tree_node.specs.Whole.{IsWhole, HasRoom}
+use Rattle.rt_tree_remove.specs.Steps.{SettlesInTurn, Places}
 
 -- a list that isn't empty has an element
 pub some-wait : (n : ℕ) (b : Bool) → b ≡ nat_eq n 0 → b ≡ false → 0 < n
@@ -22,3 +23,18 @@ module _ {D : ℕ} where
       let nodes = room.nodes in
       let keys = room.keys in
       record { nodes = omega arith; keys = omega arith }
+
+  -- where none waits, none is placed
+  pub placed-none : (t : Arena D) → IsWhole t → Places t t
+  placed-none t whole = record {
+    whole = whole;
+    rows = λ test. refl;
+    ids = record { ids = refl; len = refl; room = refl };
+    capacity = refl;
+    room = refl;
+    waiting_room = refl;
+    fewer = omega arith;
+    branched = λ h. h;
+    still = λ none. refl;
+    turns = SettlesInTurn.none;
+  }

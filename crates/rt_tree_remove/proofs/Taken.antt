@@ -76,6 +76,39 @@ module _ {D : ℕ} (t : Arena D) (id : ℤ) (leaf : ℕ) (whole : IsWhole t) (id
       let once = row-listed in
       (fitted.boxes leaf 0 c (listed-some id (cells_at t.nodes leaf) (omega arith))).few
 
+  parent-high : IsBranched t → leaf ≢ t.root → 2 ≤ length (cells_at t.nodes t.root)
+  parent-high branched away =
+      let none : times_named leaf (waiting_nodes t.waiting.items) ≡ 0 = ap (λ ws. times_named leaf (waiting_nodes ws)) idle in
+      let up = parent-named t.nodes t.root t.level t.waiting.items linked leaf 0 leaf-level away none in
+      let high = linked.levels up.0 1 up.2 in branched (omega arith)
+
+  -- a whole tree is sound but for the leaf, too
+  pub whole-but : IsBranched t → IsSoundBut t leaf
+  whole-but branched = record {
+    axes = few-axes;
+    sound = record {
+      linked = linked;
+      fitted = record {
+        cap = fitted.cap;
+        some = fitted.some;
+        least = λ k i e away odd. fitted.least k i e away (λ s. none-some k s);
+        most = λ k i e odd. fitted.most k i e (λ s. none-some k s);
+        boxes = fitted.boxes;
+        hulls = λ k i e j d w odd. fitted.hulls k i e j d w (λ s. none-some _ s);
+        waiting_boxes = fitted.waiting_boxes;
+        waiting_hulls = fitted.waiting_hulls;
+      };
+      homes = homes;
+    };
+    level = 0;
+    here = leaf-level;
+    below = subst (All (λ w. w.level < 0)) (sym idle) (All-nil (λ w. w.level < 0));
+    few = let none = ap length idle in omega arith;
+    nearly = λ away. let least = fitted.least leaf 0 leaf-level away (λ s. none-some leaf s) in omega arith;
+    most = fitted.most leaf 0 leaf-level (λ s. none-some leaf s);
+    branched = parent-high branched;
+  }
+
   module _ (b : Slab (NodeCells D)) (at : ℕ) (n : NodeCells D) (rect : List Interval) (has : get t.nodes leaf ≡ Some n)
       (was : slice_get (cells_at t.nodes leaf) at ≡ Some record { number = id; rect = rect })
       (puts : Puts t.nodes b leaf (record n { cells = remove n.cells at })) where
@@ -228,11 +261,8 @@ module _ {D : ℕ} (t : Arena D) (id : ℤ) (leaf : ℕ) (whole : IsWhole t) (id
           nearly = λ away. let least = fitted.least leaf 0 leaf-level away (λ s. none-some leaf s) in omega arith;
           most = let most = fitted.most leaf 0 leaf-level (λ s. none-some leaf s) in omega arith;
           branched = λ away.
-              let none : times_named leaf (waiting_nodes t.waiting.items) ≡ 0 = ap (λ ws. times_named leaf (waiting_nodes ws)) idle in
-              let up = parent-named t.nodes t.root t.level t.waiting.items linked leaf 0 leaf-level away none in
-              let high = linked.levels up.0 1 up.2 in
               let same = ap length (others t.root (λ s. away (sym s))) in
-              let two = branched (omega arith) in omega arith;
+              let two = parent-high branched away in omega arith;
         }
 
     pub takes : IsBranched t → (u : Arena D) → Forgets t.leaves u.leaves id →

@@ -1,3 +1,4 @@
 pub mod Above
 pub mod Steps
 pub mod Removal
+pub mod Replacement

@@ -39,10 +39,17 @@ module _ {D : ℕ} where
     pub within : at < length cells
     pub names : (d : Cell D) → key_of (slice_index_or cells at d) ≡ key
 
+  -- the box lies inside that of the parent's cell that names the node
+  pub record LiesInsideNode (a : Slab (NodeCells D)) (key : ℕ) (rect : List Interval) : Type 0 where
+    pub parent : ℕ
+    pub at : ℕ
+    pub up : parent_at a key ≡ Some parent
+    pub named : IsNamedAt (cells_at a parent) key at
+    pub inside : LiesInside (slice_index_or (cells_at a parent) at no_cell).rect rect
+
   -- where the box lies inside that of the parent's cell that names the node, that one is the least around the node's cells
   abbrev pub HasLeastWhereInside : Slab (NodeCells D) → ℕ → List Interval → Type 0
-  HasLeastWhereInside a key rect = (parent at : ℕ) → parent_at a key ≡ Some parent → IsNamedAt (cells_at a parent) key at →
-      LiesInside (slice_index_or (cells_at a parent) at no_cell).rect rect → HasLeastBox a key parent
+  HasLeastWhereInside a key rect = (inside : LiesInsideNode a key rect) → HasLeastBox a key inside.parent
 
   -- the node left the slab, and its cell left the parent
   pub record Dissolves (old new : Slab (NodeCells D)) (key parent at : ℕ) : Type 0 where
@@ -144,6 +151,11 @@ module _ {D : ℕ} where
     pub entry : slice_get t.leaves.entries location.index ≡ Some (id, location.leaf)
     pub home : leaf_of int_eq t.leaves id ≡ Some location.leaf
     pub cell : slice_get (cells_at t.nodes location.leaf) location.at ≡ Some record { number = id; rect = location.rect }
+
+  -- a removal of the row leaves all else as it is: its leaf has a cell to spare, and its box lies inside the leaf's
+  pub record MovesAlone (t : Arena D) (location : Location D) : Type 0 where
+    pub spare : least_fill t.capacity < length (cells_at t.nodes location.leaf)
+    pub inside : LiesInsideNode t.nodes location.leaf location.rect
 
   -- the row with the id left its leaf, and its id the map of leaves
   pub record Takes (old new : Arena D) (id : ℤ) (leaf at : ℕ) (rect : List Interval) : Type 0 where

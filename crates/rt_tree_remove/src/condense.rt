@@ -6,7 +6,7 @@
 ghost use Rattle.std.specs.Prelude.{◌≡◌, ℕ, ◌-◌, ◌*◌, ◌^◌, ◌≤◌, Some, true, vec_capacity};
 ghost use Rattle.rt_box.specs.Capacity.{least_fill};
 ghost use Rattle.rt_tree_node.specs.Places.{level_at, parent_at};
-ghost use Rattle.rt_tree_remove.specs.Steps.{IsSoundBut, LiesInside, HasLeastWhereInside, IsCondensed, Condenses};
+ghost use Rattle.rt_tree_remove.specs.Steps.{IsSoundBut, LiesInside, LiesInsideNode, HasLeastWhereInside, IsCondensed, Condenses};
 
 use crate::climb::climb;
 use rt_box::Rect;
@@ -40,6 +40,18 @@ fn lies_inside<const D: usize>(outer: &Rect<D>, inner: &Rect<D>) -> bool
     true
 }
 
+/// Whether the box touches no side of the leaf's box.
+pub(crate) fn lies_inside_leaf<const D: usize>(tree: &Arena<D>, leaf: Key, rect: &Rect<D>) -> bool
+    requires but { IsSoundBut tree.now leaf }
+    requires keys { tree.now.nodes.capacity ≤ 2 ^ 62 }
+    ensures { result ≡ true → LiesInsideNode tree.now.nodes leaf rect.now }
+{
+    match node_at(&tree.nodes, leaf).parent() {
+        Some(parent) => lies_inside(&box_above(&tree.nodes, leaf, parent), rect),
+        None => false,
+    }
+}
+
 /// Whether nothing is left to be done on the way up from a leaf that lost a row with this box, since the row touched no
 /// side of the leaf's box. It looks at no other cell of the leaf.
 fn stays_condensed<const D: usize>(tree: &Arena<D>, leaf: Key, rect: &Rect<D>) -> bool
@@ -48,14 +60,10 @@ fn stays_condensed<const D: usize>(tree: &Arena<D>, leaf: Key, rect: &Rect<D>) -
     requires inside { HasLeastWhereInside tree.now.nodes leaf rect.now }
     ensures { result ≡ true → (parent : ℕ) × (parent_at tree.now.nodes leaf ≡ Some parent) × IsCondensed tree.now leaf parent }
 {
-    let node = node_at(&tree.nodes, leaf);
-    if node.len() < tree.capacity.least() {
+    if node_at(&tree.nodes, leaf).len() < tree.capacity.least() {
         return false;
     }
-    match node.parent() {
-        Some(parent) => lies_inside(&box_above(&tree.nodes, leaf, parent), rect),
-        None => false,
-    }
+    lies_inside_leaf(tree, leaf, rect)
 }
 
 /// Takes out the nodes from the leaf up that have too few cells, and fits the boxes of the others.

@@ -3,8 +3,8 @@
 //!
 //! - `remove_row`: exactly one row fewer in a whole tree, which is whole again; its box is answered. Where the
 //!   row's leaf was the root or had cells to spare, no other row moves.
-//! - `find_row` says where a row lies, as a `Location`; `remove_found` removes the row from there, without looking its id
-//!   up again.
+//! - `find_row` says where a row lies, as a `Location`. `replace_found` gives the row there another box, without looking its
+//!   id up again.
 //!
 //! Stands on `rt_tree_insert`, `rt_tree_place` and `rt_tree_node`. Definitions: `specs/Removal.antt` (what it comes to),
 //! `Steps.antt`, `Above.antt`.
@@ -16,8 +16,10 @@ mod find;
 mod give_way;
 mod location;
 mod remove;
+mod replace;
 mod settle;
 mod take;
 
 pub use location::{Location, find_row};
-pub use remove::{remove_found, remove_row};
+pub use remove::remove_row;
+pub use replace::replace_found;

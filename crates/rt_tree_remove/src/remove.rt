@@ -30,7 +30,7 @@ fn turn_round<const D: usize>(waiting: &mut Vec<Waiting<D>>)
 /// Takes the row with the id, which was found, out of the tree. Nodes that have too few cells then are taken out too,
 /// from the leaf up, and their cells are placed again, those of the lowest level first; at last an inner root with one
 /// child gives way to it. It takes no memory.
-pub fn remove_found<const D: usize>(tree: &mut Arena<D>, id: &i64, location: &Location<D>)
+pub(crate) fn remove_found<const D: usize>(tree: &mut Arena<D>, id: &i64, location: &Location<D>)
     requires whole { IsWhole tree.old }
     requires branched { IsBranched tree.old }
     requires idle { tree.old.waiting.items ≡ [] }

@@ -1,52 +1,24 @@
-use Rattle.std.proofs.Common.{◌≡◌, ℕ, suc, ◌<◌, ◌≤◌, ◌∙◌, Some, pos, length, arith, ap, sym, rules, subst, unsigned_abs}
-use Rattle.std.proofs.lemmas.List.{get_or_default}
-use Rattle.std.proofs.lemmas.List.Elements.{All-weaker}
+use Rattle.std.proofs.Common.{◌≤◌, length, arith, ap, rules}
 use Rattle.slab.specs.Slab.{ContainsKey}
 use Rattle.rt_box.specs.Capacity.{least_fill}
-use Rattle.rt_tree_node.specs.Places.{key_of, cells_of, cells_at, times_named, parent_at, parent_of, no_cell}
-use Rattle.rt_tree_node.specs.Sound.{NamesChild}
-use Rattle.rt_tree_place.specs.Steps.{IsNamedAt as IsNumberedAt}
-use Rattle.rt_tree_remove.specs.Steps.{IsNamedAt, LiesInside}
-use Rattle.rt_tree_place.proofs.Lifted.{named-at}
-use Rattle.rt_tree_remove.proofs.Climbs.{key-there, parent-level, named-above}
+use Rattle.rt_tree_node.specs.Places.{cells_of, cells_at}
+use Rattle.rt_tree_remove.proofs.Climbs.{key-there}
 use Rattle.rt_tree_remove.proofs.condense.stays_condensed.Goals as goal
 
-pub node_at-node-requires : goal.node_at-node-requires
-node_at-node-requires g c =
+pub node_at-requires : goal.node_at-requires
+node_at-requires g c =
     let but = c.requires.but in
     let few : g.row.D ≤ 3 = but.axes in
     let here : ContainsKey c.args.tree.now.nodes c.args.leaf = key-there c.args.tree.now.nodes c.args.leaf but.level but.here in
     search rules
 
-pub box_above-requires : goal.box_above-requires
-box_above-requires g c =
-    let t = c.args.tree.now in
-    let but = c.requires.but in
-    let parent = c.in-Some.parent in
-    let few : g.row.D ≤ 3 = but.axes in
-    let keys = c.requires.keys in
-    let up : parent_at t.nodes c.args.leaf ≡ Some parent = ap parent_of c.node_at-node.ensures ∙ sym c.parent.ensures ∙ c.in-Some.is in
-    let here : ContainsKey t.nodes c.args.leaf = key-there t.nodes c.args.leaf but.level but.here in
-    let level = parent-level t c.args.leaf parent but up in
-    let above : ContainsKey t.nodes parent = key-there t.nodes parent (suc but.level) level in
-    let once = named-above t c.args.leaf parent but up in
-    let counted : 0 < times_named c.args.leaf (cells_at t.nodes parent) = omega arith in
-    let named : (at : ℕ) × IsNumberedAt (cells_at t.nodes parent) at c.args.leaf = named-at c.args.leaf (cells_at t.nodes parent)
-    (All-weaker (NamesChild t.nodes but.level parent) (λ c. c.number ≡ pos (key_of c)) (λ c is. is.names.number_is) (cells_at t.nodes parent)
-    (but.sound.linked.children parent but.level level)) counted in
-    search rules
+pub len-requires : goal.len-requires
+len-requires g c = let few : g.row.D ≤ 3 = c.requires.but.axes in search rules
 
-pub returns-in-Some : goal.returns-in-Some
-returns-in-Some g c lies =
+pub returns : goal.returns
+returns g c lies =
     let t = c.args.tree.now in
-    let parent = c.in-Some.parent in
-    let up : parent_at t.nodes c.args.leaf ≡ Some parent = ap parent_of c.node_at-node.ensures ∙ sym c.parent.ensures ∙ c.in-Some.is in
+    let inside = c.lies_inside_leaf.ensures lies in
     let filled : least_fill t.capacity ≤ length (cells_at t.nodes c.args.leaf) =
-    omega (arith, c.if-len-least.false, c.len.ensures.value, c.least.ensures.value, ap length (ap cells_of c.node_at-node.ensures)) in
-    let above = c.box_above.ensures in
-    let named : IsNamedAt (cells_at t.nodes parent) c.args.leaf above.0 = record {
-      within = above.1.0;
-      names = λ d. ap key_of (get_or_default (cells_at t.nodes parent) above.0 d no_cell above.1.0) ∙ ap unsigned_abs above.1.1;
-    } in
-    let inside = subst (λ b. LiesInside b c.args.rect.now) above.2 (c.lies_inside.ensures lies) in
-    (parent, up, record { filled = filled; box = c.requires.inside parent above.0 up named inside })
+    omega (arith, c.if-len-least.false, c.len.ensures.value, c.least.ensures.value, ap length (ap cells_of c.node_at.ensures)) in
+    (inside.parent, inside.up, record { filled = filled; box = c.requires.inside inside })

@@ -1,22 +1,11 @@
-use Rattle.std.proofs.Common.{◌-◌, ◌<◌, length, vec_len, refl, ap, ◌∙◌, arith}
+use Rattle.std.proofs.Common.{◌-◌, ◌<◌, length, vec_len, ap, ◌∙◌, arith}
 use Rattle.std.proofs.lemmas.List.{length-take}
 use Rattle.rt_tree_remove.specs.Steps.{SettlesInTurn}
-use Rattle.rt_tree_remove.proofs.Placed.{some-wait}
+use Rattle.rt_tree_remove.proofs.Placed.{some-wait, placed-none}
 use Rattle.rt_tree_remove.proofs.settle.place_waiting.Goals as goal
 
 pub loop-tree-init : goal.loop-tree-init
-loop-tree-init g c = record {
-  whole = c.requires.whole;
-  rows = λ test. refl;
-  ids = record { ids = refl; len = refl; room = refl };
-  capacity = refl;
-  room = refl;
-  waiting_room = omega arith;
-  fewer = omega arith;
-  branched = λ h. h;
-  still = λ none. refl;
-  turns = SettlesInTurn.none;
-}
+loop-tree-init g c = placed-none c.args.tree.now c.requires.whole
 
 pub loop-tree-preserved : goal.loop-tree-preserved
 loop-tree-preserved g c =

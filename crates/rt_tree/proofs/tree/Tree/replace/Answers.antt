@@ -2,7 +2,7 @@ use Rattle.std.proofs.Common.{◌+◌, ◌-◌, ◌*◌, ◌^◌, ◌≤◌, Som
 use Rattle.std.specs.Ordering.{int_eq}
 use Rattle.std.proofs.lemmas.Bool.{true≢false}
 use Rattle.std.proofs.lemmas.Option.{same_Some}
-use Rattle.indexmap.specs.IndexMap.{get as leaf_of}
+use Rattle.indexmap.specs.IndexMap.{get as leaf_of, spare}
 use Rattle.rt_box.specs.Capacity.{least_fill}
 use Rattle.rt_box.proofs.Equality.{Decides-box_eq}
 use Rattle.rt_tree_node.specs.Whole.{IsWhole, IsBranched, HasRoom, row_count}
@@ -34,8 +34,8 @@ returns-then-eq-clause-other g c differs =
     let same = (Decides-box_eq location.rect c.args.rect.now c.eq.result c.eq.ensures).0 c.if-eq.true in
     absurd (differs (ap (λ (v : TreeLists g.row.D). box_of v.lists c.args.id.now) (sym c.self.view_is) ∙ was ∙ ap Some same))
 
-pub remove_found-requires : goal.remove_found-requires
-remove_found-requires g c =
+pub replace_found-requires : goal.replace_found-requires
+replace_found-requires g c =
     let i = c.self.inside in
     let t = c.self.inside.arena in
     let k = c.self.invariant in
@@ -46,14 +46,18 @@ remove_found-requires g c =
     let rows : row_count t ≤ 2 ^ 20 = k.rows in
     let room : HasRoom t (row_count t) = less-room t (row_count t + i.spare) (row_count t) k.room (omega arith) in
     let waiting_room : (least_fill t.capacity - 1) * t.level + 512 ≤ vec_capacity t.waiting = way-waits i k (c.levels_are_few.ensures.doubles 20 k.rows) in
+    let some : 1 ≤ i.spare = subst (λ (v : TreeLists g.row.D). 1 ≤ v.spare) (sym c.self.view_is) c.requires.spare in
+    let leaves_room : 1 ≤ spare t.leaves = omega (arith, some, k.leaves_room) in
+    let one_more : 513 ≤ vec_capacity t.waiting = omega (arith, k.waiting_room) in
     search rules
 
 pub invariant_of-self : goal.invariant_of-self
 invariant_of-self g c =
     let i = c.self.inside in
     let some : 1 ≤ i.spare = subst (λ (v : TreeLists g.row.D). 1 ≤ v.spare) (sym c.self.view_is) c.requires.spare in
-    replaced-kept i c.self.invariant c.remove_found.new.tree c.insert_row.new.tree c.args.id.now c.find_row-location.result.rect c.args.rect.now
-    c.insert_row.result c.remove_found.ensures c.insert_row.ensures some
+    let it = c.replace_found.ensures in
+    replaced-kept i c.self.invariant it.between c.replace_found.new.tree c.args.id.now c.find_row-location.result.rect c.args.rect.now
+    it.work it.removes it.inserts some
 
 pub returns-clause-same : goal.returns-clause-same
 returns-clause-same g c same =
@@ -67,6 +71,7 @@ returns-clause-other g c differs =
     let i = c.self.inside in
     let k = c.self.invariant in
     let old : IsSome (box_of (outside i.arena) c.args.id.now) = subst (λ (v : TreeLists g.row.D). IsSome (box_of v.lists c.args.id.now)) (sym c.self.view_is) c.requires.there in
-    subst (λ (v : TreeLists g.row.D). IsReplacement v.lists (outside c.insert_row.new.tree) c.args.id.now c.args.rect.now) c.self.view_is
-    (replacement i k c.remove_found.new.tree c.insert_row.new.tree c.args.id.now c.find_row-location.result.rect c.args.rect.now c.insert_row.result
-    c.remove_found.ensures c.insert_row.ensures (present-leaf i.arena (settled i k) c.args.id.now old) c.leaves_facts.ensures)
+    let it = c.replace_found.ensures in
+    subst (λ (v : TreeLists g.row.D). IsReplacement v.lists (outside c.replace_found.new.tree) c.args.id.now c.args.rect.now) c.self.view_is
+    (replacement i k it.between c.replace_found.new.tree c.args.id.now c.find_row-location.result.rect c.args.rect.now it.work
+    it.removes it.inserts (present-leaf i.arena (settled i k) c.args.id.now old) it.unique)

@@ -1,0 +1,177 @@
+-- A row whose removal leaves all else as it is: it moves, and its id keeps its entry.
+use Rattle.std.proofs.Common.{◌≡◌, ◌≢◌, ℕ, ◌≤◌, true, false, ℤ, List, [], ◌∷◌, ◌++◌, length, get_or, Option, Some, None, position, reverse, vec_len, vec_capacity, arith, refl, ap, sym, subst, ◌∙◌}
+use Rattle.std.specs.List.{remove, swap_remove}
+use Rattle.std.specs.Map.{keys_of}
+use Rattle.std.specs.Ordering.{int_eq}
+use Rattle.std.proofs.lemmas.Bool.{false_from_ne_true}
+use Rattle.std.proofs.lemmas.Bool.Decides.{Decides-int_eq}
+use Rattle.std.proofs.lemmas.Cmp.{int_eq_equiv}
+use Rattle.std.proofs.lemmas.List.Edits.{length-remove}
+use Rattle.std.proofs.lemmas.Option.{none-some, slice_get-get_or, slice_get_within}
+use Rattle.slab.specs.Slab.{Slab, get}
+use Rattle.indexmap.specs.IndexMap.{IndexMap, get as leaf_of, IsUnique, with_entries}
+use Rattle.indexmap.proofs.MapLemmas.{Found-position, Missing-position}
+use Rattle.indexmap.proofs.RemoveLemmas.{Out, swap_out}
+use Rattle.rt_box.specs.declared.interval.Interval.{Interval}
+use Rattle.rt_box.specs.Capacity.{least_fill}
+use Rattle.rt_box.specs.Rect.{IsBox}
+use Rattle.rt_tree_node.specs.declared.arena.Arena.{Arena}
+use Rattle.rt_tree_node.specs.declared.cell.Cell.{Cell}
+use Rattle.rt_tree_node.specs.Node.{NodeCells}
+use Rattle.rt_tree_node.specs.Places.{no_cell, cells_of, cells_at, parent_at}
+use Rattle.rt_tree_node.specs.Changes.{Changes}
+use Rattle.rt_tree_node.specs.declared.arena.Work.{Work}
+use Rattle.rt_tree_node.specs.Settles.{Settles}
+use Rattle.rt_tree_node.specs.Whole.{IsWhole, IsBranched, HasRoom, row_count}
+use Rattle.rt_tree_insert.specs.Awaiting.{Learns, AwaitsLeaf}
+use Rattle.rt_tree_insert.specs.Settling.{PlacesInTurn, CountsWork, PlacesRow}
+use Rattle.rt_tree_insert.proofs.Awaited.{waits-alone, whole-awaiting, rows-awaiting, waits-one}
+use Rattle.rt_tree_insert.proofs.Inserted.{inserts}
+use Rattle.rt_tree_remove.specs.declared.location.Location.{Location}
+use Rattle.rt_tree_remove.specs.Steps.{Forgets, Takes, Condenses, IsLocationOf, MovesAlone, IsNamedAt, LiesInside, LiesInsideNode}
+use Rattle.rt_tree_remove.specs.Removal.{Removes}
+use Rattle.rt_tree_remove.specs.Replacement.{Replaces}
+use Rattle.rt_tree_remove.proofs.Changed.{changed-parents, changed-others, changed-cells}
+use Rattle.rt_tree_remove.proofs.Climbs.{node-there, key-not_parent}
+use Rattle.rt_tree_remove.proofs.Condenses.{climbing-start, climbing-condensed}
+use Rattle.rt_tree_remove.proofs.Inside.{inside-before}
+use Rattle.rt_tree_remove.proofs.Placed.{placed-none, room-for}
+use Rattle.rt_tree_remove.proofs.Removed.{removes, still-branched}
+use Rattle.rt_tree_remove.proofs.Taken.{takes, leaf-level}
+use Rattle.rt_tree_remove.proofs.WayGiven.{way-kept}
+
+module _ {S : Type 0} (m : IndexMap ℤ ℕ S) (id : ℤ) (leaf : ℕ) (once : IsUnique int_eq m) (home : leaf_of int_eq m id ≡ Some leaf) where
+  -- the map without the id
+  pub record Forgotten : Type 0 where
+    pub map : IndexMap ℤ ℕ S
+    pub forgets : Forgets m map id
+    pub learns : Learns map m id leaf
+    pub unique : IsUnique int_eq map
+
+  apart : (other : ℤ) → other ≢ id → int_eq id other ≡ false
+  apart other differs = false_from_ne_true (int_eq id other) (λ e. differs (sym ((Decides-int_eq id other).0 e)))
+
+  made : (i : ℕ) (p : ℤ × ℕ) → Out int_eq int_eq_equiv (int_eq id) m.entries (swap_remove m.entries i p) p → Forgotten
+  made i p out = record {
+    map = with_entries m (swap_remove m.entries i p);
+    forgets = record {
+      gone = out.updated.1;
+      others = λ other differs. out.updated.2 other (apart other differs);
+      len = out.len;
+      room = omega arith;
+    };
+    learns = record {
+      here = home;
+      others = λ other differs. sym (out.updated.2 other (apart other differs));
+      len = omega (arith, out.len);
+      room = omega arith;
+    };
+    unique = out.unique;
+  }
+
+  pub forgotten : Forgotten
+  forgotten = by (position (int_eq id) (keys_of m.entries)) refl
+    where
+      by : (o : Option ℕ) → position (int_eq id) (keys_of m.entries) ≡ o → Forgotten
+      by None e = absurd (none-some leaf (sym (Missing-position (int_eq id) m.entries e).value ∙ home))
+      by (Some i) e =
+          let p = get_or m.entries i (id, leaf) in
+          let at = slice_get-get_or m.entries i (id, leaf) (Found-position (int_eq id) m.entries i e).within in
+          made i p (swap_out int_eq int_eq_equiv (int_eq id) (int_eq_equiv.congr id) m.entries i p e at once _ refl)
+
+module _ {D : ℕ} (old : Arena D) (id : ℤ) (location : Location D) (b : Slab (NodeCells D)) (whole : IsWhole old) (branched : IsBranched old)
+    (idle : old.waiting.items ≡ []) (is : IsLocationOf old id location) (alone : MovesAlone old location) (unique : IsUnique int_eq old.leaves)
+    (change : Changes (λ n. record n { cells = remove n.cells location.at }) old.nodes b location.leaf) where
+  abbrev leaf : ℕ
+  leaf = location.leaf
+
+  abbrev cells : List (Cell D)
+  cells = cells_at old.nodes leaf
+
+  there : (n : NodeCells D) × (get old.nodes leaf ≡ Some n)
+  there = node-there old.nodes leaf 0 (leaf-level old id leaf whole idle is.home)
+
+  pub without : Forgotten old.leaves id leaf unique is.home
+  without = forgotten old.leaves id leaf unique is.home
+
+  -- the tree without the row
+  abbrev pub between : Arena D
+  between = record old { nodes = b; leaves = without.map }
+
+  taken : Takes old between id leaf location.at location.rect
+  taken = takes old id leaf whole idle is.home b location.at there.0 location.rect there.1 is.cell (change there.0 there.1) branched
+      (record old { leaves = without.map }) without.forgets change
+
+  abbrev parent : ℕ
+  parent = alone.inside.parent
+
+  up : parent_at b leaf ≡ Some parent
+  up = changed-parents old.nodes b leaf there.0 (remove there.0.cells location.at) there.1 (change there.0 there.1) leaf ∙ alone.inside.up
+
+  above : cells_at b parent ≡ cells_at old.nodes parent
+  above = changed-others old.nodes b leaf there.0 (remove there.0.cells location.at) there.1 (change there.0 there.1) parent
+      (λ e. key-not_parent between leaf parent taken.but up (sym e))
+
+  abbrev inside : LiesInsideNode b leaf location.rect
+  inside = record {
+    parent = parent;
+    at = alone.inside.at;
+    up = up;
+    named = subst (λ (cs : List (Cell D)). IsNamedAt cs leaf alone.inside.at) (sym above) alone.inside.named;
+    inside = subst (λ (cs : List (Cell D)). LiesInside (get_or cs alone.inside.at no_cell).rect location.rect) (sym above) alone.inside.inside;
+  }
+
+  filled : least_fill old.capacity ≤ length (cells_at b leaf)
+  filled =
+      let within = slice_get_within cells location.at record { number = id; rect = location.rect } is.cell in
+      let shorter = changed-cells old.nodes b leaf there.0 (remove there.0.cells location.at) there.1 (change there.0 there.1) in
+      omega (arith, alone.spare, ap length shorter, ap (λ s. length (remove (cells_of s) location.at)) there.1, length-remove cells location.at within)
+
+  condensed : Condenses between between leaf
+  condensed = climbing-condensed between between leaf leaf parent (climbing-start between leaf taken.but taken.bottom) up
+      record { filled = filled; box = inside-before old between id leaf location.at location.rect there.0 there.1 whole taken inside }
+
+  pub gone : Removes old between id location.rect
+  gone =
+      let none = ap length idle in
+      removes old between between between between between id leaf location.at location.rect branched idle taken condensed
+      (idle ∙ sym (ap reverse idle)) refl (placed-none between condensed.whole) (omega (arith, none))
+      (way-kept between condensed.whole (still-branched old between between id leaf location.at location.rect taken condensed (λ away. filled) branched))
+
+  -- the row waits with another box
+  module _ (u : Arena D) (rect : List Interval) (box : IsBox D rect)
+      (pushed : u.waiting.items ≡ old.waiting.items ++ record { level = 0; cell = record { number = id; rect = rect } } ∷ [])
+      (kept : vec_capacity u.waiting ≡ vec_capacity old.waiting) where
+    abbrev pub cell : Cell D
+    cell = record { number = id; rect = rect }
+
+    abbrev pub awaiting : Arena D
+    awaiting = record old { nodes = b; waiting = u.waiting }
+
+    pub awaits : AwaitsLeaf between awaiting cell
+    awaits = record { leaf = leaf; learns = without.learns; waiting = pushed; waiting_room = kept; rest = refl }
+
+    pub whole_waiting : IsWhole awaiting
+    whole_waiting = whole-awaiting between awaiting cell awaits idle gone.whole without.forgets.gone box
+
+    pub rows_waiting : row_count awaiting ≡ row_count old
+    rows_waiting =
+        let more = rows-awaiting between awaiting cell awaits idle in
+        let fewer = gone.rows (λ c. true) in omega arith
+
+    pub room_waiting : HasRoom old (row_count old) → HasRoom awaiting (row_count awaiting)
+    room_waiting room = room-for old awaiting (row_count awaiting) (row_count old) (omega (arith, rows_waiting)) refl (change there.0 there.1).room room
+
+    pub one_waits : vec_len u.waiting ≡ 1
+    one_waits = waits-one between awaiting cell awaits idle
+
+    -- and was placed
+    pub replaces : (new : Arena D) (work : Work) → Settles awaiting new 0 → (marks : ℕ) × PlacesInTurn awaiting new marks → CountsWork awaiting new 0 work →
+        ((c : Cell D) → awaiting.waiting.items ≡ record { level = 0; cell = c } ∷ [] → PlacesRow awaiting new c work) → Replaces old new id location.rect rect
+    replaces new work settled turned counted placed = record {
+      between = between;
+      removes = gone;
+      unique = without.unique;
+      work = work;
+      inserts = inserts between awaiting new cell work awaits idle settled turned counted (placed cell (waits-alone between awaiting cell awaits idle)) gone.branched;
+    }

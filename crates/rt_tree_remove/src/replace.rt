@@ -1,0 +1,91 @@
+//! The replacement of a row by one that keeps its id.
+//!
+//! The row is removed and inserted again (`specs/Replacement.antt`). Where its removal leaves all else as it is, its id keeps
+//! its entry in the map of leaves meanwhile, so that it's neither taken out nor looked for a place.
+
+ghost use Rattle.std.specs.Prelude.{◌≡◌, ◌+◌, ◌-◌, ◌*◌, ◌^◌, ◌<◌, ◌≤◌, [], ◌∷◌, ◌++◌, true, vec_len, vec_capacity};
+ghost use Rattle.indexmap.specs.IndexMap.{spare};
+ghost use Rattle.rt_box.specs.Capacity.{least_fill};
+ghost use Rattle.rt_tree_node.specs.Whole.{IsWhole, IsBranched, HasRoom, row_count};
+ghost use Rattle.rt_tree_remove.specs.Steps.{IsSoundBut, IsLocationOf, MovesAlone};
+ghost use Rattle.rt_tree_remove.specs.Replacement.{Replaces};
+
+use crate::condense::lies_inside_leaf;
+use crate::location::Location;
+use crate::remove::remove_found;
+use rt_box::Rect;
+use rt_tree_insert::{insert_row, settle};
+use rt_tree_node::{Arena, Cell, Waiting, leaves_facts, node_at, remove_cell};
+
+/// Whether the removal of the row leaves all else as it is. Most rows lie inside their leaf's box, and most leaves have a cell
+/// to spare.
+fn moves_alone<const D: usize>(tree: &Arena<D>, location: &Location<D>) -> bool
+    requires but { IsSoundBut tree.now location.now.leaf }
+    requires keys { tree.now.nodes.capacity ≤ 2 ^ 62 }
+    ensures { result ≡ true → MovesAlone tree.now location.now }
+{
+    if node_at(&tree.nodes, location.leaf).len() <= tree.capacity.least() {
+        return false;
+    }
+    lies_inside_leaf(tree, location.leaf, &location.rect)
+}
+
+/// Has the row with the id wait for a leaf, with this box.
+fn await_leaf<const D: usize>(waiting: &mut Vec<Waiting<D>>, id: &i64, rect: &Rect<D>)
+    requires { vec_len waiting.old < vec_capacity waiting.old }
+    ensures items { waiting.new.items ≡ waiting.old.items ++ record { level = 0; cell = record { number = id.now; rect = rect.now } } ∷ [] }
+    ensures room { vec_capacity waiting.new ≡ vec_capacity waiting.old }
+{
+    let cell = Cell {
+        number: *id,
+        rect: *rect,
+    };
+    waiting.push_reserved(Waiting { level: 0, cell });
+}
+
+/// Moves a row whose removal leaves all else as it is: its cell leaves the leaf, waits with the other box, and is placed.
+fn move_row<const D: usize>(tree: &mut Arena<D>, id: &i64, location: &Location<D>, rect: &Rect<D>)
+    requires whole { IsWhole tree.old }
+    requires branched { IsBranched tree.old }
+    requires idle { tree.old.waiting.items ≡ [] }
+    requires location { IsLocationOf tree.old id.now location.now }
+    requires alone { MovesAlone tree.old location.now }
+    requires rows { row_count tree.old ≤ 2 ^ 20 }
+    requires room { HasRoom tree.old (row_count tree.old) }
+    requires waiting_room { 513 ≤ vec_capacity tree.old.waiting }
+    ensures { Replaces tree.old tree.new id.now location.now.rect rect.now }
+{
+    leaves_facts(&tree.leaves);
+    rect.facts();
+    remove_cell(&mut tree.nodes, location.leaf, location.at);
+    await_leaf(&mut tree.waiting, id, rect);
+    let _ = settle(tree, 0);
+}
+
+/// Gives the row with the id, which was found, another box: it is removed and inserted again. It takes no memory.
+pub fn replace_found<const D: usize>(
+    tree: &mut Arena<D>,
+    id: &i64,
+    location: &Location<D>,
+    rect: &Rect<D>,
+)
+    requires whole { IsWhole tree.old }
+    requires branched { IsBranched tree.old }
+    requires idle { tree.old.waiting.items ≡ [] }
+    requires location { IsLocationOf tree.old id.now location.now }
+    requires rows { row_count tree.old ≤ 2 ^ 20 }
+    requires room { HasRoom tree.old (row_count tree.old) }
+    requires leaves_room { 1 ≤ spare tree.old.leaves }
+    requires waiting_room { (least_fill tree.old.capacity - 1) * tree.old.level + 512 ≤ vec_capacity tree.old.waiting }
+    requires one_more { 513 ≤ vec_capacity tree.old.waiting }
+    ensures { Replaces tree.old tree.new id.now location.now.rect rect.now }
+{
+    if moves_alone(tree, location) {
+        move_row(tree, id, location, rect);
+        return;
+    }
+    remove_found(tree, id, location);
+    // No id stands twice in the map of leaves.
+    leaves_facts(&tree.leaves);
+    let _ = insert_row(tree, id, rect);
+}
