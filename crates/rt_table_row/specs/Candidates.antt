@@ -59,21 +59,16 @@ box_of _ = []
 abbrev pub is_ordered : List Interval → Bool
 is_ordered box = list_all (λ i. int_le i.lo i.hi) box
 
--- the candidate that the values are, or the first thing that is wrong with them, each over all columns before the
--- next: a type, a coordinate of more than 32 bits, a minimum above its maximum
-abbrev pub candidate_of : ℕ → List Value → Result Candidate Refusal
-candidate_of axes values =
-    let numbers = map number_in (coordinate_values axes values) in
-    if not (is_id (id_value values) && list_all is_integer (coordinate_values axes values)) then Err WrongType
-    else (if not (list_all (fits_bits 31) numbers) then Err IntegerOutOfRange
-    else (if not (is_ordered (box_of numbers)) then Err MinimumAboveMaximum
-    else Ok (record { id = id_in (id_value values); box = box_of numbers; auxiliary = drop (1 + 2 * axes) values })))
-
--- ---- by its parts
-
--- the candidate of an id, or none, of coordinates, and of auxiliary values
+-- the candidate of an id, or none, of coordinates, and of auxiliary values, or the first thing that is wrong with the
+-- coordinates: one of more than 32 bits, a minimum above its maximum
 abbrev pub candidate_with : Option ℤ → List ℤ → List Value → Result Candidate Refusal
 candidate_with id numbers auxiliary =
     if not (list_all (fits_bits 31) numbers) then Err IntegerOutOfRange
     else (if not (is_ordered (box_of numbers)) then Err MinimumAboveMaximum
     else Ok (record { id = id; box = box_of numbers; auxiliary = auxiliary }))
+
+-- the candidate that the values are; before all else, each has its type
+abbrev pub candidate_of : ℕ → List Value → Result Candidate Refusal
+candidate_of axes values =
+    if not (is_id (id_value values) && list_all is_integer (coordinate_values axes values)) then Err WrongType
+    else candidate_with (id_in (id_value values)) (map number_in (coordinate_values axes values)) (drop (1 + 2 * axes) values)

@@ -130,7 +130,7 @@ fn are_said(coordinates: usize, tests: &[Test], places: &[usize]) -> bool
     )
 }
 
-/// The places of the columns that a condition's tests look at. Most conditions have one test, whose place takes no memory
+/// The places of the columns that a condition's tests look at. The place of a single test, as in `id = 7`, takes no memory
 /// beside its own.
 #[derive(Debug, Drop)]
 enum TestPlaces {
