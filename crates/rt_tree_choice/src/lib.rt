@@ -17,6 +17,7 @@
 //! `Sorting.antt`, `Hull.antt`, `Keys.antt`; `Laws.antt` (the laws). The other files of `specs/` are for proofs here.
 #![tactic(auto)]
 
+mod holder;
 mod hulls;
 pub mod laws;
 mod plane;

@@ -3,12 +3,11 @@
 //! Areas have 64 bits there, and no side of a box is negative. So a cell takes half the steps that its cost in full
 //! takes, and by far the most cells of a way down are looked at here (`growths` in `specs/Costs.antt`).
 
-ghost use Rattle.std.specs.Prelude.{◌≡◌, ◌^◌, ◌<◌, ◌≤◌, ◌≤ℤ◌, ◌↔◌, [], ◌∷◌, length, IsTrue, IfSome, MatchOption, false};
+ghost use Rattle.std.specs.Prelude.{◌≡◌, ◌^◌, ◌<◌, ◌≤◌, ◌≤ℤ◌, ◌↔◌, length, IsTrue, false};
 ghost use Rattle.rt_box.specs.Interval.{side};
 ghost use Rattle.rt_box.specs.Rect.{area};
-ghost use Rattle.rt_tree_choice.specs.Hull.{box_at};
 ghost use Rattle.rt_tree_choice.specs.Keys.{Less};
-ghost use Rattle.rt_tree_choice.specs.Subtree.{area_enlargement, IsBestChild};
+ghost use Rattle.rt_tree_choice.specs.Subtree.{IsBestChild};
 ghost use Rattle.rt_tree_choice.specs.Costs.{growth_numbers, growths};
 
 use rt_box::{Interval, Rect};
@@ -32,7 +31,7 @@ fn length_of(range: Interval) -> u64
 
 /// The product of the sides.
 #[inline]
-fn area_of<const D: usize>(rect: &Rect<D>) -> u64
+pub(super) fn area_of<const D: usize>(rect: &Rect<D>) -> u64
     requires { D ≤ 2 }
     ensures { result ≡ area rect.now }
 {
@@ -74,56 +73,11 @@ fn is_less(growth: &Growth, other: &Growth) -> bool
     growth.enlargement < other.enlargement || growth.area < other.area
 }
 
-/// The area of the cell at `position`, where it holds the new box: it doesn't grow then, and otherwise it does, since
-/// the new box has an area.
-#[inline]
-fn area_of_holder<const D: usize>(
-    boxes: &[Rect<D>],
-    position: usize,
-    new_box: &Rect<D>,
-) -> Option<u64>
-    requires plane { D ≤ 2 }
-    requires solid { 0 < area new_box.now }
-    requires within { position < length boxes.now }
-    ensures { MatchOption result
-        (0 < area_enlargement (box_at boxes.now position) new_box.now)
-        (λ least. 0 ∷ least ∷ [] ≡ growths boxes.now new_box.now position) }
-{
-    let rect = &boxes[position];
-    rect.facts();
-    new_box.facts();
-    if rect.contains(new_box) {
-        Some(area_of(rect))
-    } else {
-        None
-    }
-}
-
-/// The position of the cell whose area grows least, where some cell holds the new box, and so doesn't grow.
-#[inline(never)]
-fn least_holder<const D: usize>(boxes: &[Rect<D>], new_box: &Rect<D>) -> Option<usize>
-    requires plane { D ≤ 2 }
-    requires solid { 0 < area new_box.now }
-    ensures { IfSome result (λ best. IsBestChild false boxes.now new_box.now best) }
-{
-    let mut best = None;
-    let mut least = 0;
-    for position in 0..boxes.len() {
-        if let Some(area) = area_of_holder(boxes, position, new_box) {
-            if best.is_none() || area < least {
-                best = Some(position);
-                least = area;
-            }
-        }
-    }
-    best
-}
-
 // By itself, so that the new box stays in registers.
 
-/// The position of the cell whose area grows least, with every cell's growth.
+/// The position of the cell whose area grows least; of those the one of least area, and of those the first.
 #[inline(never)]
-fn least_growth_of_all<const D: usize>(boxes: &[Rect<D>], new_box: &Rect<D>) -> usize
+pub(super) fn least_growth<const D: usize>(boxes: &[Rect<D>], new_box: &Rect<D>) -> usize
     requires plane { D ≤ 2 }
     requires some { 0 < length boxes.now }
     ensures { IsBestChild false boxes.now new_box.now result }
@@ -138,19 +92,4 @@ fn least_growth_of_all<const D: usize>(boxes: &[Rect<D>], new_box: &Rect<D>) -> 
         }
     }
     best
-}
-
-/// The position of the cell whose area grows least; of those the one of least area, and of those the first.
-pub(super) fn least_growth<const D: usize>(boxes: &[Rect<D>], new_box: &Rect<D>) -> usize
-    requires plane { D ≤ 2 }
-    requires some { 0 < length boxes.now }
-    ensures { IsBestChild false boxes.now new_box.now result }
-{
-    // Mostly some cell holds the new box.
-    if area_of(new_box) > 0 {
-        if let Some(best) = least_holder(boxes, new_box) {
-            return best;
-        }
-    }
-    least_growth_of_all(boxes, new_box)
 }

@@ -10,6 +10,7 @@ ghost use Rattle.rt_tree_choice.specs.Keys.{Less};
 ghost use Rattle.rt_tree_choice.specs.Subtree.{overlap_enlargement, area_enlargement, IsBestChild};
 ghost use Rattle.rt_tree_choice.specs.Costs.{numbers, costs, IsGrowthWithin};
 
+use crate::holder::{area_of, least_holder};
 use crate::plane::least_growth;
 use rt_box::Rect;
 
@@ -116,6 +117,12 @@ fn least_enlargement<const D: usize>(boxes: &[Rect<D>], new_box: &Rect<D>) -> us
     requires few { length boxes.now ≤ 52 }
     ensures { IsBestChild false boxes.now new_box.now result }
 {
+    // Mostly some cell holds the new box.
+    if area_of(new_box) > 0 {
+        if let Some(best) = least_holder(boxes, new_box) {
+            return best;
+        }
+    }
     if D <= 2 {
         least_growth(boxes, new_box)
     } else {

@@ -1,7 +1,7 @@
 use Rattle.std.proofs.Common.{not, arith, ap, ◌∙◌}
 use Rattle.rt_tree_choice.proofs.Holders.{passes-other, takes-holder, keeps-holder, no-holder, less-than-holder, least-holder_best}
-use Rattle.rt_tree_choice.proofs.plane.least_holder.Goals as goal
-use Rattle.rt_tree_choice.proofs.plane.least_holder.Goals.{in-Some+then-is_none, then-is_none-via-then-is_none, then-is_none-via-else-is_none+then-area-least, in-Some+else-is_none+else-area-least, in_default}
+use Rattle.rt_tree_choice.proofs.holder.least_holder.Goals as goal
+use Rattle.rt_tree_choice.proofs.holder.least_holder.Goals.{in-Some+then-is_none, then-is_none-via-then-is_none, then-is_none-via-else-is_none+then-area-least, in-Some+else-is_none+else-area-least, in_default}
 
 pub loop-position-preserved : goal.loop-position-preserved
 loop-position-preserved g c =

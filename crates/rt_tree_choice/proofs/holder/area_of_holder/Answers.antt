@@ -1,7 +1,7 @@
 use Rattle.std.proofs.Common.{◌∙◌, sym}
 use Rattle.std.proofs.lemmas.Bool.{false≢true}
 use Rattle.rt_tree_choice.proofs.Holders.{holder-growths, other-grows}
-use Rattle.rt_tree_choice.proofs.plane.area_of_holder.Goals as goal
+use Rattle.rt_tree_choice.proofs.holder.area_of_holder.Goals as goal
 
 pub returns-then-contains : goal.returns-then-contains
 returns-then-contains g c =

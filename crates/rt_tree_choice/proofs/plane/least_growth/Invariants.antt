@@ -2,7 +2,7 @@ use Rattle.std.proofs.Common.{◌≡◌}
 use Rattle.rt_tree_choice.specs.Keys.{IsLeast}
 use Rattle.rt_tree_choice.specs.Costs.{growth_numbers, growths}
 use Rattle.rt_tree_choice.proofs.Keys.{ranked}
-use Rattle.rt_tree_choice.proofs.plane.least_growth_of_all.Given as goal
+use Rattle.rt_tree_choice.proofs.plane.least_growth.Given as goal
 
 abbrev pub invariant-loop-position : goal.invariant-loop-position
 invariant-loop-position g l = record {
