@@ -29,10 +29,6 @@ pub record Narrows (old new : List Interval) (coordinate : ℕ) (op : Operator) 
 abbrev pub Admits : List Interval → List Interval → Type 0
 Admits window b = AllZip Includes window (coordinates b)
 
--- each box that lies in b is admitted
-abbrev pub AdmitsWithin : ℕ → List Interval → List Interval → Type 0
-AdmitsWithin axes window b = (inner : List Interval) → IsBox axes inner → Holds b inner → Admits window inner
-
 -- some box that lies in b is admitted
 abbrev pub MayHold : ℕ → List Interval → List Interval → Type 0
 MayHold axes window b = (inner : List Interval) × IsBox axes inner × Holds b inner × Admits window inner

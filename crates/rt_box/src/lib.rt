@@ -5,7 +5,6 @@
 //!   states the bound that sums of it need.
 //! - `Window` holds what a search asks of each coordinate. It admits a box exactly where all of its
 //!   comparisons but `<>` hold, and its `reach` exactly the boxes into which an admitted box fits.
-//!   `admits_within` asks whether it admits each box that fits into one.
 //! - `Capacity` is the greatest number of cells in a node, with the two numbers that follow from it.
 //! - `laws` states what searching and splitting rest on, over the definitions that the contracts cite.
 //!

@@ -24,7 +24,7 @@ fn product(first: u32, second: u32) -> u128
 /// Whether the ends before were inside, and neither of the inner ones goes past the outer interval's. All are compared:
 /// which of them goes past is by chance, so a branch for each would mostly be guessed wrong.
 #[inline]
-pub(crate) fn are_inside(before: bool, outer: &Interval, inner: &Interval) -> bool
+fn are_inside(before: bool, outer: &Interval, inner: &Interval) -> bool
     ensures { IsTrue result ↔ (IsTrue before × Covers outer.now inner.now) }
 {
     before & (outer.lo <= inner.lo) & (inner.hi <= outer.hi)

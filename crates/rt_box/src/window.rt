@@ -6,11 +6,11 @@
 ghost use Rattle.std.specs.Prelude.{◌≡◌, ◌*◌, ◌<◌, ◌≤◌, ◌↔◌, IsTrue};
 ghost use Rattle.rt_box.specs.declared.interval.Interval.{Interval};
 ghost use Rattle.rt_box.specs.Ends.{AdmitsAxis, Reaches};
-ghost use Rattle.rt_box.specs.Window.{IsUnlimited, Narrows, Admits, AdmitsWithin, MayHold, IsReach};
+ghost use Rattle.rt_box.specs.Window.{IsUnlimited, Narrows, Admits, MayHold, IsReach};
 
 use crate::interval::Interval;
 use crate::operator::Operator;
-use crate::rect::{Rect, are_inside};
+use crate::rect::Rect;
 use std::marker::Model;
 use std::simd::prelude::*;
 
@@ -139,21 +139,6 @@ impl<const D: usize> Window<D> {
         let last = rect.axes() - 1;
         admits_two(&self.axes, rect, 0, last.min(1))
             & admits_two(&self.axes, rect, last.saturating_sub(1), last)
-    }
-
-    /// Whether the window admits each box that lies in the box: on each axis both ends may be any number of its side.
-    #[inline]
-    pub fn admits_within(&self, rect: &Rect<D>) -> bool
-        ensures { IsTrue result ↔ AdmitsWithin D self.now rect.now }
-    {
-        rect.facts();
-        let axes = &self.axes;
-        let mut inside = true;
-        for axis in 0..D {
-            let (ends, side) = (&axes[axis], rect.side(axis));
-            inside = are_inside(are_inside(inside, &ends.lo, side), &ends.hi, side);
-        }
-        inside
     }
 
     /// Whether a box that this window admits may lie in the box. A search that asks it of many boxes makes the `reach`

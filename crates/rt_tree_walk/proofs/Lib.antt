@@ -2,7 +2,6 @@ pub mod Totals
 pub mod Taking
 pub mod Reaching
 pub mod Progress
-pub mod Above
 pub mod Due
 pub mod Counted
 pub mod Numbering

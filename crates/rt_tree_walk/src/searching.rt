@@ -1,14 +1,14 @@
 //! Searches: the rows whose boxes a window admits.
 //!
 //! A stack of keys takes the place of recursion. Rows are tested by the window, and children by its reach. Tests
-//! without branches are there for speed alone, and so are `ahead` and `admits_leaf` (`specs/Search.antt`).
+//! without branches are there for speed alone, and so is `ahead` (`specs/Search.antt`).
 
-ghost use Rattle.std.specs.Prelude.{◌≡◌, ◌≤◌, ◌<◌, ◌++◌, [], All, Some, length, map, take, List, IsTrue, IfSome, IfOk, OnOk, OnErr};
+ghost use Rattle.std.specs.Prelude.{◌≡◌, ◌≤◌, ◌<◌, ◌++◌, [], All, length, take, List, IfOk, OnOk, OnErr};
 ghost use Rattle.rt_box.specs.declared.interval.Interval.{Interval};
-ghost use Rattle.slab.specs.Slab.{get, ContainsKey};
-ghost use Rattle.rt_box.specs.Window.{Admits, IsReach};
+ghost use Rattle.slab.specs.Slab.{ContainsKey};
+ghost use Rattle.rt_box.specs.Window.{IsReach};
 ghost use Rattle.rt_tree_node.specs.Whole.{IsWhole};
-ghost use Rattle.rt_tree_node.specs.Places.{key_of, cells_at, hull_at};
+ghost use Rattle.rt_tree_node.specs.Places.{key_of};
 ghost use Rattle.rt_tree_walk.specs.Search.{row_of, Finds, FindsAfter, StaysInFront};
 ghost use Rattle.rt_tree_walk.specs.Visits.{rows_at, keys_at, TakesRows, TakesChildren, Visits};
 
@@ -21,7 +21,7 @@ use std::mem;
 /// How many rows a search has room for before it finds the first one.
 const FIRST_ROOM: usize = 32;
 
-/// From so many rows in its list on, a search takes the rows of a leaf in the way that suits many.
+/// From so many rows on, a search takes the rows of a leaf in the way that suits many.
 const MANY_ROWS: usize = 16;
 
 /// A row that a search found.
@@ -158,72 +158,17 @@ fn take_many<const D: usize>(
     Ok(())
 }
 
-/// Takes all rows of a leaf.
-fn take_all<const D: usize>(rows: &mut Vec<Row<D>>, leaf: &Node<D>) -> Result<(), AllocError>
-    ensures ok { OnOk result (rows.new.items ≡ rows.old.items ++ map row_of leaf.now.cells) }
-    ensures err { OnErr result (rows.new.items ≡ rows.old.items) }
-{
-    rows.reserve(leaf.len())?;
-    let alloc = *rows.allocator();
-    let mut list = mem::replace(rows, Vec::new(alloc));
-    for at in 0..leaf.len() {
-        let cell = leaf.cell(at);
-        list.push_reserved(row_of(&cell));
-    }
-    *rows = list;
-    Ok(())
-}
-
-/// The least box around a node's cells, as its parent's cell has it. The root has no parent.
-#[inline]
-fn box_above<const D: usize>(tree: &Arena<D>, key: Key) -> Option<&Rect<D>>
-    requires whole { IsWhole tree.now }
-    requires settled { tree.now.waiting.items ≡ [] }
-    requires present { ContainsKey tree.now.nodes key }
-    requires few { D ≤ 3 }
-    ensures { IfSome result (λ rect. rect.now ≡ hull_at tree.now.nodes key) }
-{
-    let parent = node_at(&tree.nodes, node_at(&tree.nodes, key).parent()?);
-    // A cell's number has a sign, and so one bit less for a key.
-    let number = i64::try_from(key.index()).ok()?;
-    parent.boxes().get(parent.position(&number))
-}
-
-/// Whether the window admits each box within the box of a leaf, so that no row of the leaf needs a test.
-#[inline]
-fn admits_leaf<const D: usize>(tree: &Arena<D>, key: Key, window: &Window<D>) -> bool
-    requires whole { IsWhole tree.now }
-    requires settled { tree.now.waiting.items ≡ [] }
-    requires present { ContainsKey tree.now.nodes key }
-    requires few { D ≤ 3 }
-    ensures { IsTrue result → All (λ c. Admits window.now c.rect) (cells_at tree.now.nodes key) }
-{
-    match box_above(tree, key) {
-        Some(rect) => window.admits_within(rect),
-        None => false,
-    }
-}
-
-/// Takes the rows of a leaf that the window admits: in a way that suits many where the list holds many rows already.
+/// Takes the rows of a leaf that the window admits. A search that has found many is likely to find many more.
 fn take_rows<const D: usize>(
     rows: &mut Vec<Row<D>>,
-    tree: &Arena<D>,
-    key: Key,
     leaf: &Node<D>,
     window: &Window<D>,
 ) -> Result<(), AllocError>
-    requires whole { IsWhole tree.now }
-    requires settled { tree.now.waiting.items ≡ [] }
-    requires here { get tree.now.nodes key ≡ Some leaf.now }
-    requires few { D ≤ 3 }
     ensures ok { OnOk result (TakesRows window.now leaf.now.cells rows.old.items rows.new.items) }
     ensures err { OnErr result (rows.new.items ≡ rows.old.items) }
 {
     if rows.len() < MANY_ROWS {
         return take_few(rows, leaf, window);
-    }
-    if admits_leaf(tree, key, window) {
-        return take_all(rows, leaf);
     }
     take_many(rows, leaf, window)
 }
@@ -298,8 +243,6 @@ fn visit<const D: usize>(
     key: Key,
     asked: &Asked<D>,
 ) -> Result<(), AllocError>
-    requires whole { IsWhole tree.now }
-    requires settled { tree.now.waiting.items ≡ [] }
     requires present { ContainsKey tree.now.nodes key }
     requires few { D ≤ 3 }
     requires reach { IsReach D asked.now.window asked.now.reach }
@@ -308,7 +251,7 @@ fn visit<const D: usize>(
 {
     let node = node_at(&tree.nodes, key);
     if node.level() == 0 {
-        return take_rows(rows, tree, key, node, &asked.window);
+        return take_rows(rows, node, &asked.window);
     }
     take_children_ahead(keys, seen, tree, node, asked)
 }
