@@ -77,6 +77,20 @@ impl Interval {
         distance * distance
     }
 
+    /// Whether the number isn't below it.
+    pub(crate) fn begins_by(&self, number: i32) -> bool
+        ensures { IsTrue result ↔ (self.now.lo ≤ℤ number) }
+    {
+        self.lo <= number
+    }
+
+    /// Whether the number isn't above it.
+    pub(crate) fn lasts_to(&self, number: i32) -> bool
+        ensures { IsTrue result ↔ (number ≤ℤ self.now.hi) }
+    {
+        number <= self.hi
+    }
+
     /// The numbers of this interval up to `value`.
     fn at_most(self, value: i64) -> Interval
         ensures { (z : ℤ) → Includes result z ↔ (Includes self z × (z ≤ℤ value)) }

@@ -5,7 +5,7 @@
 
 ghost use Rattle.std.specs.Prelude.{◌≡◌, ◌*◌, ◌<◌, ◌≤◌, ◌↔◌, IsTrue};
 ghost use Rattle.rt_box.specs.declared.interval.Interval.{Interval};
-ghost use Rattle.rt_box.specs.Ends.{AdmitsAxis, Reaches};
+ghost use Rattle.rt_box.specs.Ends.{AdmitsSide, AdmitsAxis, Reaches};
 ghost use Rattle.rt_box.specs.Window.{IsUnlimited, Narrows, Admits, MayHold, IsReach};
 
 use crate::interval::Interval;
@@ -22,6 +22,16 @@ struct Ends {
 }
 
 impl Ends {
+    /// Whether both ends of a side are allowed. Both are compared with the least numbers first, and then with the greatest
+    /// ones: two comparisons of a kind are made at once.
+    #[inline]
+    fn admits(&self, side: &Interval) -> bool
+        ensures { IsTrue result ↔ AdmitsSide self.now side.now }
+    {
+        (self.lo.begins_by(side.lo) & self.hi.begins_by(side.hi))
+            & (self.lo.lasts_to(side.lo) & self.hi.lasts_to(side.hi))
+    }
+
     /// What the ends of a side are where an interval that is admitted fits into it: the side begins no later than such
     /// an interval may, and ends no sooner.
     fn reach(self) -> Ends
@@ -133,12 +143,15 @@ impl<const D: usize> Window<D> {
     pub fn admits(&self, rect: &Rect<D>) -> bool
         ensures { IsTrue result ↔ Admits self.now rect.now }
     {
+        let last = rect.axes() - 1;
+        if last == 0 {
+            let (ends, side) = (&self.axes[0], rect.side(0));
+            return ends.admits(side);
+        }
         // The first two axes, and the last two: the four numbers of neighbours stand side by side, so that they are loaded at
         // once. Three axes have the second in both pairs. Two axes have the same pair twice, and the compiler keeps one of
-        // them. A single axis is paired with itself.
-        let last = rect.axes() - 1;
-        admits_two(&self.axes, rect, 0, last.min(1))
-            & admits_two(&self.axes, rect, last.saturating_sub(1), last)
+        // them.
+        admits_two(&self.axes, rect, 0, 1) & admits_two(&self.axes, rect, last - 1, last)
     }
 
     /// Whether a box that this window admits may lie in the box. A search that asks it of many boxes makes the `reach`

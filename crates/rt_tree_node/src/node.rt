@@ -228,8 +228,20 @@ impl<const D: usize> Node<D> {
         ensures found { (d : Cell D) → result < length self.now.cells → (slice_index_or self.now.cells result d).number ≡ number.now }
         ensures first { (k : ℕ) (d : Cell D) → k < result → (slice_index_or self.now.cells k d).number ≢ number.now }
     {
-        position_in(self.numbers(), number)
+        // How many there are is read of the boxes, since a caller mostly asks for a box next: the line of memory at which these
+        // begin is on its way then.
+        let numbers = counted(self.numbers(), self.boxes().len());
+        position_in(numbers, number)
     }
+}
+
+/// The numbers, as many as they are.
+#[inline]
+fn counted(numbers: &[i64], count: usize) -> &[i64]
+    requires { count ≡ length numbers.now }
+    ensures { result.now ≡ numbers.now }
+{
+    &numbers[..count]
 }
 
 /// So many numbers are compared at once.

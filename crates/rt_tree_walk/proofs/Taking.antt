@@ -5,12 +5,12 @@ use Rattle.std.specs.List.{All, count_by}
 use Rattle.std.specs.Option.{option_to_list}
 use Rattle.std.proofs.lemmas.Bool.{cases_Bool, cases_eq}
 use Rattle.std.proofs.lemmas.List.{take_at, take_more, get_or_default, get_or-map}
-use Rattle.std.proofs.lemmas.List.Elements.{All-nil, All-cons, All-head, All-tail, All-push, Contains-append_left, Contains-push, Contains-push_cases}
+use Rattle.std.proofs.lemmas.List.Elements.{All-nil, All-push, Contains-append_left, Contains-push, Contains-push_cases}
 use Rattle.rt_box.specs.declared.interval.Interval.{Interval}
 use Rattle.rt_box.specs.Window.{Admits, MayHold}
 use Rattle.rt_tree_node.specs.declared.cell.Cell.{Cell}
 use Rattle.rt_tree_node.specs.Places.{key_of, times_named}
-use Rattle.rt_tree_node.proofs.Counts.{count-cons, count-append, count-one_no}
+use Rattle.rt_tree_node.proofs.Counts.{count-append, count-one_no}
 use Rattle.rt_tree_node.proofs.Places.{names_key}
 use Rattle.rt_tree_walk.specs.declared.searching.Row.{Row}
 use Rattle.rt_tree_walk.specs.Search.{times, row_of, LeadsInto}
@@ -106,28 +106,6 @@ module _ {D : ℕ} where
       new ≡ old ++ more → TakesRows window cells old new
   TakesRows-behind window cells old new more so e =
       record { more = so.more; is = e ∙ ap (λ rs. old ++ rs) so.is; admitted = so.admitted; each = so.each }
-
-  -- the rows of all cells
-  rows-admitted : (window : List Interval) (cells : List (Cell D)) → All (Admits window) (map (λ c. c.rect) cells) →
-      All (λ (r : Row D). Admits window r.rect) (map row_of cells)
-  rows-admitted window [] all = All-nil (λ r. Admits window r.rect)
-  rows-admitted window (c ∷ cs) all =
-      All-cons (λ r. Admits window r.rect) (row_of c) (map row_of cs) (All-head (Admits window) c.rect (map (λ x. x.rect) cs) all)
-      (rows-admitted window cs (All-tail (Admits window) c.rect (map (λ x. x.rect) cs) all))
-
-  rows-counted : (test : Row D → Bool) (cells : List (Cell D)) → count_by test (map row_of cells) ≡ count_by (λ c. test (row_of c)) cells
-  rows-counted test [] = refl
-  rows-counted test (c ∷ cs) =
-      omega (arith, count-cons test (row_of c) (map row_of cs), count-cons (λ x. test (row_of x)) c cs, rows-counted test cs)
-
-  pub TakesRows-all : (window : List Interval) (cells : List (Cell D)) (old new : List (Row D)) → All (Admits window) (map (λ c. c.rect) cells) →
-      new ≡ old ++ map row_of cells → TakesRows window cells old new
-  TakesRows-all window cells old new all e = record {
-    more = map row_of cells;
-    is = e;
-    admitted = rows-admitted window cells all;
-    each = λ test asks. rows-counted test cells;
-  }
 
   -- ---- children
   leads-more : (window : List Interval) (xs : List (Cell D)) (c : Cell D) (key : ℕ) → LeadsInto window xs key → LeadsInto window (xs ++ c ∷ []) key
