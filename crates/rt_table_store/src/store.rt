@@ -293,8 +293,7 @@ impl<const D: usize> Store<D> {
         }
     }
 
-    /// Replaces the row of that id by another that keeps the id: the tree looks it up once, and the largest id stays. It
-    /// takes no memory.
+    /// Replaces the row of that id by another that keeps the id, so that the largest id stays. It takes no memory.
     fn update(&mut self, id: &i64, row: Entry<D>)
         requires there { has_id self.old.rows id.now ≡ true }
         requires same { row.id ≡ id.now }

@@ -402,8 +402,8 @@ impl<const D: usize> Tree<D> {
         remove_row(&mut self.arena, id)
     }
 
-    /// Gives the row with the id another box: the row is removed and inserted again, and its id is looked up once. Where it
-    /// has that box already, the tree stays. It takes no memory.
+    /// Gives the row with the id another box: the row is removed and inserted again. Where it has that box already, the tree
+    /// stays. It takes no memory.
     pub fn replace(&mut self, id: &i64, rect: &Rect<D>)
         requires there { IsSome (box_of self.old.lists id.now) }
         requires spare { 1 ≤ self.old.spare }

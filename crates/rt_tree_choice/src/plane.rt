@@ -1,7 +1,7 @@
 //! The cell whose area grows least, where boxes have one axis or two.
 //!
 //! Areas have 64 bits there, and no side of a box is negative. So a cell takes half the steps that its cost in full
-//! takes, and by far the most cells of a way down are looked at here (`growths` in `specs/Costs.antt`).
+//! takes (`growths` in `specs/Costs.antt`).
 
 ghost use Rattle.std.specs.Prelude.{◌≡◌, ◌^◌, ◌<◌, ◌≤◌, ◌≤ℤ◌, ◌↔◌, length, IsTrue, false};
 ghost use Rattle.rt_box.specs.Interval.{side};

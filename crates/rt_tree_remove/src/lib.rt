@@ -3,11 +3,11 @@
 //!
 //! - `remove_row`: exactly one row fewer in a whole tree, which is whole again; its box is answered. Where the
 //!   row's leaf was the root or had cells to spare, no other row moves.
-//! - `find_row` says where a row lies, as a `Location`. `replace_found` gives the row there another box, without looking its
-//!   id up again.
+//! - `find_row` says where a row lies, as a `Location`; `replace_found` gives the row there another box, by a removal and an
+//!   insertion.
 //!
-//! Stands on `rt_tree_insert`, `rt_tree_place` and `rt_tree_node`. Definitions: `specs/Removal.antt` (what it comes to),
-//! `Steps.antt`, `Above.antt`.
+//! Stands on `rt_tree_insert`, `rt_tree_place` and `rt_tree_node`. Definitions: `specs/Removal.antt` and `Replacement.antt`
+//! (what they come to), `Steps.antt`, `Above.antt`.
 #![tactic(auto)]
 
 mod climb;

@@ -1,7 +1,7 @@
 //! The replacement of a row by one that keeps its id.
 //!
 //! The row is removed and inserted again (`specs/Replacement.antt`). Where its removal leaves all else as it is, its id keeps
-//! its entry in the map of leaves meanwhile, so that it's neither taken out nor looked for a place.
+//! its entry in the map of leaves meanwhile: nothing is taken out of the map and put in again.
 
 ghost use Rattle.std.specs.Prelude.{◌≡◌, ◌+◌, ◌-◌, ◌*◌, ◌^◌, ◌<◌, ◌≤◌, [], ◌∷◌, ◌++◌, true, vec_len, vec_capacity};
 ghost use Rattle.indexmap.specs.IndexMap.{spare};
