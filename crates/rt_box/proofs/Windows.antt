@@ -1,9 +1,9 @@
 -- Lemmas on windows.
-use Rattle.std.proofs.Common.{◌≡◌, ℕ, zero, suc, ◌+◌, ◌*◌, ◌<◌, ◌↔◌, Bool, ℤ, pos, ◌≤ℤ◌, List, [], ◌∷◌, length, get_or, set, replicate, All, arith, refl, ap, ◌∙◌, w32, FitsSigned}
+use Rattle.std.proofs.Common.{◌≡◌, ℕ, zero, suc, ◌+◌, ◌*◌, ◌<◌, ◌↔◌, Bool, ℤ, pos, ◌≤ℤ◌, List, [], ◌∷◌, length, map, get_or, set, replicate, All, arith, refl, ap, subst, ◌∙◌, w32, FitsSigned}
 use Rattle.std.specs.Int.{int_min, int_max}
 use Rattle.std.proofs.lemmas.Int.{ints, clamps}
-use Rattle.std.proofs.lemmas.List.{length-set, get_or_default, get_or-set_same, get_or-set_other, length-replicate}
-use Rattle.std.proofs.lemmas.List.Elements.{All-head, All-tail, All-nil, All-cons, All-get_or}
+use Rattle.std.proofs.lemmas.List.{length-map, length-set, get_or_default, get_or-map, get_or-set_same, get_or-set_other, length-replicate}
+use Rattle.std.proofs.lemmas.List.Elements.{All-head, All-tail, All-nil, All-cons, All-get_or, All-map, All-weaker}
 use lib.Pointwise.{pointwise}
 use Rattle.rt_box.specs.declared.interval.Interval.{Interval}
 use Rattle.rt_box.specs.declared.operator.Operator.{Operator}
@@ -11,9 +11,9 @@ use Rattle.rt_box.specs.declared.window.Ends.{Ends}
 use Rattle.rt_box.specs.Interval.{interval, Includes, Covers, FitsEnds}
 use Rattle.rt_box.specs.Operators.{Keeps}
 use Rattle.rt_box.specs.Rect.{IsBox, Holds}
-use Rattle.rt_box.specs.Ends.{in_order, paired_up, paired_up-in_order, AdmitsSide, AdmitsAxis, MayHoldSide, Reaches}
+use Rattle.rt_box.specs.Ends.{in_order, paired_up, paired_up-in_order, AdmitsSide, AdmitsAxis, AdmitsWithinSide, MayHoldSide, Reaches, HasCore}
 use Rattle.rt_box.proofs.Made.{IsOrdered}
-use Rattle.rt_box.specs.Window.{Allows, IsUnlimited, Narrows, Admits, MayHold, IsReach}
+use Rattle.rt_box.specs.Window.{Allows, IsUnlimited, Narrows, Admits, AdmitsWithin, MayHold, IsReach, IsCore}
 
 -- two windows are equal exactly where their pairs are
 pub pointwise-paired_up : (same : Ends → Ends → Bool) (xs ys : List Ends) (v w : List Interval) (r : Bool) →
@@ -249,4 +249,74 @@ IsReach-all axes es rs window window_is es_long rs_long reaches b is =
           (λ i e d l. (side i e e d (omega (arith, es_long))).0 (Admits-sides rs (in_order rs) b i e d refl (omega (arith, es_long, rs_long)) a))),
       (λ m. Admits-all rs (in_order rs) b refl (omega (arith, rs_long, is.axes_are))
           (λ i r d l. (side i r r d (omega (arith, rs_long))).1 (MayHold-sides axes es window b i r d window_is (omega (arith, es_long, rs_long)) m))),
+    )
+
+-- ---- a window admits each box within a box exactly where it admits the lowest corner and the highest
+
+admitted-within : (es : List Ends) (b inner : List Interval) → length es ≡ length b →
+    ((i : ℕ) (e : Ends) (d : Interval) → i < length es → AdmitsWithinSide (get_or es i e) (get_or b i d)) →
+    All IsOrdered inner → Holds b inner → Admits (in_order es) inner
+admitted-within [] [] [] same h ordered holds = tt
+admitted-within [] [] (z ∷ inner) same h ordered holds = absurd holds
+admitted-within [] (y ∷ b) inner same h ordered holds = absurd (omega arith)
+admitted-within (x ∷ es) [] inner same h ordered holds = absurd (omega arith)
+admitted-within (x ∷ es) (y ∷ b) [] same h ordered holds = absurd holds
+admitted-within (x ∷ es) (y ∷ b) (z ∷ inner) same h ordered holds =
+    let here = h 0 x y (omega arith) in
+    let order = All-head IsOrdered z inner ordered in (
+      (omega (arith, ints, here.0, order, holds.0), omega (arith, ints, here.0, order, holds.0)),
+      (
+        (omega (arith, ints, here.1, order, holds.0), omega (arith, ints, here.1, order, holds.0)),
+        admitted-within es b inner (omega arith) (λ i d d' l. h (suc i) d d' (omega arith)) (All-tail IsOrdered z inner ordered) holds.1,
+      ),
+    )
+
+corner-holds : (f : Interval → Interval) → ((i : Interval) → IsOrdered i → Covers i (f i)) → (b : List Interval) → All IsOrdered b → Holds b (map f b)
+corner-holds f covers [] ordered = tt
+corner-holds f covers (x ∷ b) ordered =
+    (covers x (All-head IsOrdered x b ordered), corner-holds f covers b (All-tail IsOrdered x b ordered))
+
+corner-box : (axes : ℕ) (f : Interval → Interval) → ((i : Interval) → IsOrdered (f i)) → ((i : Interval) → FitsEnds i → FitsEnds (f i)) →
+    (b : List Interval) → IsBox axes b → IsBox axes (map f b)
+corner-box axes f ordered fits b is = record {
+  some = is.some;
+  few = is.few;
+  axes_are = length-map b f ∙ is.axes_are;
+  ordered = All-map IsOrdered f b (λ i d l. ordered (get_or b i d));
+  fits = All-map FitsEnds f b (All-weaker FitsEnds (λ i. FitsEnds (f i)) fits b is.fits);
+}
+
+-- the sides of the lowest corner, and of the highest
+abbrev least : Interval → Interval
+least i = interval i.lo i.lo
+
+abbrev greatest : Interval → Interval
+greatest i = interval i.hi i.hi
+
+AdmitsWithin-side : (axes : ℕ) (es : List Ends) (window b : List Interval) (i : ℕ) (e : Ends) (d : Interval) → in_order es ≡ window →
+    i < length es → i < length b → IsBox axes b → AdmitsWithin axes window b → AdmitsWithinSide (get_or es i e) (get_or b i d)
+AdmitsWithin-side axes es window b i e d window_is in_es in_b is within =
+    let admitted : AdmitsWithin axes (in_order es) b = rw window_is within in
+    let low = Admits-side es (map least b) i e (least d) in_es
+    (admitted (map least b) (corner-box axes least (λ x. omega (arith, ints)) (λ x fits. (fits.0, fits.0)) b is)
+    (corner-holds least (λ x order. (omega (arith, ints), omega (arith, ints, order))) b is.ordered)) in
+    let high = Admits-side es (map greatest b) i e (greatest d) in_es
+    (admitted (map greatest b) (corner-box axes greatest (λ x. omega (arith, ints)) (λ x fits. (fits.1, fits.1)) b is)
+    (corner-holds greatest (λ x order. (omega (arith, ints, order), omega (arith, ints))) b is.ordered)) in
+    let at_low = subst (AdmitsSide (get_or es i e)) (get_or-map least b i d (least d) in_b) low in
+    let at_high = subst (AdmitsSide (get_or es i e)) (get_or-map greatest b i d (greatest d) in_b) high in
+    ((at_low.0.0, at_high.0.1), (at_low.1.0, at_high.1.1))
+
+pub IsCore-all : (axes : ℕ) (es cs : List Ends) (window : List Interval) → in_order es ≡ window → length es ≡ axes → length cs ≡ axes →
+    ((i : ℕ) (e r : Ends) → i < length es → HasCore (get_or es i e) (get_or cs i r)) → IsCore axes window (in_order cs)
+IsCore-all axes es cs window window_is es_long cs_long cores b is =
+    let core : (i : ℕ) (e r : Ends) (d : Interval) → i < axes →
+    (AdmitsSide (get_or cs i r) (get_or b i d) ↔ AdmitsWithinSide (get_or es i e) (get_or b i d)) =
+    λ i e r d l. cores i e r (omega (arith, es_long, l)) (get_or b i d) (is.fits i d (omega (arith, is.axes_are, l))) in (
+      (λ admitted inner box holds. rw (← window_is) (admitted-within es b inner (omega (arith, es_long, is.axes_are))
+          (λ i e d l. (core i e e d (omega (arith, es_long, l))).0 (Admits-side cs b i e d (omega (arith, es_long, cs_long, l)) admitted))
+          box.ordered holds)),
+      (λ within. Admits-from_sides cs b (omega (arith, cs_long, is.axes_are))
+          (λ i r d l. (core i r r d (omega (arith, cs_long, l))).1
+          (AdmitsWithin-side axes es window b i r d window_is (omega (arith, es_long, cs_long, l)) (omega (arith, cs_long, is.axes_are, l)) is within))),
     )

@@ -27,6 +27,10 @@ AdmitsSide e side = Includes e.lo side.lo × Includes e.hi side.hi
 abbrev pub AdmitsAxis : List Ends → List Interval → ℕ → Type 0
 AdmitsAxis es b axis = (e : Ends) (d : Interval) → AdmitsSide (slice_index_or es axis e) (slice_index_or b axis d)
 
+-- each interval within the side is admitted: either end may be any number of the side
+abbrev pub AdmitsWithinSide : Ends → Interval → Type 0
+AdmitsWithinSide e side = Covers e.lo side × Covers e.hi side
+
 -- some interval within the side is admitted
 abbrev pub MayHoldSide : Ends → Interval → Type 0
 MayHoldSide e side = (inner : Interval) × (inner.lo ≤ℤ inner.hi) × Covers side inner × AdmitsSide e inner
@@ -34,3 +38,7 @@ MayHoldSide e side = (inner : Interval) × (inner.lo ≤ℤ inner.hi) × Covers 
 -- exactly the sides are admitted within which the ends admit some interval
 abbrev pub Reaches : Ends → Ends → Type 0
 Reaches e reach = (side : Interval) → FitsEnds side → side.lo ≤ℤ side.hi → (AdmitsSide reach side ↔ MayHoldSide e side)
+
+-- exactly the sides are admitted within which the ends admit each interval
+abbrev pub HasCore : Ends → Ends → Type 0
+HasCore e core = (side : Interval) → FitsEnds side → (AdmitsSide core side ↔ AdmitsWithinSide e side)

@@ -37,6 +37,14 @@ MayHold axes window b = (inner : List Interval) × IsBox axes inner × Holds b i
 abbrev pub IsReach : ℕ → List Interval → List Interval → Type 0
 IsReach axes window reach = (b : List Interval) → IsBox axes b → (Admits reach b ↔ MayHold axes window b)
 
+-- each box that lies in b is admitted
+abbrev pub AdmitsWithin : ℕ → List Interval → List Interval → Type 0
+AdmitsWithin axes window b = (inner : List Interval) → IsBox axes inner → Holds b inner → Admits window inner
+
+-- one window admits exactly the boxes within which the other admits each box
+abbrev pub IsCore : ℕ → List Interval → List Interval → Type 0
+IsCore axes window core = (b : List Interval) → IsBox axes b → (Admits core b ↔ AdmitsWithin axes window b)
+
 -- a comparison of a coordinate with a number
 pub record Comparison : Type 0 where
   pub coordinate : ℕ

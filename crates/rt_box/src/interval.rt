@@ -46,6 +46,14 @@ impl Interval {
         }
     }
 
+    /// `hi` less `lo`, where `lo` isn't above `hi`: that takes fewer steps than `length`.
+    pub(crate) fn ordered_length(self) -> u32
+        requires { self.lo ≤ℤ self.hi }
+        ensures { result ≡ side self }
+    {
+        (i64::from(self.hi) - i64::from(self.lo)) as u32
+    }
+
     /// What both have in common; empty where they don't meet.
     pub(crate) fn common_part(self, other: Interval) -> Interval
         ensures { result ≡ common_part self other }

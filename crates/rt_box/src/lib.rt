@@ -4,7 +4,8 @@
 //!   distance of centres) are those of the R*-tree, exact over whole numbers: nothing wraps, and each
 //!   states the bound that sums of it need.
 //! - `Window` holds what a search asks of each coordinate. It admits a box exactly where all of its
-//!   comparisons but `<>` hold, and its `reach` exactly the boxes into which an admitted box fits.
+//!   comparisons but `<>` hold, its `reach` exactly the boxes into which an admitted box fits, and its `core` those into
+//!   which no other fits.
 //! - `Capacity` is the greatest number of cells in a node, with the two numbers that follow from it.
 //! - `laws` states what searching and splitting rest on, over the definitions that the contracts cite.
 //!

@@ -149,11 +149,14 @@ impl<const D: usize> Rect<D> {
         ensures bound { result ≤ 2 ^ 96 }
     {
         if self.axes() == 2 {
-            return product(self.range(0).length(), self.range(1).length());
+            return product(
+                self.range(0).ordered_length(),
+                self.range(1).ordered_length(),
+            );
         }
         let mut area: u128 = 1;
         for axis in 0..self.axes() {
-            area *= u128::from(self.range(axis).length());
+            area *= u128::from(self.range(axis).ordered_length());
         }
         area
     }
@@ -165,7 +168,7 @@ impl<const D: usize> Rect<D> {
     {
         let mut margin: u64 = 0;
         for axis in 0..self.axes() {
-            margin += u64::from(self.range(axis).length());
+            margin += u64::from(self.range(axis).ordered_length());
         }
         margin
     }

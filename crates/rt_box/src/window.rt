@@ -1,12 +1,12 @@
 //! Windows: what a search asks of the coordinates of a box.
 //!
 //! A window has two intervals for each axis, one for `lo` and one for `hi`. Rows are tested by the window itself,
-//! and the boxes around them by its `reach` (`specs/Window.antt`; `specs/Ends.antt` for one axis).
+//! and the boxes around them by its `reach` and its `core` (`specs/Window.antt`; `specs/Ends.antt` for one axis).
 
 ghost use Rattle.std.specs.Prelude.{◌≡◌, ◌*◌, ◌<◌, ◌≤◌, ◌↔◌, IsTrue};
 ghost use Rattle.rt_box.specs.declared.interval.Interval.{Interval};
-ghost use Rattle.rt_box.specs.Ends.{AdmitsSide, AdmitsAxis, Reaches};
-ghost use Rattle.rt_box.specs.Window.{IsUnlimited, Narrows, Admits, MayHold, IsReach};
+ghost use Rattle.rt_box.specs.Ends.{AdmitsSide, AdmitsAxis, Reaches, HasCore};
+ghost use Rattle.rt_box.specs.Window.{IsUnlimited, Narrows, Admits, MayHold, IsReach, IsCore};
 
 use crate::interval::Interval;
 use crate::operator::Operator;
@@ -52,6 +52,24 @@ impl Ends {
         Ends {
             lo: Interval::EMPTY,
             hi: Interval::EMPTY,
+        }
+    }
+
+    /// What the ends of a side are where each interval that fits into it is admitted: each number of the side is allowed
+    /// both of its ends.
+    fn core(self) -> Ends
+        ensures { HasCore self result }
+    {
+        let both = self.lo.common_part(self.hi);
+        Ends {
+            lo: Interval {
+                lo: both.lo,
+                hi: i32::MAX,
+            },
+            hi: Interval {
+                lo: i32::MIN,
+                hi: both.hi,
+            },
         }
     }
 }
@@ -171,6 +189,18 @@ impl<const D: usize> Window<D> {
         let mut axes = self.axes;
         for axis in 0..D {
             axes[axis] = axes[axis].reach();
+        }
+        Window { axes }
+    }
+
+    /// The window that admits the boxes in which each one is admitted by this window. What lies in such a box needs no
+    /// test.
+    pub fn core(&self) -> Window<D>
+        ensures { IsCore D self.now result }
+    {
+        let mut axes = self.axes;
+        for axis in 0..D {
+            axes[axis] = axes[axis].core();
         }
         Window { axes }
     }

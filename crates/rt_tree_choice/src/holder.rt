@@ -9,20 +9,7 @@ ghost use Rattle.rt_tree_choice.specs.Hull.{box_at};
 ghost use Rattle.rt_tree_choice.specs.Subtree.{area_enlargement, IsBestChild};
 ghost use Rattle.rt_tree_choice.specs.Costs.{growths};
 
-use crate::plane;
 use rt_box::Rect;
-
-/// The area of a box. On one axis or two it has 64 bits, and takes fewer steps.
-#[inline]
-pub(super) fn area_of<const D: usize>(rect: &Rect<D>) -> u128
-    ensures { result ≡ area rect.now }
-{
-    if D <= 2 {
-        u128::from(plane::area_of(rect))
-    } else {
-        rect.area()
-    }
-}
 
 /// The area of the cell at `position`, where it holds the new box: it doesn't grow then, and otherwise it does, since
 /// the new box has an area.
@@ -42,7 +29,7 @@ fn area_of_holder<const D: usize>(
     rect.facts();
     new_box.facts();
     if rect.contains(new_box) {
-        Some(area_of(rect))
+        Some(rect.area())
     } else {
         None
     }

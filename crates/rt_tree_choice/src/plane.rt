@@ -31,7 +31,7 @@ fn length_of(range: Interval) -> u64
 
 /// The product of the sides.
 #[inline]
-pub(super) fn area_of<const D: usize>(rect: &Rect<D>) -> u64
+fn area_of<const D: usize>(rect: &Rect<D>) -> u64
     requires { D ≤ 2 }
     ensures { result ≡ area rect.now }
 {

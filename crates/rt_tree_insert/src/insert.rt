@@ -3,7 +3,7 @@
 //! The row waits as a cell of level 0 and is placed like any other. Its id is in the map before that, so placing
 //! it takes no memory (`specs/Insertion.antt`).
 
-ghost use Rattle.std.specs.Prelude.{◌≡◌, ◌+◌, ◌^◌, ◌<◌, ◌≤◌, [], None, vec_len, vec_capacity};
+ghost use Rattle.std.specs.Prelude.{◌≡◌, ◌+◌, ◌^◌, ◌<◌, ◌≤◌, [], ◌∷◌, ◌++◌, None, vec_len, vec_capacity};
 ghost use Rattle.std.specs.Ordering.{int_eq};
 ghost use Rattle.indexmap.specs.IndexMap.{get as leaf_of, spare};
 ghost use Rattle.rt_tree_node.specs.Whole.{IsWhole, IsBranched, HasRoom, row_count};
@@ -26,6 +26,19 @@ fn learn(leaves: &mut IndexMap<i64, Key, RandomState>, id: &i64, leaf: Key)
     let _ = leaves.insert(*id, leaf);
 }
 
+/// Appends a row to the cells that wait. It takes no memory.
+pub fn push_row<const D: usize>(waiting: &mut Vec<Waiting<D>>, id: &i64, rect: &Rect<D>)
+    requires { vec_len waiting.old < vec_capacity waiting.old }
+    ensures items { waiting.new.items ≡ waiting.old.items ++ record { level = 0; cell = record { number = id.now; rect = rect.now } } ∷ [] }
+    ensures room { vec_capacity waiting.new ≡ vec_capacity waiting.old }
+{
+    let cell = Cell {
+        number: *id,
+        rect: *rect,
+    };
+    waiting.push_reserved(Waiting { level: 0, cell });
+}
+
 /// Lets a row wait for a leaf. Its id gets an entry already, of any leaf, so that placing the row takes no memory.
 fn await_leaf<const D: usize>(tree: &mut Arena<D>, id: &i64, rect: &Rect<D>)
     requires absent { leaf_of int_eq tree.old.leaves id.now ≡ None }
@@ -33,13 +46,10 @@ fn await_leaf<const D: usize>(tree: &mut Arena<D>, id: &i64, rect: &Rect<D>)
     requires waiting_room { vec_len tree.old.waiting < vec_capacity tree.old.waiting }
     ensures { AwaitsLeaf tree.old tree.new record { number = id.now; rect = rect.now } }
 {
+    rect.facts();
     let leaf = tree.root;
     learn(&mut tree.leaves, id, leaf);
-    let cell = Cell {
-        number: *id,
-        rect: *rect,
-    };
-    tree.waiting.push_reserved(Waiting { level: 0, cell });
+    push_row(&mut tree.waiting, id, rect);
 }
 
 /// Puts a row into the tree, which has no row with that id. It takes no memory: there is room for the nodes, the id

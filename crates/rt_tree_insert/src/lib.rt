@@ -2,6 +2,7 @@
 //! cells that wait.
 //!
 //! - `insert_row`: a row comes into a whole tree, which is whole again, and each other row stays in it.
+//! - `push_row`: a row comes to the cells that wait.
 //! - `settle`: places the cells that wait, the last first, until so many are left; each as `place_last` says.
 //! - `laws`: how many nodes and levels a whole tree has at most.
 //!
@@ -12,6 +13,6 @@ mod insert;
 mod laws;
 mod waiting;
 
-pub use insert::insert_row;
+pub use insert::{insert_row, push_row};
 pub use laws::{levels_are_few, nodes_are_few, room_is_enough, waiting_cells_are_few};
 pub use waiting::settle;

@@ -235,7 +235,7 @@ impl<const D: usize> Node<D> {
     }
 }
 
-/// The numbers, as many as they are.
+/// The numbers up to the count, which is theirs: where they end is read wherever the caller counted.
 #[inline]
 fn counted(numbers: &[i64], count: usize) -> &[i64]
     requires { count ≡ length numbers.now }

@@ -12,6 +12,7 @@ use Rattle.rt_tree_remove.specs.Removal.{Removes}
 pub record Replaces {D : ℕ} (old new : Arena D) (id : ℤ) (was rect : List Interval) : Type 0 where
   pub between : Arena D
   pub removes : Removes old between id was
+  -- no id stands twice in the map of leaves between the two
   pub unique : IsUnique int_eq between.leaves
   pub work : Work
   pub inserts : Inserts between new id rect work

@@ -3,7 +3,7 @@
 //! The row is removed and inserted again (`specs/Replacement.antt`). Where its removal leaves all else as it is, its id keeps
 //! its entry in the map of leaves meanwhile: nothing is taken out of the map and put in again.
 
-ghost use Rattle.std.specs.Prelude.{◌≡◌, ◌+◌, ◌-◌, ◌*◌, ◌^◌, ◌<◌, ◌≤◌, [], ◌∷◌, ◌++◌, true, vec_len, vec_capacity};
+ghost use Rattle.std.specs.Prelude.{◌≡◌, ◌+◌, ◌-◌, ◌*◌, ◌^◌, ◌<◌, ◌≤◌, [], true, vec_capacity};
 ghost use Rattle.indexmap.specs.IndexMap.{spare};
 ghost use Rattle.rt_box.specs.Capacity.{least_fill};
 ghost use Rattle.rt_tree_node.specs.Whole.{IsWhole, IsBranched, HasRoom, row_count};
@@ -14,8 +14,8 @@ use crate::condense::lies_inside_leaf;
 use crate::location::Location;
 use crate::remove::remove_found;
 use rt_box::Rect;
-use rt_tree_insert::{insert_row, settle};
-use rt_tree_node::{Arena, Cell, Waiting, leaves_facts, node_at, remove_cell};
+use rt_tree_insert::{insert_row, push_row, settle};
+use rt_tree_node::{Arena, leaves_facts, node_at, remove_cell};
 
 /// Whether the removal of the row leaves all else as it is. Most rows lie inside their leaf's box, and most leaves have a cell
 /// to spare.
@@ -28,19 +28,6 @@ fn moves_alone<const D: usize>(tree: &Arena<D>, location: &Location<D>) -> bool
         return false;
     }
     lies_inside_leaf(tree, location.leaf, &location.rect)
-}
-
-/// Has the row with the id wait for a leaf, with this box.
-fn await_leaf<const D: usize>(waiting: &mut Vec<Waiting<D>>, id: &i64, rect: &Rect<D>)
-    requires { vec_len waiting.old < vec_capacity waiting.old }
-    ensures items { waiting.new.items ≡ waiting.old.items ++ record { level = 0; cell = record { number = id.now; rect = rect.now } } ∷ [] }
-    ensures room { vec_capacity waiting.new ≡ vec_capacity waiting.old }
-{
-    let cell = Cell {
-        number: *id,
-        rect: *rect,
-    };
-    waiting.push_reserved(Waiting { level: 0, cell });
 }
 
 /// Moves a row whose removal leaves all else as it is: its cell leaves the leaf, waits with the other box, and is placed.
@@ -58,7 +45,7 @@ fn move_row<const D: usize>(tree: &mut Arena<D>, id: &i64, location: &Location<D
     leaves_facts(&tree.leaves);
     rect.facts();
     remove_cell(&mut tree.nodes, location.leaf, location.at);
-    await_leaf(&mut tree.waiting, id, rect);
+    push_row(&mut tree.waiting, id, rect);
     let _ = settle(tree, 0);
 }
 

@@ -2,6 +2,7 @@ pub mod Totals
 pub mod Taking
 pub mod Reaching
 pub mod Progress
+pub mod Inside
 pub mod Due
 pub mod Counted
 pub mod Numbering

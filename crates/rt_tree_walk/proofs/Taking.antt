@@ -1,27 +1,21 @@
 -- What a search takes from a node, cell by cell.
-use Rattle.std.proofs.Common.{◌≡◌, ℕ, Bool, ◌+◌, ◌<◌, List, [], ◌∷◌, ◌++◌, length, map, get_or, take, append_assoc, append-nil, arith, refl, ap, sym, ◌∙◌, subst, inl, inr, Vec, vec_len, ◌-◌}
+use Rattle.std.proofs.Common.{◌≡◌, ℕ, Bool, ◌+◌, ◌<◌, List, [], ◌∷◌, ◌++◌, length, map, get_or, take, append_assoc, append-nil, arith, refl, ap, sym, ◌∙◌, subst, inl, inr}
 use Rattle.std.specs.Prelude.{slice_get, Some}
 use Rattle.std.specs.List.{All, count_by}
 use Rattle.std.specs.Option.{option_to_list}
 use Rattle.std.proofs.lemmas.Bool.{cases_Bool, cases_eq}
-use Rattle.std.proofs.lemmas.List.{take_at, take_more, get_or_default, get_or-map}
-use Rattle.std.proofs.lemmas.List.Elements.{All-nil, All-push, Contains-append_left, Contains-push, Contains-push_cases}
+use Rattle.std.proofs.lemmas.List.{take_more, get_or_default, get_or-map}
+use Rattle.std.proofs.lemmas.List.Elements.{All-nil, All-map, All-push, Contains-append_left, Contains-push, Contains-push_cases}
 use Rattle.rt_box.specs.declared.interval.Interval.{Interval}
 use Rattle.rt_box.specs.Window.{Admits, MayHold}
 use Rattle.rt_tree_node.specs.declared.cell.Cell.{Cell}
 use Rattle.rt_tree_node.specs.Places.{key_of, times_named}
-use Rattle.rt_tree_node.proofs.Counts.{count-append, count-one_no}
+use Rattle.rt_tree_node.proofs.Counts.{count-append, count-cons, count-one_no}
 use Rattle.rt_tree_node.proofs.Places.{names_key}
 use Rattle.rt_tree_walk.specs.declared.searching.Row.{Row}
 use Rattle.rt_tree_walk.specs.Search.{times, row_of, LeadsInto}
 use Rattle.rt_tree_walk.specs.Visits.{rows_at, keys_at, TakesRows, TakesChildren}
 use Rattle.rt_tree_walk.proofs.Totals.{times-append, times-one, times-other}
-
--- what was pushed last was given back
-pub given-back : {X Z : Type 0} (list pushed popped : Vec X Z) (x : X) → pushed.items ≡ list.items ++ x ∷ [] →
-    popped.items ≡ take (vec_len pushed - 1) pushed.items → vec_len pushed ≡ vec_len list + 1 → popped.items ≡ list.items
-given-back list pushed popped x grown rest long =
-    rest ∙ ap (take (vec_len pushed - 1)) grown ∙ take_at list.items (x ∷ []) (vec_len pushed - 1) (omega (arith, long, list.ok))
 
 module _ {D : ℕ} where
   -- the cell whose box was read
@@ -106,6 +100,21 @@ module _ {D : ℕ} where
       new ≡ old ++ more → TakesRows window cells old new
   TakesRows-behind window cells old new more so e =
       record { more = so.more; is = e ∙ ap (λ rs. old ++ rs) so.is; admitted = so.admitted; each = so.each }
+
+  rows-counted : (test : Row D → Bool) (cells : List (Cell D)) → count_by test (map row_of cells) ≡ count_by (λ c. test (row_of c)) cells
+  rows-counted test [] = refl
+  rows-counted test (c ∷ cs) =
+      omega (arith, count-cons test (row_of c) (map row_of cs), count-cons (λ x. test (row_of x)) c cs, rows-counted test cs)
+
+  -- the rows of all cells, where the window admits them all
+  pub TakesRows-all : (window : List Interval) (cells : List (Cell D)) (old new : List (Row D)) → All (λ c. Admits window c.rect) cells →
+      new ≡ old ++ map row_of cells → TakesRows window cells old new
+  TakesRows-all window cells old new all e = record {
+    more = map row_of cells;
+    is = e;
+    admitted = All-map (λ (r : Row D). Admits window r.rect) row_of cells all;
+    each = λ test asks. rows-counted test cells;
+  }
 
   -- ---- children
   leads-more : (window : List Interval) (xs : List (Cell D)) (c : Cell D) (key : ℕ) → LeadsInto window xs key → LeadsInto window (xs ++ c ∷ []) key

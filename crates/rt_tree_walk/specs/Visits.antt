@@ -1,17 +1,42 @@
 -- What a search takes from one node.
-use Rattle.std.specs.Prelude.{◌≡◌, ℕ, ◌≤◌, ◌<◌, Bool, List, [], ◌++◌, length, map, All, count_by, slice_get}
+use Rattle.std.specs.Prelude.{◌≡◌, ℕ, ◌≤◌, ◌<◌, Bool, true, Contains, List, [], ◌++◌, length, map, All, count_by, slice_get}
 use Rattle.std.specs.List.{flat_map}
 use Rattle.std.specs.Option.{option_to_list}
 use Rattle.slab.specs.Slab.{Slab}
 use Rattle.rt_box.specs.declared.interval.Interval.{Interval}
-use Rattle.rt_box.specs.Window.{Admits}
+use Rattle.rt_box.specs.Window.{Admits, AdmitsWithin, IsReach, IsCore}
 use Rattle.rt_tree_node.specs.declared.cell.Cell.{Cell}
 use Rattle.rt_tree_node.specs.Node.{NodeCells}
-use Rattle.rt_tree_node.specs.Places.{key_of, times_named, leaf_cells_at, inner_cells_at}
+use Rattle.rt_tree_node.specs.Places.{key_of, times_named, cells_at, leaf_cells_at, inner_cells_at}
+use Rattle.rt_tree_walk.specs.declared.searching.Asked.{Asked}
+use Rattle.rt_tree_walk.specs.declared.searching.Due.{Due}
 use Rattle.rt_tree_walk.specs.declared.searching.Row.{Row}
 use Rattle.rt_tree_walk.specs.Search.{times, row_of, LeadsInto, AsksAdmitted}
 
+-- the keys of the nodes that are due
+abbrev pub keys_of : List Due → List ℕ
+keys_of due = map (λ d. d.key) due
+
 module _ {D : ℕ} where
+  -- a window is asked with its reach and its core
+  pub record IsAsked (asked : Asked D) : Type 0 where
+    pub reach : IsReach D asked.window asked.reach
+    pub core : IsCore D asked.window asked.core
+
+  -- a marked node has no cell whose box the window refuses
+  abbrev pub MarkHolds : Slab (NodeCells D) → List Interval → Due → Type 0
+  MarkHolds a window d = d.is_inside ≡ true → All (λ c. Admits window c.rect) (cells_at a d.key)
+
+  -- one of the cells names the key, and the window admits each box in the cell's
+  abbrev pub NamesInside : List Interval → List (Cell D) → ℕ → Type 0
+  NamesInside window cells key = (c : Cell D) × Contains cells c × (key_of c ≡ key) × AdmitsWithin D window c.rect
+
+  -- nodes came last; those are marked that one of the cells names inside the window
+  pub record Marks (window : List Interval) (cells : List (Cell D)) (old new : List Due) : Type 0 where
+    pub more : List Due
+    pub is : new ≡ old ++ more
+    pub inside : All (λ d. d.is_inside ≡ true → NamesInside window cells d.key) more
+
   -- the rows of those cells that the window admits came last
   pub record TakesRows (window : List Interval) (cells : List (Cell D)) (old new : List (Row D)) : Type 0 where
     pub more : List (Row D)

@@ -2,16 +2,16 @@
 //!
 //! The walk is that of a search, but that the rows of a leaf are counted where a search takes them.
 
-ghost use Rattle.std.specs.Prelude.{◌≡◌, ◌^◌, ◌≤◌, ◌<◌, [], IfOk};
+ghost use Rattle.std.specs.Prelude.{◌≡◌, ◌^◌, ◌≤◌, ◌<◌, [], IfOk, OnOk};
 ghost use Rattle.slab.specs.Slab.{ContainsKey};
-ghost use Rattle.rt_box.specs.Window.{IsReach};
+ghost use Rattle.rt_tree_node.specs.Places.{inner_cells_at};
 ghost use Rattle.rt_tree_node.specs.Whole.{IsWhole, row_count};
 ghost use Rattle.rt_tree_walk.specs.Search.{Counts};
-ghost use Rattle.rt_tree_walk.specs.Visits.{CountsRows, VisitsCounting};
+ghost use Rattle.rt_tree_walk.specs.Visits.{keys_of, IsAsked, MarkHolds, CountsRows, Marks, VisitsCounting};
 
-use crate::searching::{Asked, take_children_ahead};
+use crate::searching::{Asked, DUE_ROOM, Due, take_children_ahead};
 use rt_box::Window;
-use rt_tree_node::{Arena, Key, MOST_CELLS, Node, node_at};
+use rt_tree_node::{Arena, Node, node_at};
 use std::alloc::{AllocError, Global};
 
 /// How many of a leaf's rows the window admits.
@@ -29,27 +29,32 @@ fn count_admitted<const D: usize>(leaf: &Node<D>, window: &Window<D>) -> usize
     count
 }
 
-/// Goes into the node at the key: counts a leaf's rows, or takes another node's children, and looks ahead at those that
-/// are leaves.
+/// Goes into a node: counts a leaf's rows, or takes another node's children, and looks ahead at those that are leaves.
+/// The rows of a marked leaf are counted without a look at them.
 #[inline(never)]
 fn visit<const D: usize>(
-    keys: &mut Vec<Key>,
+    due: &mut Vec<Due>,
     seen: &mut i64,
     tree: &Arena<D>,
-    key: Key,
+    next: Due,
     asked: &Asked<D>,
 ) -> Result<usize, AllocError>
-    requires present { ContainsKey tree.now.nodes key }
+    requires present { ContainsKey tree.now.nodes next.key }
     requires few { D ≤ 3 }
-    requires reach { IsReach D asked.now.window asked.now.reach }
-    ensures { IfOk result (λ count. VisitsCounting tree.now.nodes asked.now.window key count keys.old.items keys.new.items) }
+    requires asked { IsAsked asked.now }
+    requires mark { MarkHolds tree.now.nodes asked.now.window next }
+    ensures count { IfOk result (λ count. VisitsCounting tree.now.nodes asked.now.window next.key count (keys_of due.old.items) (keys_of due.new.items)) }
+    ensures marks { OnOk result (Marks asked.now.window (inner_cells_at tree.now.nodes next.key) due.old.items due.new.items) }
 {
-    let node = node_at(&tree.nodes, key);
-    if node.level() == 0 {
-        return Ok(count_admitted(node, &asked.window));
+    let node = node_at(&tree.nodes, next.key);
+    if node.level() > 0 {
+        take_children_ahead(due, seen, tree, node, asked)?;
+        return Ok(0);
     }
-    take_children_ahead(keys, seen, tree, node, asked)?;
-    Ok(0)
+    if next.is_inside {
+        return Ok(node.len());
+    }
+    Ok(count_admitted(node, &asked.window))
 }
 
 /// Counts the rows whose boxes the window admits: as many as `search` would find.
@@ -68,15 +73,12 @@ pub fn count<const D: usize>(
     requires small { row_count tree.now < 2 ^ 64 }
     ensures { IfOk result (λ count. Counts tree.now window.now count) }
 {
-    let mut keys = Vec::with_capacity(alloc, 2 * MOST_CELLS)?;
-    keys.push(tree.root)?;
-    let asked = Asked {
-        window: *window,
-        reach: window.reach(),
-    };
+    let mut due = Vec::with_capacity(alloc, DUE_ROOM)?;
+    due.push(Due::root(tree))?;
+    let asked = Asked::new(window);
     let (mut seen, mut count) = (0, 0);
-    while let Some(key) = keys.pop() {
-        count += visit(&mut keys, &mut seen, tree, key, &asked)?;
+    while let Some(next) = due.pop() {
+        count += visit(&mut due, &mut seen, tree, next, &asked)?;
     }
     Ok(count)
 }

@@ -1,16 +1,16 @@
 //! Searches: the rows whose boxes a window admits.
 //!
-//! A stack of keys takes the place of recursion. Rows are tested by the window, and children by its reach. Tests
-//! without branches are there for speed alone, and so is `ahead` (`specs/Search.antt`).
+//! A stack of nodes takes the place of recursion. Rows are tested by the window, and children by its reach. Tests
+//! without branches are there for speed alone, and so are `ahead` and the mark of a node (`specs/Search.antt`).
 
-ghost use Rattle.std.specs.Prelude.{◌≡◌, ◌≤◌, ◌<◌, ◌++◌, [], All, length, take, List, IfOk, OnOk, OnErr};
+ghost use Rattle.std.specs.Prelude.{◌≡◌, ◌≤◌, ◌<◌, ◌++◌, [], true, false, All, length, map, take, List, IfOk, OnOk, OnErr};
 ghost use Rattle.rt_box.specs.declared.interval.Interval.{Interval};
 ghost use Rattle.slab.specs.Slab.{ContainsKey};
-ghost use Rattle.rt_box.specs.Window.{IsReach};
+ghost use Rattle.rt_box.specs.Window.{Admits, AdmitsWithin, IsReach};
 ghost use Rattle.rt_tree_node.specs.Whole.{IsWhole};
-ghost use Rattle.rt_tree_node.specs.Places.{key_of};
+ghost use Rattle.rt_tree_node.specs.Places.{key_of, cells_at, inner_cells_at};
 ghost use Rattle.rt_tree_walk.specs.Search.{row_of, Finds, FindsAfter, StaysInFront};
-ghost use Rattle.rt_tree_walk.specs.Visits.{rows_at, keys_at, TakesRows, TakesChildren, Visits};
+ghost use Rattle.rt_tree_walk.specs.Visits.{rows_at, keys_at, keys_of, IsAsked, MarkHolds, TakesRows, TakesChildren, Marks, Visits};
 
 use crate::ahead::look_ahead;
 use rt_box::{Rect, Window};
@@ -21,8 +21,15 @@ use std::mem;
 /// How many rows a search has room for before it finds the first one.
 const FIRST_ROOM: usize = 32;
 
+/// How many nodes a search has room for at first that are due: more than a node has children. They take a kilobyte, and
+/// the allocator has larger pieces of memory less quickly at hand.
+pub(crate) const DUE_ROOM: usize = 64;
+
 /// From so many rows on, a search takes the rows of a leaf in the way that suits many.
 const MANY_ROWS: usize = 16;
+
+/// From so many children on, it is asked which of them lie inside the window: of few, none is likely to.
+const MANY_CHILDREN: usize = 8;
 
 /// A row that a search found.
 #[derive(Clone, Copy, Debug)]
@@ -42,12 +49,47 @@ pub struct Found<const D: usize> {
     pub visited: u64,
 }
 
-/// What a search asks of the boxes that it meets: of rows by its window, and of children by the window's reach, which
-/// is made once.
+/// What a search asks of the boxes that it meets: of rows by its window, of children by the window's reach, and by its
+/// core whether a child's rows need no test. Both are made once.
 #[derive(Drop)]
 pub(crate) struct Asked<const D: usize> {
     pub(crate) window: Window<D>,
-    pub(crate) reach: Window<D>,
+    reach: Window<D>,
+    core: Window<D>,
+}
+
+impl<const D: usize> Asked<D> {
+    /// What a search by the window asks.
+    pub(crate) fn new(window: &Window<D>) -> Asked<D>
+        ensures window { result.window ≡ window.now }
+        ensures asked { IsAsked result }
+    {
+        Asked {
+            window: *window,
+            reach: window.reach(),
+            core: window.core(),
+        }
+    }
+}
+
+/// A node that a search is still to go into.
+#[derive(Clone, Copy)]
+pub(crate) struct Due {
+    pub(crate) key: Key,
+    /// Whether it is known that the window admits each box that lies in the node's.
+    pub(crate) is_inside: bool,
+}
+
+impl Due {
+    /// The root, of which nothing is known.
+    pub(crate) fn root<const D: usize>(tree: &Arena<D>) -> Due
+        ensures { result ≡ record { key = tree.now.root; is_inside = false } }
+    {
+        Due {
+            key: tree.root,
+            is_inside: false,
+        }
+    }
 }
 
 /// The row of a leaf's cell.
@@ -116,7 +158,10 @@ fn push_rows<const D: usize>(
     Ok(())
 }
 
+// Each way to take a leaf's rows is a function by itself, so that its loop has all registers.
+
 /// Takes the rows of a leaf that the window admits, where few do: their positions come first.
+#[inline(never)]
 fn take_few<const D: usize>(
     rows: &mut Vec<Row<D>>,
     leaf: &Node<D>,
@@ -133,6 +178,7 @@ fn take_few<const D: usize>(
 
 /// Takes the rows of a leaf that the window admits, where many do: each row is put into the list at once, and given back
 /// where the window refuses it.
+#[inline(never)]
 fn take_many<const D: usize>(
     rows: &mut Vec<Row<D>>,
     leaf: &Node<D>,
@@ -151,14 +197,31 @@ fn take_many<const D: usize>(
         let admitted = window.admits(rect);
         list.push_reserved(row_of(&leaf.cell(at)));
         if !admitted {
-            let _ = list.pop();
+            let _ = list.take_last();
         }
     }
     *rows = list;
     Ok(())
 }
 
-/// Takes the rows of a leaf that the window admits. A search that has found many is likely to find many more.
+/// Takes all rows of a leaf.
+#[inline(never)]
+fn take_all<const D: usize>(rows: &mut Vec<Row<D>>, leaf: &Node<D>) -> Result<(), AllocError>
+    ensures ok { OnOk result (rows.new.items ≡ rows.old.items ++ map row_of leaf.now.cells) }
+    ensures err { OnErr result (rows.new.items ≡ rows.old.items) }
+{
+    rows.reserve(leaf.len())?;
+    let alloc = *rows.allocator();
+    let mut list = mem::replace(rows, Vec::new(alloc));
+    for at in 0..leaf.len() {
+        let cell = leaf.cell(at);
+        list.push_reserved(row_of(&cell));
+    }
+    *rows = list;
+    Ok(())
+}
+
+/// Takes the rows of a leaf that the window admits. A search whose list holds many is likely to find many more.
 fn take_rows<const D: usize>(
     rows: &mut Vec<Row<D>>,
     leaf: &Node<D>,
@@ -173,58 +236,79 @@ fn take_rows<const D: usize>(
     take_many(rows, leaf, window)
 }
 
-/// Takes the keys in a node's cells at these positions.
-fn push_keys<const D: usize>(
-    keys: &mut Vec<Key>,
+/// Whether the window is known to admit each box that lies in this one: nothing is known of a box that isn't asked about.
+#[inline]
+fn is_inside<const D: usize>(asked: &Asked<D>, rect: &Rect<D>, asks: bool) -> bool
+    requires { IsAsked asked.now }
+    ensures { result ≡ true → AdmitsWithin D asked.now.window rect.now }
+{
+    rect.facts();
+    asks && asked.core.admits(rect)
+}
+
+/// Takes the children that a node's cells at these positions name. Those that are known to lie inside the window are marked.
+fn push_children<const D: usize>(
+    due: &mut Vec<Due>,
     node: &Node<D>,
     positions: &[u8],
+    asked: &Asked<D>,
 ) -> Result<(), AllocError>
-    requires { All (λ at. at < length node.now.cells) positions.now }
-    ensures { OnOk result (keys.new.items ≡ keys.old.items ++ keys_at node.now.cells positions.now) }
+    requires asked { IsAsked asked.now }
+    requires within { All (λ at. at < length node.now.cells) positions.now }
+    ensures keys { OnOk result (keys_of due.new.items ≡ keys_of due.old.items ++ keys_at node.now.cells positions.now) }
+    ensures marks { OnOk result (Marks asked.now.window node.now.cells due.old.items due.new.items) }
 {
-    keys.reserve(positions.len())?;
-    let alloc = *keys.allocator();
-    let mut list = mem::replace(keys, Vec::new(alloc));
+    due.reserve(positions.len())?;
+    let alloc = *due.allocator();
+    let mut list = mem::replace(due, Vec::new(alloc));
+    // On one axis most leaves that the window meets lie inside it.
+    let asks = D == 1 || positions.len() >= MANY_CHILDREN;
     for at in positions {
-        list.push_reserved(child_of(&node.cell(usize::from(*at))));
+        let cell = node.cell(usize::from(*at));
+        list.push_reserved(Due {
+            key: child_of(&cell),
+            is_inside: is_inside(asked, &cell.rect, asks),
+        });
     }
-    *keys = list;
+    *due = list;
     Ok(())
 }
 
 /// Takes the children in which a box may lie that the window admits.
 fn take_children<const D: usize>(
-    keys: &mut Vec<Key>,
+    due: &mut Vec<Due>,
     node: &Node<D>,
     asked: &Asked<D>,
 ) -> Result<(), AllocError>
-    requires { IsReach D asked.now.window asked.now.reach }
-    ensures { OnOk result (TakesChildren asked.now.window node.now.cells keys.old.items keys.new.items) }
+    requires { IsAsked asked.now }
+    ensures children { OnOk result (TakesChildren asked.now.window node.now.cells (keys_of due.old.items) (keys_of due.new.items)) }
+    ensures marks { OnOk result (Marks asked.now.window node.now.cells due.old.items due.new.items) }
 {
     node.facts();
     let mut positions = [0; MOST_CELLS];
     let count = put_admitted(&mut positions, node, &asked.reach);
-    push_keys(keys, node, &positions[..count])
+    push_children(due, node, &positions[..count], asked)
 }
 
 /// Takes the children of a node above the leaves in which a box may lie that the window admits, and looks ahead at those
 /// that are leaves.
 #[inline]
 pub(crate) fn take_children_ahead<const D: usize>(
-    keys: &mut Vec<Key>,
+    due: &mut Vec<Due>,
     seen: &mut i64,
     tree: &Arena<D>,
     node: &Node<D>,
     asked: &Asked<D>,
 ) -> Result<(), AllocError>
     requires few { D ≤ 3 }
-    requires reach { IsReach D asked.now.window asked.now.reach }
-    ensures { OnOk result (TakesChildren asked.now.window node.now.cells keys.old.items keys.new.items) }
+    requires asked { IsAsked asked.now }
+    ensures children { OnOk result (TakesChildren asked.now.window node.now.cells (keys_of due.old.items) (keys_of due.new.items)) }
+    ensures marks { OnOk result (Marks asked.now.window node.now.cells due.old.items due.new.items) }
 {
-    let before = keys.len();
-    take_children(keys, node, asked)?;
+    let before = due.len();
+    take_children(due, node, asked)?;
     if node.level() == 1 {
-        look_ahead(seen, tree, &keys[before..]);
+        look_ahead(seen, tree, &due[before..]);
     }
     Ok(())
 }
@@ -232,28 +316,33 @@ pub(crate) fn take_children_ahead<const D: usize>(
 // By itself, so that the numbers of a window are read as vectors from where they stand: those of two windows don't fit
 // into the registers of the search's loop.
 
-/// Goes into the node at the key: takes a leaf's rows, or another node's children, and looks ahead at those that are
-/// leaves.
+/// Goes into a node: takes a leaf's rows, or another node's children, and looks ahead at those that are leaves. The rows
+/// of a marked leaf need no test.
 #[inline(never)]
 fn visit<const D: usize>(
     rows: &mut Vec<Row<D>>,
-    keys: &mut Vec<Key>,
+    due: &mut Vec<Due>,
     seen: &mut i64,
     tree: &Arena<D>,
-    key: Key,
+    next: Due,
     asked: &Asked<D>,
 ) -> Result<(), AllocError>
-    requires present { ContainsKey tree.now.nodes key }
+    requires present { ContainsKey tree.now.nodes next.key }
     requires few { D ≤ 3 }
-    requires reach { IsReach D asked.now.window asked.now.reach }
-    ensures ok { OnOk result (Visits tree.now.nodes asked.now.window key rows.old.items rows.new.items keys.old.items keys.new.items) }
+    requires asked { IsAsked asked.now }
+    requires mark { MarkHolds tree.now.nodes asked.now.window next }
+    ensures ok { OnOk result (Visits tree.now.nodes asked.now.window next.key rows.old.items rows.new.items (keys_of due.old.items) (keys_of due.new.items)) }
+    ensures marks { OnOk result (Marks asked.now.window (inner_cells_at tree.now.nodes next.key) due.old.items due.new.items) }
     ensures err { OnErr result (rows.new.items ≡ rows.old.items) }
 {
-    let node = node_at(&tree.nodes, key);
-    if node.level() == 0 {
-        return take_rows(rows, node, &asked.window);
+    let node = node_at(&tree.nodes, next.key);
+    if node.level() > 0 {
+        return take_children_ahead(due, seen, tree, node, asked);
     }
-    take_children_ahead(keys, seen, tree, node, asked)
+    if next.is_inside {
+        return take_all(rows, node);
+    }
+    take_rows(rows, node, &asked.window)
 }
 
 /// Appends the rows whose boxes the window admits, and answers the number of nodes that the search went into. A list
@@ -278,16 +367,13 @@ pub fn search_into<const D: usize>(
     ensures ok { IfOk result (λ visited. FindsAfter tree.now window.now rows.old.items rows.new.items visited) }
     ensures err { OnErr result (StaysInFront rows.old.items rows.new.items) }
 {
-    let mut keys = Vec::with_capacity(alloc, 2 * MOST_CELLS)?;
-    keys.push(tree.root)?;
+    let mut due = Vec::with_capacity(alloc, DUE_ROOM)?;
+    due.push(Due::root(tree))?;
     slab_facts(&tree.nodes);
-    let asked = Asked {
-        window: *window,
-        reach: window.reach(),
-    };
+    let asked = Asked::new(window);
     let (mut seen, mut visited) = (0, 0);
-    while let Some(key) = keys.pop() {
-        visit(rows, &mut keys, &mut seen, tree, key, &asked)?;
+    while let Some(next) = due.pop() {
+        visit(rows, &mut due, &mut seen, tree, next, &asked)?;
         visited += 1;
     }
     Ok(visited)

@@ -5,8 +5,8 @@ use Rattle.rt_tree_choice.proofs.holder.area_of_holder.Goals as goal
 
 pub returns-then-contains : goal.returns-then-contains
 returns-then-contains g c =
-    holder-growths c.args.boxes.now c.args.new_box.now c.args.position c.area_of.result c.index-boxes-position.result c.requires.within
-    c.index-boxes-position.is (c.contains.ensures.0 c.if-contains.true) c.area_of.ensures
+    holder-growths c.args.boxes.now c.args.new_box.now c.args.position c.area.result c.index-boxes-position.result c.requires.within
+    c.index-boxes-position.is (c.contains.ensures.0 c.if-contains.true) c.area.ensures.value
 
 pub returns-else-contains : goal.returns-else-contains
 returns-else-contains g c =

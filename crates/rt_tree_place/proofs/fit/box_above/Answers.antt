@@ -1,7 +1,6 @@
-use Rattle.std.proofs.Common.{◌≡◌, ◌<◌, ◌^◌, get_or, length, arith, ap, ◌∙◌, sym, subst, inl, inr, rules}
+use Rattle.std.proofs.Common.{◌≡◌, ◌<◌, ◌^◌, get_or, length, arith, ap, ◌∙◌, sym, inl, inr, rules}
 use Rattle.std.proofs.lemmas.Bool.{cases_lt}
 use Rattle.std.proofs.lemmas.List.{get_or_default}
-use Rattle.rt_box.specs.Rect.{Holds}
 use Rattle.rt_tree_node.specs.Places.{cells_of, cells_at, no_cell}
 use Rattle.rt_tree_place.proofs.fit.box_above.Goals as goal
 

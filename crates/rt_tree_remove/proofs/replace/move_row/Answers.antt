@@ -11,19 +11,19 @@ settle-requires g c =
     let location = c.args.location.now in
     let b = c.remove_cell.new.nodes in
     let r = c.requires in
-    let u : Arena g.row.D = record old { waiting = c.await_leaf.new.waiting } in
-    let mid : Arena g.row.D = record old { nodes = b; waiting = c.await_leaf.new.waiting } in
+    let u : Arena g.row.D = record old { waiting = c.push_row.new.waiting } in
+    let mid : Arena g.row.D = record old { nodes = b; waiting = c.push_row.new.waiting } in
     let whole : IsWhole mid = whole_waiting old id location b r.whole r.branched r.idle r.location r.alone c.leaves_facts.ensures c.remove_cell.ensures
-    u c.args.rect.now c.facts.ensures c.await_leaf.ensures.items c.await_leaf.ensures.room in
+    u c.args.rect.now c.facts.ensures c.push_row.ensures.items c.push_row.ensures.room in
     let same = rows_waiting old id location b r.whole r.branched r.idle r.location r.alone c.leaves_facts.ensures c.remove_cell.ensures
-    u c.args.rect.now c.facts.ensures c.await_leaf.ensures.items c.await_leaf.ensures.room in
+    u c.args.rect.now c.facts.ensures c.push_row.ensures.items c.push_row.ensures.room in
     let one = one_waits old id location b r.whole r.branched r.idle r.location r.alone c.leaves_facts.ensures c.remove_cell.ensures
-    u c.args.rect.now c.facts.ensures c.await_leaf.ensures.items c.await_leaf.ensures.room in
+    u c.args.rect.now c.facts.ensures c.push_row.ensures.items c.push_row.ensures.room in
     let waits : 0 < vec_len mid.waiting = omega arith in
     let rows : row_count mid ≤ 2 ^ 20 = omega (arith, same, r.rows) in
     let room : HasRoom mid (row_count mid) = room_waiting old id location b r.whole r.branched r.idle r.location r.alone c.leaves_facts.ensures c.remove_cell.ensures
-    u c.args.rect.now c.facts.ensures c.await_leaf.ensures.items c.await_leaf.ensures.room r.room in
-    let waiting_room : vec_len mid.waiting + 512 ≤ vec_capacity mid.waiting = omega (arith, c.await_leaf.ensures.room, one) in
+    u c.args.rect.now c.facts.ensures c.push_row.ensures.items c.push_row.ensures.room r.room in
+    let waiting_room : vec_len mid.waiting + 512 ≤ vec_capacity mid.waiting = omega (arith, c.push_row.ensures.room, one) in
     search rules
 
 pub returns : goal.returns
@@ -31,8 +31,8 @@ returns g c =
     let old = c.args.tree.now in
     let r = c.requires in
     let id = c.args.id.now in
-    let u : Arena g.row.D = record old { waiting = c.await_leaf.new.waiting } in
+    let u : Arena g.row.D = record old { waiting = c.push_row.new.waiting } in
     replaces old id c.args.location.now c.remove_cell.new.nodes r.whole r.branched r.idle r.location r.alone c.leaves_facts.ensures c.remove_cell.ensures
-    u c.args.rect.now c.facts.ensures c.await_leaf.ensures.items c.await_leaf.ensures.room c.settle.new.tree c.settle.result
+    u c.args.rect.now c.facts.ensures c.push_row.ensures.items c.push_row.ensures.room c.settle.new.tree c.settle.result
     c.settle.ensures.settles c.settle.ensures.turns c.settle.ensures.counts
     c.settle.ensures.alone
