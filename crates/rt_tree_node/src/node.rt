@@ -228,14 +228,13 @@ impl<const D: usize> Node<D> {
         ensures found { (d : Cell D) → result < length self.now.cells → (slice_index_or self.now.cells result d).number ≡ number.now }
         ensures first { (k : ℕ) (d : Cell D) → k < result → (slice_index_or self.now.cells k d).number ≢ number.now }
     {
-        // How many there are is read of the boxes, since a caller mostly asks for a box next: the line of memory at which these
-        // begin is on its way then.
+        // Their count is read from the boxes, so that the line of memory that a caller mostly needs next is on its way.
         let numbers = counted(self.numbers(), self.boxes().len());
         position_in(numbers, number)
     }
 }
 
-/// The numbers up to the count, which is theirs: where they end is read wherever the caller counted.
+/// All the numbers, where the caller knows from elsewhere how many they are.
 #[inline]
 fn counted(numbers: &[i64], count: usize) -> &[i64]
     requires { count ≡ length numbers.now }

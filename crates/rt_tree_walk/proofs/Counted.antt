@@ -110,7 +110,7 @@ module _ {D : ℕ} where
         let f = Progress-end t window s so.rows so.visited so.so in
         record { rows = so.rows; admitted = f.admitted; each = f.each; counted = so.counted }
 
-    module _ (keys rest : List ℕ) (key count : ℕ) (so : Counting t window keys count) (e : keys ≡ rest ++ key ∷ []) where
+    module _ (keys rest : List ℕ) (key count : ℕ) (so : Counting t window keys count) (e : keys ≡ key ∷ rest) where
       pub counting-there : (l : ℕ) × (level_at t.nodes key ≡ Some l)
       counting-there = key-there t window s keys rest key so.rows so.visited so.so e
 
@@ -139,5 +139,5 @@ module _ {D : ℕ} where
             let few = sum-within f children.more named (λ k.
             omega (arith, children.each k, count-mapped (λ j. nat_eq j k) key_of (λ c. nat_eq (key_of c) k) (inner_cells_at t.nodes key) (λ i d h. refl))) in
             let now = ap (sum_by f) children.is ∙ sum_by-append f rest children.more in
-            let was = ap (sum_by f) e ∙ sum_by-append f rest (key ∷ []) in
-            omega (arith, own, flat, few, now, was, sum_by-cons f key [])
+            let was = ap (sum_by f) e ∙ sum_by-cons f key rest in
+            omega (arith, own, flat, few, now, was)

@@ -1,9 +1,9 @@
 -- What a mark says of a node.
-use Rattle.std.proofs.Common.{◌≡◌, ℕ, true, false, List, [], ◌∷◌, ◌++◌, length, map, get_or, Contains, All, None, Some, refl, ap, ◌∙◌, subst, sym, arith}
+use Rattle.std.proofs.Common.{◌≡◌, ℕ, ◌+◌, ◌<◌, ◌≤◌, true, false, List, [], ◌∷◌, ◌++◌, length, map, get_or, drop, Contains, All, None, Some, refl, ap, ◌∙◌, subst, sym, arith}
 use Rattle.std.proofs.lemmas.Bool.{true≢false}
 use Rattle.std.proofs.lemmas.Option.{none-some}
-use Rattle.std.proofs.lemmas.List.{length-map, map-append, get_or_default}
-use Rattle.std.proofs.lemmas.List.Elements.{All-nil, All-cons, All-head, All-append, All-weaker}
+use Rattle.std.proofs.lemmas.List.{length-map, get_or-map, drop_more, drop_all, get_or_default}
+use Rattle.std.proofs.lemmas.List.Elements.{All-nil, All-cons, All-append, All-weaker}
 use Rattle.slab.specs.Slab.{Slab, get}
 use Rattle.rt_box.specs.declared.interval.Interval.{Interval}
 use Rattle.rt_box.specs.Window.{Admits, AdmitsWithin}
@@ -12,17 +12,22 @@ use Rattle.rt_tree_node.specs.declared.cell.Cell.{Cell}
 use Rattle.rt_tree_node.specs.Node.{NodeCells}
 use Rattle.rt_tree_node.specs.Places.{key_of, cells_of, leaf_cells_of, inner_cells_of, leaf_part, inner_part, cells_at, leaf_cells_at, inner_cells_at, hull_at}
 use Rattle.rt_tree_node.specs.Whole.{IsWhole}
-use Rattle.rt_tree_node.proofs.Links.{All-left, All-right}
 use Rattle.rt_tree_walk.specs.declared.searching.Due.{Due}
 use Rattle.rt_tree_walk.specs.declared.searching.Row.{Row}
 use Rattle.rt_tree_walk.specs.Search.{row_of}
 use Rattle.rt_tree_walk.specs.Visits.{keys_of, MarkHolds, NamesInside, Marks, TakesRows, TakesChildren, Visits, VisitsCounting}
-use Rattle.rt_tree_walk.proofs.Taking.{TakesRows-all, TakesChildren-none}
+use Rattle.rt_tree_walk.proofs.Taking.{TakesRows-all, TakesChildren-none, TakesChildren-dropped}
 use Rattle.rt_tree_walk.proofs.Reaching.{All_contained, inner-level, hull-contained}
 
--- what is taken from the stack of those that are due
-pub keys-popped : (due rest : List Due) (next : Due) → due ≡ rest ++ next ∷ [] → keys_of due ≡ keys_of rest ++ next.key ∷ []
-keys-popped due rest next e = ap keys_of e ∙ map-append (λ (d : Due). d.key) rest (next ∷ [])
+-- the next of those that are due, and those behind it
+pub keys-next : (due : List Due) (at : ℕ) (next : Due) → at < length due → next ≡ get_or due at next → drop at (keys_of due) ≡ next.key ∷ drop (at + 1) (keys_of due)
+keys-next due at next h e =
+    drop_more (keys_of due) at next.key (omega (arith, length-map due (λ (d : Due). d.key)))
+    ∙ ap (λ k. k ∷ drop (at + 1) (keys_of due)) (get_or-map (λ (d : Due). d.key) due at next next.key h ∙ ap (λ (d : Due). d.key) (sym e))
+
+-- none is due where the list ends
+pub keys-end : (due : List Due) (at : ℕ) → length due ≤ at → drop at (keys_of due) ≡ []
+keys-end due at h = drop_all at (keys_of due) (omega (arith, length-map due (λ (d : Due). d.key)))
 
 module _ {D : ℕ} (a : Slab (NodeCells D)) (window : List Interval) where
   -- the root isn't marked
@@ -31,13 +36,19 @@ module _ {D : ℕ} (a : Slab (NodeCells D)) (window : List Interval) where
       subst (All (MarkHolds a window)) (sym e)
       (All-cons (MarkHolds a window) (record { key = root; is_inside = false }) [] (λ yes. absurd (true≢false (sym yes))) (All-nil (MarkHolds a window)))
 
-  pub marks-popped : (due rest : List Due) (next : Due) → due ≡ rest ++ next ∷ [] → All (MarkHolds a window) due →
-      All (MarkHolds a window) rest × MarkHolds a window next
-  marks-popped due rest next e all =
-      let both : All (MarkHolds a window) (rest ++ next ∷ []) = subst (All (MarkHolds a window)) e all in (
-        All-left (MarkHolds a window) rest (next ∷ []) both,
-        All-head (MarkHolds a window) next [] (All-right (MarkHolds a window) rest (next ∷ []) both),
-      )
+  pub marks-next : (due : List Due) (at : ℕ) (next : Due) → at < length due → next ≡ get_or due at next → All (MarkHolds a window) due → MarkHolds a window next
+  marks-next due at next h e all = subst (MarkHolds a window) (sym e) (all at next h)
+
+  -- a visit, seen from what is left of the list
+  pub visits-dropped : (key n : ℕ) (rows rows1 : List (Row D)) (keys keys1 : List ℕ) → Visits a window key rows rows1 keys keys1 → n ≤ length keys →
+      Visits a window key rows rows1 (drop n keys) (drop n keys1)
+  visits-dropped key n rows rows1 keys keys1 went h =
+      record { rows_are = went.rows_are; children_are = TakesChildren-dropped window (inner_cells_at a key) n keys keys1 went.children_are h }
+
+  pub counting-dropped : (key n count : ℕ) (keys keys1 : List ℕ) → VisitsCounting a window key count keys keys1 → n ≤ length keys →
+      VisitsCounting a window key count (drop n keys) (drop n keys1)
+  counting-dropped key n count keys keys1 went h =
+      record { rows_are = went.rows_are; children_are = TakesChildren-dropped window (inner_cells_at a key) n keys keys1 went.children_are h }
 
 module _ {D : ℕ} (a : Slab (NodeCells D)) (window : List Interval) (key : ℕ) (n : NodeCells D) (here : get a key ≡ Some n) (leaf : n.level ≡ 0)
     (all : All (λ c. Admits window c.rect) (cells_at a key)) where

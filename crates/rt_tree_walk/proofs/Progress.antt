@@ -88,12 +88,12 @@ module _ {D : ℕ} where
 
   -- ---- one node more
   module _ (t : Arena D) (window : List Interval) (s : IsSettled t) (keys rest : List ℕ) (key : ℕ) (rows : List (Row D)) (visited : ℕ)
-      (so : Progress t window keys rows visited) (e : keys ≡ rest ++ key ∷ []) where
+      (so : Progress t window keys rows visited) (e : keys ≡ key ∷ rest) where
     link : IsLinked t.nodes t.root t.level []
     link = settled-linked t s
 
     keys-split : (k : ℕ) → times k keys ≡ times k rest + times k (key ∷ [])
-    keys-split k = ap (times k) e ∙ times-append k rest (key ∷ [])
+    keys-split k = omega (arith, ap (times k) e, times-append k (key ∷ []) rest)
 
     pub key-reached : IsReached t window key
     key-reached = so.reached key (omega (arith, keys-split key, times-one key key refl))
@@ -273,7 +273,7 @@ module _ {D : ℕ} where
   After-start t window keys rows s e = record { more = []; is = sym (append-nil rows); so = Progress-start t window keys s e }
 
   pub After-step : (t : Arena D) (window : List Interval) (s : IsSettled t) (keys rest : List ℕ) (key : ℕ) (old rows : List (Row D)) (visited : ℕ)
-      (so : ProgressAfter t window keys old rows visited) → keys ≡ rest ++ key ∷ [] → (rows1 : List (Row D)) (keys1 : List ℕ) →
+      (so : ProgressAfter t window keys old rows visited) → keys ≡ key ∷ rest → (rows1 : List (Row D)) (keys1 : List ℕ) →
       Visits t.nodes window key rows rows1 rest keys1 → ProgressAfter t window keys1 old rows1 (visited + 1)
   After-step t window s keys rest key old rows visited so e rows1 keys1 went = record {
     more = so.more ++ went.rows_are.more;

@@ -1,10 +1,10 @@
 -- What a search takes from a node, cell by cell.
-use Rattle.std.proofs.Common.{◌≡◌, ℕ, Bool, ◌+◌, ◌<◌, List, [], ◌∷◌, ◌++◌, length, map, get_or, take, append_assoc, append-nil, arith, refl, ap, sym, ◌∙◌, subst, inl, inr}
+use Rattle.std.proofs.Common.{◌≡◌, ℕ, Bool, ◌+◌, ◌<◌, ◌≤◌, List, [], ◌∷◌, ◌++◌, length, map, get_or, take, drop, append_assoc, append-nil, arith, refl, ap, sym, ◌∙◌, subst, inl, inr}
 use Rattle.std.specs.Prelude.{slice_get, Some}
 use Rattle.std.specs.List.{All, count_by}
 use Rattle.std.specs.Option.{option_to_list}
 use Rattle.std.proofs.lemmas.Bool.{cases_Bool, cases_eq}
-use Rattle.std.proofs.lemmas.List.{take_more, get_or_default, get_or-map}
+use Rattle.std.proofs.lemmas.List.{take_more, drop-append-le, get_or_default, get_or-map}
 use Rattle.std.proofs.lemmas.List.Elements.{All-nil, All-map, All-push, Contains-append_left, Contains-push, Contains-push_cases}
 use Rattle.rt_box.specs.declared.interval.Interval.{Interval}
 use Rattle.rt_box.specs.Window.{Admits, MayHold}
@@ -178,3 +178,9 @@ module _ {D : ℕ} where
       new ≡ old ++ more → TakesChildren window cells old new
   TakesChildren-behind window cells old new keys so e =
       record { more = so.more; is = e ∙ ap (λ ks. old ++ ks) so.is; each = so.each; named = so.named; all = so.all }
+
+  -- the children come behind what is left of a list, too
+  pub TakesChildren-dropped : (window : List Interval) (cells : List (Cell D)) (n : ℕ) (old new : List ℕ) → TakesChildren window cells old new →
+      n ≤ length old → TakesChildren window cells (drop n old) (drop n new)
+  TakesChildren-dropped window cells n old new so h =
+      record { more = so.more; is = ap (drop n) so.is ∙ drop-append-le n old so.more h; each = so.each; named = so.named; all = so.all }

@@ -31,7 +31,7 @@ module _ {D : ℕ} where
   abbrev pub NamesInside : List Interval → List (Cell D) → ℕ → Type 0
   NamesInside window cells key = (c : Cell D) × Contains cells c × (key_of c ≡ key) × AdmitsWithin D window c.rect
 
-  -- nodes came last; those are marked that one of the cells names inside the window
+  -- nodes came last; a marked one is named by a cell inside the window
   pub record Marks (window : List Interval) (cells : List (Cell D)) (old new : List Due) : Type 0 where
     pub more : List Due
     pub is : new ≡ old ++ more

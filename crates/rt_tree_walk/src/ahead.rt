@@ -1,72 +1,134 @@
-//! Looking ahead at leaves, for the processor's cache alone.
+//! Looking ahead at nodes, for the processor's cache alone.
 //!
-//! A search that goes into one leaf after the other waits for the memory of each. So all leaves below a node are looked
-//! at before the first of them is gone into, and their waits overlap. What a search finds doesn't depend on it, and it
-//! takes no memory. What was seen goes into a number that nothing reads: else the compiler would leave the looks out.
+//! A search that goes into one node after the other waits for the memory of each. In a tree that most caches don't hold,
+//! it looks at several nodes before it goes into the first of them, and their waits overlap. What it finds doesn't depend
+//! on it, and a look takes no memory. What was seen goes into a number that nothing reads: else the compiler would leave
+//! the looks out.
 
-ghost use Rattle.std.specs.Prelude.{◌≤◌};
+ghost use Rattle.std.specs.Prelude.{◌≤◌, ◌<◌, length};
 
 use crate::searching::Due;
 use rt_tree_node::{Arena, Node};
 
-/// The box of a leaf that is looked at ahead beside the first. It lies some lines of memory behind it, so that the
-/// processor sees that one line comes after the other, and brings the rest by itself.
-const FURTHER: usize = 8;
+/// So many nodes are looked at together: the nearest cache holds their boxes and numbers.
+const NODES_TOGETHER: usize = 16;
 
-/// Up to so many leaves are looked at on each line of their boxes, in a tree of many nodes.
-const FEW_LEAVES: usize = 4;
+/// A node has an array of numbers, and one as large for each axis of its boxes. So many arrays take 7 MB, and a tree that
+/// has more isn't at hand in the caches of most processors.
+const MANY_ARRAYS: usize = 16_384;
 
-/// More nodes than these take more memory than most caches have.
-const MANY_NODES: usize = 16_384;
+/// How many boxes of one axis, and how many numbers, stand on a line of memory.
+const NUMBERS_A_LINE: usize = 8;
 
-/// How many boxes of one axis stand on a line of memory.
-const BOXES_A_LINE: usize = 8;
+/// How many lines of memory are looked at of a node's numbers, and for each axis of its boxes. Most nodes have no more.
+const LINES: usize = 6;
 
-/// A sum of what stands on the lines of memory at which a leaf's numbers and boxes begin, and on one further on.
-fn sum_of<const D: usize>(leaf: &Node<D>) -> i64 {
-    let count = leaf.len();
-    if count == 0 {
-        return 0;
-    }
-    let boxes = leaf.boxes();
-    let (first, further) = (&boxes[0], &boxes[FURTHER.min(count - 1)]);
-    first.facts();
-    further.facts();
-    leaf.numbers()[0]
-        .wrapping_add(i64::from(first.range(0).lo))
-        .wrapping_add(i64::from(further.range(0).lo))
+/// What a search needs of a leaf whose rows are all admitted.
+#[derive(Clone, Copy)]
+pub(crate) enum Need {
+    Rows,
+    Count,
 }
 
-/// A sum of what stands on the line of memory at which a leaf's numbers begin, and on each line of its boxes.
-fn sum_of_lines<const D: usize>(leaf: &Node<D>) -> i64 {
-    let boxes = leaf.boxes();
-    if boxes.is_empty() {
-        return 0;
-    }
-    boxes[0].facts();
-    let mut sum = leaf.numbers()[0];
-    for rect in boxes.iter().step_by(BOXES_A_LINE / D) {
-        rect.facts();
-        sum = sum.wrapping_add(i64::from(rect.range(0).lo));
+/// How far a search has looked ahead, which goes into nodes level by level.
+#[derive(Drop)]
+pub(crate) struct LookAhead {
+    need: Need,
+    /// Up to here in the search's list, nodes were looked at, or need no look.
+    until: usize,
+    /// The level of the nodes that stand there.
+    level: u8,
+    seen: i64,
+}
+
+// Both loops ask at fixed places whether a node goes so far: the processor foresees most answers. How often a loop runs
+// that goes up to the count, it would learn from the node's own memory.
+
+/// A sum of what stands on each line of memory of a node's boxes.
+#[inline]
+fn sum_of_boxes<const D: usize>(node: &Node<D>) -> i64
+    requires { D ≤ 3 }
+{
+    let (boxes, count) = (node.boxes(), node.len());
+    let mut sum = 0i64;
+    for line in 0..LINES * D {
+        let at = line * NUMBERS_A_LINE / D;
+        if at < count {
+            let rect = &boxes[at];
+            rect.facts();
+            sum = sum.wrapping_add(i64::from(rect.range(0).lo));
+        }
     }
     sum
 }
 
-/// Looks at all these leaves. It takes few steps for each where they are many: the fewer lie between two lines of memory,
-/// the more of them are waited for at once.
-#[inline(never)]
-pub(crate) fn look_ahead<const D: usize>(seen: &mut i64, tree: &Arena<D>, leaves: &[Due])
-    requires { D ≤ 3 }
-{
-    let in_full = leaves.len() <= FEW_LEAVES && tree.nodes.len() > MANY_NODES;
-    for due in leaves {
-        if let Some(leaf) = tree.nodes.get(due.key.index()) {
-            let sum = if in_full {
-                sum_of_lines(leaf)
-            } else {
-                sum_of(leaf)
-            };
-            *seen = seen.wrapping_add(sum);
+/// A sum of what stands on each line of memory of a node's numbers.
+#[inline]
+fn sum_of_numbers<const D: usize>(node: &Node<D>) -> i64 {
+    let (numbers, count) = (node.numbers(), node.len());
+    let mut sum = 0i64;
+    for line in 0..LINES {
+        let at = line * NUMBERS_A_LINE;
+        if at < count {
+            sum = sum.wrapping_add(numbers[at]);
+        }
+    }
+    sum
+}
+
+impl LookAhead {
+    /// Before a search goes into the root. In a small tree, no node needs a look.
+    pub(crate) fn new<const D: usize>(tree: &Arena<D>, need: Need) -> LookAhead
+        requires { D ≤ 3 }
+    {
+        let is_large = tree.nodes.len() > MANY_ARRAYS / (1 + D);
+        LookAhead {
+            need,
+            until: if is_large { 0 } else { usize::MAX },
+            level: tree.level,
+            seen: 0,
+        }
+    }
+
+    /// Before a search goes into the next node of its list: looks at that one and at others behind it, unless that was done.
+    #[inline]
+    pub(crate) fn look<const D: usize>(&mut self, tree: &Arena<D>, due: &[Due], next: usize)
+        requires few { D ≤ 3 }
+        requires within { next ≤ length due.now }
+    {
+        if next >= self.until {
+            self.look_at_next(tree, &due[next..]);
+        }
+    }
+
+    /// A sum of what stands on the lines of memory that are needed of a node.
+    #[inline]
+    fn sum_of<const D: usize>(&self, node: &Node<D>, is_inside: bool) -> i64
+        requires { D ≤ 3 }
+    {
+        match self.need {
+            Need::Count if is_inside => node.len() as i64,
+            _ => sum_of_boxes(node).wrapping_add(sum_of_numbers(node)),
+        }
+    }
+
+    /// Looks at some of the nodes that come next: leaves or their parents. Nodes further up are few, and mostly at hand.
+    /// Above the leaves, the rest of the list is one level.
+    #[inline(never)]
+    fn look_at_next<const D: usize>(&mut self, tree: &Arena<D>, due: &[Due])
+        requires { D ≤ 3 }
+    {
+        let level = self.level;
+        self.level = level.saturating_sub(1);
+        let count = if level > 0 { due.len() } else { NODES_TOGETHER };
+        self.until = self.until.saturating_add(count);
+        if level > 1 {
+            return;
+        }
+        for next in due.iter().take(NODES_TOGETHER) {
+            if let Some(node) = tree.nodes.get(next.key.index()) {
+                self.seen = self.seen.wrapping_add(self.sum_of(node, next.is_inside));
+            }
         }
     }
 }

@@ -9,7 +9,8 @@ ghost use Rattle.rt_tree_node.specs.Whole.{IsWhole, row_count};
 ghost use Rattle.rt_tree_walk.specs.Search.{Counts};
 ghost use Rattle.rt_tree_walk.specs.Visits.{keys_of, IsAsked, MarkHolds, CountsRows, Marks, VisitsCounting};
 
-use crate::searching::{Asked, DUE_ROOM, Due, take_children_ahead};
+use crate::ahead::{LookAhead, Need};
+use crate::searching::{Asked, DUE_ROOM, Due, take_children};
 use rt_box::Window;
 use rt_tree_node::{Arena, Node, node_at};
 use std::alloc::{AllocError, Global};
@@ -29,12 +30,11 @@ fn count_admitted<const D: usize>(leaf: &Node<D>, window: &Window<D>) -> usize
     count
 }
 
-/// Goes into a node: counts a leaf's rows, or takes another node's children, and looks ahead at those that are leaves.
-/// The rows of a marked leaf are counted without a look at them.
+/// Goes into a node: counts a leaf's rows, or takes another node's children. The rows of a marked leaf are counted
+/// without a look at them.
 #[inline(never)]
 fn visit<const D: usize>(
     due: &mut Vec<Due>,
-    seen: &mut i64,
     tree: &Arena<D>,
     next: Due,
     asked: &Asked<D>,
@@ -48,7 +48,7 @@ fn visit<const D: usize>(
 {
     let node = node_at(&tree.nodes, next.key);
     if node.level() > 0 {
-        take_children_ahead(due, seen, tree, node, asked)?;
+        take_children(due, node, asked)?;
         return Ok(0);
     }
     if next.is_inside {
@@ -75,10 +75,13 @@ pub fn count<const D: usize>(
 {
     let mut due = Vec::with_capacity(alloc, DUE_ROOM)?;
     due.push(Due::root(tree))?;
-    let asked = Asked::new(window);
-    let (mut seen, mut count) = (0, 0);
-    while let Some(next) = due.pop() {
-        count += visit(&mut due, &mut seen, tree, next, &asked)?;
+    let (asked, mut ahead) = (Asked::new(window), LookAhead::new(tree, Need::Count));
+    let (mut visited, mut count) = (0, 0);
+    while visited < due.len() {
+        ahead.look(tree, &due, visited);
+        let next = due[visited];
+        count += visit(&mut due, tree, next, &asked)?;
+        visited += 1;
     }
     Ok(count)
 }

@@ -7,8 +7,8 @@
 //!   entries by rising id.
 //! - `laws`: the checker finds no problem in it, its nodes are in preorder, and its leaves' cells are the rows.
 //!
-//! All of them ask for a whole tree in which no cell waits, and take memory for what they answer and for a stack of
-//! keys.
+//! All of them ask for a whole tree in which no cell waits, and take memory for what they answer and for a list of
+//! nodes.
 //!
 //! Stands on `rt_tree_node`, and on `rt_check` for the tree from outside. Definitions: `specs/Search.antt`,
 //! `Outside.antt`, `Preorder.antt`, `InOrder.antt`.

@@ -1,7 +1,9 @@
 //! Searches: the rows whose boxes a window admits.
 //!
-//! A stack of nodes takes the place of recursion. Rows are tested by the window, and children by its reach. Tests
-//! without branches are there for speed alone, and so are `ahead` and the mark of a node (`specs/Search.antt`).
+//! A list of nodes takes the place of recursion. A search goes through it from the root on and puts children at its end,
+//! so it meets the nodes level by level, and many can be looked at ahead. Rows are tested by the window, and children by
+//! its reach. Tests without branches are there for speed alone, and so are `ahead` and the mark of a node
+//! (`specs/Search.antt`).
 
 ghost use Rattle.std.specs.Prelude.{◌≡◌, ◌≤◌, ◌<◌, ◌++◌, [], true, false, All, length, map, take, List, IfOk, OnOk, OnErr};
 ghost use Rattle.rt_box.specs.declared.interval.Interval.{Interval};
@@ -12,7 +14,7 @@ ghost use Rattle.rt_tree_node.specs.Places.{key_of, cells_at, inner_cells_at};
 ghost use Rattle.rt_tree_walk.specs.Search.{row_of, Finds, FindsAfter, StaysInFront};
 ghost use Rattle.rt_tree_walk.specs.Visits.{rows_at, keys_at, keys_of, IsAsked, MarkHolds, TakesRows, TakesChildren, Marks, Visits};
 
-use crate::ahead::look_ahead;
+use crate::ahead::{LookAhead, Need};
 use rt_box::{Rect, Window};
 use rt_tree_node::{Arena, Cell, Key, MOST_CELLS, Node, key_of, node_at, slab_facts};
 use std::alloc::{AllocError, Global};
@@ -21,8 +23,8 @@ use std::mem;
 /// How many rows a search has room for before it finds the first one.
 const FIRST_ROOM: usize = 32;
 
-/// How many nodes a search has room for at first that are due: more than a node has children. They take a kilobyte, and
-/// the allocator has larger pieces of memory less quickly at hand.
+/// How many nodes a search has room for at first: more than a node has children. They take a kilobyte, and the allocator
+/// has larger pieces of memory less quickly at hand.
 pub(crate) const DUE_ROOM: usize = 64;
 
 /// From so many rows on, a search takes the rows of a leaf in the way that suits many.
@@ -72,7 +74,7 @@ impl<const D: usize> Asked<D> {
     }
 }
 
-/// A node that a search is still to go into.
+/// A node that a search goes into.
 #[derive(Clone, Copy)]
 pub(crate) struct Due {
     pub(crate) key: Key,
@@ -275,7 +277,8 @@ fn push_children<const D: usize>(
 }
 
 /// Takes the children in which a box may lie that the window admits.
-fn take_children<const D: usize>(
+#[inline]
+pub(crate) fn take_children<const D: usize>(
     due: &mut Vec<Due>,
     node: &Node<D>,
     asked: &Asked<D>,
@@ -290,39 +293,14 @@ fn take_children<const D: usize>(
     push_children(due, node, &positions[..count], asked)
 }
 
-/// Takes the children of a node above the leaves in which a box may lie that the window admits, and looks ahead at those
-/// that are leaves.
-#[inline]
-pub(crate) fn take_children_ahead<const D: usize>(
-    due: &mut Vec<Due>,
-    seen: &mut i64,
-    tree: &Arena<D>,
-    node: &Node<D>,
-    asked: &Asked<D>,
-) -> Result<(), AllocError>
-    requires few { D ≤ 3 }
-    requires asked { IsAsked asked.now }
-    ensures children { OnOk result (TakesChildren asked.now.window node.now.cells (keys_of due.old.items) (keys_of due.new.items)) }
-    ensures marks { OnOk result (Marks asked.now.window node.now.cells due.old.items due.new.items) }
-{
-    let before = due.len();
-    take_children(due, node, asked)?;
-    if node.level() == 1 {
-        look_ahead(seen, tree, &due[before..]);
-    }
-    Ok(())
-}
-
 // By itself, so that the numbers of a window are read as vectors from where they stand: those of two windows don't fit
 // into the registers of the search's loop.
 
-/// Goes into a node: takes a leaf's rows, or another node's children, and looks ahead at those that are leaves. The rows
-/// of a marked leaf need no test.
+/// Goes into a node: takes a leaf's rows, or another node's children. The rows of a marked leaf need no test.
 #[inline(never)]
 fn visit<const D: usize>(
     rows: &mut Vec<Row<D>>,
     due: &mut Vec<Due>,
-    seen: &mut i64,
     tree: &Arena<D>,
     next: Due,
     asked: &Asked<D>,
@@ -337,7 +315,7 @@ fn visit<const D: usize>(
 {
     let node = node_at(&tree.nodes, next.key);
     if node.level() > 0 {
-        return take_children_ahead(due, seen, tree, node, asked);
+        return take_children(due, node, asked);
     }
     if next.is_inside {
         return take_all(rows, node);
@@ -370,13 +348,15 @@ pub fn search_into<const D: usize>(
     let mut due = Vec::with_capacity(alloc, DUE_ROOM)?;
     due.push(Due::root(tree))?;
     slab_facts(&tree.nodes);
-    let asked = Asked::new(window);
-    let (mut seen, mut visited) = (0, 0);
-    while let Some(next) = due.pop() {
-        visit(rows, &mut due, &mut seen, tree, next, &asked)?;
+    let (asked, mut ahead) = (Asked::new(window), LookAhead::new(tree, Need::Rows));
+    let mut visited = 0;
+    while visited < due.len() {
+        ahead.look(tree, &due, visited);
+        let next = due[visited];
+        visit(rows, &mut due, tree, next, &asked)?;
         visited += 1;
     }
-    Ok(visited)
+    Ok(visited as u64)
 }
 
 /// Finds the rows whose boxes the window admits: `search_into` a list of its own.
