@@ -1,5 +1,5 @@
 -- The greatest of many ids: in a list that rises, where ids come and go.
-use Rattle.std.proofs.Common.{◌≡◌, ℕ, ◌+◌, ◌-◌, ◌<◌, ◌≤◌, ℤ, ◌≤ℤ◌, ◌<ℤ◌, Bool, true, false, ◌||◌, List, [], ◌∷◌, ◌++◌, length, get_or, take, drop, Option, Some, None, Contains, Bor, rules, inl, inr, arith, refl, sym, ap, subst, ◌∙◌}
+use Rattle.std.proofs.Common.{◌≡◌, ◌≢◌, ℕ, ◌+◌, ◌-◌, ◌<◌, ◌≤◌, ℤ, ◌≤ℤ◌, ◌<ℤ◌, Bool, true, false, ◌||◌, List, [], ◌∷◌, ◌++◌, length, get_or, take, drop, Option, Some, None, Contains, Bor, rules, inl, inr, arith, refl, sym, ap, subst, ◌∙◌}
 use Rattle.std.specs.Prelude.{int_lt}
 use Rattle.std.specs.List.{list_any, insert, HoldsAt}
 use Rattle.std.specs.List.Sorted.{IsSorted, IsNonDecreasingBy, IsPartitionPoint}
@@ -245,6 +245,21 @@ module _ (there : ℤ → Bool) (xs : List ℤ) where
     top = λ id top. sym (same id) ∙ r.top id top;
     some = λ id t. r.some id (same id ∙ t);
   }
+
+  -- where another id than the largest goes, the others are there still
+  pub ranks-kept : (also : ℤ → Bool) (id : ℤ) (o : Option ℤ) → IsTop xs o → o ≢ Some id → Ranks there xs → ((other : ℤ) → also other ≡ true → there other ≡ true) →
+      ((other : ℤ) → other ≢ id → there other ≡ true → also other ≡ true) → Ranks also xs
+  ranks-kept also id o top ne r gone kept = record {
+    upward = λ a other t b le. r.upward a other (gone a t) b le;
+    top = λ z is. kept z (λ e. ne (same o top z is ∙ ap Some e)) (r.top z is);
+    some = λ a t. r.some a (gone a t);
+  }
+    where
+      same : (p : Option ℤ) → IsTop xs p → (z : ℤ) → IsTop xs (Some z) → p ≡ Some z
+      same None empty z is =
+          let none : false ≡ true = sym (ap (list_any (int_eq z)) empty) ∙ is.0 in
+          absurd (let never : ⊥ = cc in never)
+      same (Some t) top z is = ap Some (both t z (is.1 t top.0) (top.1 z is.0))
 
   -- all that are there
   pub ranks-all : ((id : ℤ) → list_any (int_eq id) xs ≡ there id) → Ranks there xs

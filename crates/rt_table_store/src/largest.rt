@@ -8,7 +8,7 @@
 //! are then. So a row that leaves pays for a thousand ids at most, as where a script deletes a million rows from the top
 //! down; one that comes pays for one.
 
-ghost use Rattle.std.specs.Prelude.{◌≡◌, ◌≤◌, ◌<◌, ◌≤ℤ◌, ◌<ℤ◌, ◌+◌, ◌||◌, ℤ, Bool, [], true, false, length, is_some, vec_len, vec_capacity, insert, drop, IfOk};
+ghost use Rattle.std.specs.Prelude.{◌≡◌, ◌≢◌, ◌≤◌, ◌<◌, ◌≤ℤ◌, ◌<ℤ◌, ◌+◌, ◌||◌, ℤ, Bool, [], true, false, length, is_some, vec_len, vec_capacity, insert, drop, IfOk};
 ghost use Rattle.std.specs.List.{list_any};
 ghost use Rattle.std.specs.List.Sorted.{IsSorted};
 ghost use Rattle.std.specs.Ordering.{int_cmp, int_eq};
@@ -205,7 +205,7 @@ impl Largest {
     }
 
     /// Rows left, and these are in the tree. It takes no memory.
-    pub(crate) fn settle<const D: usize>(&mut self, tree: &Tree<D>)
+    fn settle<const D: usize>(&mut self, tree: &Tree<D>)
         requires { D ≤ 3 }
         ensures { (there : ℤ → Bool) → Ranks there self.old → ((id : ℤ) → is_some (box_of tree.now.lists id) ≡ true → there id ≡ true)
             → Ranks (λ id. is_some (box_of tree.now.lists id)) self.new }
@@ -213,6 +213,19 @@ impl Largest {
         drop_gone(&mut self.ids, tree);
         if self.ids.is_empty() {
             refill(&mut self.ids, tree.ids());
+        }
+    }
+
+    /// The row of that id left, and the others are in the tree. It takes no memory.
+    pub(crate) fn remove<const D: usize>(&mut self, id: &i64, tree: &Tree<D>)
+        requires { D ≤ 3 }
+        ensures { (there : ℤ → Bool) → Ranks there self.old → ((other : ℤ) → is_some (box_of tree.now.lists other) ≡ true → there other ≡ true)
+            → ((other : ℤ) → other ≢ id.now → there other ≡ true → is_some (box_of tree.now.lists other) ≡ true)
+            → Ranks (λ other. is_some (box_of tree.now.lists other)) self.new }
+    {
+        // Most rows aren't the one of the largest id, which stays then.
+        if self.get() == Some(*id) {
+            self.settle(tree);
         }
     }
 }

@@ -284,7 +284,7 @@ impl<const D: usize> Store<D> {
         self.tree.is_in_shape();
         let rect = self.tree.remove(id);
         self.tree.is_in_shape();
-        self.largest.settle(&self.tree);
+        self.largest.remove(id, &self.tree);
         let auxiliary = take_auxiliary(&mut self.auxiliary, self.alloc, id);
         Entry {
             id: *id,

@@ -1,4 +1,5 @@
 use Rattle.std.proofs.Common.{◌≡◌, ◌≤◌, true, List, Some, IsSome, arith, rules, sym, ap, ◌∙◌, subst, w64, FitsSigned}
+use Rattle.std.specs.Prelude.{is_some}
 use Rattle.std.specs.Option.{option_map}
 use Rattle.std.specs.Ordering.{int_eq}
 use Rattle.std.proofs.lemmas.Int.{to_z-of_z}
@@ -33,7 +34,8 @@ invariant_of-self g c =
       few = k.few;
       most = omega (arith, k.most, one-fewer old new c.is_in_shape.ensures c.is_in_shape-2.ensures i.auxiliary id c.remove-rect.result loses);
       auxiliary = auxiliary-kept old new id loses.others i.auxiliary c.take_auxiliary-auxiliary.new.auxiliary c.take_auxiliary-auxiliary.ensures.others (λ some. not-both (IsSome (box_of new id)) (get int_eq c.take_auxiliary-auxiliary.new.auxiliary id) c.take_auxiliary-auxiliary.ensures.gone some) k.auxiliary;
-      ranks = c.settle.ensures _ k.ranks (there-removed old new id loses.others loses.gone);
+      ranks = c.remove.ensures _ k.ranks (there-removed old new id loses.others loses.gone)
+          (λ other ne t. ap is_some (loses.others other ne) ∙ t);
       nothing = k.nothing;
     }
 
