@@ -88,6 +88,10 @@ pub steps_and-append : (a b : List Step) (later : Steps) → steps_and (a ++ b) 
 steps_and-append a b (Ok more) = ap (λ (l : List Step). let r : Steps = Ok l in r) (append_assoc a b more)
 steps_and-append a b (Err refusal) = refl
 
+-- where no step was made, what is known is what was there
+pub knows_none : (rows : List TableRow) (touched : ℤ → Option Bool) → ((id : ℤ) → touched id ≡ None) → Knows rows touched rows
+knows_none rows touched none = λ id. sym (ap (λ (t : Option Bool). option_map_or (λ (there : Bool). there) t (has_id rows id)) (none id))
+
 -- what is known after one step more
 pub knows_more : (rows : List TableRow) (touched more : ℤ → Option Bool) (done next : List Step) (step : Step) → Knows rows touched (outcome rows done) →
     next ≡ done ++ step ∷ [] → ((id : ℤ) → more id ≡ touched_by touched step id) → Knows rows more (outcome rows next)

@@ -6,7 +6,7 @@
 ghost use Rattle.std.specs.Prelude.{◌≡◌, ◌≤◌, ◌+◌, ◌*◌, All, [], ◌∷◌, length, map, filter, List};
 ghost use Rattle.std.specs.List.{filter_map};
 ghost use Rattle.rt_table_row.specs.Answers.{GivesAs};
-ghost use Rattle.rt_table_row.specs.Rows.{TableRow, has_id};
+ghost use Rattle.rt_table_row.specs.Rows.{TableRow};
 ghost use Rattle.rt_table_row.specs.Edits.{become_candidate, update};
 ghost use Rattle.rt_table_row.specs.Entries.{view_row, step_of, candidate_as};
 ghost use Rattle.rt_table_row.specs.Filters.{admits};
@@ -85,53 +85,10 @@ fn all_steps<const D: usize>(
     Ok(draft.steps)
 }
 
-/// Whether a row of the table has the id.
-fn has_row<const D: usize>(store: &Store<D>, id: &i64) -> bool
-    ensures { result ≡ has_id store.now.rows id.now }
-{
-    // A table has one to three axes.
-    store.facts();
-    store.get(id).is_some()
-}
-
-/// The row of the old id becomes the candidate, unless another row of the table has its id.
-fn lone_becoming<const D: usize>(
-    store: &Store<D>,
-    old: &i64,
-    candidate: Candidate<D>,
-) -> Result<Step<D>, Refusal>
-    requires { D ≤ 3 }
-    ensures { GivesAs one_step (become_candidate store.now.rows old.now (candidate_as candidate.entry) candidate.entry.id) result }
-{
-    let Some(id) = &candidate.id else {
-        return Err(Refusal::WrongType);
-    };
-    let id = *id;
-    if *old != id && has_row(store, &id) {
-        return Err(Refusal::IdAlreadyTaken);
-    }
-    Ok(Step::Becomes(*old, entry_of(&id, candidate)))
-}
-
-/// The step of a single row, which stands in the table: no step comes before it, so no draft is asked.
-fn lone_row_step<const D: usize>(
-    alloc: Global,
-    store: &Store<D>,
-    settings: &Settings,
-    row: &RowView<'_, D>,
-) -> Result<Step<D>, Refusal>
-    requires some { 1 ≤ D }
-    requires few { D ≤ 3 }
-    requires long { 1 + 2 * D ≤ length settings.now.fills }
-    ensures { GivesAs one_step (row_set D settings.now store.now.rows (view_row row.now)) result }
-{
-    let candidate = settings.candidate(alloc, row)?;
-    lone_becoming(store, &row.id, candidate)
-}
-
 /// The steps for a single row that stands in the table: one, with none before it.
 fn lone_step<const D: usize>(
     alloc: Global,
+    keys: RandomState,
     store: &Store<D>,
     settings: &Settings,
     row: &Row<D>,
@@ -142,7 +99,8 @@ fn lone_step<const D: usize>(
     requires stands { Stands store.now.rows row.now }
     ensures { GivesAs (λ steps. map step_of steps.items) (all_set D settings.now store.now.rows (filter_map (row_of store.now.rows) (row.now ∷ []))) result }
 {
-    let step = lone_row_step(alloc, store, settings, &store.view(row))?;
+    let draft = Draft::new(alloc, keys);
+    let step = row_step(alloc, store, &draft, settings, &store.view(row))?;
     let mut steps = Vec::with_capacity(alloc, 1)?;
     steps.push_reserved(step);
     Ok(steps)
@@ -166,7 +124,7 @@ fn picked_steps<const D: usize>(
     store.facts();
     if let Some(id) = condition.id() {
         return match store.passing_row(condition, &id) {
-            Some(row) => lone_step(alloc, store, settings, &row),
+            Some(row) => lone_step(alloc, keys, store, settings, &row),
             None => Ok(Vec::new(alloc)),
         };
     }

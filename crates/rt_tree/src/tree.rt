@@ -290,7 +290,7 @@ impl<const D: usize> Tree<D> {
     ///
     /// # Errors
     ///
-    /// `AllocError` where no memory is left for what is found or is still to be visited.
+    /// `AllocError` where no memory is left for the rows found, or for the list of the nodes reached: 16 bytes a node.
     pub fn search(&self, alloc: Global, window: &Window<D>) -> Result<Found<D>, AllocError>
         ensures { IfOk result (λ found. FindsIn self.now.lists window.now found.rows.items found.visited) }
     {
@@ -302,8 +302,8 @@ impl<const D: usize> Tree<D> {
     ///
     /// # Errors
     ///
-    /// `AllocError` where no memory is left for what is found or is still to be visited. Some of the rows that were found
-    /// may stand in the list then.
+    /// `AllocError` where no memory is left for the rows found, or for the list of the nodes reached: 16 bytes a node. Some
+    /// of the rows that were found may stand in the list then.
     pub fn search_into(
         &self,
         alloc: Global,
@@ -320,7 +320,7 @@ impl<const D: usize> Tree<D> {
     ///
     /// # Errors
     ///
-    /// `AllocError` where no memory is left for what is still to be visited.
+    /// `AllocError` where no memory is left for the list of the nodes reached: 16 bytes a node.
     pub fn count(&self, alloc: Global, window: &Window<D>) -> Result<usize, AllocError>
         ensures { IfOk result (λ count. CountsIn self.now.lists window.now count) }
     {

@@ -1,15 +1,15 @@
 -- How far a count has come.
-use Rattle.std.proofs.Common.{◌≡◌, ℕ, ◌+◌, ◌<◌, ◌≤◌, Bool, true, false, cond, ℤ, Some, List, [], ◌∷◌, ◌++◌, length, map, get_or, Option, nat_eq, arith, refl, ap, sym, ◌∙◌}
+use Rattle.std.proofs.Common.{◌≡◌, ℕ, ◌+◌, ◌<◌, ◌≤◌, Bool, true, false, cond, ℤ, Some, List, [], ◌∷◌, ◌++◌, length, map, get_or, drop, Option, nat_eq, arith, refl, ap, sym, ◌∙◌, subst}
 use Rattle.std.specs.Prelude.{None, ◌&&◌, int_le}
 use Rattle.std.specs.List.{All, AllZip, count_by, sum_by, remove}
 use Rattle.std.specs.Bool.{Decides}
 use Rattle.std.proofs.lemmas.Bool.{true≢false}
 use Rattle.std.proofs.lemmas.Bool.Decides.{Decides-and}
-use Rattle.std.proofs.lemmas.List.{get_or_past, length-append}
+use Rattle.std.proofs.lemmas.List.{get_or_past, length-append, length-map}
 use Rattle.std.proofs.lemmas.List.Concat.{length-flat_map}
 use Rattle.std.proofs.lemmas.List.Elements.{All-head, All-tail}
 use Rattle.std.proofs.lemmas.List.Sums.{sum_by-cons, sum_by-append, sum_by-remove, sum_by-le-sum_by, count_by-le-length}
-use Rattle.slab.specs.Slab.{get}
+use Rattle.slab.specs.Slab.{get, ContainsKey}
 use Rattle.rt_box.specs.declared.interval.Interval.{Interval}
 use Rattle.rt_box.specs.Interval.{Includes}
 use Rattle.rt_box.specs.Rect.{coordinates}
@@ -19,13 +19,15 @@ use Rattle.rt_tree_node.specs.Node.{NodeCells}
 use Rattle.rt_tree_node.specs.Places.{key_of, leaf_cells_of, inner_cells_at, level_at}
 use Rattle.rt_tree_node.specs.Whole.{row_count}
 use Rattle.rt_tree_node.proofs.Counts.{count-cons}
+use Rattle.rt_tree_walk.specs.declared.searching.Reached.{Reached}
 use Rattle.rt_tree_walk.specs.declared.searching.Row.{Row}
 use Rattle.rt_tree_walk.specs.Search.{times, row_of, AsksAdmitted, Counts}
-use Rattle.rt_tree_walk.specs.Visits.{VisitsCounting}
+use Rattle.rt_tree_walk.specs.Visits.{keys_of, VisitsCounting}
 use Rattle.rt_tree_walk.proofs.Ints.{int_le-true, int_le-from}
 use Rattle.rt_tree_walk.proofs.Totals.{times-cons, times-one, sum-listed_le, upto-list}
 use Rattle.rt_tree_walk.proofs.Judging.{count-mapped}
-use Rattle.rt_tree_walk.proofs.Progress.{IsSettled, Progress, Progress-start, Progress-step, Progress-end, key-there}
+use Rattle.rt_tree_walk.proofs.Inside.{keys-next, counting-dropped}
+use Rattle.rt_tree_walk.proofs.Progress.{IsSettled, Progress, Progress-start, Progress-step, Progress-end, key-there, level-some}
 use Rattle.rt_tree_walk.proofs.Due.{below, below-next}
 use Rattle.rt_tree_walk.proofs.Listed.{contained-from_times}
 
@@ -141,3 +143,28 @@ module _ {D : ℕ} where
             let now = ap (sum_by f) children.is ∙ sum_by-append f rest children.more in
             let was = ap (sum_by f) e ∙ sum_by-cons f key rest in
             omega (arith, own, flat, few, now, was)
+
+    -- ---- one node more of the list
+    module _ (reached : List Reached) (at : ℕ) (next : Reached) (below_end : at < length reached) (is : next ≡ get_or reached at next) (count : ℕ)
+        (so : Counting t window (drop at (keys_of reached)) count) where
+      first : drop at (keys_of reached) ≡ next.key ∷ drop (at + 1) (keys_of reached)
+      first = keys-next reached at next below_end is
+
+      pub counted-there : ContainsKey t.nodes next.key
+      counted-there =
+          let there = counting-there (drop at (keys_of reached)) (drop (at + 1) (keys_of reached)) next.key count so first in
+          level-some t.nodes next.key there.0 there.1
+
+      module _ (n : ℕ) (reached1 : List Reached) (asked : List Interval) (e : asked ≡ window)
+          (went : VisitsCounting t.nodes asked next.key n (keys_of reached) (keys_of reached1)) where
+        dropped : VisitsCounting t.nodes window next.key n (drop (at + 1) (keys_of reached)) (drop (at + 1) (keys_of reached1))
+        dropped =
+            counting-dropped t.nodes window next.key (at + 1) n (keys_of reached) (keys_of reached1)
+            (subst (λ (w : List Interval). VisitsCounting t.nodes w next.key n (keys_of reached) (keys_of reached1)) e went)
+            (omega (arith, below_end, length-map reached (λ (d : Reached). d.key)))
+
+        pub Counting-next : Counting t window (drop (at + 1) (keys_of reached1)) (count + n)
+        Counting-next = Counting-step (drop at (keys_of reached)) (drop (at + 1) (keys_of reached)) next.key count so first n (drop (at + 1) (keys_of reached1)) dropped
+
+        pub ahead-next : ahead t (drop (at + 1) (keys_of reached1)) < ahead t (drop at (keys_of reached))
+        ahead-next = ahead-less (drop at (keys_of reached)) (drop (at + 1) (keys_of reached)) next.key count so first n (drop (at + 1) (keys_of reached1)) dropped

@@ -12,32 +12,33 @@ use Rattle.rt_tree_node.specs.declared.cell.Cell.{Cell}
 use Rattle.rt_tree_node.specs.Node.{NodeCells}
 use Rattle.rt_tree_node.specs.Places.{key_of, cells_of, leaf_cells_of, inner_cells_of, leaf_part, inner_part, cells_at, leaf_cells_at, inner_cells_at, hull_at}
 use Rattle.rt_tree_node.specs.Whole.{IsWhole}
-use Rattle.rt_tree_walk.specs.declared.searching.Due.{Due}
+use Rattle.rt_tree_walk.specs.declared.searching.Reached.{Reached}
 use Rattle.rt_tree_walk.specs.declared.searching.Row.{Row}
 use Rattle.rt_tree_walk.specs.Search.{row_of}
 use Rattle.rt_tree_walk.specs.Visits.{keys_of, MarkHolds, NamesInside, Marks, TakesRows, TakesChildren, Visits, VisitsCounting}
 use Rattle.rt_tree_walk.proofs.Taking.{TakesRows-all, TakesChildren-none, TakesChildren-dropped}
 use Rattle.rt_tree_walk.proofs.Reaching.{All_contained, inner-level, hull-contained}
 
--- the next of those that are due, and those behind it
-pub keys-next : (due : List Due) (at : ℕ) (next : Due) → at < length due → next ≡ get_or due at next → drop at (keys_of due) ≡ next.key ∷ drop (at + 1) (keys_of due)
-keys-next due at next h e =
-    drop_more (keys_of due) at next.key (omega (arith, length-map due (λ (d : Due). d.key)))
-    ∙ ap (λ k. k ∷ drop (at + 1) (keys_of due)) (get_or-map (λ (d : Due). d.key) due at next next.key h ∙ ap (λ (d : Due). d.key) (sym e))
+-- the next node of the list, and those behind it
+pub keys-next : (reached : List Reached) (at : ℕ) (next : Reached) → at < length reached → next ≡ get_or reached at next →
+    drop at (keys_of reached) ≡ next.key ∷ drop (at + 1) (keys_of reached)
+keys-next reached at next h e =
+    drop_more (keys_of reached) at next.key (omega (arith, length-map reached (λ (d : Reached). d.key)))
+    ∙ ap (λ k. k ∷ drop (at + 1) (keys_of reached)) (get_or-map (λ (d : Reached). d.key) reached at next next.key h ∙ ap (λ (d : Reached). d.key) (sym e))
 
--- none is due where the list ends
-pub keys-end : (due : List Due) (at : ℕ) → length due ≤ at → drop at (keys_of due) ≡ []
-keys-end due at h = drop_all at (keys_of due) (omega (arith, length-map due (λ (d : Due). d.key)))
+-- none is left where the list ends
+pub keys-end : (reached : List Reached) (at : ℕ) → length reached ≤ at → drop at (keys_of reached) ≡ []
+keys-end reached at h = drop_all at (keys_of reached) (omega (arith, length-map reached (λ (d : Reached). d.key)))
 
 module _ {D : ℕ} (a : Slab (NodeCells D)) (window : List Interval) where
   -- the root isn't marked
-  pub marks-first : (root : ℕ) (due : List Due) → due ≡ record { key = root; is_inside = false } ∷ [] → All (MarkHolds a window) due
-  marks-first root due e =
+  pub marks-first : (root : ℕ) (reached : List Reached) → reached ≡ record { key = root; is_inside = false } ∷ [] → All (MarkHolds a window) reached
+  marks-first root reached e =
       subst (All (MarkHolds a window)) (sym e)
       (All-cons (MarkHolds a window) (record { key = root; is_inside = false }) [] (λ yes. absurd (true≢false (sym yes))) (All-nil (MarkHolds a window)))
 
-  pub marks-next : (due : List Due) (at : ℕ) (next : Due) → at < length due → next ≡ get_or due at next → All (MarkHolds a window) due → MarkHolds a window next
-  marks-next due at next h e all = subst (MarkHolds a window) (sym e) (all at next h)
+  pub marks-next : (reached : List Reached) (at : ℕ) (next : Reached) → at < length reached → next ≡ get_or reached at next → All (MarkHolds a window) reached → MarkHolds a window next
+  marks-next reached at next h e all = subst (MarkHolds a window) (sym e) (all at next h)
 
   -- a visit, seen from what is left of the list
   pub visits-dropped : (key n : ℕ) (rows rows1 : List (Row D)) (keys keys1 : List ℕ) → Visits a window key rows rows1 keys keys1 → n ≤ length keys →
@@ -93,7 +94,7 @@ module _ {D : ℕ} (t : Arena D) (whole : IsWhole t) (window : List Interval) wh
       admits-hull child (subst (AdmitsWithin D window) hull names.3)
 
   -- the marks of a node's children hold, with those before them
-  pub marks-hold : (key : ℕ) (old new : List Due) → Marks window (inner_cells_at t.nodes key) old new →
+  pub marks-hold : (key : ℕ) (old new : List Reached) → Marks window (inner_cells_at t.nodes key) old new →
       All (MarkHolds t.nodes window) old → All (MarkHolds t.nodes window) new
   marks-hold key old new marks all =
       subst (All (MarkHolds t.nodes window)) (sym marks.is)

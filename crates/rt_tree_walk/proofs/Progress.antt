@@ -1,9 +1,9 @@
 -- How far a search has come.
-use Rattle.std.proofs.Common.{◌≡◌, ◌≢◌, ℕ, suc, ◌+◌, ◌<◌, ◌≤◌, Bool, true, false, List, [], ◌∷◌, ◌++◌, length, Contains, Option, Some, None, is_some, IsSome, cond, nat_eq, arith, refl, ap, sym, ◌∙◌, subst, inl, inr, append-nil, append_assoc}
+use Rattle.std.proofs.Common.{◌≡◌, ◌≢◌, ℕ, suc, ◌+◌, ◌<◌, ◌≤◌, Bool, true, false, List, [], ◌∷◌, ◌++◌, length, get_or, drop, Contains, Option, Some, None, is_some, IsSome, cond, nat_eq, arith, refl, ap, sym, ◌∙◌, subst, inl, inr, append-nil, append_assoc}
 use Rattle.std.specs.List.{All, count_by, sum_by}
 use Rattle.std.proofs.lemmas.Bool.{cases_lt}
 use Rattle.std.proofs.lemmas.Option.{same_Some, none-some}
-use Rattle.std.proofs.lemmas.List.{get_or_past, length_push}
+use Rattle.std.proofs.lemmas.List.{get_or_past, length_push, length-map}
 use Rattle.std.proofs.lemmas.List.Elements.{All-nil, All-append}
 use Rattle.std.proofs.lemmas.List.Sums.{sum_by-append, sum_by-cons, count_by-le-length}
 use Rattle.slab.specs.Slab.{Slab, get, ContainsKey}
@@ -19,10 +19,12 @@ use Rattle.rt_tree_node.specs.Whole.{IsWhole}
 use Rattle.rt_tree_node.proofs.Counts.{count-append}
 use Rattle.rt_tree_node.proofs.Links.{above-some}
 use Rattle.rt_tree_node.proofs.Places.{inner-at_inner}
+use Rattle.rt_tree_walk.specs.declared.searching.Reached.{Reached}
 use Rattle.rt_tree_walk.specs.declared.searching.Row.{Row}
 use Rattle.rt_tree_walk.specs.Search.{times, row_of, LeadsInto, AsksAdmitted, IsReached, Finds, FindsAfter}
-use Rattle.rt_tree_walk.specs.Visits.{Visits}
+use Rattle.rt_tree_walk.specs.Visits.{keys_of, Visits}
 use Rattle.rt_tree_walk.proofs.Totals.{times-append, times-one, times-is, upto, sum-listed, sum-listed_le, upto-le, upto-list}
+use Rattle.rt_tree_walk.proofs.Inside.{keys-next, visits-dropped}
 use Rattle.rt_tree_walk.proofs.Reaching.{All_contained, inner-level, leaf-level, hull-contained, counted-contained, reached-up}
 
 module _ {D : ℕ} where
@@ -285,3 +287,26 @@ module _ {D : ℕ} where
   pub After-end : (t : Arena D) (window : List Interval) (s : IsSettled t) (old rows : List (Row D)) (visited : ℕ) →
       ProgressAfter t window [] old rows visited → FindsAfter t window old rows visited
   After-end t window s old rows visited so = record { more = so.more; is = so.is; finds = Progress-end t window s so.more visited so.so }
+
+  -- ---- one node more of the list
+  module _ (t : Arena D) (window : List Interval) (s : IsSettled t) (reached : List Reached) (at : ℕ) (next : Reached) (below : at < length reached)
+      (is : next ≡ get_or reached at next) (old rows : List (Row D)) (so : ProgressAfter t window (drop at (keys_of reached)) old rows at) where
+    first : drop at (keys_of reached) ≡ next.key ∷ drop (at + 1) (keys_of reached)
+    first = keys-next reached at next below is
+
+    pub next-there : ContainsKey t.nodes next.key
+    next-there =
+        let there = key-there t window s (drop at (keys_of reached)) (drop (at + 1) (keys_of reached)) next.key so.more at so.so first in
+        level-some t.nodes next.key there.0 there.1
+
+    pub next-few : at < length t.nodes.slots
+    next-few = visited-few t window s (drop at (keys_of reached)) (drop (at + 1) (keys_of reached)) next.key so.more at so.so first
+
+    pub After-next : (rows1 : List (Row D)) (reached1 : List Reached) (asked : List Interval) → asked ≡ window →
+        Visits t.nodes asked next.key rows rows1 (keys_of reached) (keys_of reached1) →
+        ProgressAfter t window (drop (at + 1) (keys_of reached1)) old rows1 (at + 1)
+    After-next rows1 reached1 asked e went =
+        After-step t window s (drop at (keys_of reached)) (drop (at + 1) (keys_of reached)) next.key old rows at so first rows1 (drop (at + 1) (keys_of reached1))
+        (visits-dropped t.nodes window next.key (at + 1) rows rows1 (keys_of reached) (keys_of reached1)
+        (subst (λ (w : List Interval). Visits t.nodes w next.key rows rows1 (keys_of reached) (keys_of reached1)) e went)
+        (omega (arith, below, length-map reached (λ (d : Reached). d.key))))

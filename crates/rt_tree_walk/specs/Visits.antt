@@ -9,13 +9,13 @@ use Rattle.rt_tree_node.specs.declared.cell.Cell.{Cell}
 use Rattle.rt_tree_node.specs.Node.{NodeCells}
 use Rattle.rt_tree_node.specs.Places.{key_of, times_named, cells_at, leaf_cells_at, inner_cells_at}
 use Rattle.rt_tree_walk.specs.declared.searching.Asked.{Asked}
-use Rattle.rt_tree_walk.specs.declared.searching.Due.{Due}
+use Rattle.rt_tree_walk.specs.declared.searching.Reached.{Reached}
 use Rattle.rt_tree_walk.specs.declared.searching.Row.{Row}
 use Rattle.rt_tree_walk.specs.Search.{times, row_of, LeadsInto, AsksAdmitted}
 
--- the keys of the nodes that are due
-abbrev pub keys_of : List Due → List ℕ
-keys_of due = map (λ d. d.key) due
+-- the keys of the nodes reached
+abbrev pub keys_of : List Reached → List ℕ
+keys_of reached = map (λ d. d.key) reached
 
 module _ {D : ℕ} where
   -- a window is asked with its reach and its core
@@ -24,7 +24,7 @@ module _ {D : ℕ} where
     pub core : IsCore D asked.window asked.core
 
   -- a marked node has no cell whose box the window refuses
-  abbrev pub MarkHolds : Slab (NodeCells D) → List Interval → Due → Type 0
+  abbrev pub MarkHolds : Slab (NodeCells D) → List Interval → Reached → Type 0
   MarkHolds a window d = d.is_inside ≡ true → All (λ c. Admits window c.rect) (cells_at a d.key)
 
   -- one of the cells names the key, and the window admits each box in the cell's
@@ -32,8 +32,8 @@ module _ {D : ℕ} where
   NamesInside window cells key = (c : Cell D) × Contains cells c × (key_of c ≡ key) × AdmitsWithin D window c.rect
 
   -- nodes came last; a marked one is named by a cell inside the window
-  pub record Marks (window : List Interval) (cells : List (Cell D)) (old new : List Due) : Type 0 where
-    pub more : List Due
+  pub record Marks (window : List Interval) (cells : List (Cell D)) (old new : List Reached) : Type 0 where
+    pub more : List Reached
     pub is : new ≡ old ++ more
     pub inside : All (λ d. d.is_inside ≡ true → NamesInside window cells d.key) more
 

@@ -7,7 +7,7 @@
 
 ghost use Rattle.std.specs.Prelude.{◌≤◌, ◌<◌, length};
 
-use crate::searching::Due;
+use crate::searching::Reached;
 use rt_tree_node::{Arena, Node};
 
 /// So many nodes are looked at together: the nearest cache holds their boxes and numbers.
@@ -23,7 +23,7 @@ const NUMBERS_A_LINE: usize = 8;
 /// How many lines of memory are looked at of a node's numbers, and for each axis of its boxes. Most nodes have no more.
 const LINES: usize = 6;
 
-/// What a search needs of a leaf whose rows are all admitted.
+/// What a search needs of a leaf.
 #[derive(Clone, Copy)]
 pub(crate) enum Need {
     Rows,
@@ -41,8 +41,8 @@ pub(crate) struct LookAhead {
     seen: i64,
 }
 
-// Both loops ask at fixed places whether a node goes so far: the processor foresees most answers. How often a loop runs
-// that goes up to the count, it would learn from the node's own memory.
+// Both loops ask at fixed places whether a node goes so far: the processor foresees most answers. A loop up to the count
+// would wait for the node's own memory.
 
 /// A sum of what stands on each line of memory of a node's boxes.
 #[inline]
@@ -92,22 +92,23 @@ impl LookAhead {
 
     /// Before a search goes into the next node of its list: looks at that one and at others behind it, unless that was done.
     #[inline]
-    pub(crate) fn look<const D: usize>(&mut self, tree: &Arena<D>, due: &[Due], next: usize)
+    pub(crate) fn look<const D: usize>(&mut self, tree: &Arena<D>, reached: &[Reached], next: usize)
         requires few { D ≤ 3 }
-        requires within { next ≤ length due.now }
+        requires within { next ≤ length reached.now }
     {
         if next >= self.until {
-            self.look_at_next(tree, &due[next..]);
+            self.look_at_next(tree, &reached[next..]);
         }
     }
 
-    /// A sum of what stands on the lines of memory that are needed of a node.
+    /// A sum of what stands on the lines of memory that are needed of a node. Of a leaf inside the window, a count needs
+    /// its own count alone.
     #[inline]
-    fn sum_of<const D: usize>(&self, node: &Node<D>, is_inside: bool) -> i64
+    fn sum_of<const D: usize>(&self, node: &Node<D>, is_leaf_inside: bool) -> i64
         requires { D ≤ 3 }
     {
         match self.need {
-            Need::Count if is_inside => node.len() as i64,
+            Need::Count if is_leaf_inside => node.len() as i64,
             _ => sum_of_boxes(node).wrapping_add(sum_of_numbers(node)),
         }
     }
@@ -115,19 +116,24 @@ impl LookAhead {
     /// Looks at some of the nodes that come next: leaves or their parents. Nodes further up are few, and mostly at hand.
     /// Above the leaves, the rest of the list is one level.
     #[inline(never)]
-    fn look_at_next<const D: usize>(&mut self, tree: &Arena<D>, due: &[Due])
+    fn look_at_next<const D: usize>(&mut self, tree: &Arena<D>, reached: &[Reached])
         requires { D ≤ 3 }
     {
         let level = self.level;
         self.level = level.saturating_sub(1);
-        let count = if level > 0 { due.len() } else { NODES_TOGETHER };
+        let count = if level > 0 {
+            reached.len()
+        } else {
+            NODES_TOGETHER
+        };
         self.until = self.until.saturating_add(count);
         if level > 1 {
             return;
         }
-        for next in due.iter().take(NODES_TOGETHER) {
+        for next in reached.iter().take(NODES_TOGETHER) {
             if let Some(node) = tree.nodes.get(next.key.index()) {
-                self.seen = self.seen.wrapping_add(self.sum_of(node, next.is_inside));
+                let is_leaf_inside = level == 0 && next.is_inside;
+                self.seen = self.seen.wrapping_add(self.sum_of(node, is_leaf_inside));
             }
         }
     }

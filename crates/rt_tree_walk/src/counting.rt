@@ -10,7 +10,7 @@ ghost use Rattle.rt_tree_walk.specs.Search.{Counts};
 ghost use Rattle.rt_tree_walk.specs.Visits.{keys_of, IsAsked, MarkHolds, CountsRows, Marks, VisitsCounting};
 
 use crate::ahead::{LookAhead, Need};
-use crate::searching::{Asked, DUE_ROOM, Due, take_children};
+use crate::searching::{Asked, REACHED_ROOM, Reached, take_children};
 use rt_box::Window;
 use rt_tree_node::{Arena, Node, node_at};
 use std::alloc::{AllocError, Global};
@@ -34,21 +34,21 @@ fn count_admitted<const D: usize>(leaf: &Node<D>, window: &Window<D>) -> usize
 /// without a look at them.
 #[inline(never)]
 fn visit<const D: usize>(
-    due: &mut Vec<Due>,
+    reached: &mut Vec<Reached>,
     tree: &Arena<D>,
-    next: Due,
+    next: Reached,
     asked: &Asked<D>,
 ) -> Result<usize, AllocError>
     requires present { ContainsKey tree.now.nodes next.key }
     requires few { D ≤ 3 }
     requires asked { IsAsked asked.now }
     requires mark { MarkHolds tree.now.nodes asked.now.window next }
-    ensures count { IfOk result (λ count. VisitsCounting tree.now.nodes asked.now.window next.key count (keys_of due.old.items) (keys_of due.new.items)) }
-    ensures marks { OnOk result (Marks asked.now.window (inner_cells_at tree.now.nodes next.key) due.old.items due.new.items) }
+    ensures count { IfOk result (λ count. VisitsCounting tree.now.nodes asked.now.window next.key count (keys_of reached.old.items) (keys_of reached.new.items)) }
+    ensures marks { OnOk result (Marks asked.now.window (inner_cells_at tree.now.nodes next.key) reached.old.items reached.new.items) }
 {
     let node = node_at(&tree.nodes, next.key);
     if node.level() > 0 {
-        take_children(due, node, asked)?;
+        take_children(reached, node, asked)?;
         return Ok(0);
     }
     if next.is_inside {
@@ -61,7 +61,7 @@ fn visit<const D: usize>(
 ///
 /// # Errors
 ///
-/// `AllocError` where no memory is left for what is still to be visited.
+/// `AllocError` where no memory is left for the list of the nodes reached: 16 bytes a node.
 pub fn count<const D: usize>(
     alloc: Global,
     tree: &Arena<D>,
@@ -73,14 +73,14 @@ pub fn count<const D: usize>(
     requires small { row_count tree.now < 2 ^ 64 }
     ensures { IfOk result (λ count. Counts tree.now window.now count) }
 {
-    let mut due = Vec::with_capacity(alloc, DUE_ROOM)?;
-    due.push(Due::root(tree))?;
+    let mut reached = Vec::with_capacity(alloc, REACHED_ROOM)?;
+    reached.push(Reached::root(tree))?;
     let (asked, mut ahead) = (Asked::new(window), LookAhead::new(tree, Need::Count));
     let (mut visited, mut count) = (0, 0);
-    while visited < due.len() {
-        ahead.look(tree, &due, visited);
-        let next = due[visited];
-        count += visit(&mut due, tree, next, &asked)?;
+    while visited < reached.len() {
+        ahead.look(tree, &reached, visited);
+        let next = reached[visited];
+        count += visit(&mut reached, tree, next, &asked)?;
         visited += 1;
     }
     Ok(count)

@@ -1,8 +1,8 @@
 //! Searches: the rows whose boxes a window admits.
 //!
-//! A list of nodes takes the place of recursion. A search goes through it from the root on and puts children at its end,
-//! so it meets the nodes level by level, and many can be looked at ahead. Rows are tested by the window, and children by
-//! its reach. Tests without branches are there for speed alone, and so are `ahead` and the mark of a node
+//! The list of the nodes reached takes the place of recursion. A search goes through it from the root on and puts children
+//! at its end, so it meets the nodes level by level, and many can be looked at ahead. Rows are tested by the window, and
+//! children by its reach. Tests without branches are there for speed alone, and so are `ahead` and the mark of a node
 //! (`specs/Search.antt`).
 
 ghost use Rattle.std.specs.Prelude.{◌≡◌, ◌≤◌, ◌<◌, ◌++◌, [], true, false, All, length, map, take, List, IfOk, OnOk, OnErr};
@@ -23,9 +23,9 @@ use std::mem;
 /// How many rows a search has room for before it finds the first one.
 const FIRST_ROOM: usize = 32;
 
-/// How many nodes a search has room for at first: more than a node has children. They take a kilobyte, and the allocator
+/// How many nodes a search's list has room for at first: more than a node has children. They take a kilobyte, and the allocator
 /// has larger pieces of memory less quickly at hand.
-pub(crate) const DUE_ROOM: usize = 64;
+pub(crate) const REACHED_ROOM: usize = 64;
 
 /// From so many rows on, a search takes the rows of a leaf in the way that suits many.
 const MANY_ROWS: usize = 16;
@@ -74,20 +74,20 @@ impl<const D: usize> Asked<D> {
     }
 }
 
-/// A node that a search goes into.
+/// A node that a search reaches. It goes into each of them in turn.
 #[derive(Clone, Copy)]
-pub(crate) struct Due {
+pub(crate) struct Reached {
     pub(crate) key: Key,
     /// Whether it is known that the window admits each box that lies in the node's.
     pub(crate) is_inside: bool,
 }
 
-impl Due {
+impl Reached {
     /// The root, of which nothing is known.
-    pub(crate) fn root<const D: usize>(tree: &Arena<D>) -> Due
+    pub(crate) fn root<const D: usize>(tree: &Arena<D>) -> Reached
         ensures { result ≡ record { key = tree.now.root; is_inside = false } }
     {
-        Due {
+        Reached {
             key: tree.root,
             is_inside: false,
         }
@@ -250,47 +250,47 @@ fn is_inside<const D: usize>(asked: &Asked<D>, rect: &Rect<D>, asks: bool) -> bo
 
 /// Takes the children that a node's cells at these positions name. Those that are known to lie inside the window are marked.
 fn push_children<const D: usize>(
-    due: &mut Vec<Due>,
+    reached: &mut Vec<Reached>,
     node: &Node<D>,
     positions: &[u8],
     asked: &Asked<D>,
 ) -> Result<(), AllocError>
     requires asked { IsAsked asked.now }
     requires within { All (λ at. at < length node.now.cells) positions.now }
-    ensures keys { OnOk result (keys_of due.new.items ≡ keys_of due.old.items ++ keys_at node.now.cells positions.now) }
-    ensures marks { OnOk result (Marks asked.now.window node.now.cells due.old.items due.new.items) }
+    ensures keys { OnOk result (keys_of reached.new.items ≡ keys_of reached.old.items ++ keys_at node.now.cells positions.now) }
+    ensures marks { OnOk result (Marks asked.now.window node.now.cells reached.old.items reached.new.items) }
 {
-    due.reserve(positions.len())?;
-    let alloc = *due.allocator();
-    let mut list = mem::replace(due, Vec::new(alloc));
+    reached.reserve(positions.len())?;
+    let alloc = *reached.allocator();
+    let mut list = mem::replace(reached, Vec::new(alloc));
     // On one axis most leaves that the window meets lie inside it.
     let asks = D == 1 || positions.len() >= MANY_CHILDREN;
     for at in positions {
         let cell = node.cell(usize::from(*at));
-        list.push_reserved(Due {
+        list.push_reserved(Reached {
             key: child_of(&cell),
             is_inside: is_inside(asked, &cell.rect, asks),
         });
     }
-    *due = list;
+    *reached = list;
     Ok(())
 }
 
 /// Takes the children in which a box may lie that the window admits.
 #[inline]
 pub(crate) fn take_children<const D: usize>(
-    due: &mut Vec<Due>,
+    reached: &mut Vec<Reached>,
     node: &Node<D>,
     asked: &Asked<D>,
 ) -> Result<(), AllocError>
     requires { IsAsked asked.now }
-    ensures children { OnOk result (TakesChildren asked.now.window node.now.cells (keys_of due.old.items) (keys_of due.new.items)) }
-    ensures marks { OnOk result (Marks asked.now.window node.now.cells due.old.items due.new.items) }
+    ensures children { OnOk result (TakesChildren asked.now.window node.now.cells (keys_of reached.old.items) (keys_of reached.new.items)) }
+    ensures marks { OnOk result (Marks asked.now.window node.now.cells reached.old.items reached.new.items) }
 {
     node.facts();
     let mut positions = [0; MOST_CELLS];
     let count = put_admitted(&mut positions, node, &asked.reach);
-    push_children(due, node, &positions[..count], asked)
+    push_children(reached, node, &positions[..count], asked)
 }
 
 // By itself, so that the numbers of a window are read as vectors from where they stand: those of two windows don't fit
@@ -300,22 +300,22 @@ pub(crate) fn take_children<const D: usize>(
 #[inline(never)]
 fn visit<const D: usize>(
     rows: &mut Vec<Row<D>>,
-    due: &mut Vec<Due>,
+    reached: &mut Vec<Reached>,
     tree: &Arena<D>,
-    next: Due,
+    next: Reached,
     asked: &Asked<D>,
 ) -> Result<(), AllocError>
     requires present { ContainsKey tree.now.nodes next.key }
     requires few { D ≤ 3 }
     requires asked { IsAsked asked.now }
     requires mark { MarkHolds tree.now.nodes asked.now.window next }
-    ensures ok { OnOk result (Visits tree.now.nodes asked.now.window next.key rows.old.items rows.new.items (keys_of due.old.items) (keys_of due.new.items)) }
-    ensures marks { OnOk result (Marks asked.now.window (inner_cells_at tree.now.nodes next.key) due.old.items due.new.items) }
+    ensures ok { OnOk result (Visits tree.now.nodes asked.now.window next.key rows.old.items rows.new.items (keys_of reached.old.items) (keys_of reached.new.items)) }
+    ensures marks { OnOk result (Marks asked.now.window (inner_cells_at tree.now.nodes next.key) reached.old.items reached.new.items) }
     ensures err { OnErr result (rows.new.items ≡ rows.old.items) }
 {
     let node = node_at(&tree.nodes, next.key);
     if node.level() > 0 {
-        return take_children(due, node, asked);
+        return take_children(reached, node, asked);
     }
     if next.is_inside {
         return take_all(rows, node);
@@ -331,8 +331,8 @@ fn visit<const D: usize>(
 ///
 /// # Errors
 ///
-/// `AllocError` where no memory is left for what is found or is still to be visited. Some of the rows that were found may
-/// stand in the list then.
+/// `AllocError` where no memory is left for the rows found, or for the list of the nodes reached: 16 bytes a node. Some of
+/// the rows that were found may stand in the list then.
 pub fn search_into<const D: usize>(
     alloc: Global,
     tree: &Arena<D>,
@@ -345,15 +345,15 @@ pub fn search_into<const D: usize>(
     ensures ok { IfOk result (λ visited. FindsAfter tree.now window.now rows.old.items rows.new.items visited) }
     ensures err { OnErr result (StaysInFront rows.old.items rows.new.items) }
 {
-    let mut due = Vec::with_capacity(alloc, DUE_ROOM)?;
-    due.push(Due::root(tree))?;
+    let mut reached = Vec::with_capacity(alloc, REACHED_ROOM)?;
+    reached.push(Reached::root(tree))?;
     slab_facts(&tree.nodes);
     let (asked, mut ahead) = (Asked::new(window), LookAhead::new(tree, Need::Rows));
     let mut visited = 0;
-    while visited < due.len() {
-        ahead.look(tree, &due, visited);
-        let next = due[visited];
-        visit(rows, &mut due, tree, next, &asked)?;
+    while visited < reached.len() {
+        ahead.look(tree, &reached, visited);
+        let next = reached[visited];
+        visit(rows, &mut reached, tree, next, &asked)?;
         visited += 1;
     }
     Ok(visited as u64)
@@ -363,7 +363,7 @@ pub fn search_into<const D: usize>(
 ///
 /// # Errors
 ///
-/// `AllocError` where no memory is left for what is found or is still to be visited.
+/// `AllocError` where no memory is left for the rows found, or for the list of the nodes reached: 16 bytes a node.
 pub fn search<const D: usize>(
     alloc: Global,
     tree: &Arena<D>,

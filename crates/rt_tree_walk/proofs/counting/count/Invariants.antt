@@ -3,13 +3,13 @@ use Rattle.rt_tree_walk.specs.Visits.{keys_of, MarkHolds}
 use Rattle.rt_tree_walk.proofs.Counted.{Counting, ahead}
 use Rattle.rt_tree_walk.proofs.counting.count.Given as goal
 
--- the count went into the first nodes of the list; the others are due
+-- the count went into the first nodes of the list; the others are reached
 abbrev pub invariant-loop-visited : goal.invariant-loop-visited
 invariant-loop-visited g l = record {
-  within : l.visited ≤ length l.due.items;
-  progress : Counting l.tree l.window (drop l.visited (keys_of l.due.items)) l.count;
-  marks : All (MarkHolds l.tree.nodes l.window) l.due.items;
+  within : l.visited ≤ length l.reached.items;
+  progress : Counting l.tree l.window (drop l.visited (keys_of l.reached.items)) l.count;
+  marks : All (MarkHolds l.tree.nodes l.window) l.reached.items;
 }
 
 abbrev pub decreases-loop-visited : goal.decreases-loop-visited
-decreases-loop-visited g l = ahead l.tree (drop l.visited (keys_of l.due.items))
+decreases-loop-visited g l = ahead l.tree (drop l.visited (keys_of l.reached.items))

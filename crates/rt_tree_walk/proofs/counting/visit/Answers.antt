@@ -10,7 +10,7 @@ pub returns-then-next-clause-count : goal.returns-then-next-clause-count
 returns-then-next-clause-count g c =
     let a = c.args.tree.now.nodes in
     let window = c.args.asked.now.window in
-    let keys = keys_of c.args.due.now.items in
+    let keys = keys_of c.args.reached.now.items in
     subst (λ (count : ℕ). VisitsCounting a window c.args.next.key count keys keys) (sym c.len.ensures.value)
     (visits-counting_all a window c.args.next.key c.node_at-node.result.now c.node_at-node.ensures
     (omega (arith, c.if-level-gt0.false, c.level.ensures)) (c.requires.mark c.if-next.true) keys)

@@ -5,7 +5,7 @@ use Rattle.rt_tree_walk.proofs.searching.push_children.Given as goal
 -- the positions so far gave their children, and there is room for the rest
 abbrev pub invariant-loop-at : goal.invariant-loop-at
 invariant-loop-at g l = record {
-  keys : keys_of l.list.items ≡ keys_of l.fn.due.items ++ keys_at l.node.cells (take l.at-index l.positions);
-  marks : Marks l.asked.window l.node.cells l.fn.due.items l.list.items;
+  keys : keys_of l.list.items ≡ keys_of l.fn.reached.items ++ keys_at l.node.cells (take l.at-index l.positions);
+  marks : Marks l.asked.window l.node.cells l.fn.reached.items l.list.items;
   room : vec_len l.list + length l.positions ≤ vec_capacity l.list + l.at-index;
 }

@@ -3,12 +3,12 @@ use Rattle.rt_tree_walk.specs.Visits.{keys_of, MarkHolds}
 use Rattle.rt_tree_walk.proofs.searching.search_into.Given as goal
 use Rattle.rt_tree_walk.proofs.Progress.{ProgressAfter}
 
--- the search went into the first nodes of the list; the others are due
+-- the search went into the first nodes of the list; the others are reached
 abbrev pub invariant-loop-visited : goal.invariant-loop-visited
 invariant-loop-visited g l = record {
-  within : l.visited ≤ length l.due.items;
-  progress : ProgressAfter l.tree l.window (drop l.visited (keys_of l.due.items)) l.fn.rows.items l.rows.items l.visited;
-  marks : All (MarkHolds l.tree.nodes l.window) l.due.items;
+  within : l.visited ≤ length l.reached.items;
+  progress : ProgressAfter l.tree l.window (drop l.visited (keys_of l.reached.items)) l.fn.rows.items l.rows.items l.visited;
+  marks : All (MarkHolds l.tree.nodes l.window) l.reached.items;
 }
 
 abbrev pub decreases-loop-visited : goal.decreases-loop-visited

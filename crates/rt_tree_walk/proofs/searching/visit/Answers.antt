@@ -12,5 +12,5 @@ returns-then-next-clause-ok g c =
     on_ok_weaker c.take_all.result
     (visits-all c.args.tree.now.nodes c.args.asked.now.window c.args.next.key c.node_at-node.result.now c.node_at-node.ensures
     (omega (arith, c.if-level-gt0.false, c.level.ensures)) (c.requires.mark c.if-next.true)
-    c.args.rows.now.items c.take_all.new.rows.items (keys_of c.args.due.now.items))
+    c.args.rows.now.items c.take_all.new.rows.items (keys_of c.args.reached.now.items))
     c.take_all.ensures.ok
