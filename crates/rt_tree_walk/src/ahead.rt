@@ -23,7 +23,7 @@ const NUMBERS_A_LINE: usize = 8;
 /// How many lines of memory are looked at of a node's numbers, and for each axis of its boxes. Most nodes have no more.
 const LINES: usize = 6;
 
-/// What a search needs of a leaf.
+/// What is needed of a leaf inside the window: its rows, or only how many they are.
 #[derive(Clone, Copy)]
 pub(crate) enum Need {
     Rows,

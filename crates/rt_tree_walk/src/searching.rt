@@ -23,8 +23,8 @@ use std::mem;
 /// How many rows a search has room for before it finds the first one.
 const FIRST_ROOM: usize = 32;
 
-/// How many nodes a search's list has room for at first: more than a node has children. They take a kilobyte, and the allocator
-/// has larger pieces of memory less quickly at hand.
+/// How many nodes a search's list has room for at first: more than a node has children. They take a kilobyte, and the
+/// allocator has larger pieces of memory less quickly at hand.
 pub(crate) const REACHED_ROOM: usize = 64;
 
 /// From so many rows on, a search takes the rows of a leaf in the way that suits many.
@@ -74,7 +74,7 @@ impl<const D: usize> Asked<D> {
     }
 }
 
-/// A node that a search reaches. It goes into each of them in turn.
+/// A node that a search reaches, and goes into when its turn comes.
 #[derive(Clone, Copy)]
 pub(crate) struct Reached {
     pub(crate) key: Key,

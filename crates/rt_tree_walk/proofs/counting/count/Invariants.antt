@@ -3,7 +3,7 @@ use Rattle.rt_tree_walk.specs.Visits.{keys_of, MarkHolds}
 use Rattle.rt_tree_walk.proofs.Counted.{Counting, ahead}
 use Rattle.rt_tree_walk.proofs.counting.count.Given as goal
 
--- the count went into the first nodes of the list; the others are reached
+-- the count went into the first nodes of the list; the others are still to come
 abbrev pub invariant-loop-visited : goal.invariant-loop-visited
 invariant-loop-visited g l = record {
   within : l.visited ≤ length l.reached.items;

@@ -3,7 +3,7 @@ use Rattle.rt_tree_walk.specs.Visits.{keys_of, MarkHolds}
 use Rattle.rt_tree_walk.proofs.searching.search_into.Given as goal
 use Rattle.rt_tree_walk.proofs.Progress.{ProgressAfter}
 
--- the search went into the first nodes of the list; the others are reached
+-- the search went into the first nodes of the list; the others are still to come
 abbrev pub invariant-loop-visited : goal.invariant-loop-visited
 invariant-loop-visited g l = record {
   within : l.visited ≤ length l.reached.items;
