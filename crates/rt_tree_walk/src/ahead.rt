@@ -13,8 +13,13 @@ use rt_tree_node::{Arena, Node};
 /// So many nodes are looked at together: the nearest cache holds their boxes and numbers.
 const NODES_TOGETHER: usize = 16;
 
-/// A node has an array of numbers, and one as large for each axis of its boxes. So many arrays take 7 MB, and a tree that
-/// has more isn't at hand in the caches of most processors.
+// A node has an array of numbers, and one as large for each axis of its boxes.
+
+/// So many arrays take 2 MB. A tree that has more is at hand in the caches only in part: the first leaves of a search are
+/// worth a look, later ones aren't.
+const SOME_ARRAYS: usize = 4_096;
+
+/// So many arrays take 7 MB. A tree that has more isn't at hand in the caches of most processors.
 const MANY_ARRAYS: usize = 16_384;
 
 /// How many boxes of one axis, and how many numbers, stand on a line of memory.
@@ -34,6 +39,8 @@ pub(crate) enum Need {
 #[derive(Drop)]
 pub(crate) struct LookAhead {
     need: Need,
+    /// Whether all leaves are worth a look, or only the first ones.
+    is_large: bool,
     /// Up to here in the search's list, nodes were looked at, or need no look.
     until: usize,
     /// The level of the nodes that stand there.
@@ -81,10 +88,15 @@ impl LookAhead {
     pub(crate) fn new<const D: usize>(tree: &Arena<D>, need: Need) -> LookAhead
         requires { D ≤ 3 }
     {
-        let is_large = tree.nodes.len() > MANY_ARRAYS / (1 + D);
+        let nodes = tree.nodes.len();
         LookAhead {
             need,
-            until: if is_large { 0 } else { usize::MAX },
+            is_large: nodes > MANY_ARRAYS / (1 + D),
+            until: if nodes > SOME_ARRAYS / (1 + D) {
+                0
+            } else {
+                usize::MAX
+            },
             level: tree.level,
             seen: 0,
         }
@@ -123,8 +135,10 @@ impl LookAhead {
         self.level = level.saturating_sub(1);
         let count = if level > 0 {
             reached.len()
-        } else {
+        } else if self.is_large {
             NODES_TOGETHER
+        } else {
+            usize::MAX
         };
         self.until = self.until.saturating_add(count);
         if level > 1 {
