@@ -1,10 +1,13 @@
 -- Lemmas on numbers that are compared at once, each in a lane.
-use Rattle.std.proofs.Common.{◌≡◌, ℕ, ◌+◌, ◌-◌, ◌*◌, ◌%◌, ◌^◌, ◌≤◌, ◌↔◌, eqb, cond, IsTrue, Bool, true, false, not, ℤ, bit_or, arith, refl, w32, FitsSigned, to_z, of_z}
+use Rattle.std.proofs.Common.{◌≡◌, ℕ, ◌+◌, ◌-◌, ◌*◌, ◌/◌, ◌%◌, ◌^◌, ◌≤◌, ◌≤ℤ◌, ◌↔◌, eqb, cond, IsTrue, Bool, true, false, not, ◌||◌, ℤ, pos, negsuc, get_or, List, [], ◌∷◌, map, bit_or, arith, refl, ap, ap₂, sym, subst, ◌∙◌, w32, FitsSigned, to_z, of_z}
 use Rattle.std.proofs.lemmas.Bool.{true≢false, not-true, not-false, not_from_true, not_from_false, eqb-true, eq-eqb}
 use Rattle.std.proofs.lemmas.Int.{ints}
 use Rattle.std.specs.Int.Signed.{lt_z}
-use lib.Lanes.{top}
+use lib.Lanes.{top, mask_l, zip2}
 use Rattle.rt_box.specs.declared.interval.Interval.{Interval}
+use Rattle.rt_box.specs.declared.window.Ends.{Ends}
+use Rattle.rt_box.specs.Bits.{Tells, lane, mask, AreLanes, IsClear}
+use Rattle.rt_box.specs.Ends.{AdmitsSide}
 use Rattle.rt_box.specs.Interval.{Includes, FitsEnds}
 
 -- the bit of a lane where one comparison or the other holds
@@ -32,42 +35,324 @@ bit-le true true = omega arith
 abbrev held : ℤ → ℤ
 held z = to_z w32 (of_z w32 z)
 
--- the bit of a lane whose number is outside the interval; the ends came to the lane from another
-abbrev pub outside : Interval → ℤ → ℕ
-outside i z = bit (lt_z (held z) (held (held i.lo))) (lt_z (held (held i.hi)) (held z))
+-- ---- four bits
+-- bits that stand for what a property doesn't hold of, taken from the four lowest bits, leave those that it holds of
+Tells-others : {X : Type 0} (P : X → Type 0) (a b c d : X) (p q r s : ℕ) → p ≤ 1 → q ≤ 1 → r ≤ 1 → s ≤ 1 →
+    (p ≡ 0 ↔ P a) → (q ≡ 0 ↔ P b) → (r ≡ 0 ↔ P c) → (s ≡ 0 ↔ P d) →
+    Tells P (a ∷ b ∷ c ∷ d ∷ []) (15 - (p + 2 * (q + 2 * (r + 2 * (s + 2 * 0)))) % 2 ^ 64)
+Tells-others P a b c d p q r s p1 q1 r1 s1 first second third fourth =
+    let bits = 15 - (p + 2 * (q + 2 * (r + 2 * (s + 2 * 0)))) % 2 ^ 64 in
+    let t : bits % 2 ≡ 1 - p = omega (arith, p1, q1, r1, s1) in
+    let u : bits / 2 % 2 ≡ 1 - q = omega (arith, p1, q1, r1, s1) in
+    let v : bits / 2 / 2 % 2 ≡ 1 - r = omega (arith, p1, q1, r1, s1) in
+    let w : bits / 2 / 2 / 2 % 2 ≡ 1 - s = omega (arith, p1, q1, r1, s1) in (
+      (λ o. first.0 (omega (arith, o, t, p1)), λ h. omega (arith, t, first.1 h)),
+      (
+        (λ o. second.0 (omega (arith, o, u, q1)), λ h. omega (arith, u, second.1 h)),
+        (
+          (λ o. third.0 (omega (arith, o, v, r1)), λ h. omega (arith, v, third.1 h)),
+          (
+            (λ o. fourth.0 (omega (arith, o, w, s1)), λ h. omega (arith, w, fourth.1 h)),
+            omega (arith, p1, q1, r1, s1),
+          ),
+        ),
+      ),
+    )
 
-outside-le : (i : Interval) (z : ℤ) → outside i z ≤ 1
-outside-le i z = bit-le _ _
+-- ---- four sides, each number in a lane
+-- the lanes of a comparison that holds everywhere or nowhere
+abbrev lanes : Bool → ℕ
+lanes s = cond s (2 ^ 32 - 1) 0
 
-includes : (i : Interval) (z : ℤ) → FitsEnds i → FitsSigned w32 z → outside i z ≡ 0 → Includes i z
-includes i z ends fits e =
-    let none = bit-zero _ _ e in
-    let lo = none.0 in
-    let hi = none.1 in
-    (grind (arith, ints, lo, ends, fits), grind (arith, ints, hi, ends, fits))
+lanes-or : (s t : Bool) → bit_or (lanes s) (lanes t) ≡ lanes (s || t)
+lanes-or true true = refl
+lanes-or true false = refl
+lanes-or false true = refl
+lanes-or false false = refl
 
-outside_none : (i : Interval) (z : ℤ) → FitsEnds i → FitsSigned w32 z → Includes i z → outside i z ≡ 0
-outside_none i z ends fits h = bit_from _ _ (grind (arith, ints, h, ends, fits)) (grind (arith, ints, h, ends, fits))
+or-none : (s t : Bool) → (s || t) ≡ false → (s ≡ false) × (t ≡ false)
+or-none true t e = absurd (true≢false e)
+or-none false t e = (refl, e)
 
--- no bit of the mask is set exactly where each number is in its interval
-pub none_outside : (i j k l : Interval) (x y z u : ℤ) → FitsEnds i → FitsEnds j → FitsEnds k → FitsEnds l →
-    FitsSigned w32 x → FitsSigned w32 y → FitsSigned w32 z → FitsSigned w32 u →
-    IsTrue (not (not (eqb ((outside i x + 2 * (outside j y + 2 * (outside k z + 2 * (outside l u + 2 * 0)))) % 2 ^ 64) 0))) ↔
-    ((Includes i x × Includes j y) × (Includes k z × Includes l u))
-none_outside i j k l x y z u in_i in_j in_k in_l in_x in_y in_z in_u =
-    let p = outside-le i x in
-    let q = outside-le j y in
-    let r = outside-le k z in
-    let s = outside-le l u in (
-      (λ t.
-          let none = eqb-true _ _ (not-false _ (not-true _ t)) in (
-            (includes i x in_i in_x (omega (arith, p, q, r, s, none)), includes j y in_j in_y (omega (arith, p, q, r, s, none))),
-            (includes k z in_k in_z (omega (arith, p, q, r, s, none)), includes l u in_l in_u (omega (arith, p, q, r, s, none))),
+or_none : (s t : Bool) → s ≡ false → t ≡ false → (s || t) ≡ false
+or_none true t p q = p
+or_none false t p q = q
+
+-- the bit of a lane where one of four comparisons holds
+abbrev bit-four : Bool → Bool → Bool → Bool → ℕ
+bit-four s t u v = cond (top 31 (bit_or (bit_or (lanes s) (lanes t)) (bit_or (lanes u) (lanes v)))) 1 0
+
+bit-four_is : (s t u v : Bool) → bit-four s t u v ≡ bit (s || t) (u || v)
+bit-four_is s t u v = rw (lanes-or s t, lanes-or u v) refl
+
+bit-four-le : (s t u v : Bool) → bit-four s t u v ≤ 1
+bit-four-le s t u v = omega (arith, bit-four_is s t u v, bit-le (s || t) (u || v))
+
+-- the comparisons of a side's numbers, which came to their lanes from others
+abbrev lo_before : Ends → Interval → Bool
+lo_before e side = lt_z (held (held side.lo)) (held e.lo.lo)
+
+abbrev hi_before : Ends → Interval → Bool
+hi_before e side = lt_z (held (held side.hi)) (held e.hi.lo)
+
+abbrev lo_behind : Ends → Interval → Bool
+lo_behind e side = lt_z (held e.lo.hi) (held (held side.lo))
+
+abbrev hi_behind : Ends → Interval → Bool
+hi_behind e side = lt_z (held e.hi.hi) (held (held side.hi))
+
+-- the bit of a side that isn't admitted
+abbrev pub refused : Ends → Interval → ℕ
+refused e side = bit-four (lo_before e side) (hi_before e side) (lo_behind e side) (hi_behind e side)
+
+refused-le : (e : Ends) (side : Interval) → refused e side ≤ 1
+refused-le e side = bit-four-le (lo_before e side) (hi_before e side) (lo_behind e side) (hi_behind e side)
+
+not_before : (least z : ℤ) → FitsSigned w32 least → FitsSigned w32 z → lt_z (held (held z)) (held least) ≡ false ↔ (least ≤ℤ z)
+not_before least z fits in_z = ((λ e. grind (arith, ints, e, fits, in_z)), (λ h. grind (arith, ints, h, fits, in_z)))
+
+not_behind : (greatest z : ℤ) → FitsSigned w32 greatest → FitsSigned w32 z → lt_z (held greatest) (held (held z)) ≡ false ↔ (z ≤ℤ greatest)
+not_behind greatest z fits in_z = ((λ e. grind (arith, ints, e, fits, in_z)), (λ h. grind (arith, ints, h, fits, in_z)))
+
+refused-zero : (e : Ends) (side : Interval) → FitsEnds e.lo → FitsEnds e.hi → FitsEnds side → refused e side ≡ 0 ↔ AdmitsSide e side
+refused-zero e side in_lo in_hi in_side =
+    let before = (lo_before e side || hi_before e side) in
+    let behind = (lo_behind e side || hi_behind e side) in
+    let is : refused e side ≡ bit before behind = bit-four_is (lo_before e side) (hi_before e side) (lo_behind e side) (hi_behind e side) in
+    let a = not_before e.lo.lo side.lo in_lo.0 in_side.0 in
+    let b = not_before e.hi.lo side.hi in_hi.0 in_side.1 in
+    let c = not_behind e.lo.hi side.lo in_lo.1 in_side.0 in
+    let d = not_behind e.hi.hi side.hi in_hi.1 in_side.1 in (
+      (λ z.
+          let both = bit-zero before behind (sym is ∙ z) in
+          let first = or-none (lo_before e side) (hi_before e side) both.0 in
+          let last = or-none (lo_behind e side) (hi_behind e side) both.1 in
+          ((a.0 first.0, c.0 last.0), (b.0 first.1, d.0 last.1))),
+      (λ h. is ∙ bit_from before behind
+          (or_none (lo_before e side) (hi_before e side) (a.1 h.0.0) (b.1 h.1.0))
+          (or_none (lo_behind e side) (hi_behind e side) (c.1 h.0.1) (d.1 h.1.1))),
+    )
+
+-- the other bits are set
+pub told_four : (e : Ends) (a b c d : Interval) → FitsEnds e.lo → FitsEnds e.hi → FitsEnds a → FitsEnds b → FitsEnds c → FitsEnds d →
+    Tells (AdmitsSide e) (a ∷ b ∷ c ∷ d ∷ []) (15 - (refused e a + 2 * (refused e b + 2 * (refused e c + 2 * (refused e d + 2 * 0)))) % 2 ^ 64)
+told_four e a b c d in_lo in_hi in_a in_b in_c in_d =
+    Tells-others (AdmitsSide e) a b c d (refused e a) (refused e b) (refused e c) (refused e d) (refused-le e a) (refused-le e b) (refused-le e c) (refused-le e d)
+    (refused-zero e a in_lo in_hi in_a) (refused-zero e b in_lo in_hi in_b) (refused-zero e c in_lo in_hi in_c) (refused-zero e d in_lo in_hi in_d)
+
+-- ---- masks
+-- a mask's lane as a number of 32 bits, and what one of two lanes gives
+abbrev of_lane : Bool → ℕ
+of_lane s = cond (top 31 (of_z w32 (lane s))) (2 ^ 32 - 1) 0
+
+abbrev lane_or : Bool → Bool → ℤ
+lane_or s t = to_z w32 (cond (lt_z (to_z w32 (bit_or (of_z w32 (to_z w32 (of_lane s))) (of_z w32 (to_z w32 (of_lane t))))) (pos 0)) (2 ^ 32 - 1) 0)
+
+lane_or_is : (s t : Bool) → lane_or s t ≡ lane (s || t)
+lane_or_is true true = refl
+lane_or_is true false = refl
+lane_or_is false true = refl
+lane_or_is false false = refl
+
+abbrev pub halves_as_made : Bool → Bool → Bool → Bool → Bool → Bool → Bool → Bool → List ℤ
+halves_as_made s t u v w x y z = lane_or s t ∷ lane_or u v ∷ lane_or w x ∷ lane_or y z ∷ []
+
+pub halves_are : (s t u v w x y z : Bool) → halves_as_made s t u v w x y z ≡ mask (s || t) (u || v) (w || x) (y || z)
+halves_are s t u v w x y z = rw (lane_or_is s t, lane_or_is u v, lane_or_is w x, lane_or_is y z) refl
+
+abbrev is_negative : ℤ → Bool
+is_negative (pos n) = false
+is_negative (negsuc n) = true
+
+lane-clear : (s : Bool) → lane s ≡ pos 0 → s ≡ false
+lane-clear true e = absurd (true≢false (ap is_negative e))
+lane-clear false e = refl
+
+-- four lanes are clear exactly where none of them is set
+pub clear_is : (s t u v : Bool) (lanes : List ℤ) → lanes ≡ mask s t u v → ((s || t) || (u || v)) ≡ false ↔ IsClear lanes
+clear_is s t u v lanes is = (
+  (λ none.
+      let halves = or-none (s || t) (u || v) none in
+      let front = or-none s t halves.0 in
+      let back = or-none u v halves.1 in
+      is ∙ rw (front.0, front.1, back.0, back.1) refl),
+  (λ clear.
+      let same = sym is ∙ clear in
+      or_none (s || t) (u || v)
+      (or_none s t (lane-clear s (ap (λ l. get_or l 0 (pos 0)) same)) (lane-clear t (ap (λ l. get_or l 1 (pos 0)) same)))
+      (or_none u v (lane-clear u (ap (λ l. get_or l 2 (pos 0)) same)) (lane-clear v (ap (λ l. get_or l 3 (pos 0)) same)))),
+)
+
+held_lane : (s : Bool) → held (lane s) ≡ lane s
+held_lane true = refl
+held_lane false = refl
+
+-- a mask that is handed on is the same
+pub handed_mask : (s t u v : Bool) (lanes : List ℤ) → lanes ≡ mask s t u v → map (to_z w32) (map (of_z w32) lanes) ≡ mask s t u v
+handed_mask s t u v lanes is = rw is (rw (held_lane s, held_lane t, held_lane u, held_lane v) refl)
+
+abbrev pub handed : List ℤ → List ℤ
+handed lanes = map (to_z w32) (map (of_z w32) lanes)
+
+pub handed_lanes : (lanes : List ℤ) → AreLanes lanes → AreLanes (handed lanes)
+handed_lanes lanes are = let (s, t, u, v, is) = are in (s, t, u, v, handed_mask s t u v lanes is)
+
+pub handed_clear : (lanes : List ℤ) → AreLanes lanes → IsClear (handed lanes) ↔ IsClear lanes
+handed_clear lanes are =
+    let (s, t, u, v, is) = are in
+    let same : handed lanes ≡ lanes = handed_mask s t u v lanes is ∙ sym is in
+    ((λ h. sym same ∙ h), (λ h. same ∙ h))
+
+-- the bits of the lanes that aren't set
+abbrev pub clear_bits : List ℤ → ℕ
+clear_bits lanes = 15 - mask_l (map (top 31) (map (of_z w32) lanes)) % 2 ^ 64
+
+-- the bit of a lane
+abbrev bit_of : Bool → ℕ
+bit_of s = cond (top 31 (of_z w32 (lane s))) 1 0
+
+bit_of-le : (s : Bool) → bit_of s ≤ 1
+bit_of-le true = omega arith
+bit_of-le false = omega arith
+
+bit_of-zero : (s : Bool) → bit_of s ≡ 0 → s ≡ false
+bit_of-zero true e = absurd (omega (arith, e))
+bit_of-zero false e = refl
+
+bit_of-clear : (s : Bool) → s ≡ false → bit_of s ≡ 0
+bit_of-clear true e = absurd (true≢false e)
+bit_of-clear false e = refl
+
+pub lanes_fit : (s t u v : Bool) (lanes : List ℤ) → lanes ≡ mask s t u v → mask_l (map (top 31) (map (of_z w32) lanes)) % 2 ^ 64 ≤ 15
+lanes_fit s t u v lanes is =
+    let low : (bit_of s + 2 * (bit_of t + 2 * (bit_of u + 2 * (bit_of v + 2 * 0)))) % 2 ^ 64 ≤ 15 = omega (arith, bit_of-le s, bit_of-le t, bit_of-le u, bit_of-le v) in
+    subst (λ l. mask_l (map (top 31) (map (of_z w32) l)) % 2 ^ 64 ≤ 15) (sym is) low
+
+pub told_clear : {X : Type 0} (P : X → Type 0) (a b c d : X) (s t u v : Bool) (lanes : List ℤ) → lanes ≡ mask s t u v →
+    (s ≡ false ↔ P a) → (t ≡ false ↔ P b) → (u ≡ false ↔ P c) → (v ≡ false ↔ P d) → Tells P (a ∷ b ∷ c ∷ d ∷ []) (clear_bits lanes)
+told_clear P a b c d s t u v lanes is first second third fourth =
+    subst (λ l. Tells P (a ∷ b ∷ c ∷ d ∷ []) (clear_bits l)) (sym is)
+    (Tells-others P a b c d (bit_of s) (bit_of t) (bit_of u) (bit_of v) (bit_of-le s) (bit_of-le t) (bit_of-le u) (bit_of-le v)
+    ((λ e. first.0 (bit_of-zero s e)), (λ h. bit_of-clear s (first.1 h))) ((λ e. second.0 (bit_of-zero t e)), (λ h. bit_of-clear t (second.1 h)))
+    ((λ e. third.0 (bit_of-zero u e)), (λ h. bit_of-clear u (third.1 h))) ((λ e. fourth.0 (bit_of-zero v e)), (λ h. bit_of-clear v (fourth.1 h))))
+
+-- ---- numbers outside their intervals
+-- the comparisons of a number with an interval's ends, which came to their lanes from others
+abbrev pub is_outside : Interval → ℤ → Bool
+is_outside i z = lt_z (held z) (held (held i.lo)) || lt_z (held (held i.hi)) (held z)
+
+outside-false : (i : Interval) (z : ℤ) → FitsEnds i → FitsSigned w32 z → is_outside i z ≡ false ↔ Includes i z
+outside-false i z ends fits = (
+  (λ e.
+      let none = or-none (lt_z (held z) (held (held i.lo))) (lt_z (held (held i.hi)) (held z)) e in
+      let lo = none.0 in
+      let hi = none.1 in
+      (grind (arith, ints, lo, ends, fits), grind (arith, ints, hi, ends, fits))),
+  (λ h. or_none (lt_z (held z) (held (held i.lo))) (lt_z (held (held i.hi)) (held z)) (grind (arith, ints, h, ends, fits)) (grind (arith, ints, h, ends, fits))),
+)
+
+-- the lane that they give
+abbrev pub outside_lane : Interval → ℤ → ℤ
+outside_lane i z = to_z w32 (bit_or (lanes (lt_z (held z) (held (held i.lo)))) (lanes (lt_z (held (held i.hi)) (held z))))
+
+lane_of_two : (s t : Bool) → to_z w32 (bit_or (lanes s) (lanes t)) ≡ lane (s || t)
+lane_of_two true true = refl
+lane_of_two true false = refl
+lane_of_two false true = refl
+lane_of_two false false = refl
+
+module _ (i j k l : Interval) (x y z u : ℤ) where
+  pub outside_mask : outside_lane i x ∷ outside_lane j y ∷ outside_lane k z ∷ outside_lane l u ∷ [] ≡ mask (is_outside i x) (is_outside j y) (is_outside k z) (is_outside l u)
+  outside_mask =
+      ap₂ (λ a r. a ∷ r) (lane_of_two (lt_z (held x) (held (held i.lo))) (lt_z (held (held i.hi)) (held x)))
+      (ap₂ (λ a r. a ∷ r) (lane_of_two (lt_z (held y) (held (held j.lo))) (lt_z (held (held j.hi)) (held y)))
+      (ap₂ (λ a r. a ∷ r) (lane_of_two (lt_z (held z) (held (held k.lo))) (lt_z (held (held k.hi)) (held z)))
+      (ap (λ a. a ∷ []) (lane_of_two (lt_z (held u) (held (held l.lo))) (lt_z (held (held l.hi)) (held u))))))
+
+  -- no lane is set exactly where each number is in its interval
+  pub none_outside : FitsEnds i → FitsEnds j → FitsEnds k → FitsEnds l → FitsSigned w32 x → FitsSigned w32 y → FitsSigned w32 z → FitsSigned w32 u →
+      IsClear (outside_lane i x ∷ outside_lane j y ∷ outside_lane k z ∷ outside_lane l u ∷ []) ↔ ((Includes i x × Includes j y) × (Includes k z × Includes l u))
+  none_outside in_i in_j in_k in_l in_x in_y in_z in_u =
+      let a = is_outside i x in
+      let b = is_outside j y in
+      let c = is_outside k z in
+      let d = is_outside l u in
+      let p = outside-false i x in_i in_x in
+      let q = outside-false j y in_j in_y in
+      let r = outside-false k z in_k in_z in
+      let s = outside-false l u in_l in_u in
+      let clear = clear_is a b c d (outside_lane i x ∷ outside_lane j y ∷ outside_lane k z ∷ outside_lane l u ∷ []) outside_mask in (
+        (λ h.
+            let halves = or-none (a || b) (c || d) (clear.1 h) in
+            let front = or-none a b halves.0 in
+            let back = or-none c d halves.1 in
+            ((p.0 front.0, q.0 front.1), (r.0 back.0, s.0 back.1))),
+        (λ h. clear.0 (or_none (a || b) (c || d) (or_none a b (p.1 h.0.0) (q.1 h.0.1)) (or_none c d (r.1 h.1.0) (s.1 h.1.1)))),
+      )
+
+-- ---- two masks
+or_lane : (s t : Bool) → to_z w32 (bit_or (of_z w32 (lane s)) (of_z w32 (lane t))) ≡ lane (s || t)
+or_lane true true = refl
+or_lane true false = refl
+or_lane false true = refl
+or_lane false false = refl
+
+abbrev pub both : List ℤ → List ℤ → List ℤ
+both a b = map (to_z w32) (zip2 bit_or (map (of_z w32) a) (map (of_z w32) b))
+
+pub both_masks : (s t u v w x y z : Bool) (a b : List ℤ) → a ≡ mask s t u v → b ≡ mask w x y z → both a b ≡ mask (s || w) (t || x) (u || y) (v || z)
+both_masks s t u v w x y z a b a_is b_is = rw (a_is, b_is) (rw (or_lane s w, or_lane t x, or_lane u y, or_lane v z) refl)
+
+-- both together are clear exactly where each one is
+pub both_clear : (a b : List ℤ) → AreLanes a → AreLanes b → IsClear (both a b) ↔ (IsClear a × IsClear b)
+both_clear a b a_lanes b_lanes =
+    let (s, t, u, v, a_is) = a_lanes in
+    let (w, x, y, z, b_is) = b_lanes in
+    let first = clear_is s t u v a a_is in
+    let second = clear_is w x y z b b_is in
+    let all = clear_is (s || w) (t || x) (u || y) (v || z) (both a b) (both_masks s t u v w x y z a b a_is b_is) in (
+      (λ h.
+          let halves = or-none ((s || w) || (t || x)) ((u || y) || (v || z)) (all.1 h) in
+          let front = or-none (s || w) (t || x) halves.0 in
+          let back = or-none (u || y) (v || z) halves.1 in
+          let p = or-none s w front.0 in
+          let q = or-none t x front.1 in
+          let r = or-none u y back.0 in
+          let o = or-none v z back.1 in (
+            first.0 (or_none (s || t) (u || v) (or_none s t p.0 q.0) (or_none u v r.0 o.0)),
+            second.0 (or_none (w || x) (y || z) (or_none w x p.1 q.1) (or_none y z r.1 o.1)),
           )),
       (λ h.
-          let a = outside_none i x in_i in_x h.0.0 in
-          let b = outside_none j y in_j in_y h.0.1 in
-          let d = outside_none k z in_k in_z h.1.0 in
-          let e = outside_none l u in_l in_u h.1.1 in
-          not_from_false _ (not_from_true _ (eq-eqb _ _ (omega (arith, a, b, d, e))))),
+          let halves = or-none (s || t) (u || v) (first.1 h.0) in
+          let others = or-none (w || x) (y || z) (second.1 h.1) in
+          let front = or-none s t halves.0 in
+          let back = or-none u v halves.1 in
+          let other_front = or-none w x others.0 in
+          let other_back = or-none y z others.1 in
+          all.0 (or_none ((s || w) || (t || x)) ((u || y) || (v || z))
+          (or_none (s || w) (t || x) (or_none s w front.0 other_front.0) (or_none t x front.1 other_front.1))
+          (or_none (u || y) (v || z) (or_none u y back.0 other_back.0) (or_none v z back.1 other_back.1)))),
+    )
+
+-- whether no lane is set is read of the bits
+pub none_set : (s t u v : Bool) (lanes : List ℤ) → lanes ≡ mask s t u v →
+    IsTrue (not (not (eqb (mask_l (map (top 31) (map (of_z w32) lanes)) % 2 ^ 64) 0))) ↔ IsClear lanes
+none_set s t u v lanes is =
+    let clear = clear_is s t u v lanes is in
+    let p = bit_of-le s in
+    let q = bit_of-le t in
+    let r = bit_of-le u in
+    let o = bit_of-le v in
+    let same : mask_l (map (top 31) (map (of_z w32) lanes)) % 2 ^ 64 ≡ (bit_of s + 2 * (bit_of t + 2 * (bit_of u + 2 * (bit_of v + 2 * 0)))) % 2 ^ 64 =
+    ap (λ l. mask_l (map (top 31) (map (of_z w32) l)) % 2 ^ 64) is in (
+      (λ h.
+          let none = sym same ∙ eqb-true _ _ (not-false _ (not-true _ h)) in
+          clear.0 (or_none (s || t) (u || v)
+          (or_none s t (bit_of-zero s (omega (arith, p, q, r, o, none))) (bit_of-zero t (omega (arith, p, q, r, o, none))))
+          (or_none u v (bit_of-zero u (omega (arith, p, q, r, o, none))) (bit_of-zero v (omega (arith, p, q, r, o, none)))))),
+      (λ h.
+          let halves = or-none (s || t) (u || v) (clear.1 h) in
+          let front = or-none s t halves.0 in
+          let back = or-none u v halves.1 in
+          not_from_false _ (not_from_true _ (eq-eqb _ _ (same ∙ omega (arith, bit_of-clear s front.0, bit_of-clear t front.1, bit_of-clear u back.0, bit_of-clear v back.1))))),
     )

@@ -1,3 +1,4 @@
+pub mod Telling
 pub mod Intervals
 pub mod Lists
 pub mod Measures

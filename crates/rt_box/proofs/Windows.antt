@@ -1,5 +1,5 @@
 -- Lemmas on windows.
-use Rattle.std.proofs.Common.{◌≡◌, ℕ, zero, suc, ◌+◌, ◌*◌, ◌<◌, ◌↔◌, Bool, ℤ, pos, ◌≤ℤ◌, List, [], ◌∷◌, length, map, get_or, set, replicate, All, arith, refl, ap, subst, ◌∙◌, w32, FitsSigned}
+use Rattle.std.proofs.Common.{◌≡◌, ℕ, zero, suc, ◌+◌, ◌*◌, ◌<◌, ◌↔◌, Bool, ℤ, pos, ◌≤ℤ◌, List, [], ◌∷◌, length, map, get_or, set, replicate, All, arith, refl, ap, sym, subst, ◌∙◌, w32, FitsSigned}
 use Rattle.std.specs.Int.{int_min, int_max}
 use Rattle.std.proofs.lemmas.Int.{ints, clamps}
 use Rattle.std.proofs.lemmas.List.{length-map, length-set, get_or_default, get_or-map, get_or-set_same, get_or-set_other, length-replicate}
@@ -229,6 +229,16 @@ Admits-sides es window b i e d window_is h admitted = Admits-side es b i e d h (
 pub Admits-all : (es : List Ends) (window b : List Interval) → in_order es ≡ window → length es ≡ length b →
     ((i : ℕ) (e : Ends) (d : Interval) → i < length es → AdmitsSide (get_or es i e) (get_or b i d)) → Admits window b
 Admits-all es window b window_is same h = rw (← window_is) (Admits-from_sides es b same h)
+
+-- on one axis, a window admits a box exactly where its ends admit the box's side
+pub one_side : (es : List Ends) (window b : List Interval) (e : Ends) (side : Interval) → in_order es ≡ window → length es ≡ 1 → length b ≡ 1 →
+    e ≡ get_or es 0 e → side ≡ get_or b 0 side → (AdmitsSide e side ↔ Admits window b)
+one_side es window b e side window_is one one_b e_is side_is = (
+  (λ h.
+      let here : AdmitsAxis es b 0 = axis_from_side es b 0 e side (omega (arith, one)) (omega (arith, one_b)) side_is (subst (λ x. AdmitsSide x side) e_is h) in
+      Admits-all es window b window_is (omega (arith, one, one_b)) (λ i f d below. subst (AdmitsAxis es b) (omega (arith, below, one)) here f d)),
+  (λ h. subst (λ x. AdmitsSide x side) (sym e_is) (side_from_axis es b 0 e side side_is (λ f d. Admits-sides es window b 0 f d window_is (omega (arith, one)) h))),
+)
 
 pub MayHold-sides : (axes : ℕ) (es : List Ends) (window b : List Interval) (i : ℕ) (e : Ends) (d : Interval) →
     in_order es ≡ window → i < length es → MayHold axes window b → MayHoldSide (get_or es i e) (get_or b i d)

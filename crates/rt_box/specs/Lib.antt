@@ -1,3 +1,4 @@
+pub mod Bits
 pub mod Capacity
 pub mod Interval
 pub mod Operators

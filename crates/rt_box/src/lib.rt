@@ -12,7 +12,7 @@
 //! No call takes memory, and none refuses but the two constructors that are themselves the test.
 //!
 //! Stands on nothing but std. Definitions: `specs/Interval.antt` and `Rect.antt` (boxes and measures),
-//! `Window.antt`, `Operators.antt` (comparisons), `Capacity.antt`, `Laws.antt`.
+//! `Window.antt`, `Operators.antt` (comparisons), `Bits.antt` (what the bits of a number tell), `Capacity.antt`, `Laws.antt`.
 #![tactic(auto)]
 
 mod capacity;

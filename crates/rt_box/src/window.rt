@@ -3,9 +3,11 @@
 //! A window has two intervals for each axis, one for `lo` and one for `hi`. Rows are tested by the window itself,
 //! and the boxes around them by its `reach` and its `core` (`specs/Window.antt`; `specs/Ends.antt` for one axis).
 
-ghost use Rattle.std.specs.Prelude.{◌≡◌, ◌*◌, ◌<◌, ◌≤◌, ◌↔◌, IsTrue};
+ghost use Rattle.std.specs.Prelude.{◌≡◌, ◌+◌, ◌*◌, ◌<◌, ◌≤◌, ◌↔◌, IsTrue, All, [], ◌∷◌, take, drop, length};
 ghost use Rattle.rt_box.specs.declared.interval.Interval.{Interval};
+ghost use Rattle.rt_box.specs.Bits.{Tells, AreLanes, IsClear, Halves};
 ghost use Rattle.rt_box.specs.Ends.{AdmitsSide, AdmitsAxis, Reaches, HasCore};
+ghost use Rattle.rt_box.specs.Rect.{IsBox};
 ghost use Rattle.rt_box.specs.Window.{IsUnlimited, Narrows, Admits, MayHold, IsReach, IsCore};
 
 use crate::interval::Interval;
@@ -30,6 +32,19 @@ impl Ends {
     {
         (self.lo.begins_by(side.lo) & self.hi.begins_by(side.hi))
             & (self.lo.lasts_to(side.lo) & self.hi.lasts_to(side.hi))
+    }
+
+    /// Which of four sides are admitted: a bit for each, and the first one's is the lowest. The four are compared at once.
+    #[inline]
+    fn admits_four(&self, a: &Interval, b: &Interval, c: &Interval, d: &Interval) -> u64
+        ensures { Tells (AdmitsSide self.now) (a.now ∷ b.now ∷ c.now ∷ d.now ∷ []) result }
+    {
+        let front = i32x4::from_array([a.lo, a.hi, b.lo, b.hi]);
+        let back = i32x4::from_array([c.lo, c.hi, d.lo, d.hi]);
+        let (los, his) = front.deinterleave(back);
+        let before = los.simd_lt(i32x4::splat(self.lo.lo)) | his.simd_lt(i32x4::splat(self.hi.lo));
+        let behind = los.simd_gt(i32x4::splat(self.lo.hi)) | his.simd_gt(i32x4::splat(self.hi.hi));
+        15 - (before | behind).to_bitmask()
     }
 
     /// What the ends of a side are where an interval that is admitted fits into it: the side begins no later than such
@@ -75,14 +90,21 @@ impl Ends {
 }
 
 // A search tests each box of a node, and which of them pass can't be foreseen, so the test has no branches: numbers are
-// compared four at once, and `&` stands in the place of `&&`.
+// compared four at once.
 
-/// Whether both ends of the box's side are allowed on one axis and on another. The four numbers are compared at once.
+/// A lane for each end of the box's sides on one axis and on another, which is set if the end isn't allowed. The four numbers
+/// are compared at once.
 #[inline]
-fn admits_two<const D: usize>(axes: &[Ends; D], rect: &Rect<D>, first: usize, second: usize) -> bool
+fn refused_ends<const D: usize>(
+    axes: &[Ends; D],
+    rect: &Rect<D>,
+    first: usize,
+    second: usize,
+) -> mask32x4
     requires first { first < D }
     requires second { second < D }
-    ensures { IsTrue result ↔ (AdmitsAxis axes.now rect.now first × AdmitsAxis axes.now rect.now second) }
+    ensures lanes { AreLanes result }
+    ensures clear { IsClear result ↔ (AdmitsAxis axes.now rect.now first × AdmitsAxis axes.now rect.now second) }
 {
     let (one, two) = (&axes[first], &axes[second]);
     let (side, other) = (rect.side(first), rect.side(second));
@@ -92,7 +114,28 @@ fn admits_two<const D: usize>(axes: &[Ends; D], rect: &Rect<D>, first: usize, se
     let ends = i32x4::from_array([one.lo.lo, one.lo.hi, one.hi.lo, one.hi.hi]);
     let other_ends = i32x4::from_array([two.lo.lo, two.lo.hi, two.hi.lo, two.hi.hi]);
     let (least, greatest) = ends.deinterleave(other_ends);
-    !(numbers.simd_lt(least) | numbers.simd_gt(greatest)).any()
+    numbers.simd_lt(least) | numbers.simd_gt(greatest)
+}
+
+/// A lane for each two neighbours of two masks, which is set if one of them is.
+#[inline]
+fn halved(first: mask32x4, second: mask32x4) -> mask32x4
+    ensures { Halves first second result }
+{
+    let (lanes, neighbours) = first.to_simd().deinterleave(second.to_simd());
+    (lanes | neighbours).simd_lt(i32x4::splat(0))
+}
+
+/// Which of four masks have no lane set: a bit for each, and the first one's is the lowest.
+#[inline]
+fn tell_clear(a: mask32x4, b: mask32x4, c: mask32x4, d: mask32x4) -> u64
+    requires a { AreLanes a }
+    requires b { AreLanes b }
+    requires c { AreLanes c }
+    requires d { AreLanes d }
+    ensures { Tells IsClear (a ∷ b ∷ c ∷ d ∷ []) result }
+{
+    15 - halved(halved(a, b), halved(c, d)).to_bitmask()
 }
 
 /// What a search asks of each coordinate of a box: an interval of 32-bit numbers, which may be empty.
@@ -166,10 +209,96 @@ impl<const D: usize> Window<D> {
             let (ends, side) = (&self.axes[0], rect.side(0));
             return ends.admits(side);
         }
+        !self.refused(rect).any()
+    }
+
+    /// Four lanes, for a box of several axes: it is admitted if none is set.
+    #[inline]
+    fn refused(&self, rect: &Rect<D>) -> mask32x4
+        requires { 2 ≤ D }
+        ensures lanes { AreLanes result }
+        ensures clear { IsClear result ↔ Admits self.now rect.now }
+    {
+        let last = rect.axes() - 1;
         // The first two axes, and the last two: the four numbers of neighbours stand side by side, so that they are loaded at
         // once. Three axes have the second in both pairs. Two axes have the same pair twice, and the compiler keeps one of
         // them.
-        admits_two(&self.axes, rect, 0, 1) & admits_two(&self.axes, rect, last - 1, last)
+        refused_ends(&self.axes, rect, 0, 1) | refused_ends(&self.axes, rect, last - 1, last)
+    }
+
+    /// Which of the four boxes from a position on are admitted.
+    #[inline]
+    fn tell_four(&self, rects: &[Rect<D>], at: usize) -> u64
+        requires { at + 4 ≤ length rects.now }
+        ensures told { Tells (Admits self.now) (take 4 (drop at rects.now)) result }
+        ensures boxes { All (IsBox D) (take 4 (drop at rects.now)) }
+    {
+        let (a, b, c, d) = (&rects[at], &rects[at + 1], &rects[at + 2], &rects[at + 3]);
+        a.facts();
+        b.facts();
+        c.facts();
+        d.facts();
+        if D == 1 {
+            let ends = &self.axes[0];
+            return ends.admits_four(a.side(0), b.side(0), c.side(0), d.side(0));
+        }
+        tell_clear(
+            self.refused(a),
+            self.refused(b),
+            self.refused(c),
+            self.refused(d),
+        )
+    }
+
+    /// Tests the boxes four at a time, the last ones first. Answers how many are left in front, and which of the others are
+    /// admitted.
+    #[inline]
+    fn tell_fours(&self, rects: &[Rect<D>]) -> (usize, u64)
+        requires { length rects.now ≤ 64 }
+        ensures left { result.0 < 4 }
+        ensures within { result.0 ≤ length rects.now }
+        ensures told { Tells (Admits self.now) (drop result.0 rects.now) result.1 }
+        ensures boxes { All (IsBox D) (drop result.0 rects.now) }
+    {
+        let (mut at, mut bits) = (rects.len(), 0);
+        while at >= 4 {
+            at -= 4;
+            bits = 16 * bits + self.tell_four(rects, at);
+        }
+        (at, bits)
+    }
+
+    /// Which of the boxes are admitted, where they are too few to be tested together.
+    fn tell_each(&self, rects: &[Rect<D>]) -> u64
+        requires { length rects.now ≤ 64 }
+        ensures told { Tells (Admits self.now) rects.now result }
+        ensures boxes { All (IsBox D) rects.now }
+    {
+        let (mut at, mut bits) = (rects.len(), 0);
+        while at > 0 {
+            at -= 1;
+            let rect = &rects[at];
+            rect.facts();
+            bits = 2 * bits + u64::from(self.admits(rect));
+        }
+        bits
+    }
+
+    /// Which of the boxes are admitted: a bit for each, and the first one's is the lowest.
+    #[inline]
+    pub fn admitted(&self, rects: &[Rect<D>]) -> u64
+        requires { length rects.now ≤ 64 }
+        ensures told { Tells (Admits self.now) rects.now result }
+        ensures boxes { All (IsBox D) rects.now }
+    {
+        if rects.len() < 4 {
+            return self.tell_each(rects);
+        }
+        // Up to three boxes are left. How many can't be guessed, so the first four are tested together, some a second time:
+        // a loop would take longer.
+        let (left, bits) = self.tell_fours(rects);
+        let first = self.tell_four(rects, 0);
+        (bits << left) + first % (1 << left)
     }
 
     /// Whether a box that this window admits may lie in the box. A search that asks it of many boxes makes the `reach`

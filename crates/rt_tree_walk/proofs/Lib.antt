@@ -1,5 +1,6 @@
 pub mod Totals
 pub mod Taking
+pub mod Picked
 pub mod Reaching
 pub mod Progress
 pub mod Inside

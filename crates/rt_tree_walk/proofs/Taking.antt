@@ -1,11 +1,10 @@
 -- What a search takes from a node, cell by cell.
 use Rattle.std.proofs.Common.{◌≡◌, ℕ, Bool, ◌+◌, ◌<◌, ◌≤◌, List, [], ◌∷◌, ◌++◌, length, map, get_or, take, drop, append_assoc, append-nil, arith, refl, ap, sym, ◌∙◌, subst, inl, inr}
-use Rattle.std.specs.Prelude.{slice_get, Some}
 use Rattle.std.specs.List.{All, count_by}
-use Rattle.std.specs.Option.{option_to_list}
 use Rattle.std.proofs.lemmas.Bool.{cases_Bool, cases_eq}
 use Rattle.std.proofs.lemmas.List.{take_more, drop-append-le, get_or_default, get_or-map}
-use Rattle.std.proofs.lemmas.List.Elements.{All-nil, All-map, All-push, Contains-append_left, Contains-push, Contains-push_cases}
+use Rattle.std.proofs.lemmas.List.Elements.{All-nil, All-cons, All-map, All-push}
+use Rattle.slab.proofs.SlabLemmas.{Contains-cons, Contains-cons_cases}
 use Rattle.rt_box.specs.declared.interval.Interval.{Interval}
 use Rattle.rt_box.specs.Window.{Admits, MayHold}
 use Rattle.rt_tree_node.specs.declared.cell.Cell.{Cell}
@@ -14,8 +13,8 @@ use Rattle.rt_tree_node.proofs.Counts.{count-append, count-cons, count-one_no}
 use Rattle.rt_tree_node.proofs.Places.{names_key}
 use Rattle.rt_tree_walk.specs.declared.searching.Row.{Row}
 use Rattle.rt_tree_walk.specs.Search.{times, row_of, LeadsInto}
-use Rattle.rt_tree_walk.specs.Visits.{rows_at, keys_at, TakesRows, TakesChildren}
-use Rattle.rt_tree_walk.proofs.Totals.{times-append, times-one, times-other}
+use Rattle.rt_tree_walk.specs.Visits.{TakesRows, TakesChildren}
+use Rattle.rt_tree_walk.proofs.Totals.{times-cons, times-one, times-other}
 
 module _ {D : ℕ} where
   -- the cell whose box was read
@@ -35,21 +34,6 @@ module _ {D : ℕ} where
       taken = take_more (c ∷ cs) at c h;
     },
   )
-
-  -- one position more gives one row more
-  pub rows_at-push : (cells : List (Cell D)) (positions : List ℕ) (at : ℕ) (c : Cell D) → slice_get cells at ≡ Some c →
-      rows_at cells (positions ++ at ∷ []) ≡ rows_at cells positions ++ row_of c ∷ []
-  rows_at-push cells [] at c e = rw e refl
-  rows_at-push cells (p ∷ positions) at c e =
-      ap (λ rs. map row_of (option_to_list (slice_get cells p)) ++ rs) (rows_at-push cells positions at c e)
-      ∙ sym (append_assoc (map row_of (option_to_list (slice_get cells p))) (rows_at cells positions) (row_of c ∷ []))
-
-  pub keys_at-push : (cells : List (Cell D)) (positions : List ℕ) (at : ℕ) (c : Cell D) → slice_get cells at ≡ Some c →
-      keys_at cells (positions ++ at ∷ []) ≡ keys_at cells positions ++ key_of c ∷ []
-  keys_at-push cells [] at c e = rw e refl
-  keys_at-push cells (p ∷ positions) at c e =
-      ap (λ ks. map key_of (option_to_list (slice_get cells p)) ++ ks) (keys_at-push cells positions at c e)
-      ∙ sym (append_assoc (map key_of (option_to_list (slice_get cells p))) (keys_at cells positions) (key_of c ∷ []))
 
   rows-taken : (window : List Interval) (xs : List (Cell D)) (c : Cell D) (old new1 : List (Row D)) → TakesRows window xs old new1 →
       (new2 : List (Row D)) → Admits window c.rect → new2 ≡ new1 ++ row_of c ∷ [] → TakesRows window (xs ++ c ∷ []) old new2
@@ -95,6 +79,30 @@ module _ {D : ℕ} where
       let P : List (Cell D) → Type 0 = λ xs. TakesRows window xs old new1 in
       subst P (sym next.taken) (rows-kept window (take at cells) c old new1 so (λ admits. refuses (subst (Admits window) (sym next.rect_is) admits)))
 
+  -- a cell more in front, whose row is taken, or which the window refuses
+  pub TakesRows-front : (window : List Interval) (cs : List (Cell D)) (c : Cell D) (new : List (Row D)) → TakesRows window cs [] new → Admits window c.rect →
+      TakesRows window (c ∷ cs) [] (row_of c ∷ new)
+  TakesRows-front window cs c new so admits = record {
+    more = row_of c ∷ so.more;
+    is = ap (λ rs. row_of c ∷ rs) so.is;
+    admitted = All-cons (λ r. Admits window r.rect) (row_of c) so.more admits so.admitted;
+    each = λ test asks. omega (arith, count-cons test (row_of c) so.more, count-cons (λ x. test (row_of x)) c cs, so.each test asks);
+  }
+
+  pub TakesRows-skips : (window : List Interval) (cs : List (Cell D)) (c : Cell D) (new : List (Row D)) → TakesRows window cs [] new →
+      (Admits window c.rect → ⊥) → TakesRows window (c ∷ cs) [] new
+  TakesRows-skips window cs c new so refuses = record {
+    more = so.more;
+    is = so.is;
+    admitted = so.admitted;
+    each = λ test asks.
+        let none : count_by (λ x. test (row_of x)) (c ∷ []) ≡ 0 = elim (cases_Bool (test (row_of c))) [
+          | inl holds ↦ absurd (refuses (asks (row_of c) holds))
+          | inr fails ↦ count-one_no (λ x. test (row_of x)) c fails
+        ] in
+        omega (arith, none, count-append (λ x. test (row_of x)) (c ∷ []) cs, so.each test asks);
+  }
+
   -- behind the rows that were there before
   pub TakesRows-behind : (window : List Interval) (cells : List (Cell D)) (old new more : List (Row D)) → TakesRows window cells [] more →
       new ≡ old ++ more → TakesRows window cells old new
@@ -117,40 +125,6 @@ module _ {D : ℕ} where
   }
 
   -- ---- children
-  leads-more : (window : List Interval) (xs : List (Cell D)) (c : Cell D) (key : ℕ) → LeadsInto window xs key → LeadsInto window (xs ++ c ∷ []) key
-  leads-more window xs c key h = (h.0, Contains-append_left xs (c ∷ []) h.0 h.1, h.2, h.3)
-
-  children-taken : (window : List Interval) (xs : List (Cell D)) (c : Cell D) (old new1 : List ℕ) → TakesChildren window xs old new1 →
-      (new2 : List ℕ) → MayHold D window c.rect → new2 ≡ new1 ++ key_of c ∷ [] → TakesChildren window (xs ++ c ∷ []) old new2
-  children-taken window xs c old new1 so new2 admits e = record {
-    more = so.more ++ key_of c ∷ [];
-    is = e ∙ ap (λ rs. rs ++ key_of c ∷ []) so.is ∙ append_assoc old so.more (key_of c ∷ []);
-    each = λ key.
-        let d : times key (key_of c ∷ []) ≡ times_named key (c ∷ []) = refl in
-        omega (arith, times-append key so.more (key_of c ∷ []), count-append (names_key key) xs (c ∷ []), d, so.each key);
-    named = λ key some. elim (cases_eq (key_of c) key) [
-      | inl is ↦ (c, Contains-push xs c, is, admits)
-      | inr ne ↦ leads-more window xs c key (so.named key (omega (arith, times-append key so.more (key_of c ∷ []), times-other key (key_of c) ne)))
-    ];
-    all = λ key leads. elim (Contains-push_cases xs c leads.0 leads.1) [
-      | inl before ↦ omega (arith, times-append key so.more (key_of c ∷ []), so.all key (leads.0, before, leads.2, leads.3))
-      | inr is ↦ omega (arith, times-append key so.more (key_of c ∷ []), times-one key (key_of c) (ap key_of is ∙ leads.2))
-    ];
-  }
-
-  children-kept : (window : List Interval) (xs : List (Cell D)) (c : Cell D) (old new1 : List ℕ) → TakesChildren window xs old new1 →
-      (MayHold D window c.rect → ⊥) → TakesChildren window (xs ++ c ∷ []) old new1
-  children-kept window xs c old new1 so refuses = record {
-    more = so.more;
-    is = so.is;
-    each = λ key. omega (arith, count-append (names_key key) xs (c ∷ []), so.each key);
-    named = λ key some. leads-more window xs c key (so.named key some);
-    all = λ key leads. elim (Contains-push_cases xs c leads.0 leads.1) [
-      | inl before ↦ so.all key (leads.0, before, leads.2, leads.3)
-      | inr is ↦ absurd (refuses (subst (λ (x : Cell D). MayHold D window x.rect) (sym is) leads.3))
-    ];
-  }
-
   pub TakesChildren-none : (window : List Interval) (old : List ℕ) → TakesChildren {D = D} window [] old old
   TakesChildren-none window old = record {
     more = [];
@@ -160,18 +134,40 @@ module _ {D : ℕ} where
     all = λ key leads. absurd (omega (arith, leads.1.1));
   }
 
-  pub TakesChildren-takes : (window : List Interval) (cells : List (Cell D)) (at : ℕ) (rect : List Interval) (c : Cell D) (old new1 new2 : List ℕ) →
-      IsNext cells at rect c → TakesChildren window (take at cells) old new1 → MayHold D window rect → new2 ≡ new1 ++ key_of c ∷ [] →
-      TakesChildren window (take (at + 1) cells) old new2
-  TakesChildren-takes window cells at rect c old new1 new2 next so admits e =
-      let P : List (Cell D) → Type 0 = λ xs. TakesChildren window xs old new2 in
-      subst P (sym next.taken) (children-taken window (take at cells) c old new1 so new2 (subst (MayHold D window) next.rect_is admits) e)
+  leads-later : (window : List Interval) (c : Cell D) (cs : List (Cell D)) (key : ℕ) → LeadsInto window cs key → LeadsInto window (c ∷ cs) key
+  leads-later window c cs key h = (h.0, Contains-cons c h.0 cs h.1, h.2, h.3)
 
-  pub TakesChildren-keeps : (window : List Interval) (cells : List (Cell D)) (at : ℕ) (rect : List Interval) (c : Cell D) (old new1 : List ℕ) →
-      IsNext cells at rect c → TakesChildren window (take at cells) old new1 → (MayHold D window rect → ⊥) → TakesChildren window (take (at + 1) cells) old new1
-  TakesChildren-keeps window cells at rect c old new1 next so refuses =
-      let P : List (Cell D) → Type 0 = λ xs. TakesChildren window xs old new1 in
-      subst P (sym next.taken) (children-kept window (take at cells) c old new1 so (λ admits. refuses (subst (MayHold D window) (sym next.rect_is) admits)))
+  -- a cell more in front, whose child is taken, or in which the window can't hold a box
+  pub TakesChildren-front : (window : List Interval) (cs : List (Cell D)) (c : Cell D) (new : List ℕ) → TakesChildren window cs [] new →
+      MayHold D window c.rect → TakesChildren window (c ∷ cs) [] (key_of c ∷ new)
+  TakesChildren-front window cs c new so may = record {
+    more = key_of c ∷ so.more;
+    is = ap (λ ks. key_of c ∷ ks) so.is;
+    each = λ key.
+        let one : times key (key_of c ∷ []) ≡ times_named key (c ∷ []) = refl in
+        omega (arith, one, times-cons key (key_of c) so.more, count-append (names_key key) (c ∷ []) cs, so.each key);
+    named = λ key some. elim (cases_eq (key_of c) key) [
+      | inl is ↦ (c, (0, omega arith, refl), is, may)
+      | inr ne ↦ leads-later window c cs key (so.named key (omega (arith, some, times-cons key (key_of c) so.more, times-other key (key_of c) ne)))
+    ];
+    all = λ key leads. elim (Contains-cons_cases c leads.0 cs leads.1) [
+      | inl is ↦ omega (arith, times-cons key (key_of c) so.more, times-one key (key_of c) (ap key_of is ∙ leads.2))
+      | inr later ↦ omega (arith, times-cons key (key_of c) so.more, so.all key (leads.0, later, leads.2, leads.3))
+    ];
+  }
+
+  pub TakesChildren-skips : (window : List Interval) (cs : List (Cell D)) (c : Cell D) (new : List ℕ) → TakesChildren window cs [] new →
+      (MayHold D window c.rect → ⊥) → TakesChildren window (c ∷ cs) [] new
+  TakesChildren-skips window cs c new so refuses = record {
+    more = so.more;
+    is = so.is;
+    each = λ key. omega (arith, count-append (names_key key) (c ∷ []) cs, so.each key);
+    named = λ key some. leads-later window c cs key (so.named key some);
+    all = λ key leads. elim (Contains-cons_cases c leads.0 cs leads.1) [
+      | inl is ↦ absurd (refuses (subst (λ (x : Cell D). MayHold D window x.rect) (sym is) leads.3))
+      | inr later ↦ so.all key (leads.0, later, leads.2, leads.3)
+    ];
+  }
 
   -- behind the keys that were there before
   pub TakesChildren-behind : (window : List Interval) (cells : List (Cell D)) (old new more : List ℕ) → TakesChildren window cells [] more →

@@ -1,7 +1,5 @@
 -- What a search takes from one node.
-use Rattle.std.specs.Prelude.{◌≡◌, ℕ, ◌≤◌, ◌<◌, Bool, true, Contains, List, [], ◌++◌, length, map, All, count_by, slice_get}
-use Rattle.std.specs.List.{flat_map}
-use Rattle.std.specs.Option.{option_to_list}
+use Rattle.std.specs.Prelude.{◌≡◌, ℕ, ◌/◌, ◌%◌, ◌==◌, ◌≤◌, ◌<◌, Bool, true, if◌then◌else◌, Contains, List, [], ◌∷◌, ◌++◌, length, map, All, count_by}
 use Rattle.slab.specs.Slab.{Slab}
 use Rattle.rt_box.specs.declared.interval.Interval.{Interval}
 use Rattle.rt_box.specs.Window.{Admits, AdmitsWithin, IsReach, IsCore}
@@ -44,13 +42,10 @@ module _ {D : ℕ} where
     pub admitted : All (λ r. Admits window r.rect) more
     pub each : (test : Row D → Bool) → AsksAdmitted window test → count_by test more ≡ count_by (λ c. test (row_of c)) cells
 
-  -- the rows of the cells at these positions
-  abbrev pub rows_at : List (Cell D) → List ℕ → List (Row D)
-  rows_at cells positions = flat_map (λ at. map row_of (option_to_list (slice_get cells at))) positions
-
-  -- the keys in the cells at these positions
-  abbrev pub keys_at : List (Cell D) → List ℕ → List ℕ
-  keys_at cells positions = flat_map (λ at. map key_of (option_to_list (slice_get cells at))) positions
+  -- the cells whose bits are set; the lowest bit is the first cell's
+  abbrev pub picked : List (Cell D) → ℕ → List (Cell D)
+  picked [] bits = []
+  picked (c ∷ cs) bits = if bits % 2 == 1 then c ∷ picked cs (bits / 2) else picked cs (bits / 2)
 
   -- the keys came last of those cells in which the window may hold a box
   pub record TakesChildren (window : List Interval) (cells : List (Cell D)) (old new : List ℕ) : Type 0 where

@@ -10,7 +10,7 @@ ghost use Rattle.rt_tree_walk.specs.Search.{Counts};
 ghost use Rattle.rt_tree_walk.specs.Visits.{keys_of, IsAsked, MarkHolds, CountsRows, Marks, VisitsCounting};
 
 use crate::ahead::{LookAhead, Need};
-use crate::searching::{Asked, REACHED_ROOM, Reached, take_children};
+use crate::searching::{Asked, REACHED_ROOM, Reached, boxes_of, take_children};
 use rt_box::Window;
 use rt_tree_node::{Arena, Node, node_at};
 use std::alloc::{AllocError, Global};
@@ -19,15 +19,7 @@ use std::alloc::{AllocError, Global};
 fn count_admitted<const D: usize>(leaf: &Node<D>, window: &Window<D>) -> usize
     ensures { CountsRows window.now leaf.now.cells result }
 {
-    // A copy, which nothing that is written can change, stays in registers.
-    let (boxes, window) = (leaf.boxes(), *window);
-    let mut count = 0;
-    for at in 0..leaf.len() {
-        let rect = &boxes[at];
-        rect.facts();
-        count += usize::from(window.admits(rect));
-    }
-    count
+    window.admitted(boxes_of(leaf)).count_ones() as usize
 }
 
 /// Goes into a node: counts a leaf's rows, or takes another node's children. The rows of a marked leaf are counted

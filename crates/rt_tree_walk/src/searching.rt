@@ -5,18 +5,18 @@
 //! children by its reach. Tests without branches are there for speed alone, and so are `ahead` and the mark of a node
 //! (`specs/Search.antt`).
 
-ghost use Rattle.std.specs.Prelude.{◌≡◌, ◌≤◌, ◌<◌, ◌++◌, [], true, false, All, length, map, take, List, IfOk, OnOk, OnErr};
+ghost use Rattle.std.specs.Prelude.{◌≡◌, ◌^◌, ◌≤◌, ◌<◌, ◌++◌, [], true, false, All, length, map, List, IfOk, OnOk, OnErr};
 ghost use Rattle.rt_box.specs.declared.interval.Interval.{Interval};
 ghost use Rattle.slab.specs.Slab.{ContainsKey};
 ghost use Rattle.rt_box.specs.Window.{Admits, AdmitsWithin, IsReach};
 ghost use Rattle.rt_tree_node.specs.Whole.{IsWhole};
 ghost use Rattle.rt_tree_node.specs.Places.{key_of, cells_at, inner_cells_at};
 ghost use Rattle.rt_tree_walk.specs.Search.{row_of, Finds, FindsAfter, StaysInFront};
-ghost use Rattle.rt_tree_walk.specs.Visits.{rows_at, keys_at, keys_of, IsAsked, MarkHolds, TakesRows, TakesChildren, Marks, Visits};
+ghost use Rattle.rt_tree_walk.specs.Visits.{picked, keys_of, IsAsked, MarkHolds, TakesRows, TakesChildren, Marks, Visits};
 
 use crate::ahead::{LookAhead, Need};
 use rt_box::{Rect, Window};
-use rt_tree_node::{Arena, Cell, Key, MOST_CELLS, Node, key_of, node_at, slab_facts};
+use rt_tree_node::{Arena, Cell, Key, Node, key_of, node_at, slab_facts};
 use std::alloc::{AllocError, Global};
 use std::mem;
 
@@ -113,48 +113,39 @@ pub(crate) fn child_of<const D: usize>(cell: &Cell<D>) -> Key
     key_of(cell.number)
 }
 
-// Which cells pass a window's test can't be foreseen. So each is taken, and the next one in its place where it doesn't
-// pass: the end of what is taken moves by what the test gave, with no branch. How many cells there are is read of the
-// numbers, where it lies beside the first box: that of the boxes lies on a line of memory of its own.
-
-/// Puts the positions of the cells whose boxes the window admits in front, and answers how many there are. Where the
-/// window is the reach of another one, these cells name the children that a search by the other one goes into.
-fn put_admitted<const D: usize>(positions: &mut [u8], node: &Node<D>, window: &Window<D>) -> usize
-    requires { length node.now.cells ≤ length positions.old }
-    ensures some { result ≤ length positions.new }
-    ensures within { All (λ at. at < length node.now.cells) (take result positions.new) }
-    ensures rows { TakesRows window.now node.now.cells [] (rows_at node.now.cells (take result positions.new)) }
-    ensures keys { (outer : List Interval) → IsReach D outer window.now → TakesChildren outer node.now.cells [] (keys_at node.now.cells (take result positions.new)) }
+/// The boxes of a node's cells. How many there are is read of the numbers, where it lies beside the first box: that of the
+/// boxes lies on a line of memory of its own.
+#[inline]
+pub(crate) fn boxes_of<const D: usize>(node: &Node<D>) -> &[Rect<D>]
+    ensures value { result.now ≡ map (λ c. c.rect) node.now.cells }
+    ensures few { length node.now.cells ≤ 52 }
 {
-    // A copy, which nothing that is written can change, stays in registers.
-    let (boxes, window) = (node.boxes(), *window);
-    node.facts();
-    let mut count = 0;
-    for at in 0..node.len() {
-        let rect = &boxes[at];
-        rect.facts();
-        positions[count] = at as u8;
-        count += usize::from(window.admits(rect));
-    }
-    count
+    &node.boxes()[..node.len()]
 }
 
-/// Takes the rows of a leaf's cells at these positions.
+// Which cells of a node a window admits can't be foreseen. So all are tested first, with no branch, and each bit that is set
+// then leads to a cell.
+
+/// Takes the rows of those cells of a leaf whose bits are set.
 fn push_rows<const D: usize>(
     rows: &mut Vec<Row<D>>,
-    node: &Node<D>,
-    positions: &[u8],
+    leaf: &Node<D>,
+    bits: u64,
 ) -> Result<(), AllocError>
-    requires { All (λ at. at < length node.now.cells) positions.now }
-    ensures ok { OnOk result (rows.new.items ≡ rows.old.items ++ rows_at node.now.cells positions.now) }
+    requires { bits < 2 ^ length leaf.now.cells }
+    ensures ok { OnOk result (rows.new.items ≡ rows.old.items ++ map row_of (picked leaf.now.cells bits)) }
     ensures err { OnErr result (rows.new.items ≡ rows.old.items) }
 {
-    rows.reserve(positions.len())?;
+    leaf.facts();
+    rows.reserve(bits.count_ones() as usize)?;
     // While nothing else names the list, where it ends stays in a register.
     let alloc = *rows.allocator();
     let mut list = mem::replace(rows, Vec::new(alloc));
-    for at in positions {
-        list.push_reserved(row_of(&node.cell(usize::from(*at))));
+    let mut rest = bits;
+    while rest != 0 {
+        let at = rest.trailing_zeros() as usize;
+        list.push_reserved(row_of(&leaf.cell(at)));
+        rest &= rest - 1;
     }
     *rows = list;
     Ok(())
@@ -162,7 +153,7 @@ fn push_rows<const D: usize>(
 
 // Each way to take a leaf's rows is a function by itself, so that its loop has all registers.
 
-/// Takes the rows of a leaf that the window admits, where few do: their positions come first.
+/// Takes the rows of a leaf that the window admits, where few do.
 #[inline(never)]
 fn take_few<const D: usize>(
     rows: &mut Vec<Row<D>>,
@@ -172,10 +163,8 @@ fn take_few<const D: usize>(
     ensures ok { OnOk result (TakesRows window.now leaf.now.cells rows.old.items rows.new.items) }
     ensures err { OnErr result (rows.new.items ≡ rows.old.items) }
 {
-    leaf.facts();
-    let mut positions = [0; MOST_CELLS];
-    let count = put_admitted(&mut positions, leaf, window);
-    push_rows(rows, leaf, &positions[..count])
+    let bits = window.admitted(boxes_of(leaf));
+    push_rows(rows, leaf, bits)
 }
 
 /// Takes the rows of a leaf that the window admits, where many do: each row is put into the list at once, and given back
@@ -248,29 +237,34 @@ fn is_inside<const D: usize>(asked: &Asked<D>, rect: &Rect<D>, asks: bool) -> bo
     asks && asked.core.admits(rect)
 }
 
-/// Takes the children that a node's cells at these positions name. Those that are known to lie inside the window are marked.
+/// Takes the children that those cells of a node name whose bits are set, and marks the ones that are known to lie inside the
+/// window.
 fn push_children<const D: usize>(
     reached: &mut Vec<Reached>,
     node: &Node<D>,
-    positions: &[u8],
+    bits: u64,
     asked: &Asked<D>,
 ) -> Result<(), AllocError>
     requires asked { IsAsked asked.now }
-    requires within { All (λ at. at < length node.now.cells) positions.now }
-    ensures keys { OnOk result (keys_of reached.new.items ≡ keys_of reached.old.items ++ keys_at node.now.cells positions.now) }
+    requires within { bits < 2 ^ length node.now.cells }
+    ensures keys { OnOk result (keys_of reached.new.items ≡ keys_of reached.old.items ++ map key_of (picked node.now.cells bits)) }
     ensures marks { OnOk result (Marks asked.now.window node.now.cells reached.old.items reached.new.items) }
 {
-    reached.reserve(positions.len())?;
+    node.facts();
+    let count = bits.count_ones() as usize;
+    reached.reserve(count)?;
     let alloc = *reached.allocator();
     let mut list = mem::replace(reached, Vec::new(alloc));
     // On one axis most leaves that the window meets lie inside it.
-    let asks = D == 1 || positions.len() >= MANY_CHILDREN;
-    for at in positions {
-        let cell = node.cell(usize::from(*at));
+    let asks = D == 1 || count >= MANY_CHILDREN;
+    let mut rest = bits;
+    while rest != 0 {
+        let cell = node.cell(rest.trailing_zeros() as usize);
         list.push_reserved(Reached {
             key: child_of(&cell),
             is_inside: is_inside(asked, &cell.rect, asks),
         });
+        rest &= rest - 1;
     }
     *reached = list;
     Ok(())
@@ -287,10 +281,8 @@ pub(crate) fn take_children<const D: usize>(
     ensures children { OnOk result (TakesChildren asked.now.window node.now.cells (keys_of reached.old.items) (keys_of reached.new.items)) }
     ensures marks { OnOk result (Marks asked.now.window node.now.cells reached.old.items reached.new.items) }
 {
-    node.facts();
-    let mut positions = [0; MOST_CELLS];
-    let count = put_admitted(&mut positions, node, &asked.reach);
-    push_children(reached, node, &positions[..count], asked)
+    let bits = asked.reach.admitted(boxes_of(node));
+    push_children(reached, node, bits, asked)
 }
 
 // By itself, so that the numbers of a window are read as vectors from where they stand: those of two windows don't fit

@@ -1,28 +1,55 @@
-use Rattle.std.proofs.Common.{◌≡◌, ℕ, ◌<◌, ◌++◌, [], ◌∷◌, ◌+◌, List, length, take, arith, ap, sym, ◌∙◌, subst, Some, slice_index_or}
-use Rattle.std.specs.Prelude.{slice_get}
-use Rattle.std.proofs.lemmas.List.{take_more, append_assoc}
-use Rattle.std.proofs.lemmas.Option.{slice_get-get_or}
+use Rattle.std.proofs.Common.{rules, ◌≡◌, ℕ, ◌-◌, ◌<◌, ◌++◌, [], ◌∷◌, List, length, map, arith, ap, sym, ◌∙◌, Vec, Global, vec_len, vec_capacity, append_assoc, append-nil}
+use Rattle.std.specs.Int.Bits.{bit_and}
+use lib.Bits.{and_le_r}
+use lib.Count.{count_trailing_zeros}
 use Rattle.rt_tree_walk.specs.declared.searching.Row.{Row}
 use Rattle.rt_tree_walk.specs.Search.{row_of}
-use Rattle.rt_tree_walk.specs.Visits.{rows_at}
-use Rattle.rt_tree_walk.proofs.Taking.{rows_at-push}
+use Rattle.rt_tree_walk.specs.Visits.{picked}
+use Rattle.rt_tree_walk.proofs.Picked.{picked-first, picked-none, length-picked}
 use Rattle.rt_tree_walk.proofs.searching.push_rows.Goals as goal
 
-pub loop-at-preserved : goal.loop-at-preserved
-loop-at-preserved g c =
-    let cells = c.args.node.now.cells in
-    let positions = c.args.positions.now in
-    let i : ℕ = c.loop-at.at-index in
-    let at : ℕ = c.from.result in
-    let old = c.args.rows.now.items in
-    let within : i < length positions = omega (arith, c.loop-at-test.true) in
-    let is : at ≡ slice_index_or positions i 0 = c.from.ensures in
-    let holds : at < length cells = subst (λ (p : ℕ). p < length cells) (sym is) (c.requires i 0 within) in
-    let here : slice_get cells at ≡ Some c.cell.result = slice_get-get_or cells at c.cell.result holds ∙ ap Some (sym c.cell.ensures) in
-    let more : rows_at cells (take (i + 1) positions) ≡ rows_at cells (take i positions) ++ row_of c.cell.result ∷ [] =
-    ap (rows_at cells) (take_more positions i 0 within ∙ ap (λ (p : ℕ). take i positions ++ p ∷ []) (sym is)) ∙ rows_at-push cells (take i positions) at c.cell.result here in (
-      c.push_reserved.ensures.items ∙ ap (λ (r : Row g.row.D). c.loop-at.list.items ++ r ∷ []) c.row_of.ensures
-          ∙ ap (λ (rs : List (Row g.row.D)). rs ++ row_of c.cell.result ∷ []) c.loop-at.invariant.0
-          ∙ append_assoc old (rows_at cells (take i positions)) (row_of c.cell.result ∷ []) ∙ ap (λ (rs : List (Row g.row.D)). old ++ rs) (sym more),
-      omega (arith, c.push_reserved.ensures.len, c.push_reserved.ensures.capacity, c.loop-at.invariant.1),
-    )
+pub loop-rest-init : goal.loop-rest-init
+loop-rest-init g c =
+    let cells = c.args.leaf.now.cells in
+    let same : c.replace-list.result.items ≡ c.args.rows.now.items = ap (λ (list : Vec (Row g.row.D) Global). list.items) c.replace-list.ensures.value ∙ c.in_ok-reserve.ensures.items in
+    record {
+      below = c.requires;
+      rows = ap (λ (rs : List (Row g.row.D)). rs ++ map row_of (picked cells c.args.bits)) same;
+      room = omega (arith, length-picked cells c.args.bits c.requires, ap vec_len c.replace-list.ensures.value, ap vec_capacity c.replace-list.ensures.value, c.in_ok-reserve.ensures.len, c.in_ok-reserve.ensures.ok);
+    }
+
+pub cell-requires : goal.cell-requires
+cell-requires g c =
+    let some : 0 < c.loop-rest.rest = omega (arith, c.loop-rest-test.true) in
+    let within : count_trailing_zeros 64 c.loop-rest.rest < length c.args.leaf.now.cells =
+    (picked-first 64 c.args.leaf.now.cells c.loop-rest.rest (omega (arith, c.facts.ensures)) some c.loop-rest.invariant.below).within in
+    search rules
+
+pub push_reserved-requires : goal.push_reserved-requires
+push_reserved-requires g c =
+    let cells = c.args.leaf.now.cells in
+    let first = picked-first 64 cells c.loop-rest.rest (omega (arith, c.facts.ensures)) (omega (arith, c.loop-rest-test.true)) c.loop-rest.invariant.below in
+    omega (arith, ap length (first.is c.cell.result), c.loop-rest.invariant.room)
+
+pub loop-rest-preserved : goal.loop-rest-preserved
+loop-rest-preserved g c =
+    let cells = c.args.leaf.now.cells in
+    let rest : ℕ = c.loop-rest.rest in
+    let next : ℕ = bit_and rest (rest - 1) in
+    let before = c.loop-rest.invariant in
+    let first = picked-first 64 cells rest (omega (arith, c.facts.ensures)) (omega (arith, c.loop-rest-test.true)) before.below in
+    let is : picked cells rest ≡ c.cell.result ∷ picked cells next = first.is c.cell.result ∙ ap (λ x. x ∷ picked cells next) (sym c.cell.ensures) in
+    record {
+      below = omega (arith, and_le_r rest (rest - 1), before.below);
+      rows = ap (λ (rs : List (Row g.row.D)). rs ++ map row_of (picked cells next)) (c.push_reserved.ensures.items ∙ ap (λ (r : Row g.row.D). c.loop-rest.list.items ++ r ∷ []) c.row_of.ensures)
+          ∙ append_assoc c.loop-rest.list.items (row_of c.cell.result ∷ []) (map row_of (picked cells next))
+          ∙ ap (λ (cs : List _). c.loop-rest.list.items ++ map row_of cs) (sym is) ∙ before.rows;
+      room = omega (arith, c.push_reserved.ensures.len, c.push_reserved.ensures.capacity, ap length is, before.room);
+    }
+
+pub returns-clause-ok : goal.returns-clause-ok
+returns-clause-ok g c =
+    let cells = c.args.leaf.now.cells in
+    let none : c.loop-rest.rest ≡ 0 = omega (arith, c.loop-rest-test.false) in
+    sym (ap (λ (rs : List (Row g.row.D)). c.loop-rest.list.items ++ rs) (ap (λ n. map row_of (picked cells n)) none ∙ ap (map row_of) (picked-none cells)) ∙ append-nil c.loop-rest.list.items)
+    ∙ c.loop-rest.invariant.rows

@@ -1,8 +1,15 @@
-use Rattle.std.proofs.Common.{◌≡◌, ◌+◌, ◌≤◌, ◌++◌, length, take, vec_len, vec_capacity}
-use Rattle.rt_tree_walk.specs.Visits.{rows_at}
+use Rattle.std.proofs.Common.{◌≡◌, ◌+◌, ◌^◌, ◌<◌, ◌≤◌, ◌++◌, length, map, vec_len, vec_capacity}
+use Rattle.rt_tree_walk.specs.Search.{row_of}
+use Rattle.rt_tree_walk.specs.Visits.{picked}
 use Rattle.rt_tree_walk.proofs.searching.push_rows.Given as goal
 
--- the positions so far gave their rows, and there is room for the rest
-abbrev pub invariant-loop-at : goal.invariant-loop-at
-invariant-loop-at g l =
-    (l.list.items ≡ l.fn.rows.items ++ rows_at l.node.cells (take l.at-index l.positions)) × (vec_len l.list + length l.positions ≤ vec_capacity l.list + l.at-index)
+-- the rows so far and those of the rest are all, and there is room for the rest
+abbrev pub invariant-loop-rest : goal.invariant-loop-rest
+invariant-loop-rest g l = record {
+  below : l.rest < 2 ^ length l.leaf.cells;
+  rows : l.list.items ++ map row_of (picked l.leaf.cells l.rest) ≡ l.fn.rows.items ++ map row_of (picked l.leaf.cells l.bits);
+  room : vec_len l.list + length (picked l.leaf.cells l.rest) ≤ vec_capacity l.list;
+}
+
+abbrev pub decreases-loop-rest : goal.decreases-loop-rest
+decreases-loop-rest g l = l.rest

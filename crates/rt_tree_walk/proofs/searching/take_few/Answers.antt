@@ -1,13 +1,25 @@
-use Rattle.std.proofs.Common.{take}
+use Rattle.std.proofs.Common.{rules, ◌^◌, ◌<◌, length, map}
 use Rattle.std.proofs.lemmas.Result.{on_ok_weaker}
-use Rattle.rt_tree_walk.specs.Visits.{rows_at}
+use Rattle.rt_box.specs.Window.{Admits}
+use Rattle.rt_tree_walk.specs.Search.{row_of}
+use Rattle.rt_tree_walk.specs.Visits.{picked}
 use Rattle.rt_tree_walk.proofs.Taking.{TakesRows-behind}
+use Rattle.rt_tree_walk.proofs.Picked.{Tells-cells, TakesRows-picked}
 use Rattle.rt_tree_walk.proofs.searching.take_few.Goals as goal
+
+pub push_rows-requires : goal.push_rows-requires
+push_rows-requires g c =
+    let cells = c.args.leaf.now.cells in
+    let bits = c.admitted-bits.result in
+    let below : bits < 2 ^ length cells = (Tells-cells (Admits c.args.window.now) c.boxes_of.result.now cells bits c.boxes_of.ensures.value c.admitted-bits.ensures.told).1 in
+    search rules
 
 pub returns-clause-ok : goal.returns-clause-ok
 returns-clause-ok g c =
     let cells = c.args.leaf.now.cells in
+    let window = c.args.window.now in
+    let bits = c.admitted-bits.result in
+    let told = (Tells-cells (Admits window) c.boxes_of.result.now cells bits c.boxes_of.ensures.value c.admitted-bits.ensures.told).0 in
     on_ok_weaker c.push_rows.result
-    (TakesRows-behind c.args.window.now cells c.args.rows.now.items c.push_rows.new.rows.items
-    (rows_at cells (take c.put_admitted-count.result c.put_admitted-count.new.positions)) c.put_admitted-count.ensures.rows)
+    (TakesRows-behind window cells c.args.rows.now.items c.push_rows.new.rows.items (map row_of (picked cells bits)) (TakesRows-picked window cells bits told))
     c.push_rows.ensures.ok

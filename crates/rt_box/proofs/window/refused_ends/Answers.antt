@@ -1,16 +1,29 @@
 use Rattle.std.proofs.Common.{arith, rules, get_or, pos}
 use Rattle.rt_box.specs.declared.window.Ends.{Ends}
 use Rattle.rt_box.specs.Interval.{interval}
-use Rattle.rt_box.proofs.Lanes.{none_outside}
+use Rattle.rt_box.proofs.Lanes.{is_outside, outside_mask, none_outside}
 use Rattle.rt_box.proofs.Windows.{axis_from_side, side_from_axis}
-use Rattle.rt_box.proofs.window.admits_two.Goals as goal
+use Rattle.rt_box.proofs.window.refused_ends.Goals as goal
 
 -- what a read past the end would give
 abbrev read : Ends
 read = record { lo = interval (pos 0) (pos 0); hi = interval (pos 0) (pos 0) }
 
-pub returns : goal.returns
-returns g c =
+pub returns-clause-lanes : goal.returns-clause-lanes
+returns-clause-lanes g c =
+    let one = get_or c.args.axes.now c.args.first read in
+    let two = get_or c.args.axes.now c.args.second read in
+    let side = c.side-side.result.now in
+    let other = c.side-other.result.now in (
+      is_outside one.lo side.lo,
+      is_outside one.hi side.hi,
+      is_outside two.lo other.lo,
+      is_outside two.hi other.hi,
+      outside_mask one.lo one.hi two.lo two.hi side.lo side.hi other.lo other.hi,
+    )
+
+pub returns-clause-clear : goal.returns-clause-clear
+returns-clause-clear g c =
     let axes = c.args.axes.now in
     let rect = c.args.rect.now in
     let one = get_or axes c.args.first read in

@@ -1,0 +1,164 @@
+-- Lemmas on numbers whose bits tell of a list's elements.
+use Rattle.std.proofs.Common.{◌≡◌, ℕ, zero, suc, ◌+◌, ◌*◌, ◌/◌, ◌%◌, ◌^◌, ◌-◌, ◌<◌, ◌≤◌, ◌↔◌, Bool, true, false, IsTrue, List, [], ◌∷◌, ◌++◌, All, length, take, drop, get_or, arith, refl, ap, ap₂, sym, subst, ◌∙◌, inl, inr}
+use Rattle.std.proofs.Math.Nat.{two-pow-succ, pow-suc, mul_assoc}
+use Rattle.std.proofs.lemmas.Nat.{mod-pow-add}
+use Rattle.std.proofs.Math.Pow.{pow_mono}
+use Rattle.std.proofs.lemmas.List.{length-drop, drop-drop, drop_more, length-take-le, take-take, take-append-drop}
+use Rattle.std.proofs.lemmas.List.Elements.{All-cons, All-append, All-drop}
+use Rattle.std.specs.Int.{from_bool}
+use Rattle.std.proofs.lemmas.Bool.{cases_Bool, iff_false}
+use Rattle.rt_box.specs.Bits.{Tells}
+
+-- what is left of a list from one place on, where the element there and what is left from the next one on are at hand
+pub left_from : {X : Type 0} (xs : List X) (i j : ℕ) (x : X) (rest : List X) → i < length xs → i + 1 ≡ j → x ≡ get_or xs i x → drop j xs ≡ rest →
+    drop i xs ≡ x ∷ rest
+left_from xs i j x rest within next x_is rest_is =
+    drop_more xs i x within ∙ ap₂ (λ a l. a ∷ l) (sym x_is) (ap (λ n. drop n xs) next ∙ rest_is)
+
+pub four_left_from : {X : Type 0} (xs : List X) (i j : ℕ) (x y z u : X) → i + 4 ≡ j → j ≤ length xs → x ≡ get_or xs i x → y ≡ get_or xs (i + 1) y →
+    z ≡ get_or xs (i + 2) z → u ≡ get_or xs (i + 3) u → drop i xs ≡ x ∷ y ∷ z ∷ u ∷ drop j xs
+four_left_from xs i j x y z u next within x_is y_is z_is u_is =
+    let rest = drop j xs in
+    left_from xs i (i + 1) x (y ∷ z ∷ u ∷ rest) (omega (arith, next, within)) (omega arith) x_is
+    (left_from xs (i + 1) (i + 2) y (z ∷ u ∷ rest) (omega (arith, next, within)) (omega arith) y_is
+    (left_from xs (i + 2) (i + 3) z (u ∷ rest) (omega (arith, next, within)) (omega arith) z_is
+    (left_from xs (i + 3) j u rest (omega (arith, next, within)) (omega (arith, next)) u_is refl)))
+
+pub four-in-front : {X : Type 0} (xs : List X) (i j : ℕ) → i + 4 ≡ j → take 4 (drop i xs) ++ drop j xs ≡ drop i xs
+four-in-front xs i j next = ap (λ l. take 4 (drop i xs) ++ l) (ap (λ n. drop n xs) (sym next) ∙ sym (drop-drop 4 i xs)) ∙ take-append-drop 4 (drop i xs)
+
+pub four_at : {X : Type 0} (xs : List X) (i : ℕ) (x y z u : X) → i + 4 ≤ length xs → x ≡ get_or xs i x → y ≡ get_or xs (i + 1) y →
+    z ≡ get_or xs (i + 2) z → u ≡ get_or xs (i + 3) u → take 4 (drop i xs) ≡ x ∷ y ∷ z ∷ u ∷ []
+four_at xs i x y z u within x_is y_is z_is u_is = ap (take 4) (four_left_from xs i (i + 4) x y z u refl within x_is y_is z_is u_is)
+
+pub All-four : {X : Type 0} (P : X → Type 0) (x y z u : X) (xs : List X) → P x → P y → P z → P u → All P xs → All P (x ∷ y ∷ z ∷ u ∷ xs)
+All-four P x y z u xs p q r s all =
+    All-cons P x (y ∷ z ∷ u ∷ xs) p (All-cons P y (z ∷ u ∷ xs) q (All-cons P z (u ∷ xs) r (All-cons P u xs s all)))
+
+-- a property of the first four, and of those behind the first ones, is one of all
+pub All-together : {X : Type 0} (P : X → Type 0) (xs : List X) (left : ℕ) → left < 4 → 4 ≤ length xs → All P (take 4 (drop 0 xs)) → All P (drop left xs) → All P xs
+All-together P xs left few some front back =
+    let four : left + (4 - left) ≡ 4 = omega (arith, few) in
+    let both : All P (take 4 xs ++ drop 4 xs) = All-append P (take 4 xs) (drop 4 xs) front
+    (subst (λ l. All P l) (drop-drop (4 - left) left xs ∙ ap (λ n. drop n xs) four) (All-drop P (4 - left) (drop left xs) back)) in
+    subst (λ l. All P l) (take-append-drop 4 xs) both
+
+pub bit-le : (holds : Bool) (bit : ℕ) → bit ≡ from_bool holds → bit ≤ 1
+bit-le true bit e = omega (arith, e)
+bit-le false bit e = omega (arith, e)
+
+module _ {X : Type 0} (P : X → Type 0) where
+  -- no bit stands for more than the list has
+  pub Tells-below : (xs : List X) (bits : ℕ) → Tells P xs bits → bits < 2 ^ length xs
+  Tells-below [] bits none = omega (arith, none)
+  Tells-below (x ∷ xs) bits told = omega (arith, Tells-below xs (bits / 2) told.1, two-pow-succ (length xs))
+
+  pub Tells-room : (xs : List X) (at k bits : ℕ) → Tells P (drop at xs) bits → k ≤ at → length xs ≤ 64 → bits < 2 ^ (64 - k)
+  Tells-room xs at k bits told from few =
+      let low = Tells-below (drop at xs) bits told in
+      let long = length-drop at xs in
+      omega (arith, low, pow_mono {i = length (drop at xs)} {j = 64 - k} (omega (arith, long, from, few)))
+
+  -- the bits of two lists, one behind the other
+  pub Tells-joined : (front back : List X) (n a b new : ℕ) → length front ≡ n → Tells P front a → Tells P back b → new ≡ b * 2 ^ n + a →
+      Tells P (front ++ back) new
+  Tells-joined [] back n a b new long told_front told e =
+      let one : 2 ^ n ≡ 1 = ap (λ k. 2 ^ k) (sym long) in
+      let same : b ≡ new = sym (e ∙ ap (λ m. b * m + a) one ∙ omega (arith, told_front)) in
+      subst (Tells P back) same told
+  Tells-joined (x ∷ front) back n a b new long told_front told e =
+      let k = length front in
+      let twice : b * 2 ^ n ≡ b * 2 ^ k * 2 = ap (λ m. b * 2 ^ m) (sym long) ∙ ap (λ m. b * m) (pow-suc 2 k) ∙ sym (mul_assoc b (2 ^ k) 2) in
+      let p = b * 2 ^ k in
+      let is : new ≡ p * 2 + a = e ∙ ap (λ m. m + a) twice in
+      let digit : new % 2 ≡ a % 2 = omega (arith, is) in (
+        (λ o. told_front.0.0 (sym digit ∙ o), λ h. digit ∙ told_front.0.1 h),
+        Tells-joined front back k (a / 2) b (new / 2) refl told_front.1 told (omega (arith, is)),
+      )
+
+  -- the bits of the first elements
+  pub Tells-take : (k : ℕ) (xs : List X) (bits : ℕ) → k ≤ length xs → Tells P xs bits → Tells P (take k xs) (bits % 2 ^ k)
+  Tells-take zero xs bits within told = omega arith
+  Tells-take (suc k) [] bits within told = absurd (omega (arith, within))
+  Tells-take (suc k) (x ∷ xs) bits within told =
+      let new = bits % 2 ^ suc k in
+      let is : new ≡ (bits / 2 % 2 ^ k) * 2 + bits % 2 = ap (λ m. bits % 2 ^ m) (omega arith) ∙ mod-pow-add bits k 1 in
+      let digit : new % 2 ≡ bits % 2 = omega (arith, is) in
+      let half : bits / 2 % 2 ^ k ≡ new / 2 = omega (arith, is) in (
+        (λ o. told.0.0 (sym digit ∙ o), λ h. digit ∙ told.0.1 h),
+        subst (Tells P (take k xs)) half (Tells-take k xs (bits / 2) (omega (arith, within)) told.1),
+      )
+
+  -- one element more, in front
+  pub Tells-front : (x : X) (xs : List X) (bits : ℕ) (holds : Bool) (bit new : ℕ) → (IsTrue holds ↔ P x) → bit ≡ from_bool holds →
+      Tells P xs bits → new ≡ 2 * bits + bit → Tells P (x ∷ xs) new
+  Tells-front x xs bits holds bit new is bit_is told e =
+      elim (cases_Bool holds) [
+        | inl true_is ↦
+            let one : bit ≡ 1 = bit_is ∙ ap from_bool true_is in
+            let half : bits ≡ new / 2 = omega (arith, e, one) in
+            let odd : new % 2 ≡ 1 = omega (arith, e, one) in ((λ o. is.0 true_is, λ p. odd), subst (Tells P xs) half told)
+        | inr false_is ↦
+            let none : bit ≡ 0 = bit_is ∙ ap from_bool false_is in
+            let half : bits ≡ new / 2 = omega (arith, e, none) in
+            let even : new % 2 ≡ 0 = omega (arith, e, none) in
+            ((λ o. absurd (omega (arith, o, even)), λ p. absurd (iff_false is false_is p)), subst (Tells P xs) half told)
+      ]
+
+-- a shift by less than four places, of bits that have the room
+shifted : (left bits first : ℕ) → left < 4 → bits < 2 ^ (64 - left) →
+    (bits * 2 ^ left % 2 ^ 64 ≡ bits * 2 ^ left) × (1 * 2 ^ left % 2 ^ 64 ≡ 2 ^ left) × (bits * 2 ^ left + first % 2 ^ left < 2 ^ 64)
+shifted zero bits first few room = (omega (arith, room), refl, omega (arith, room))
+shifted (suc zero) bits first few room = (omega (arith, room), refl, omega (arith, room))
+shifted (suc (suc zero)) bits first few room = (omega (arith, room), refl, omega (arith, room))
+shifted (suc (suc (suc zero))) bits first few room = (omega (arith, room), refl, omega (arith, room))
+shifted (suc (suc (suc (suc left)))) bits first few room = absurd (omega (arith, few))
+
+-- the bits of all elements, from those behind the first ones and from those of the first four
+module _ {X : Type 0} (P : X → Type 0) (xs : List X) (left bits first : ℕ) (few : left < 4) (some : 4 ≤ length xs) (most : length xs ≤ 64)
+    (told : Tells P (drop left xs) bits) (told_first : Tells P (take 4 (drop 0 xs)) first) where
+  abbrev pub together : ℕ
+  together = bits * 2 ^ left % 2 ^ 64 + first % (1 * 2 ^ left % 2 ^ 64)
+
+  parts : (bits * 2 ^ left % 2 ^ 64 ≡ bits * 2 ^ left) × (1 * 2 ^ left % 2 ^ 64 ≡ 2 ^ left) × (bits * 2 ^ left + first % 2 ^ left < 2 ^ 64)
+  parts = shifted left bits first few (Tells-room P xs left left bits told (omega arith) most)
+
+  together_is : together ≡ bits * 2 ^ left + first % 2 ^ left
+  together_is = ap₂ (λ m n. m + first % n) parts.0 parts.1
+
+  pub Tells-together-fits : together < 2 ^ 64
+  Tells-together-fits = subst (λ n. n < 2 ^ 64) (sym together_is) parts.2
+
+  pub Tells-together : Tells P xs together
+  Tells-together =
+      let long : length (take 4 xs) ≡ 4 = length-take-le 4 xs some in
+      let front = Tells-take P left (take 4 xs) first (omega (arith, few, long)) told_first in
+      let front_is : take left (take 4 xs) ≡ take left xs = take-take left 4 xs (omega (arith, few)) in
+      subst (λ l. Tells P l together) (take-append-drop left xs)
+      (Tells-joined P (take left xs) (drop left xs) left (first % 2 ^ left) bits together (length-take-le left xs (omega (arith, few, some)))
+      (subst (λ l. Tells P l (first % 2 ^ left)) front_is front) told together_is)
+
+-- four elements more, of which bits tell that stand for others
+module _ {X Y : Type 0} (P : X → Type 0) (Q : Y → Type 0) (a b c d : Y) (x y z u : X) (xs : List X) (bits four new : ℕ)
+    (told_four : Tells Q (a ∷ b ∷ c ∷ d ∷ []) four) (told : Tells P xs bits) (e : new ≡ 16 * bits + four)
+    (first : Q a ↔ P x) (second : Q b ↔ P y) (third : Q c ↔ P z) (fourth : Q d ↔ P u) where
+  pub Tells-four : Tells P (x ∷ y ∷ z ∷ u ∷ xs) new
+  Tells-four =
+      let small : four / 2 / 2 / 2 / 2 ≡ 0 = told_four.1.1.1.1 in
+      let p : new % 2 ≡ four % 2 = omega (arith, e) in
+      let q : new / 2 % 2 ≡ four / 2 % 2 = omega (arith, e) in
+      let r : new / 2 / 2 % 2 ≡ four / 2 / 2 % 2 = omega (arith, e) in
+      let s : new / 2 / 2 / 2 % 2 ≡ four / 2 / 2 / 2 % 2 = omega (arith, e) in
+      let rest : bits ≡ new / 2 / 2 / 2 / 2 = omega (arith, e, small) in (
+        (λ o. first.0 (told_four.0.0 (sym p ∙ o)), λ h. p ∙ told_four.0.1 (first.1 h)),
+        (
+          (λ o. second.0 (told_four.1.0.0 (sym q ∙ o)), λ h. q ∙ told_four.1.0.1 (second.1 h)),
+          (
+            (λ o. third.0 (told_four.1.1.0.0 (sym r ∙ o)), λ h. r ∙ told_four.1.1.0.1 (third.1 h)),
+            (
+              (λ o. fourth.0 (told_four.1.1.1.0.0 (sym s ∙ o)), λ h. s ∙ told_four.1.1.1.0.1 (fourth.1 h)),
+              subst (Tells P xs) rest told,
+            ),
+          ),
+        ),
+      )
