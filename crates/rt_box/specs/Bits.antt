@@ -1,4 +1,4 @@
--- Numbers whose bits tell of the elements of a list (own).
+-- Numbers whose bits tell of the elements of a list, and masks of four lanes (own).
 use Rattle.std.specs.Prelude.{◌≡◌, ℕ, ◌%◌, ◌/◌, ◌↔◌, ℤ, pos, negsuc, Bool, false, ◌||◌, if◌then◌else◌, List, [], ◌∷◌}
 
 module _ {X : Type 0} where

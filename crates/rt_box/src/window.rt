@@ -284,7 +284,7 @@ impl<const D: usize> Window<D> {
         bits
     }
 
-    /// Which of the boxes are admitted: a bit for each, and the first one's is the lowest.
+    /// Which of at most 64 boxes are admitted: a bit for each, and the first one's is the lowest.
     #[inline]
     pub fn admitted(&self, rects: &[Rect<D>]) -> u64
         requires { length rects.now ≤ 64 }
