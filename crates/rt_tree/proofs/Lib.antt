@@ -7,6 +7,7 @@ pub mod Boxes
 pub mod Reached
 pub mod Fresh
 pub mod Lookup
+pub mod Located
 pub mod Changed
 pub mod Replaced
 pub mod Roomier

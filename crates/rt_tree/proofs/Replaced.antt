@@ -1,35 +1,20 @@
 -- A row that was removed where it was found, and inserted again with another box.
-use Rattle.std.proofs.Common.{◌≡◌, ℕ, ◌-◌, ◌≤◌, ℤ, List, Some, IsSome, arith, refl}
+use Rattle.std.proofs.Common.{ℕ, ◌-◌, ◌≤◌, ℤ, List, IsSome, arith}
 use Rattle.std.specs.Ordering.{int_eq}
-use Rattle.std.proofs.lemmas.Option.{slice_get_within, get_or_from_slice_get}
 use Rattle.indexmap.specs.IndexMap.{get as leaf_of, IsUnique}
 use Rattle.rt_box.specs.declared.interval.Interval.{Interval}
 use Rattle.rt_tree_node.specs.declared.arena.Arena.{Arena}
 use Rattle.rt_tree_node.specs.declared.arena.Work.{Work}
-use Rattle.rt_tree_node.specs.declared.cell.Cell.{Cell}
-use Rattle.rt_tree_node.specs.Places.{cells_at}
 use Rattle.rt_tree_insert.specs.Insertion.{Inserts}
-use Rattle.rt_tree_remove.specs.declared.location.Location.{Location}
 use Rattle.rt_tree_remove.specs.Removal.{Removes}
-use Rattle.rt_tree_remove.specs.Steps.{IsLocationOf}
 use Rattle.rt_tree_walk.specs.Outside.{outside}
-use Rattle.rt_tree_walk.proofs.Progress.{IsSettled}
-use Rattle.rt_tree.specs.Rows.{box_of}
 use Rattle.rt_tree.specs.Changes.{IsReplacement}
 use Rattle.rt_tree.specs.TreeInside.{IsKept}
 use Rattle.rt_tree.specs.declared.tree.Tree.TheInside.{Inside}
 use Rattle.rt_tree.proofs.Kept.{in-shape}
-use Rattle.rt_tree.proofs.Rows.{box-there}
 use Rattle.rt_tree.proofs.Changed.{fewer-rows, removed-kept, removed-rows, removed-exact, inserted-kept, inserted-rows, inserted-exact}
 
 module _ {D : ℕ} where
-  -- the box of the row that was found
-  pub found-box : (t : Arena D) → IsSettled t → (id : ℤ) (location : Location D) → IsLocationOf t id location → box_of (outside t) id ≡ Some location.rect
-  found-box t s id location is =
-      let row : Cell D = record { number = id; rect = location.rect } in
-      let cells = cells_at t.nodes location.leaf in
-      box-there t s id location.leaf is.home row (location.at, slice_get_within cells location.at row is.cell, get_or_from_slice_get cells location.at row row is.cell) refl
-
   module _ (t : Inside D) (k : IsKept t) (mid new : Arena D) (id : ℤ) (was rect : List Interval) (work : Work) (removes : Removes t.arena mid id was)
       (inserts : Inserts mid new id rect work) where
     abbrev between : Inside D

@@ -20,8 +20,8 @@ use rt_box::{Capacity, Rect, Window};
 use rt_check::Shadow;
 use rt_tree_insert::{insert_row, levels_are_few, nodes_are_few};
 use rt_tree_nearest::nearest;
-use rt_tree_node::{Arena, Node, Work, add_node, leaves_facts, node_at};
-use rt_tree_remove::{find_row, remove_row, replace_found};
+use rt_tree_node::{Arena, Node, Work, add_node, leaves_facts};
+use rt_tree_remove::{find_row, remove_found, replace_found};
 use rt_tree_walk::{Found, Row, count, search, search_into, shadow_of};
 use slab::Slab;
 use std::alloc::{AllocError, Global};
@@ -230,16 +230,19 @@ impl<const D: usize> Tree<D> {
         self.arena.nodes.len()
     }
 
+    /// Whether a row has that id. No leaf is looked at.
+    pub fn contains(&self, id: &i64) -> bool
+        ensures { result ≡ is_some (box_of self.now.lists id.now) }
+    {
+        self.arena.leaves.contains_key(id)
+    }
+
     /// The box of the row with that id, or `None` where there is none.
     pub fn get(&self, id: &i64) -> Option<Rect<D>>
         ensures { result ≡ box_of self.now.lists id.now }
     {
-        let leaf = match self.arena.leaves.get(id) {
-            Some(leaf) => *leaf,
-            None => return None,
-        };
-        let node = node_at(&self.arena.nodes, leaf);
-        Some(node.cell(node.position(id)).rect)
+        let location = find_row(&self.arena, id)?;
+        Some(location.rect)
     }
 
     /// The ids of the rows, in no order.
@@ -397,9 +400,11 @@ impl<const D: usize> Tree<D> {
         ensures spare { self.new.spare ≡ self.old.spare }
         ensures capacity { self.new.lists.capacity ≡ self.old.lists.capacity }
     {
+        let location = find_row(&self.arena, id).unwrap();
         // The waiting cells have room: there are few levels.
         levels_are_few(&self.arena);
-        remove_row(&mut self.arena, id)
+        remove_found(&mut self.arena, id, &location);
+        location.rect
     }
 
     /// Gives the row with the id another box: the row is removed and inserted again. Where it has that box already, the tree
@@ -412,7 +417,7 @@ impl<const D: usize> Tree<D> {
         ensures spare { self.old.spare ≤ self.new.spare + 1 }
         ensures capacity { self.new.lists.capacity ≡ self.old.lists.capacity }
     {
-        let location = find_row(&self.arena, id);
+        let location = find_row(&self.arena, id).unwrap();
         if location.rect == *rect {
             return;
         }

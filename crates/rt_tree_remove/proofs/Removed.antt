@@ -1,5 +1,5 @@
 -- A removal, from its steps.
-use Rattle.std.proofs.Common.{◌≡◌, ◌≢◌, ℕ, zero, suc, ◌+◌, ◌-◌, ◌*◌, ◌<◌, ◌≤◌, Bool, true, false, cond, ℤ, List, [], ◌∷◌, length, map, drop, reverse, get_or, Option, Some, None, is_some, IsSome, vec_len, vec_capacity, arith, refl, ap, sym, subst, ◌∙◌}
+use Rattle.std.proofs.Common.{◌≡◌, ◌≢◌, ℕ, zero, suc, ◌+◌, ◌-◌, ◌*◌, ◌<◌, ◌≤◌, Bool, true, false, cond, ℤ, List, [], ◌∷◌, length, map, drop, reverse, get_or, Option, Some, None, is_some, vec_len, vec_capacity, arith, refl, ap, sym, subst, ◌∙◌}
 use Rattle.std.specs.List.{remove}
 use Rattle.std.specs.Ordering.{int_eq}
 use Rattle.std.specs.Option.{option_map_or}
@@ -28,7 +28,6 @@ use Rattle.rt_tree_remove.specs.Steps.{Forgets, Takes, Condenses, IsRoomy, Place
 use Rattle.rt_tree_remove.proofs.Changed.{changed-levels, changed-parents, changed-others, changed-cells}
 use Rattle.rt_tree_remove.proofs.Condenses.{KeepsShape-then}
 use Rattle.rt_tree_remove.proofs.Dissolved.{leaf-same}
-use Rattle.rt_tree_remove.proofs.Taken.{few-axes}
 use Rattle.rt_tree_remove.proofs.Placed.{room-for}
 use Rattle.rt_tree_remove.proofs.Reordered.{reordered-linked, reordered-fitted, reordered-homes, reordered-rows}
 
@@ -241,14 +240,6 @@ module _ {D : ℕ} where
 
       taken_room : s1.nodes.capacity ≡ s0.nodes.capacity
       taken_room = let there = leaf-there s0 s1 s2 id leaf at rect takes condenses in (takes.change there.0 there.1).room
-
-  -- a row is known, so there are few axes
-  pub axes-known : (t : Arena D) (id : ℤ) → IsWhole t → t.waiting.items ≡ [] → IsSome (leaf_of int_eq t.leaves id) → D ≤ 3
-  axes-known t id whole idle known = by (leaf_of int_eq t.leaves id) refl
-    where
-      by : (o : Option ℕ) → leaf_of int_eq t.leaves id ≡ o → D ≤ 3
-      by None e = absurd (true≢false (sym known ∙ ap is_some e))
-      by (Some leaf) e = few-axes t id leaf whole idle e
 
   -- the waiting cells can be placed
   module _ (s0 s1 s2 u : Arena D) (id : ℤ) (leaf at : ℕ) (rect : List Interval) (takes : Takes s0 s1 id leaf at rect) (condenses : Condenses s1 s2 leaf)

@@ -1,10 +1,10 @@
 //! Removal of a row from an R*-tree (Guttman 1984, section 3.3): the cell leaves its leaf, nodes with too few cells
 //! leave the tree from there up and their cells are placed again, and an inner root with one child gives way to it.
 //!
-//! - `remove_row`: exactly one row fewer in a whole tree, which is whole again; its box is answered. Where the
-//!   row's leaf was the root or had cells to spare, no other row moves.
-//! - `find_row` says where a row lies, as a `Location`; `replace_found` gives the row there another box, by a removal and an
-//!   insertion.
+//! - `find_row` says where a row lies, as a `Location`.
+//! - `remove_found`: the row there leaves a whole tree, which is whole again. Where the row's leaf was the root or had cells
+//!   to spare, no other row moves.
+//! - `replace_found` gives the row there another box, by a removal and an insertion.
 //!
 //! Stands on `rt_tree_insert`, `rt_tree_place` and `rt_tree_node`. Definitions: `specs/Removal.antt` and `Replacement.antt`
 //! (what they come to), `Steps.antt`, `Above.antt`.
@@ -21,5 +21,5 @@ mod settle;
 mod take;
 
 pub use location::{Location, find_row};
-pub use remove::remove_row;
+pub use remove::remove_found;
 pub use replace::replace_found;

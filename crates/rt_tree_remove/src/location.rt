@@ -2,7 +2,7 @@
 //!
 //! One look-up of its id finds it (`IsLocationOf` in `specs/Steps.antt`). A removal that begins there hashes no id.
 
-ghost use Rattle.std.specs.Prelude.{◌≡◌, [], IsSome};
+ghost use Rattle.std.specs.Prelude.{◌≡◌, ◌≤◌, [], None, MatchOption};
 ghost use Rattle.std.specs.Ordering.{int_eq};
 ghost use Rattle.indexmap.specs.IndexMap.{get as leaf_of};
 ghost use Rattle.rt_tree_node.specs.Whole.{IsWhole};
@@ -24,20 +24,21 @@ pub struct Location<const D: usize> {
     pub rect: Rect<D>,
 }
 
-/// Finds the row with the id.
-pub fn find_row<const D: usize>(tree: &Arena<D>, id: &i64) -> Location<D>
+/// Finds the row with the id, where there is one. It is no part of its callers, so that the look-up stands in the program once.
+#[inline(never)]
+pub fn find_row<const D: usize>(tree: &Arena<D>, id: &i64) -> Option<Location<D>>
+    requires few { D ≤ 3 }
     requires whole { IsWhole tree.now }
     requires idle { tree.now.waiting.items ≡ [] }
-    requires known { IsSome (leaf_of int_eq tree.now.leaves id.now) }
-    ensures { IsLocationOf tree.now id.now result }
+    ensures { MatchOption result (leaf_of int_eq tree.now.leaves id.now ≡ None) (IsLocationOf tree.now id.now) }
 {
-    let (index, _, leaf) = tree.leaves.get_full(id).unwrap();
+    let (index, _, leaf) = tree.leaves.get_full(id)?;
     let node = node_at(&tree.nodes, *leaf);
     let at = node.position(id);
-    Location {
+    Some(Location {
         index,
         leaf: *leaf,
         at,
         rect: node.cell(at).rect,
-    }
+    })
 }

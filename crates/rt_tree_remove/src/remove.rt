@@ -3,9 +3,7 @@
 //! Its steps have modules of their own, in this order: `location`, `take`, `condense`, `settle`, `give_way`.
 //! `specs/Removal.antt` says what they come to.
 
-ghost use Rattle.std.specs.Prelude.{◌≡◌, ◌+◌, ◌-◌, ◌*◌, ◌^◌, ◌++◌, ◌≤◌, [], IsSome, reverse, vec_capacity};
-ghost use Rattle.std.specs.Ordering.{int_eq};
-ghost use Rattle.indexmap.specs.IndexMap.{get as leaf_of};
+ghost use Rattle.std.specs.Prelude.{◌≡◌, ◌+◌, ◌-◌, ◌*◌, ◌^◌, ◌++◌, ◌≤◌, [], reverse, vec_capacity};
 ghost use Rattle.rt_box.specs.Capacity.{least_fill};
 ghost use Rattle.rt_tree_node.specs.Whole.{IsWhole, IsBranched, HasRoom, row_count};
 ghost use Rattle.rt_tree_remove.specs.Removal.{Removes};
@@ -13,10 +11,9 @@ ghost use Rattle.rt_tree_remove.specs.Steps.{IsLocationOf};
 
 use crate::condense::condense;
 use crate::give_way::give_way;
-use crate::location::{Location, find_row};
+use crate::location::Location;
 use crate::settle::place_waiting;
 use crate::take::take_row;
-use rt_box::Rect;
 use rt_tree_node::{Arena, Waiting};
 
 /// Turns the waiting cells round: the last are placed first.
@@ -30,7 +27,7 @@ fn turn_round<const D: usize>(waiting: &mut Vec<Waiting<D>>)
 /// Takes the row with the id, which was found, out of the tree. Nodes that have too few cells then are taken out too,
 /// from the leaf up, and their cells are placed again, those of the lowest level first; at last an inner root with one
 /// child gives way to it. It takes no memory.
-pub(crate) fn remove_found<const D: usize>(tree: &mut Arena<D>, id: &i64, location: &Location<D>)
+pub fn remove_found<const D: usize>(tree: &mut Arena<D>, id: &i64, location: &Location<D>)
     requires whole { IsWhole tree.old }
     requires branched { IsBranched tree.old }
     requires idle { tree.old.waiting.items ≡ [] }
@@ -45,20 +42,4 @@ pub(crate) fn remove_found<const D: usize>(tree: &mut Arena<D>, id: &i64, locati
     turn_round(&mut tree.waiting);
     place_waiting(tree);
     give_way(tree);
-}
-
-/// Takes the row with the id out of the tree, and answers its box. It takes no memory.
-pub fn remove_row<const D: usize>(tree: &mut Arena<D>, id: &i64) -> Rect<D>
-    requires whole { IsWhole tree.old }
-    requires branched { IsBranched tree.old }
-    requires idle { tree.old.waiting.items ≡ [] }
-    requires known { IsSome (leaf_of int_eq tree.old.leaves id.now) }
-    requires rows { row_count tree.old ≤ 2 ^ 20 }
-    requires room { HasRoom tree.old (row_count tree.old) }
-    requires waiting_room { (least_fill tree.old.capacity - 1) * tree.old.level + 512 ≤ vec_capacity tree.old.waiting }
-    ensures { Removes tree.old tree.new id.now result }
-{
-    let location = find_row(tree, id);
-    remove_found(tree, id, &location);
-    location.rect
 }

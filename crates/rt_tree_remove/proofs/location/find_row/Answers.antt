@@ -9,33 +9,33 @@ use Rattle.indexmap.specs.IndexMap.{get as leaf_of, get_key}
 use Rattle.rt_tree_node.specs.declared.cell.Cell.{Cell}
 use Rattle.rt_tree_node.specs.Places.{times_listed, cells_of, cells_at}
 use Rattle.rt_tree_remove.proofs.Climbs.{key-there}
-use Rattle.rt_tree_remove.proofs.Taken.{few-axes, leaf-level, row-listed, listed-place, row-found}
+use Rattle.rt_tree_remove.proofs.Taken.{leaf-level, row-listed, listed-place, row-found}
 use Rattle.rt_tree_remove.proofs.location.find_row.Goals as goal
 
 pub node_at-node-requires : goal.node_at-node-requires
 node_at-node-requires g c =
     let t = c.args.tree.now in
-    let leaf = c.unwrap-index.result.2.now in
+    let leaf = c.in_ok-index.leaf.now in
     let home : leaf_of int_eq t.leaves c.args.id.now ≡ Some leaf = search rules in
-    let few : g.row.D ≤ 3 = few-axes t c.args.id.now leaf c.requires.whole c.requires.idle home in
+    let few : g.row.D ≤ 3 = c.requires.few in
     let here : ContainsKey t.nodes leaf = key-there t.nodes leaf 0 (leaf-level t c.args.id.now leaf c.requires.whole c.requires.idle home) in
     search rules
 
 pub position-at-requires : goal.position-at-requires
 position-at-requires g c =
     let t = c.args.tree.now in
-    let leaf = c.unwrap-index.result.2.now in
+    let leaf = c.in_ok-index.leaf.now in
     let home : leaf_of int_eq t.leaves c.args.id.now ≡ Some leaf = search rules in
-    let few : g.row.D ≤ 3 = few-axes t c.args.id.now leaf c.requires.whole c.requires.idle home in
+    let few : g.row.D ≤ 3 = c.requires.few in
     search rules
 
 pub cell-requires : goal.cell-requires
 cell-requires g c =
     let t = c.args.tree.now in
-    let leaf = c.unwrap-index.result.2.now in
+    let leaf = c.in_ok-index.leaf.now in
     let n = c.node_at-node.result.now in
     let home : leaf_of int_eq t.leaves c.args.id.now ≡ Some leaf = search rules in
-    let few : g.row.D ≤ 3 = few-axes t c.args.id.now leaf c.requires.whole c.requires.idle home in
+    let few : g.row.D ≤ 3 = c.requires.few in
     let once = sym (ap (λ s. times_listed c.args.id.now (cells_of s)) c.node_at-node.ensures)
     ∙ row-listed t c.args.id.now leaf c.requires.whole c.requires.idle home in
     let inside : c.position-at.result < length n.cells = listed-place c.args.id.now n.cells c.position-at.result once c.position-at.ensures.first in
@@ -44,16 +44,16 @@ cell-requires g c =
 pub returns : goal.returns
 returns g c =
     let t = c.args.tree.now in
-    let index = c.unwrap-index.result.0 in
-    let key : ℤ = c.unwrap-index.result.1.now in
-    let leaf : ℕ = c.unwrap-index.result.2.now in
+    let index = c.in_ok-index.index in
+    let key : ℤ = c.in_ok-index.field-0-1.now in
+    let leaf : ℕ = c.in_ok-index.leaf.now in
     let n = c.node_at-node.result.now in
     let at = c.position-at.result in
     let x = c.cell.result in
     let home : leaf_of int_eq t.leaves c.args.id.now ≡ Some leaf = search rules in
     let stored : get_key int_eq t.leaves c.args.id.now ≡ Some key = search rules in
     let same : c.args.id.now ≡ key = (Decides-int_eq c.args.id.now key).0 (lookup_key_passes (int_eq c.args.id.now) t.leaves.entries key stored) in
-    let entry : slice_get t.leaves.entries index ≡ Some (key, leaf) = rw c.unwrap-index.ensures at c.get_full.ensures.entry in
+    let entry : slice_get t.leaves.entries index ≡ Some (key, leaf) = c.in_ok-index.ensures.entry in
     let once = sym (ap (λ s. times_listed c.args.id.now (cells_of s)) c.node_at-node.ensures)
     ∙ row-listed t c.args.id.now leaf c.requires.whole c.requires.idle home in
     let found = row-found t.nodes leaf at n c.args.id.now x c.node_at-node.ensures

@@ -1,8 +1,7 @@
 use Rattle.std.proofs.Common.{◌+◌, ◌-◌, ◌*◌, ◌^◌, ◌≤◌, Some, IsSome, arith, rules, ap, sym, ◌∙◌, subst, vec_capacity}
-use Rattle.std.specs.Ordering.{int_eq}
 use Rattle.std.proofs.lemmas.Bool.{true≢false}
 use Rattle.std.proofs.lemmas.Option.{same_Some}
-use Rattle.indexmap.specs.IndexMap.{get as leaf_of, spare}
+use Rattle.indexmap.specs.IndexMap.{spare}
 use Rattle.rt_box.specs.Capacity.{least_fill}
 use Rattle.rt_box.proofs.Equality.{Decides-box_eq}
 use Rattle.rt_tree_node.specs.Whole.{IsWhole, IsBranched, HasRoom, row_count}
@@ -13,24 +12,23 @@ use Rattle.rt_tree.specs.Rows.{box_of}
 use Rattle.rt_tree.specs.Changes.{IsReplacement}
 use Rattle.rt_tree.proofs.Kept.{settled}
 use Rattle.rt_tree.proofs.Changed.{present-leaf, less-room, way-waits}
-use Rattle.rt_tree.proofs.Replaced.{found-box, replaced-kept, replacement}
+use Rattle.rt_tree.proofs.Located.{found-box, found-some, found-there}
+use Rattle.rt_tree.proofs.Replaced.{replaced-kept, replacement}
 use Rattle.rt_tree.proofs.tree.Tree.replace.Goals as goal
 
-pub find_row-location-requires : goal.find_row-location-requires
-find_row-location-requires g c =
+pub unwrap-location-requires : goal.unwrap-location-requires
+unwrap-location-requires g c =
     let i = c.self.inside in
-    let t = c.self.inside.arena in
     let k = c.self.invariant in
-    let few : g.row.D ≤ 3 = k.few in
-    let whole : IsWhole t = k.whole in
-    let old : IsSome (box_of (outside t) c.args.id.now) = subst (λ (v : TreeLists g.row.D). IsSome (box_of v.lists c.args.id.now)) (sym c.self.view_is) c.requires.there in
-    let known : IsSome (leaf_of int_eq t.leaves c.args.id.now) = present-leaf t (settled i k) c.args.id.now old in
-    search rules
+    let old : IsSome (box_of (outside i.arena) c.args.id.now) = subst (λ (v : TreeLists g.row.D). IsSome (box_of v.lists c.args.id.now)) (sym c.self.view_is) c.requires.there in
+    found-some i.arena (settled i k) c.args.id.now c.find_row.result c.find_row.ensures old
 
 pub returns-then-eq-clause-other : goal.returns-then-eq-clause-other
 returns-then-eq-clause-other g c differs =
-    let location = c.find_row-location.result in
-    let was = found-box c.self.inside.arena (settled c.self.inside c.self.invariant) c.args.id.now location c.find_row-location.ensures in
+    let t = c.self.inside.arena in
+    let s = settled c.self.inside c.self.invariant in
+    let location = c.unwrap-location.result in
+    let was = found-box t s c.args.id.now location (found-there t s c.args.id.now c.find_row.result location c.find_row.ensures c.unwrap-location.ensures) in
     let same = (Decides-box_eq location.rect c.args.rect.now c.eq.result c.eq.ensures).0 c.if-eq.true in
     absurd (differs (ap (λ (v : TreeLists g.row.D). box_of v.lists c.args.id.now) (sym c.self.view_is) ∙ was ∙ ap Some same))
 
@@ -42,7 +40,8 @@ replace_found-requires g c =
     let few : g.row.D ≤ 3 = k.few in
     let whole : IsWhole t = k.whole in
     let branched : IsBranched t = k.branched in
-    let location : IsLocationOf t c.args.id.now c.find_row-location.result = c.find_row-location.ensures in
+    let location : IsLocationOf t c.args.id.now c.unwrap-location.result =
+    found-there t (settled i k) c.args.id.now c.find_row.result c.unwrap-location.result c.find_row.ensures c.unwrap-location.ensures in
     let rows : row_count t ≤ 2 ^ 20 = k.rows in
     let room : HasRoom t (row_count t) = less-room t (row_count t + i.spare) (row_count t) k.room (omega arith) in
     let waiting_room : (least_fill t.capacity - 1) * t.level + 512 ≤ vec_capacity t.waiting = way-waits i k (c.levels_are_few.ensures.doubles 20 k.rows) in
@@ -56,13 +55,15 @@ invariant_of-self g c =
     let i = c.self.inside in
     let some : 1 ≤ i.spare = subst (λ (v : TreeLists g.row.D). 1 ≤ v.spare) (sym c.self.view_is) c.requires.spare in
     let it = c.replace_found.ensures in
-    replaced-kept i c.self.invariant it.between c.replace_found.new.tree c.args.id.now c.find_row-location.result.rect c.args.rect.now
+    replaced-kept i c.self.invariant it.between c.replace_found.new.tree c.args.id.now c.unwrap-location.result.rect c.args.rect.now
     it.work it.removes it.inserts some
 
 pub returns-clause-same : goal.returns-clause-same
 returns-clause-same g c same =
-    let location = c.find_row-location.result in
-    let was = found-box c.self.inside.arena (settled c.self.inside c.self.invariant) c.args.id.now location c.find_row-location.ensures in
+    let t = c.self.inside.arena in
+    let s = settled c.self.inside c.self.invariant in
+    let location = c.unwrap-location.result in
+    let was = found-box t s c.args.id.now location (found-there t s c.args.id.now c.find_row.result location c.find_row.ensures c.unwrap-location.ensures) in
     let is = same_Some location.rect c.args.rect.now (sym was ∙ ap (λ (v : TreeLists g.row.D). box_of v.lists c.args.id.now) c.self.view_is ∙ same) in
     absurd (true≢false (sym ((Decides-box_eq location.rect c.args.rect.now c.eq.result c.eq.ensures).1 is) ∙ c.if-eq.false))
 
@@ -73,5 +74,5 @@ returns-clause-other g c differs =
     let old : IsSome (box_of (outside i.arena) c.args.id.now) = subst (λ (v : TreeLists g.row.D). IsSome (box_of v.lists c.args.id.now)) (sym c.self.view_is) c.requires.there in
     let it = c.replace_found.ensures in
     subst (λ (v : TreeLists g.row.D). IsReplacement v.lists (outside c.replace_found.new.tree) c.args.id.now c.args.rect.now) c.self.view_is
-    (replacement i k it.between c.replace_found.new.tree c.args.id.now c.find_row-location.result.rect c.args.rect.now it.work
+    (replacement i k it.between c.replace_found.new.tree c.args.id.now c.unwrap-location.result.rect c.args.rect.now it.work
     it.removes it.inserts (present-leaf i.arena (settled i k) c.args.id.now old) it.unique)
