@@ -20,9 +20,10 @@ use Rattle.rt_table_store.proofs.Order.{eq_same, eq_from}
 use Rattle.rt_table_store.specs.Trees.{leaf_row}
 use Rattle.rt_table_store.proofs.Sorted.{at_key-taken, at_key-placed}
 use Rattle.rt_table_store.proofs.Standing.{found_up}
+use Rattle.rt_table_store.proofs.Moved.{has-row}
 use Rattle.rt_table_plan.specs.Drafts.{Knows, touched_by, row_of, row_set, all_set}
 use Rattle.rt_table_plan.specs.Plans.{Plans}
-use Rattle.rt_table_plan.proofs.Ids.{has_row, filter_same}
+use Rattle.rt_table_plan.proofs.Ids.{filter_same}
 
 -- ---- which ids have rows
 
@@ -54,14 +55,14 @@ some_placed false x o = refl
 
 pub has_taken : (rows : List TableRow) (old id : ℤ) → has_id (without_id rows old) id ≡ cond (int_eq old id) false (has_id rows id)
 has_taken rows old id =
-    has_row (without_id rows old) id ∙ ap is_some (at_key-taken id_of rows old id)
-    ∙ some_kept (int_eq old id) (row_at rows id) ∙ ap (cond (int_eq old id) false) (sym (has_row rows id))
+    has-row (without_id rows old) id ∙ ap is_some (at_key-taken id_of rows old id)
+    ∙ some_kept (int_eq old id) (row_at rows id) ∙ ap (cond (int_eq old id) false) (sym (has-row rows id))
 
 pub has_placed : (rows : List TableRow) (row : TableRow) (id : ℤ) → has_id (with_row rows row) id ≡ cond (int_eq row.id id) true (has_id rows id)
 has_placed rows row id =
-    has_row (with_row rows row) id ∙ ap is_some (at_key-placed id_of rows row id)
+    has-row (with_row rows row) id ∙ ap is_some (at_key-placed id_of rows row id)
     ∙ some_placed (int_eq id row.id) row (row_at rows id) ∙ ap (λ (b : Bool). cond b true (is_some (row_at rows id))) (eq_sym id row.id)
-    ∙ ap (cond (int_eq row.id id) true) (sym (has_row rows id))
+    ∙ ap (cond (int_eq row.id id) true) (sym (has-row rows id))
 
 there_or : (b x h : Bool) (t : Option Bool) → option_map_or (λ (there : Bool). there) (cond b (Some x) t) h ≡ cond b x (option_map_or (λ (there : Bool). there) t h)
 there_or true x h t = refl

@@ -1,29 +1,17 @@
 -- Which ids have rows.
-use Rattle.std.proofs.Common.{◌≡◌, ◌∙◌, ℕ, ℤ, MatchOption, Bool, true, false, cond, ◌||◌, List, [], ◌∷◌, map, filter, Option, Some, None, Ok, refl}
-use Rattle.std.specs.Option.{is_some, option_map, option_to_list}
+use Rattle.std.proofs.Common.{◌≡◌, ◌∙◌, ℕ, ℤ, Bool, true, false, cond, List, [], ◌∷◌, map, filter, Option, None, Ok, refl, ap}
 use Rattle.std.specs.Ordering.{int_eq}
 use Rattle.rt_sql_statement.specs.declared.statement.Test.{Test}
 use Rattle.rt_table_row.specs.Columns.{Columns}
 use Rattle.rt_table_row.specs.Conditions.{holds}
 use Rattle.rt_table_row.specs.Filters.{Placed, admits, IsFilterOf}
-use Rattle.rt_table_row.specs.Rows.{TableRow, row_at, has_id}
+use Rattle.rt_table_row.specs.Rows.{TableRow, AreRising, has_id}
 use Rattle.rt_table_row.specs.Edits.{Step, Leaves, delete}
 use Rattle.rt_tree_walk.specs.declared.searching.Row.{Row}
 use Rattle.rt_table_store.specs.Trees.{leaf_row}
+use Rattle.rt_table_store.proofs.Sorted.{rises}
+use Rattle.rt_table_store.proofs.Picked.{key_left}
 use Rattle.rt_table_plan.specs.Drafts.{is_there}
-
-has_step : (b : Bool) (x : TableRow) (h : Bool) (o : Option TableRow) → h ≡ is_some o → (b || h) ≡ is_some (cond b (Some x) o)
-has_step true x h o e = refl
-has_step false x h o e = e
-
--- an id has a row where a row is found
-pub has_row : (rows : List TableRow) (id : ℤ) → has_id rows id ≡ is_some (row_at rows id)
-has_row [] id = refl
-has_row (r ∷ rows) id = has_step (int_eq id r.id) r (has_id rows id) (row_at rows id) (has_row rows id)
-
-pub found : {X Y : Type 0} (f : X → Y) (o : Option X) → is_some (option_map f o) ≡ is_some o
-found f None = refl
-found f (Some x) = refl
 
 pub untouched : (rows : List TableRow) (touched : ℤ → Option Bool) (id : ℤ) (there : Bool) → touched id ≡ None → there ≡ has_id rows id → there ≡ is_there rows touched id
 untouched rows touched id there none e = rw none e
@@ -43,7 +31,18 @@ pub deletes : (D : ℕ) (columns : Columns) (rows : List TableRow) (cond : List 
 deletes D columns rows cond filter_ steps is steps_are =
     rw (is.known, steps_are, leaving_rows D, filter_same (admits filter_) (holds columns cond) rows is.same)
 
--- a row that may be there, as a slice and as a list
-pub slice_is : {X : Type 0} (o : Option X) (slice rows : List X) → MatchOption o (slice ≡ []) (λ x. slice ≡ x ∷ []) → option_to_list o ≡ rows → slice ≡ rows
-slice_is None slice rows none same = none ∙ same
-slice_is (Some x) slice rows one same = one ∙ same
+-- a step for the id that is left, where a row has it
+pub lone_leaves : (D : ℕ) (p : TableRow → Bool) (id : ℤ) (rows : List TableRow) → ((row : TableRow) → p row ≡ int_eq row.id id) → AreRising rows →
+    map (λ (row : Row D). Leaves row.id) (map leaf_row (filter p rows)) ≡ cond (has_id rows id) (Leaves id ∷ []) []
+lone_leaves D p id rows exact rising =
+    leaves_of D (filter p rows)
+    ∙ ap (map Leaves) (key_left (λ r. r.id) p id exact rows (rises (λ r. r.id) rows rising))
+    ∙ one_or_none (has_id rows id)
+  where
+    leaves_of : (D : ℕ) (xs : List TableRow) → map (λ (row : Row D). Leaves row.id) (map leaf_row xs) ≡ map Leaves (map (λ r. r.id) xs)
+    leaves_of D [] = refl
+    leaves_of D (x ∷ xs) = ap (λ (ys : List Step). Leaves x.id ∷ ys) (leaves_of D xs)
+
+    one_or_none : (b : Bool) → map Leaves (cond b (id ∷ []) []) ≡ cond b (Leaves id ∷ []) []
+    one_or_none true = refl
+    one_or_none false = refl

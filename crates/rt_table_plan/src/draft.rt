@@ -68,7 +68,7 @@ fn is_there<const D: usize>(store: &Store<D>, draft: &Draft<D>, id: &i64) -> boo
     store.facts();
     match known(&draft.touched, &draft.latest, id) {
         Some(there) => there,
-        None => store.get(id).is_some(),
+        None => store.contains(id),
     }
 }
 

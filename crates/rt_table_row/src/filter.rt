@@ -5,6 +5,7 @@
 
 ghost use Rattle.std.specs.Prelude.{◌≡◌, zip, true, false, IfSome, IfNone, MatchResult};
 ghost use Rattle.std.specs.List.{list_all, list_any};
+ghost use Rattle.std.specs.Ordering.{int_eq};
 ghost use Rattle.rt_table_row.specs.Conditions.{column_of};
 ghost use Rattle.rt_table_row.specs.Filters.{value_passes, passes_at, fixes_id, places_at, ArePlaces, IsFilterOf, IsUnknown};
 ghost use Rattle.rt_table_row.specs.Windows.{is_said};
@@ -86,8 +87,9 @@ fn passes_all<const D: usize>(row: &RowView<'_, D>, tests: &[Test], places: &[us
     )
 }
 
-/// The id that each row has that passes the test; the id's column stands first.
+/// The id that each row has that passes the test, and no other row; the id's column stands first.
 fn id_at(test: &Test, place: usize) -> Option<i64>
+    ensures exact { IfSome result (λ id. (row : TableRow) → passes_at row (test.now, place) ≡ int_eq row.id id) }
     ensures fixed { IfSome result (λ id. (row : TableRow) → passes_at row (test.now, place) ≡ true → row.id ≡ id) }
     ensures none { IfNone result (fixes_id (test.now, place) ≡ false) }
 {
@@ -240,6 +242,17 @@ impl Filter {
         ensures all { result ≡ true → SaysAll D self.now }
     {
         are_said(2 * D, self.cond.as_slice(), self.places.as_slice())
+    }
+
+    /// The id that is all the condition asks for, where its only test compares the id with an integer by `=`: it holds of the
+    /// row that has the id, and of no other. `None` says nothing of the condition.
+    pub fn lone_id(&self) -> Option<i64>
+        ensures { IfSome result (λ id. (row : TableRow) → admits self.now row ≡ int_eq row.id id) }
+    {
+        match (self.cond.as_slice(), self.places.as_slice()) {
+            ([test], [place]) => id_at(test, *place),
+            _ => None,
+        }
     }
 
     /// The id that each row has that the condition picks, where a test compares the id with an

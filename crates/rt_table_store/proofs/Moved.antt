@@ -1,6 +1,6 @@
 -- What inserting a row, removing one, and replacing one make of the rows.
 use Rattle.std.proofs.Common.{◌≡◌, ◌≢◌, ℕ, ℤ, Bool, true, false, not, ◌||◌, cond, List, [], ◌∷◌, Option, Some, None, IsSome, inl, inr, refl, sym, ap, subst, ◌∙◌}
-use Rattle.std.specs.Option.{option_map, unwrap_or}
+use Rattle.std.specs.Option.{is_some, option_map, unwrap_or}
 use Rattle.std.specs.Ordering.{int_eq}
 use Rattle.std.proofs.lemmas.Bool.{cases_Bool}
 use Rattle.std.proofs.lemmas.Option.{same_Some}
@@ -18,7 +18,19 @@ use Rattle.rt_table_store.proofs.Order.{eq_same, eq_from}
 use Rattle.rt_table_store.proofs.Sorted.{same_lists, at_key-taken, at_key-placed, rises-placed, rises-taken}
 use Rattle.rt_table_store.proofs.Joined.{boxed, row-at, rows-rise}
 
+has-step : (b : Bool) (x : TableRow) (h : Bool) (o : Option TableRow) → h ≡ is_some o → (b || h) ≡ is_some (cond b (Some x) o)
+has-step true x h o e = refl
+has-step false x h o e = e
+
 -- whether an id is there
+pub has-row : (rows : List TableRow) (id : ℤ) → has_id rows id ≡ is_some (row_at rows id)
+has-row [] id = refl
+has-row (r ∷ rows) id = has-step (int_eq id r.id) r (has_id rows id) (row_at rows id) (has-row rows id)
+
+pub mapped : {X Y : Type 0} (f : X → Y) (o : Option X) → is_some (option_map f o) ≡ is_some o
+mapped f None = refl
+mapped f (Some x) = refl
+
 any-found : (rows : List TableRow) (id : ℤ) → has_id rows id ≡ true → IsSome (row_at rows id)
 any-found [] id e = absurd (let none : ⊥ = cc in none)
 any-found (r ∷ rs) id e = by (any-found rs id) (int_eq id r.id) e

@@ -22,14 +22,6 @@ use std::marker::Model;
 /// The most ids that are listed.
 const MOST_IDS: usize = 2048;
 
-/// Whether the tree has a row of that id.
-fn is_there<const D: usize>(tree: &Tree<D>, id: &i64) -> bool
-    requires { D ≤ 3 }
-    ensures { result ≡ is_some (box_of tree.now.lists id.now) }
-{
-    tree.get(id).is_some()
-}
-
 /// Takes ids from the end whose rows are gone.
 fn drop_gone<const D: usize>(ids: &mut Vec<i64>, tree: &Tree<D>)
     requires few { D ≤ 3 }
@@ -40,7 +32,7 @@ fn drop_gone<const D: usize>(ids: &mut Vec<i64>, tree: &Tree<D>)
     ensures capacity { vec_capacity ids.new ≡ vec_capacity ids.old }
 {
     while let Some(id) = ids.last() {
-        if is_there(tree, id) {
+        if tree.contains(id) {
             return;
         }
         let _ = ids.pop();

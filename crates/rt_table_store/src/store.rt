@@ -168,6 +168,15 @@ impl<const D: usize> Store<D> {
         self.tree.is_in_shape();
     }
 
+    /// Whether a row has that id. Neither its box nor its values are looked at.
+    pub fn contains(&self, id: &i64) -> bool
+        ensures { result ≡ has_id self.now.rows id.now }
+    {
+        // The ids of the rows are those of the tree.
+        self.tree.is_in_shape();
+        self.tree.contains(id)
+    }
+
     /// The row of that id, where it stands.
     pub fn get(&self, id: &i64) -> Option<RowView<'_, D>>
         ensures { option_map view_row result ≡ row_at self.now.rows id.now }

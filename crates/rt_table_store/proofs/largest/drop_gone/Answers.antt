@@ -6,8 +6,8 @@ use Rattle.rt_tree.specs.Rows.{box_of}
 use Rattle.rt_table_store.proofs.Ranking.{top-is-last, upward-popped, sorted-taken, split-last}
 use Rattle.rt_table_store.proofs.largest.drop_gone.Goals as goal
 
-pub returns-then-is_there-clause-top : goal.returns-then-is_there-clause-top
-returns-then-is_there-clause-top g c =
+pub returns-then-contains-clause-top : goal.returns-then-contains-clause-top
+returns-then-contains-clause-top g c =
     let xs = c.loop-id.ids.items in
     let id = c.in-Some.id.now in
     let last : id ≡ get_or xs (length xs - 1) id = search rules in
