@@ -87,7 +87,7 @@ fn passes_all<const D: usize>(row: &RowView<'_, D>, tests: &[Test], places: &[us
     )
 }
 
-/// The id that each row has that passes the test, and no other row; the id's column stands first.
+/// The id that the test asks for: a row passes exactly if it has it. The id's column stands first.
 fn id_at(test: &Test, place: usize) -> Option<i64>
     ensures exact { IfSome result (λ id. (row : TableRow) → passes_at row (test.now, place) ≡ int_eq row.id id) }
     ensures fixed { IfSome result (λ id. (row : TableRow) → passes_at row (test.now, place) ≡ true → row.id ≡ id) }
