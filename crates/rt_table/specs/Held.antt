@@ -3,7 +3,7 @@ use Rattle.std.specs.Prelude.{ℕ, List}
 use Rattle.rt_check.specs.Shadow.{ShadowLists}
 use Rattle.rt_check_dump.specs.declared.dump.AnyShadow.{AnyShadow}
 use Rattle.rt_table_row.specs.Tables.{TableLists}
-use Rattle.rt_table_row.specs.Views.{View, ViewChange}
+use Rattle.rt_table_row.specs.Views.{ViewChange}
 use Rattle.rt_table_view.specs.Watching.{Awaited}
 
 -- the table as statements see it, the tree of its rows, and what was made ready for the next plan: how many more rows

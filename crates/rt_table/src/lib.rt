@@ -3,7 +3,8 @@
 //! - `Table` selects, names and forgets views, and shows them and the tree of its rows. `plan` answers a `Plan`, the
 //!   steps of an INSERT, UPDATE or DELETE, or its refusal. `prepare` makes the table ready for a plan: it reserves what
 //!   the plan takes and stages what it changes in the views. `commit` then carries the plan out, with no memory and no
-//!   refusal, and hands out the changes. `edit` does all three at once.
+//!   refusal, and hands out the changes. `edit` does all three at once; a DELETE by id needs none of them in a table without
+//!   views.
 //! - `AnyTable` is a table whatever its number of axes.
 //!
 //! Stands on `rt_table_plan`, `rt_table_apply` (plans carried out), `rt_table_view`, `rt_table_store` and `rt_reply` (rows

@@ -1,9 +1,10 @@
 //! A table of `D` axes.
 //!
 //! A statement that changes rows goes in three steps: `plan` only looks, `prepare` takes all the memory, and
-//! `commit` can't fail. Contracts see a table as `Held` (`specs/Held.antt`).
+//! `commit` can't fail. Where nobody watches, a DELETE by id goes in one, since nothing can refuse it. Contracts see a
+//! table as `Held` (`specs/Held.antt`).
 
-ghost use Rattle.std.specs.Prelude.{◌≡◌, ◌≤◌, ◌<◌, List, [], not, map, filter, length, position, nat_lt, Ok, IfOk, IfErr, OnOk, OnErr};
+ghost use Rattle.std.specs.Prelude.{◌≡◌, ◌≤◌, ◌<◌, List, [], not, map, filter, length, position, nat_lt, Ok, IfSome, IfOk, IfErr, OnOk, OnErr};
 ghost use Rattle.std.specs.List.{list_any};
 ghost use Rattle.rt_box.specs.declared.interval.Interval.{Interval};
 ghost use Rattle.rt_sql_statement.specs.Name.{same_name};
@@ -14,7 +15,7 @@ use rt_reply::{Change, Rows};
 use rt_sql_statement::{Cond, Edit, Name, Refusal};
 use rt_table_apply::{apply, auxiliary_rows_all, inserts_all};
 use rt_table_plan::Plan;
-use rt_table_row::{Filter, Schema, Step};
+use rt_table_row::{Filter, Schema, Step, lone_id};
 use rt_table_store::Store;
 use rt_table_view::{Picked, Watched, pick, refresh_all, rows_of, rows_picked, stage, watch};
 use std::alloc::{AllocError, Global};
@@ -81,7 +82,7 @@ impl<const D: usize> Model for Table<D> {
 
 impl<const D: usize> Table<D> {
     ghost use Rattle.rt_table_row.specs.Tables.{new_table, has_view, select, watch, unwatch, view};
-    ghost use Rattle.rt_table_row.specs.Edits.{outcome};
+    ghost use Rattle.rt_table_row.specs.Edits.{outcome, leaving};
     ghost use Rattle.rt_table_row.specs.Entries.{step_of};
     ghost use Rattle.rt_table_row.specs.Views.{deltas};
     ghost use Rattle.rt_table_row.specs.Edits.{steps_of};
@@ -302,6 +303,33 @@ impl<const D: usize> Table<D> {
         Ok(self.commit(steps))
     }
 
+    /// Takes the row of an id out, where there is one. It takes no memory, and no view has to follow.
+    fn take(&mut self, id: &i64)
+        requires { self.old.lists.views ≡ [] }
+        ensures lists { self.new.lists ≡ record self.old.lists { rows = outcome self.old.lists.rows (leaving self.old.lists.rows id.now) } }
+        ensures tree { FollowsSteps self.old.lists.rows (leaving self.old.lists.rows id.now) self.old.tree self.new.tree }
+    {
+        // The law says before and after that the tree has the rows.
+        self.store.facts();
+        let _ = self.store.take(id);
+        self.store.facts();
+    }
+
+    /// The id whose row an edit takes out without a plan: nothing can refuse a DELETE that asks for an id alone, and where nobody
+    /// watches, no view has to follow.
+    fn leaving_id(&self, edit: &Edit) -> Option<i64>
+        ensures unwatched { IfSome result (λ _. self.now.lists.views ≡ []) }
+        ensures steps { IfSome result (λ id. steps_of edit.now self.now.lists.columns self.now.lists.rows ≡ Ok (leaving self.now.lists.rows id)) }
+    {
+        let Edit::Delete { cond } = edit else {
+            return None;
+        };
+        if self.watched() {
+            return None;
+        }
+        lone_id(&self.columns, cond)
+    }
+
     /// Carries an edit out, and answers what it changed in the views. A refusal changes nothing.
     ///
     /// # Errors
@@ -314,6 +342,10 @@ impl<const D: usize> Table<D> {
         ensures refused { OnErr result (self.new.lists ≡ self.old.lists) }
         ensures same_tree { OnErr result (self.new.tree ≡ self.old.tree) }
     {
+        if let Some(id) = self.leaving_id(&edit) {
+            self.take(&id);
+            return Ok(Vec::new(alloc));
+        }
         let plan = self.plan(alloc, edit)?;
         Ok(self.carry_out(alloc, plan)?)
     }

@@ -2,11 +2,10 @@
 //!
 //! A row can always leave, so a DELETE is refused only for a column of its condition, or for want of memory.
 
-ghost use Rattle.std.specs.Prelude.{◌≡◌, [], ◌∷◌, if◌then◌else◌, map, filter, IfOk};
+ghost use Rattle.std.specs.Prelude.{◌≡◌, map, filter, IfOk};
 ghost use Rattle.rt_table_row.specs.Edits.{Leaves, delete};
 ghost use Rattle.rt_table_row.specs.Entries.{step_of};
 ghost use Rattle.rt_table_row.specs.Filters.{admits};
-ghost use Rattle.rt_table_row.specs.Rows.{has_id};
 ghost use Rattle.rt_table_store.specs.Trees.{leaf_row};
 ghost use Rattle.rt_table_plan.specs.Plans.{Plans};
 
@@ -28,25 +27,7 @@ fn leaving<const D: usize>(alloc: Global, rows: &[Row<D>]) -> Result<Vec<Step<D>
     Ok(steps)
 }
 
-/// The step of the row with the id, where there is one.
-fn lone_leaving<const D: usize>(
-    alloc: Global,
-    store: &Store<D>,
-    id: &i64,
-) -> Result<Vec<Step<D>>, AllocError>
-    ensures { IfOk result (λ steps. map step_of steps.items ≡ (if has_id store.now.rows id.now then Leaves id.now ∷ [] else [])) }
-{
-    // There are one to three axes.
-    store.facts();
-    if !store.contains(id) {
-        return Ok(Vec::new(alloc));
-    }
-    let mut steps = Vec::with_capacity(alloc, 1)?;
-    steps.push(Step::Leaves(*id))?;
-    Ok(steps)
-}
-
-/// A step for each row of which the condition holds. One that asks for an id alone looks at no row.
+/// A step for each row of which the condition holds.
 fn picked_leaving<const D: usize>(
     alloc: Global,
     store: &Store<D>,
@@ -54,11 +35,8 @@ fn picked_leaving<const D: usize>(
 ) -> Result<Vec<Step<D>>, AllocError>
     ensures { IfOk result (λ steps. map step_of steps.items ≡ map (λ row. Leaves row.id) (map (leaf_row {D = D}) (filter (admits condition.now) store.now.rows))) }
 {
-    // There are one to three axes, and the ids of the rows rise.
+    // There are one to three axes.
     store.facts();
-    if let Some(id) = condition.lone_id() {
-        return lone_leaving(alloc, store, &id);
-    }
     let rows = store.picked_rows(alloc, condition)?;
     leaving(alloc, rows.as_slice())
 }

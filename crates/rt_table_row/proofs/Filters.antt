@@ -1,7 +1,8 @@
 -- A condition whose columns were looked up picks the rows that it picks by their names.
-use Rattle.std.proofs.Common.{◌≡◌, ℕ, suc, ◌+◌, ◌<◌, ◌≤◌, Bool, true, false, cond, not, ◌||◌, List, [], ◌∷◌, zip, length, get_or, take, sym, ap, arith, refl, ◌∙◌, nat_lt, Option, Some, None, slice_index_or}
+use Rattle.std.proofs.Common.{◌≡◌, ℕ, suc, ◌+◌, ◌<◌, ◌≤◌, ℤ, Bool, true, false, cond, not, ◌||◌, ◌&&◌, List, [], ◌∷◌, zip, length, get_or, take, sym, ap, arith, refl, ◌∙◌, nat_lt, Option, Some, None, IfSome, slice_index_or}
 use Rattle.std.specs.List.{list_any, list_all, position_or_len}
 use Rattle.std.specs.Option.{option_map_or}
+use Rattle.std.specs.Ordering.{int_eq}
 use Rattle.std.proofs.lemmas.Bool.Decides.{nat_tests}
 use Rattle.std.proofs.lemmas.List.{take_all}
 use Rattle.std.proofs.lemmas.List.Folds.{list_all_at, list_any_more}
@@ -92,3 +93,35 @@ unfixed_more p xs n x h is before here =
 
 pub unfixed_all : {X : Type 0} (p : X → Bool) (xs : List X) (n : ℕ) → length xs ≤ n → list_any p (take n xs) ≡ false → list_any p xs ≡ false
 unfixed_all p xs n h none = sym (ap (list_any p) (take_all n xs h)) ∙ none
+
+-- ---- a condition of one test
+
+one-item : {X : Type 0} (xs : List X) (x : X) → length xs ≡ 1 → x ≡ get_or xs 0 x → xs ≡ x ∷ []
+one-item [] x one is = absurd (omega (arith, one))
+one-item (y ∷ []) x one is = ap (λ z. z ∷ []) (sym is)
+one-item (y ∷ z ∷ xs) x one is = absurd (omega (arith, one))
+
+lone-place : (columns : Columns) (tests : List Test) (test : Test) (place : ℕ) → tests ≡ test ∷ [] → place_of columns.names (column_of test) ≡ Some place → ArePlaces columns.names tests (place ∷ [])
+lone-place columns tests test place is there = rw is (ap (λ (o : Option ℕ). o ∷ []) there)
+
+and-true : (b : Bool) → (b && true) ≡ b
+and-true true = refl
+and-true false = refl
+
+module _ (columns : Columns) (tests : List Test) (test : Test) (place : ℕ) (one : length tests ≡ 1) (is : test ≡ get_or tests 0 test) (there : place_of columns.names (column_of test) ≡ Some place) where
+  alone : tests ≡ test ∷ []
+  alone = one-item tests test one is
+
+  pub lone-known : (found : Option ℤ) → IfSome found (λ _. has_columns columns tests ≡ true)
+  lone-known None = tt
+  lone-known (Some id) = has_columns_from columns tests (place ∷ []) (lone-place columns tests test place alone there)
+
+  lone-holds : (row : TableRow) → holds columns tests row ≡ passes_at row (test, place)
+  lone-holds row =
+      sym (admits_same columns tests (place ∷ []) row (lone-place columns tests test place alone there))
+      ∙ ap (λ (ts : List Test). list_all (passes_at row) (zip ts (place ∷ []))) alone
+      ∙ and-true (passes_at row (test, place))
+
+  pub lone-exact : (found : Option ℤ) → IfSome found (λ id. (row : TableRow) → passes_at row (test, place) ≡ int_eq row.id id) → IfSome found (λ id. (row : TableRow) → holds columns tests row ≡ int_eq row.id id)
+  lone-exact None exact = tt
+  lone-exact (Some id) exact = λ row. lone-holds row ∙ exact row

@@ -6,7 +6,7 @@
 ghost use Rattle.std.specs.Prelude.{◌≡◌, zip, true, false, IfSome, IfNone, MatchResult};
 ghost use Rattle.std.specs.List.{list_all, list_any};
 ghost use Rattle.std.specs.Ordering.{int_eq};
-ghost use Rattle.rt_table_row.specs.Conditions.{column_of};
+ghost use Rattle.rt_table_row.specs.Conditions.{column_of, has_columns, holds};
 ghost use Rattle.rt_table_row.specs.Filters.{value_passes, passes_at, fixes_id, places_at, ArePlaces, IsFilterOf, IsUnknown};
 ghost use Rattle.rt_table_row.specs.Windows.{is_said};
 ghost use Rattle.rt_table_row.specs.Entries.{view_row, field_value};
@@ -244,17 +244,6 @@ impl Filter {
         are_said(2 * D, self.cond.as_slice(), self.places.as_slice())
     }
 
-    /// The id that is all the condition asks for, where its only test compares the id with an integer by `=`: it holds of the
-    /// row that has the id, and of no other. `None` says nothing of the condition.
-    pub fn lone_id(&self) -> Option<i64>
-        ensures { IfSome result (λ id. (row : TableRow) → admits self.now row ≡ int_eq row.id id) }
-    {
-        match (self.cond.as_slice(), self.places.as_slice()) {
-            ([test], [place]) => id_at(test, *place),
-            _ => None,
-        }
-    }
-
     /// The id that each row has that the condition picks, where a test compares the id with an
     /// integer by `=`; `None` only where no test does.
     pub fn id(&self) -> Option<i64>
@@ -263,4 +252,17 @@ impl Filter {
     {
         id_among(self.cond.as_slice(), self.places.as_slice())
     }
+}
+
+/// The id that is all a condition over these columns asks for, where its only test compares the id with an integer by `=`: it
+/// holds of the row that has the id, and of no other. `None` says nothing of the condition.
+pub fn lone_id(schema: &Schema, cond: &Cond) -> Option<i64>
+    ensures known { IfSome result (λ _. has_columns schema.now cond.now ≡ true) }
+    ensures exact { IfSome result (λ id. (row : TableRow) → holds schema.now cond.now row ≡ int_eq row.id id) }
+{
+    let [test] = cond.as_slice() else {
+        return None;
+    };
+    let place = schema.place_of(column_of(test))?;
+    id_at(test, place)
 }

@@ -9,8 +9,8 @@
 //! - `Candidate` is what a new row will be, made of its values; `Arrangement` has the columns that an INSERT
 //!   lists, and `Settings` what an UPDATE sets. Both look their columns up once.
 //! - `Filter` is a condition whose columns were looked up once; `holds` says of which rows it holds, and
-//!   compares no name and copies nothing. `window` is what it asks of the coordinates of a row's box, `id`
-//!   the id that it fixes, and `lone_id` the one that is all it asks for.
+//!   compares no name and copies nothing. `window` is what it asks of the coordinates of a row's box, and `id`
+//!   the id that it fixes. `lone_id` is the id that is all a condition asks for.
 //! - `compares` holds two values against one another: nothing is converted, and NULL is never equal.
 //!
 //! What inserting, deleting, updating and watching do to the rows of a table is defined in `specs/` over plain
@@ -40,7 +40,7 @@ mod window;
 pub use arrangement::Arrangement;
 pub use candidate::Candidate;
 pub use entry::{Entry, Field, ListedRow, RowView, Step};
-pub use filter::Filter;
+pub use filter::{Filter, lone_id};
 pub use row_list::RowList;
 pub use schema::Schema;
 pub use settings::Settings;

@@ -31,6 +31,10 @@ pub mapped : {X Y : Type 0} (f : X → Y) (o : Option X) → is_some (option_map
 mapped f None = refl
 mapped f (Some x) = refl
 
+-- a row that is there is taken
+pub taken : {X : Type 0} (row : X → TableRow) (rows : List TableRow) (id : ℤ) (found : Option X) → option_map row found ≡ row_at rows id → has_id rows id ≡ true → IsSome found
+taken row rows id found e there = sym (mapped row found) ∙ ap is_some e ∙ sym (has-row rows id) ∙ there
+
 any-found : (rows : List TableRow) (id : ℤ) → has_id rows id ≡ true → IsSome (row_at rows id)
 any-found [] id e = absurd (let none : ⊥ = cc in none)
 any-found (r ∷ rs) id e = by (any-found rs id) (int_eq id r.id) e

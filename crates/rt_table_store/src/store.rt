@@ -3,7 +3,7 @@
 //! No list of the rows is kept: the tree has ids and boxes, and a map by id has the auxiliary values. Contracts
 //! put both together as the list of rows (`specs/StoreInside.antt`).
 
-ghost use Rattle.std.specs.Prelude.{◌≡◌, ◌≢◌, ◌⊎◌, ◌≤◌, ◌<◌, ◌+◌, ℤ, [], All, None, Some, true, false, length, IfOk, OnOk};
+ghost use Rattle.std.specs.Prelude.{◌≡◌, ◌≢◌, ◌⊎◌, ◌≤◌, ◌<◌, ◌+◌, ℤ, [], All, None, Some, true, false, length, IfSome, IfNone, IfOk, OnOk};
 ghost use Rattle.std.specs.Option.{option_map, unwrap_or};
 ghost use Rattle.std.specs.Ordering.{int_eq};
 ghost use Rattle.indexmap.specs.IndexMap.{get, spare};
@@ -279,6 +279,29 @@ impl<const D: usize> Store<D> {
         set_auxiliary(&mut self.auxiliary, &id, auxiliary);
     }
 
+    /// Takes the row of that id out, where there is one. It takes no memory.
+    pub fn take(&mut self, id: &i64) -> Option<Entry<D>>
+        ensures row { option_map row_of result ≡ row_at self.old.rows id.now }
+        ensures none { IfNone result (self.new ≡ self.old) }
+        ensures rows { IfSome result (λ _. self.new.rows ≡ without_id self.old.rows id.now) }
+        ensures tree { IfSome result (λ row. IsRemoval self.old.tree self.new.tree id.now row.rect) }
+        ensures capacity { self.new.tree.capacity ≡ self.old.tree.capacity }
+        ensures room { self.old.room ≤ self.new.room }
+        ensures auxiliary_room { self.old.auxiliary_room ≤ self.new.auxiliary_room }
+    {
+        // The law says before and after which ids the tree has.
+        self.tree.is_in_shape();
+        let rect = self.tree.take(id)?;
+        self.tree.is_in_shape();
+        self.largest.remove(id, &self.tree);
+        let auxiliary = take_auxiliary(&mut self.auxiliary, self.alloc, id);
+        Some(Entry {
+            id: *id,
+            rect,
+            auxiliary,
+        })
+    }
+
     /// Removes the row of that id. It takes no memory.
     pub fn remove(&mut self, id: &i64) -> Entry<D>
         requires { has_id self.old.rows id.now ≡ true }
@@ -289,17 +312,7 @@ impl<const D: usize> Store<D> {
         ensures room { self.old.room ≤ self.new.room }
         ensures auxiliary_room { self.old.auxiliary_room ≤ self.new.auxiliary_room }
     {
-        // The law says before and after which ids the tree has.
-        self.tree.is_in_shape();
-        let rect = self.tree.remove(id);
-        self.tree.is_in_shape();
-        self.largest.remove(id, &self.tree);
-        let auxiliary = take_auxiliary(&mut self.auxiliary, self.alloc, id);
-        Entry {
-            id: *id,
-            rect,
-            auxiliary,
-        }
+        self.take(id).unwrap()
     }
 
     /// Replaces the row of that id by another that keeps the id, so that the largest id stays. It takes no memory.

@@ -1,5 +1,5 @@
 -- What `find_row` found.
-use Rattle.std.proofs.Common.{◌≡◌, ℕ, ℤ, Option, Some, None, IsSome, MatchOption, refl, sym, ap, ◌∙◌, subst}
+use Rattle.std.proofs.Common.{◌≡◌, ℕ, ℤ, Option, Some, None, IsSome, IfNone, MatchOption, refl, sym, ap, ◌∙◌, subst}
 use Rattle.std.specs.Ordering.{int_eq}
 use Rattle.std.specs.Prelude.{is_some}
 use Rattle.std.proofs.lemmas.Bool.{true≢false}
@@ -14,6 +14,11 @@ use Rattle.rt_tree_walk.specs.Outside.{outside}
 use Rattle.rt_tree_walk.proofs.Progress.{IsSettled}
 use Rattle.rt_tree.specs.Rows.{box_of}
 use Rattle.rt_tree.proofs.Rows.{box-none, box-there}
+
+-- a row that has a box is taken
+pub taken : {A B : Type 0} (found : Option A) (box : Option B) → IsSome box → IfNone found (box ≡ None) → IsSome found
+taken None box some none = absurd (true≢false (sym some ∙ ap is_some none))
+taken (Some found) box some none = refl
 
 module _ {D : ℕ} (t : Arena D) (s : IsSettled t) (id : ℤ) where
   -- the location of the row, or none where no row has the id

@@ -6,7 +6,8 @@
 //!
 //! - `insert` and `remove` take no memory and don't fail: `reserve` made the room. Of each other row they say that it
 //!   stays, and where no node overflows or gets thin, that no other row moves. Each step is named: where best children
-//!   lead each cell that is placed, which cells an overfull node gives up, and by which cut one is split.
+//!   lead each cell that is placed, which cells an overfull node gives up, and by which cut one is split. `take` removes
+//!   a row that may be missing.
 //! - `replace` gives a row another box, by a removal and an insertion that look its id up once. Where the row has the box
 //!   already, the tree stays.
 //! - `is_in_shape`, `has_boxes` and `is_small` hold of each tree, whatever was done to it: the checker finds no problem,

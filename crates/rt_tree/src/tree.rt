@@ -3,7 +3,7 @@
 //! Rows come and go without taking memory: `reserve` makes room for the nodes of any tree with so many rows.
 //! Between two calls no cell waits and no node is out of shape (`IsKept` in `specs/TreeInside.antt`).
 
-ghost use Rattle.std.specs.Prelude.{◌≡◌, ◌≢◌, ◌<◌, ◌≤◌, ◌+◌, ◌-◌, ◌*◌, ◌/◌, ◌^◌, ℤ, max, length, is_some, Some, None, IsSome, IfOk, OnOk, OnErr};
+ghost use Rattle.std.specs.Prelude.{◌≡◌, ◌≢◌, ◌<◌, ◌≤◌, ◌+◌, ◌-◌, ◌*◌, ◌/◌, ◌^◌, ℤ, max, length, is_some, Some, None, IsSome, IfSome, IfNone, IfOk, OnOk, OnErr};
 ghost use Rattle.std.specs.List.{list_any};
 ghost use Rattle.std.specs.Ordering.{int_eq};
 ghost use Rattle.rt_box.specs.Capacity.{least_fill};
@@ -392,6 +392,22 @@ impl<const D: usize> Tree<D> {
         work
     }
 
+    /// Takes the row with the id out of the tree, where there is one, and answers its box. It takes no memory.
+    pub fn take(&mut self, id: &i64) -> Option<Rect<D>>
+        ensures none { IfNone result (box_of self.old.lists id.now ≡ None) }
+        ensures same { IfNone result (self.new ≡ self.old) }
+        ensures rows { IfSome result (LosesRow self.old.lists self.new.lists id.now) }
+        ensures removal { IfSome result (IsRemoval self.old.lists self.new.lists id.now) }
+        ensures spare { self.new.spare ≡ self.old.spare }
+        ensures capacity { self.new.lists.capacity ≡ self.old.lists.capacity }
+    {
+        let found = find_row(&self.arena, id)?;
+        // The waiting cells have room: there are few levels.
+        levels_are_few(&self.arena);
+        remove_found(&mut self.arena, id, &found);
+        Some(found.rect)
+    }
+
     /// Takes the row with the id out of the tree, and answers its box. It takes no memory.
     pub fn remove(&mut self, id: &i64) -> Rect<D>
         requires { IsSome (box_of self.old.lists id.now) }
@@ -400,11 +416,7 @@ impl<const D: usize> Tree<D> {
         ensures spare { self.new.spare ≡ self.old.spare }
         ensures capacity { self.new.lists.capacity ≡ self.old.lists.capacity }
     {
-        let location = find_row(&self.arena, id).unwrap();
-        // The waiting cells have room: there are few levels.
-        levels_are_few(&self.arena);
-        remove_found(&mut self.arena, id, &location);
-        location.rect
+        self.take(id).unwrap()
     }
 
     /// Gives the row with the id another box: the row is removed and inserted again. Where it has that box already, the tree

@@ -1,4 +1,4 @@
-use Rattle.std.proofs.Common.{sym, rules, ◌∙◌}
+use Rattle.std.proofs.Common.{rules}
 use Rattle.std.proofs.lemmas.List.Elements.{All-nil}
 use Rattle.rt_table_view.specs.Watching.{IsKept}
 use Rattle.rt_table.proofs.table.Table.new.Goals as goal

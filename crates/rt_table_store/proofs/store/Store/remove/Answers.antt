@@ -1,61 +1,6 @@
-use Rattle.std.proofs.Common.{◌≡◌, ◌≤◌, true, List, Some, IsSome, arith, rules, sym, ap, ◌∙◌, subst, w64, FitsSigned}
-use Rattle.std.specs.Prelude.{is_some}
-use Rattle.std.specs.Option.{option_map}
-use Rattle.std.specs.Ordering.{int_eq}
-use Rattle.std.proofs.lemmas.Int.{to_z-of_z}
-use Rattle.indexmap.specs.IndexMap.{get}
-use Rattle.rt_sql_statement.specs.declared.value.Value.{Value}
-use Rattle.rt_tree.specs.Rows.{box_of}
-use Rattle.rt_table_row.specs.Rows.{TableRow, row_at, has_id, without_id}
-use Rattle.rt_table_store.specs.Stored.{Stored}
-use Rattle.rt_table_store.proofs.Joined.{boxed, row-at}
-use Rattle.rt_table_store.proofs.Moved.{a-box, rows-removed}
-use Rattle.rt_table_store.proofs.Kept.{not-both, auxiliary-kept, there-removed, one-fewer}
+use Rattle.rt_table_row.specs.Entries.{row_of}
+use Rattle.rt_table_store.proofs.Moved.{taken}
 use Rattle.rt_table_store.proofs.store.Store.remove.Goals as goal
 
-pub remove-rect-requires : goal.remove-rect-requires
-remove-rect-requires g c =
-    let i = c.self.inside in
-    let d : g.row.D ≤ 3 = c.self.invariant.few in
-    let there : IsSome (box_of i.tree.lists c.args.id.now) =
-    a-box i.tree.lists c.is_in_shape.ensures i.auxiliary c.args.id.now (subst (λ (v : Stored g.row.D). has_id v.rows c.args.id.now ≡ true) (sym c.self.view_is) c.requires) in
-    search rules
-
-pub invariant_of-self : goal.invariant_of-self
-invariant_of-self g c =
-    let i = c.self.inside in
-    let k = c.self.invariant in
-    let id = c.args.id.now in
-    let old = i.tree.lists in
-    let new = c.remove-rect.new.self.lists in
-    let loses = c.remove-rect.ensures.rows in
-    record {
-      some = k.some;
-      few = k.few;
-      most = omega (arith, k.most, one-fewer old new c.is_in_shape.ensures c.is_in_shape-2.ensures i.auxiliary id c.remove-rect.result loses);
-      auxiliary = auxiliary-kept old new id loses.others i.auxiliary c.take_auxiliary-auxiliary.new.auxiliary c.take_auxiliary-auxiliary.ensures.others (λ some. not-both (IsSome (box_of new id)) (get int_eq c.take_auxiliary-auxiliary.new.auxiliary id) c.take_auxiliary-auxiliary.ensures.gone some) k.auxiliary;
-      ranks = c.remove.ensures _ k.ranks (there-removed old new id loses.others loses.gone)
-          (λ other ne t. ap is_some (loses.others other ne) ∙ t);
-      nothing = k.nothing;
-    }
-
-pub returns-clause-row : goal.returns-clause-row
-returns-clause-row g c =
-    let i = c.self.inside in
-    let id = c.args.id.now in
-    let fits : FitsSigned w64 id = search rules in
-    let with_values : List Value → TableRow = λ values. record { id = id; box = c.remove-rect.result; auxiliary = values } in
-    rw (to_z-of_z w64 id fits) (
-    ap (λ values. Some (with_values values)) c.take_auxiliary-auxiliary.ensures.value
-    ∙ sym (ap (option_map (boxed i.tree.lists c.is_in_shape.ensures i.auxiliary id)) c.remove-rect.ensures.rows.was)
-    ∙ sym (row-at i.tree.lists c.is_in_shape.ensures i.auxiliary id)
-    ∙ ap (λ (v : Stored g.row.D). row_at v.rows id) c.self.view_is
-    )
-
-pub returns-clause-rows : goal.returns-clause-rows
-returns-clause-rows g c =
-    let i = c.self.inside in
-    let loses = c.remove-rect.ensures.rows in
-    rows-removed i.tree.lists c.remove-rect.new.self.lists c.is_in_shape.ensures c.is_in_shape-2.ensures i.auxiliary c.take_auxiliary-auxiliary.new.auxiliary c.args.id.now
-    (loses.others, c.take_auxiliary-auxiliary.ensures.others) loses.gone
-    ∙ ap (λ (v : Stored g.row.D). without_id v.rows c.args.id.now) c.self.view_is
+pub unwrap-requires : goal.unwrap-requires
+unwrap-requires g c = taken row_of c.args.self.now.rows c.args.id.now c.take.result c.take.ensures.row c.requires
