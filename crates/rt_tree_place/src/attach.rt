@@ -23,8 +23,9 @@ pub(crate) fn attach<const D: usize>(tree: &mut Arena<D>, key: Key, entry: &Wait
 {
     entry.cell.rect.facts();
     if entry.level == 0 {
-        set_leaf(&mut tree.leaves, &entry.cell.number, key);
+        // The leaf first: its line of memory mostly is on its way while the id is hashed.
         add_cell(&mut tree.nodes, key, &entry.cell);
+        set_leaf(&mut tree.leaves, &entry.cell.number, key);
         return;
     }
     set_parent(&mut tree.nodes, entry.cell.key(), Some(key));
