@@ -23,7 +23,7 @@ pub(crate) fn attach<const D: usize>(tree: &mut Arena<D>, key: Key, entry: &Wait
 {
     entry.cell.rect.facts();
     if entry.level == 0 {
-        // The leaf first: its line of memory mostly is on its way while the id is hashed.
+        // The leaf comes first: the id is hashed while its line of memory is on its way.
         add_cell(&mut tree.nodes, key, &entry.cell);
         set_leaf(&mut tree.leaves, &entry.cell.number, key);
         return;
