@@ -126,7 +126,7 @@ delete columns rows cond =
     if not (has_columns columns cond) then Err NoSuchColumn
     else Ok (map (λ row. Leaves row.id) (picked columns cond rows))
 
--- those of one id: its row goes, where there is one
+-- the steps in which the row of an id goes, where there is one
 abbrev pub leaving : List TableRow → ℤ → List Step
 leaving rows id = if has_id rows id then Leaves id ∷ [] else []
 

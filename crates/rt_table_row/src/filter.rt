@@ -254,8 +254,8 @@ impl Filter {
     }
 }
 
-/// The id that is all a condition over these columns asks for, where its only test compares the id with an integer by `=`: it
-/// holds of the row that has the id, and of no other. `None` says nothing of the condition.
+/// The id that is all a condition over these columns asks for, where its only test compares the id with an integer by `=`. The
+/// condition then holds of the row that has the id, and of no other. `None` says nothing of the condition.
 pub fn lone_id(schema: &Schema, cond: &Cond) -> Option<i64>
     ensures known { IfSome result (λ _. has_columns schema.now cond.now ≡ true) }
     ensures exact { IfSome result (λ id. (row : TableRow) → holds schema.now cond.now row ≡ int_eq row.id id) }

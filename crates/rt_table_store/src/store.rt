@@ -279,7 +279,7 @@ impl<const D: usize> Store<D> {
         set_auxiliary(&mut self.auxiliary, &id, auxiliary);
     }
 
-    /// Takes the row of that id out, where there is one. It takes no memory.
+    /// Takes out the row of that id. Where there is none, the store stays. It takes no memory.
     pub fn take(&mut self, id: &i64) -> Option<Entry<D>>
         ensures row { option_map row_of result ≡ row_at self.old.rows id.now }
         ensures none { IfNone result (self.new ≡ self.old) }

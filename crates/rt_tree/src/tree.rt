@@ -392,7 +392,7 @@ impl<const D: usize> Tree<D> {
         work
     }
 
-    /// Takes the row with the id out of the tree, where there is one, and answers its box. It takes no memory.
+    /// Takes the row with the id out of the tree, and answers its box. Where there is none, the tree stays. It takes no memory.
     pub fn take(&mut self, id: &i64) -> Option<Rect<D>>
         ensures none { IfNone result (box_of self.old.lists id.now ≡ None) }
         ensures same { IfNone result (self.new ≡ self.old) }
