@@ -3,7 +3,7 @@
 //! `choices` times nodes of drawn boxes. The nodes here are those that insertions left, filled and overlapping as
 //! in a table.
 
-use crate::tree::{Load, SHAPES, rect_of, time_insertions};
+use crate::tree::{Load, SHAPES, rect_of, rows_of, time_insertions};
 use rt_box::{Capacity, Rect};
 use rt_check::Shadow;
 use rt_tree::Tree;
@@ -108,7 +108,8 @@ pub fn report(rt: &HostRuntime) -> io::Result<()> {
             rows: 100_000,
         };
         let mut tree = Tree::<2>::new(rt.alloc(), RandomState::new(rt)?, capacity)?;
-        let _ = time_insertions(rt, &mut tree, load)?;
+        let rows = rows_of(rt.alloc(), load)?;
+        let _ = time_insertions(rt, &mut tree, rows.as_slice())?;
         let shadow = tree.shadow(rt.alloc(), RandomState::new(rt)?)?;
         let nodes = nodes_above(rt.alloc(), &shadow)?;
         let (time, sum) = time_choices(rt, rt.alloc(), nodes.as_slice(), load)?;

@@ -3,7 +3,8 @@
 //! `bench/` does the same work on Boost.Geometry and by the C calls. Times are nanoseconds a call. Searches are timed twice:
 //! for some ten rows, and for a hundredth of all rows.
 
-ghost use Rattle.std.specs.Prelude.{◌≤◌};
+ghost use Rattle.std.specs.Prelude.{◌≡◌, ◌≤◌, ℤ, None};
+ghost use Rattle.rt_tree.specs.Rows.{box_of};
 
 use rt_box::{Capacity, Operator, Rect, Window};
 use rt_tree::{Row, Tree};
@@ -164,26 +165,40 @@ fn share<R: Clock>(rt: &R, start: &Instant, calls: u64) -> io::Result<u128> {
     Ok(start.elapsed(rt)?.as_nanos() / u128::from(calls.max(1)))
 }
 
-pub(crate) fn time_insertions<R: Clock, const D: usize>(
-    rt: &R,
-    tree: &mut Tree<D>,
-    load: Load,
-) -> io::Result<u128>
+/// The rows, drawn before the clock starts. Their ids count up from 1.
+pub(crate) fn rows_of<const D: usize>(alloc: Global, load: Load) -> Result<Vec<Row<D>>, AllocError>
     requires some { 1 ≤ D }
     requires few { D ≤ 3 }
 {
-    let start = Instant::now(rt)?;
+    let mut rows = Vec::new(alloc);
     for row in 1..=load.rows {
         let id = i64::try_from(row).unwrap_or(0);
-        let Some(rect) = rect_of(load.shape, row, 0) else {
-            continue;
-        };
-        tree.reserve(1)?;
-        if tree.get(&id).is_none() && tree.spare() > 0 && tree.len() < MOST_ROWS_OF_A_TREE {
-            let _ = tree.insert(&id, &rect);
+        if let Some(rect) = rect_of(load.shape, row, 0) {
+            rows.push(Row { rect, id })?;
         }
     }
-    share(rt, &start, load.rows)
+    Ok(rows)
+}
+
+/// The nanoseconds of an insertion of a row into a tree without rows.
+pub(crate) fn time_insertions<R: Clock, const D: usize>(
+    rt: &R,
+    tree: &mut Tree<D>,
+    rows: &[Row<D>],
+) -> io::Result<u128>
+    requires { (id : ℤ) → box_of tree.old.lists id ≡ None }
+{
+    let start = Instant::now(rt)?;
+    let mut last = 0;
+    for row in rows {
+        tree.reserve(1)?;
+        // The ids rise, so that none of them is taken.
+        if row.id > last && tree.spare() > 0 && tree.len() < MOST_ROWS_OF_A_TREE {
+            let _ = tree.insert(&row.id, &row.rect);
+            last = row.id;
+        }
+    }
+    share(rt, &start, rows.len() as u64)
 }
 
 /// The row that comes at a place, when all rows come in a scattered order.
@@ -298,7 +313,8 @@ fn measure<R: Clock, const D: usize>(
         unreachable!()
     };
     let mut tree = Tree::<D>::new(alloc, keys, capacity)?;
-    let insert = time_insertions(rt, &mut tree, load)?;
+    let rows = rows_of(alloc, load)?;
+    let insert = time_insertions(rt, &mut tree, rows.as_slice())?;
     let nodes = tree.node_count();
     let look_up = time_look_ups(rt, &tree, load)?;
     let hundredth = load.rows / 100 + 1;

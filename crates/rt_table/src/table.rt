@@ -4,7 +4,7 @@
 //! `commit` can't fail. Where nobody watches, a DELETE by id goes in one, since nothing can refuse it. Contracts see a
 //! table as `Held` (`specs/Held.antt`).
 
-ghost use Rattle.std.specs.Prelude.{◌≡◌, ◌≤◌, ◌<◌, List, [], not, map, filter, length, position, nat_lt, Ok, IfSome, IfOk, IfErr, OnOk, OnErr};
+ghost use Rattle.std.specs.Prelude.{◌≡◌, ◌≤◌, ◌<◌, List, [], not, map, filter, length, position, nat_lt, false, Ok, IfSome, IfNone, IfOk, IfErr, OnOk, OnErr};
 ghost use Rattle.std.specs.List.{list_any};
 ghost use Rattle.rt_box.specs.declared.interval.Interval.{Interval};
 ghost use Rattle.rt_sql_statement.specs.Name.{same_name};
@@ -94,6 +94,9 @@ impl<const D: usize> Table<D> {
     ghost use Rattle.rt_table.specs.Ready.{IsReady};
     ghost use Rattle.rt_table_view.specs.Watching.{change_of};
     ghost use Rattle.rt_table_row.specs.Windows.{IsWindowOf};
+    ghost use Rattle.rt_table_row.specs.Filters.{is_by_id};
+    ghost use Rattle.rt_sql_statement.specs.declared.statement.Test.{Test};
+    ghost use Rattle.rt_sql_statement.specs.declared.statement.Edit.TheVariants.{Delete};
     ghost use Rattle.rt_tree.specs.Lists.{empty_lists};
     ghost use Rattle.rt_table_store.specs.Trees.{Visits};
     ghost use Rattle.rt_table_store.specs.Moves.{FollowsSteps};
@@ -320,6 +323,7 @@ impl<const D: usize> Table<D> {
     fn leaving_id(&self, edit: &Edit) -> Option<i64>
         ensures unwatched { IfSome result (λ _. self.now.lists.views ≡ []) }
         ensures steps { IfSome result (λ id. steps_of edit.now self.now.lists.columns self.now.lists.rows ≡ Ok (leaving self.now.lists.rows id)) }
+        ensures none { IfNone result ((cond : List Test) → edit.now ≡ Delete cond → self.now.lists.views ≡ [] → is_by_id self.now.lists.columns cond ≡ false) }
     {
         let Edit::Delete { cond } = edit else {
             return None;

@@ -1,6 +1,7 @@
 -- A condition whose columns were looked up: each test has the place of the column that it looks at. Source: own.
 use Rattle.std.specs.Prelude.{◌≡◌, ◌⊎◌, ℕ, ◌==◌, Bool, true, false, not, ◌&&◌, List, [], ◌∷◌, map, zip, Some, slice_index_or}
 use Rattle.std.specs.List.{list_all}
+use Rattle.std.specs.Option.{option_map_or}
 use Rattle.rt_sql_statement.specs.declared.value.Value.{Value}
 use Rattle.rt_sql_statement.specs.declared.value.Value.TheVariants.{Null}
 use Rattle.rt_sql_statement.specs.declared.statement.Operator.{Operator}
@@ -67,3 +68,9 @@ is_integer_equality (IsNotNull name) = false
 -- and of the id: its column stands first
 abbrev pub fixes_id : Test × ℕ → Bool
 fixes_id test = test.1 == 0 && is_integer_equality test.0
+
+-- the condition is one such test
+abbrev pub is_by_id : Columns → List Test → Bool
+is_by_id columns [] = false
+is_by_id columns (test ∷ []) = option_map_or (λ place. fixes_id (test, place)) (place_of columns.names (column_of test)) false
+is_by_id columns (test ∷ other ∷ more) = false

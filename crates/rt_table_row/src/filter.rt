@@ -7,7 +7,7 @@ ghost use Rattle.std.specs.Prelude.{◌≡◌, zip, true, false, IfSome, IfNone,
 ghost use Rattle.std.specs.List.{list_all, list_any};
 ghost use Rattle.std.specs.Ordering.{int_eq};
 ghost use Rattle.rt_table_row.specs.Conditions.{column_of, has_columns, holds};
-ghost use Rattle.rt_table_row.specs.Filters.{value_passes, passes_at, fixes_id, places_at, ArePlaces, IsFilterOf, IsUnknown};
+ghost use Rattle.rt_table_row.specs.Filters.{value_passes, passes_at, fixes_id, is_by_id, places_at, ArePlaces, IsFilterOf, IsUnknown};
 ghost use Rattle.rt_table_row.specs.Windows.{is_said};
 ghost use Rattle.rt_table_row.specs.Entries.{view_row, field_value};
 ghost use Rattle.rt_table_row.specs.Rows.{TableRow};
@@ -255,10 +255,11 @@ impl Filter {
 }
 
 /// The id that is all a condition over these columns asks for, where its only test compares the id with an integer by `=`. The
-/// condition then holds of the row that has the id, and of no other. `None` says nothing of the condition.
+/// condition then holds of the row that has the id, and of no other.
 pub fn lone_id(schema: &Schema, cond: &Cond) -> Option<i64>
     ensures known { IfSome result (λ _. has_columns schema.now cond.now ≡ true) }
     ensures exact { IfSome result (λ id. (row : TableRow) → holds schema.now cond.now row ≡ int_eq row.id id) }
+    ensures none { IfNone result (is_by_id schema.now cond.now ≡ false) }
 {
     let [test] = cond.as_slice() else {
         return None;

@@ -2,23 +2,18 @@
 //!
 //! A call that writes changes the node at its key and no other (`Changes` in `specs/Changes.antt`).
 
-ghost use Rattle.std.specs.Prelude.{◌≡◌, ℕ, ◌+◌, ◌^◌, ◌<◌, ◌≤◌, All, None, Some, IsSome, [], ◌∷◌, ◌++◌, length, slice_set, slice_get, remove, IsTrue, ◌-◌};
+ghost use Rattle.std.specs.Prelude.{◌≡◌, ℕ, ◌+◌, ◌^◌, ◌<◌, ◌≤◌, All, None, Some, [], ◌∷◌, ◌++◌, length, slice_set, remove};
 ghost use Rattle.slab.specs.Slab.{get, ContainsKey, HasRoomFor, Updates, slab_len};
 ghost use Rattle.rt_box.specs.Rect.{IsBox};
 ghost use Rattle.rt_tree_node.specs.Places.{cells_at, hull_at, picked};
 ghost use Rattle.rt_tree_node.specs.Changes.{Changes};
-ghost use Rattle.std.specs.Ordering.{int_eq};
-ghost use Rattle.indexmap.specs.IndexMap.{IsUnique, get as leaf_of, index_map_len};
-ghost use Rattle.rt_tree_node.specs.Homes.{Moves};
 
 use crate::cell::Cell;
 use crate::key::Key;
 use crate::node::Node;
-use indexmap::IndexMap;
 use rt_box::Rect;
 use rt_tree_choice::hull_of;
 use slab::Slab;
-use std::hash::RandomState;
 use std::mem;
 
 /// A law: the keys of the nodes are below the slab's capacity, and its places can be counted in 64 bits. The call does
@@ -101,47 +96,6 @@ pub fn remove_cell<const D: usize>(nodes: &mut Slab<Node<D>>, key: Key, at: usiz
 {
     let node = &mut nodes[key.index()];
     node.remove(at);
-}
-
-/// A law: no id stands twice in the map of leaves. The call does nothing.
-#[inline]
-pub fn leaves_facts(leaves: &IndexMap<i64, Key, RandomState>)
-    ensures { IsUnique int_eq leaves.now }
-{
-    let _ = leaves.len();
-}
-
-fn is_same_id(own: &i64, other: &i64) -> bool
-    ensures { result ≡ int_eq own.now other.now }
-{
-    own == other
-}
-
-/// Whether the id stands last in the map, as that of a row that has just come.
-#[inline]
-fn is_last(leaves: &IndexMap<i64, Key, RandomState>, id: &i64) -> bool
-    ensures { IsTrue result → (leaf : ℕ) × (slice_get leaves.now.entries (index_map_len leaves.now - 1) ≡ Some (id.now, leaf)) }
-{
-    match leaves.last() {
-        Some((last, _)) => is_same_id(last, id),
-        None => false,
-    }
-}
-
-/// Notes the leaf that a row lies in now. The id of a row that has just come isn't looked up.
-pub fn set_leaf(leaves: &mut IndexMap<i64, Key, RandomState>, id: &i64, leaf: Key)
-    requires { IsSome (leaf_of int_eq leaves.old id.now) }
-    ensures { Moves leaves.old leaves.new id.now leaf }
-{
-    if is_last(leaves, id) {
-        if let Some(place) = leaves.last_mut() {
-            *place = leaf;
-        }
-        return;
-    }
-    if let Some(place) = leaves.get_mut(id) {
-        *place = leaf;
-    }
 }
 
 /// Takes out all cells: answers the node as it was, and leaves one without cells in its place.

@@ -15,13 +15,15 @@ mod access;
 mod arena;
 mod cell;
 mod key;
+mod leaves;
 mod node;
 
 pub use access::{
-    add_cell, add_cells, add_node, hull_at, leaves_facts, node_at, remove_cell, remove_node,
-    set_cell, set_leaf, set_parent, slab_facts, take_cells,
+    add_cell, add_cells, add_node, hull_at, node_at, remove_cell, remove_node, set_cell,
+    set_parent, slab_facts, take_cells,
 };
 pub use arena::{Arena, Work};
 pub use cell::{Cell, Waiting, key_of, number_of};
 pub use key::Key;
+pub use leaves::{find_leaf, leaves_facts, set_leaf};
 pub use node::{MOST_CELLS, Node};

@@ -9,7 +9,7 @@ ghost use Rattle.rt_tree_node.specs.Whole.{IsWhole};
 ghost use Rattle.rt_tree_remove.specs.Steps.{IsLocationOf};
 
 use rt_box::Rect;
-use rt_tree_node::{Arena, Key, node_at};
+use rt_tree_node::{Arena, Key, find_leaf, node_at};
 
 /// Where a row lies, until the tree changes.
 #[derive(Clone, Copy)]
@@ -32,12 +32,12 @@ pub fn find_row<const D: usize>(tree: &Arena<D>, id: &i64) -> Option<Location<D>
     requires idle { tree.now.waiting.items ≡ [] }
     ensures { MatchOption result (leaf_of int_eq tree.now.leaves id.now ≡ None) (IsLocationOf tree.now id.now) }
 {
-    let (index, _, leaf) = tree.leaves.get_full(id)?;
-    let node = node_at(&tree.nodes, *leaf);
+    let (index, leaf) = find_leaf(&tree.leaves, id)?;
+    let node = node_at(&tree.nodes, leaf);
     let at = node.position(id);
     Some(Location {
         index,
-        leaf: *leaf,
+        leaf,
         at,
         rect: node.cell(at).rect,
     })

@@ -1,11 +1,9 @@
 use Rattle.std.proofs.Common.{◌≡◌, ◌<◌, ◌≤◌, ℕ, ℤ, length, Some, ap, sym, ◌∙◌, rules}
 use Rattle.std.specs.Ordering.{int_eq}
 use Rattle.std.specs.Prelude.{slice_get}
-use Rattle.std.proofs.lemmas.Bool.Decides.{Decides-int_eq}
-use Rattle.std.proofs.lemmas.Map.Made.{lookup_key_passes}
 use Rattle.std.proofs.lemmas.Option.{slice_get-get_or}
 use Rattle.slab.specs.Slab.{ContainsKey}
-use Rattle.indexmap.specs.IndexMap.{get as leaf_of, get_key}
+use Rattle.indexmap.specs.IndexMap.{get as leaf_of}
 use Rattle.rt_tree_node.specs.declared.cell.Cell.{Cell}
 use Rattle.rt_tree_node.specs.Places.{times_listed, cells_of, cells_at}
 use Rattle.rt_tree_remove.proofs.Climbs.{key-there}
@@ -15,7 +13,7 @@ use Rattle.rt_tree_remove.proofs.location.find_row.Goals as goal
 pub node_at-node-requires : goal.node_at-node-requires
 node_at-node-requires g c =
     let t = c.args.tree.now in
-    let leaf = c.in_ok-index.leaf.now in
+    let leaf = c.in_ok-index.leaf in
     let home : leaf_of int_eq t.leaves c.args.id.now ≡ Some leaf = search rules in
     let few : g.row.D ≤ 3 = c.requires.few in
     let here : ContainsKey t.nodes leaf = key-there t.nodes leaf 0 (leaf-level t c.args.id.now leaf c.requires.whole c.requires.idle home) in
@@ -24,7 +22,7 @@ node_at-node-requires g c =
 pub position-at-requires : goal.position-at-requires
 position-at-requires g c =
     let t = c.args.tree.now in
-    let leaf = c.in_ok-index.leaf.now in
+    let leaf = c.in_ok-index.leaf in
     let home : leaf_of int_eq t.leaves c.args.id.now ≡ Some leaf = search rules in
     let few : g.row.D ≤ 3 = c.requires.few in
     search rules
@@ -32,7 +30,7 @@ position-at-requires g c =
 pub cell-requires : goal.cell-requires
 cell-requires g c =
     let t = c.args.tree.now in
-    let leaf = c.in_ok-index.leaf.now in
+    let leaf = c.in_ok-index.leaf in
     let n = c.node_at-node.result.now in
     let home : leaf_of int_eq t.leaves c.args.id.now ≡ Some leaf = search rules in
     let few : g.row.D ≤ 3 = c.requires.few in
@@ -45,23 +43,19 @@ pub returns : goal.returns
 returns g c =
     let t = c.args.tree.now in
     let index = c.in_ok-index.index in
-    let key : ℤ = c.in_ok-index.field-0-1.now in
-    let leaf : ℕ = c.in_ok-index.leaf.now in
+    let leaf : ℕ = c.in_ok-index.leaf in
     let n = c.node_at-node.result.now in
     let at = c.position-at.result in
     let x = c.cell.result in
     let home : leaf_of int_eq t.leaves c.args.id.now ≡ Some leaf = search rules in
-    let stored : get_key int_eq t.leaves c.args.id.now ≡ Some key = search rules in
-    let same : c.args.id.now ≡ key = (Decides-int_eq c.args.id.now key).0 (lookup_key_passes (int_eq c.args.id.now) t.leaves.entries key stored) in
-    let entry : slice_get t.leaves.entries index ≡ Some (key, leaf) = c.in_ok-index.ensures.entry in
+    let entry : slice_get t.leaves.entries index ≡ Some (c.args.id.now, leaf) = c.in_ok-index.ensures.entry in
     let once = sym (ap (λ s. times_listed c.args.id.now (cells_of s)) c.node_at-node.ensures)
     ∙ row-listed t c.args.id.now leaf c.requires.whole c.requires.idle home in
     let found = row-found t.nodes leaf at n c.args.id.now x c.node_at-node.ensures
     (listed-place c.args.id.now n.cells at once c.position-at.ensures.first) c.position-at.ensures.found c.cell.ensures in
     let with_number : ℤ → Cell g.row.D = λ z. record { number = z; rect = x.rect } in
-    let with_key : ℤ → ℤ × ℕ = λ z. (z, leaf) in
     record {
-      entry = entry ∙ ap (λ z. Some (with_key z)) (sym same);
+      entry = entry;
       home = home;
       cell = slice_get-get_or (cells_at t.nodes leaf) at x found.0 ∙ ap Some (found.1 x ∙ ap with_number found.2);
     }
