@@ -16,7 +16,7 @@ use std::hash::RandomState;
 fn forget(leaves: &mut IndexMap<i64, Key, RandomState>, index: usize)
     ensures { (id : ℤ) (leaf : ℕ) → slice_get leaves.old.entries index ≡ Some (id, leaf) → Forgets leaves.old leaves.new id }
 {
-    // The index is known, so the id isn't hashed again.
+    // The index is known, so the id isn't looked up again.
     let _ = leaves.swap_remove_index(index);
 }
 
