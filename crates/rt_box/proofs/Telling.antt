@@ -1,12 +1,14 @@
 -- Lemmas on numbers whose bits tell of a list's elements.
-use Rattle.std.proofs.Common.{◌≡◌, ℕ, zero, suc, ◌+◌, ◌*◌, ◌/◌, ◌%◌, ◌^◌, ◌-◌, ◌<◌, ◌≤◌, ◌↔◌, Bool, true, false, IsTrue, List, [], ◌∷◌, ◌++◌, All, length, take, drop, get_or, arith, refl, ap, ap₂, sym, subst, ◌∙◌, inl, inr}
+use Rattle.std.proofs.Common.{◌≡◌, ℕ, zero, suc, ◌+◌, ◌*◌, ◌/◌, ◌%◌, ◌^◌, ◌-◌, ◌<◌, ◌≤◌, ◌↔◌, min, Bool, true, false, IsTrue, List, [], ◌∷◌, ◌++◌, All, length, take, drop, get_or, arith, refl, ap, ap₂, sym, subst, ◌∙◌, inl, inr}
 use Rattle.std.proofs.Math.Nat.{two-pow-succ, pow-suc, mul_assoc}
 use Rattle.std.proofs.lemmas.Nat.{mod-pow-add}
 use Rattle.std.proofs.Math.Pow.{pow_mono}
 use Rattle.std.proofs.lemmas.List.{length-drop, drop-drop, drop_more, length-take-le, take-take, take-append-drop}
-use Rattle.std.proofs.lemmas.List.Elements.{All-cons, All-append, All-drop}
+use Rattle.std.proofs.lemmas.List.Elements.{All-cons, All-head, All-tail, All-append, All-drop}
 use Rattle.std.specs.Int.{from_bool}
 use Rattle.std.proofs.lemmas.Bool.{cases_Bool, iff_false}
+use Rattle.std.specs.Int.Bits.{bit_and}
+use lib.Bits.{and_step, and_self}
 use Rattle.rt_box.specs.Bits.{Tells}
 
 -- what is left of a list from one place on, where the element there and what is left from the next one on are at hand
@@ -47,11 +49,35 @@ pub bit-le : (holds : Bool) (bit : ℕ) → bit ≡ from_bool holds → bit ≤ 
 bit-le true bit e = omega (arith, e)
 bit-le false bit e = omega (arith, e)
 
+-- what is left where the lowest set bit is cleared: half of it, by the lowest bit
+pub cleared-odd : (n : ℕ) → n % 2 ≡ 1 → (bit_and n (n - 1) % 2 ≡ 0) × (bit_and n (n - 1) / 2 ≡ n / 2)
+cleared-odd n odd =
+    let half : (n - 1) / 2 ≡ n / 2 = omega (arith, odd) in
+    let low : min (n % 2) ((n - 1) % 2) ≡ 0 = omega (arith, odd) in
+    let is : bit_and n (n - 1) ≡ n / 2 * 2 + 0 = and_step n (n - 1) ∙ ap₂ (λ u v. u * 2 + v) (ap (bit_and (n / 2)) half ∙ and_self (n / 2)) low in
+    (omega (arith, is), omega (arith, is))
+
+pub cleared-even : (n : ℕ) → n % 2 ≡ 0 → 0 < n → (bit_and n (n - 1) % 2 ≡ 0) × (bit_and n (n - 1) / 2 ≡ bit_and (n / 2) (n / 2 - 1))
+cleared-even n even some =
+    let half : (n - 1) / 2 ≡ n / 2 - 1 = omega (arith, even, some) in
+    let low : min (n % 2) ((n - 1) % 2) ≡ 0 = omega (arith, even) in
+    let is : bit_and n (n - 1) ≡ bit_and (n / 2) (n / 2 - 1) * 2 + 0 = and_step n (n - 1) ∙ ap₂ (λ u v. u * 2 + v) (ap (bit_and (n / 2)) half) low in
+    (omega (arith, is), omega (arith, is))
+
 module _ {X : Type 0} (P : X → Type 0) where
   -- no bit stands for more than the list has
   pub Tells-below : (xs : List X) (bits : ℕ) → Tells P xs bits → bits < 2 ^ length xs
   Tells-below [] bits none = omega (arith, none)
   Tells-below (x ∷ xs) bits told = omega (arith, Tells-below xs (bits / 2) told.1, two-pow-succ (length xs))
+
+  -- the bits tell of another property, too, which the elements have as they have this one
+  pub Tells-alike : (Q In : X → Type 0) → ((x : X) → In x → P x ↔ Q x) → (xs : List X) (bits : ℕ) → All In xs → Tells P xs bits → Tells Q xs bits
+  Tells-alike Q In alike [] bits are none = none
+  Tells-alike Q In alike (x ∷ xs) bits are told =
+      let here = alike x (All-head In x xs are) in (
+        (λ o. here.0 (told.0.0 o), λ h. told.0.1 (here.1 h)),
+        Tells-alike Q In alike xs (bits / 2) (All-tail In x xs are) told.1,
+      )
 
   pub Tells-room : (xs : List X) (at k bits : ℕ) → Tells P (drop at xs) bits → k ≤ at → length xs ≤ 64 → bits < 2 ^ (64 - k)
   Tells-room xs at k bits told from few =

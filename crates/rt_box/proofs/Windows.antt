@@ -11,9 +11,9 @@ use Rattle.rt_box.specs.declared.window.Ends.{Ends}
 use Rattle.rt_box.specs.Interval.{interval, Includes, Covers, FitsEnds}
 use Rattle.rt_box.specs.Operators.{Keeps}
 use Rattle.rt_box.specs.Rect.{IsBox, Holds}
-use Rattle.rt_box.specs.Ends.{in_order, paired_up, paired_up-in_order, AdmitsSide, AdmitsAxis, AdmitsWithinSide, MayHoldSide, Reaches, HasCore}
+use Rattle.rt_box.specs.Ends.{in_order, paired_up, paired_up-in_order, AdmitsSide, AdmitsAxis, AreAround, AdmitsWithinSide, MayHoldSide, Reaches, HasCore}
 use Rattle.rt_box.proofs.Made.{IsOrdered}
-use Rattle.rt_box.specs.Window.{Allows, IsUnlimited, Narrows, Admits, AdmitsWithin, MayHold, IsReach, IsCore}
+use Rattle.rt_box.specs.Window.{Allows, IsUnlimited, IsAround, Narrows, Admits, AdmitsWithin, MayHold, IsReach, IsCore}
 
 -- two windows are equal exactly where their pairs are
 pub pointwise-paired_up : (same : Ends → Ends → Bool) (xs ys : List Ends) (v w : List Interval) (r : Bool) →
@@ -329,4 +329,41 @@ IsCore-all axes es cs window window_is es_long cs_long cores b is =
       (λ within. Admits-from_sides cs b (omega (arith, cs_long, is.axes_are))
           (λ i r d l. (core i r r d (omega (arith, cs_long, l))).1
           (AdmitsWithin-side axes es window b i r d window_is (omega (arith, es_long, cs_long, l)) (omega (arith, cs_long, is.axes_are, l)) is within))),
+    )
+
+-- ---- a window whose ends are around the sides of a box admits the boxes that hold it
+
+admitted-holds : (es : List Ends) (b outer : List Interval) → length es ≡ length b → length outer ≡ length b → All FitsEnds outer →
+    ((i : ℕ) (e : Ends) (d : Interval) → i < length es → AreAround (get_or b i d) (get_or es i e)) → Admits (in_order es) outer → Holds outer b
+admitted-holds [] [] [] same same_outer fits around admitted = tt
+admitted-holds [] [] (y ∷ outer) same same_outer fits around admitted = absurd (omega arith)
+admitted-holds [] (x ∷ b) outer same same_outer fits around admitted = absurd (omega arith)
+admitted-holds (e ∷ es) [] outer same same_outer fits around admitted = absurd (omega arith)
+admitted-holds (e ∷ es) (x ∷ b) [] same same_outer fits around admitted = absurd (omega arith)
+admitted-holds (e ∷ es) (x ∷ b) (y ∷ outer) same same_outer fits around admitted = (
+  (around 0 e x (omega arith) y (All-head FitsEnds y outer fits)).0 (admitted.0, admitted.1.0),
+  admitted-holds es b outer (omega arith) (omega arith) (All-tail FitsEnds y outer fits) (λ i f d l. around (suc i) f d (omega arith)) admitted.1.1,
+)
+
+holds-admitted : (es : List Ends) (b outer : List Interval) → length es ≡ length b → length outer ≡ length b → All FitsEnds outer →
+    ((i : ℕ) (e : Ends) (d : Interval) → i < length es → AreAround (get_or b i d) (get_or es i e)) → Holds outer b → Admits (in_order es) outer
+holds-admitted [] [] [] same same_outer fits around holds = tt
+holds-admitted [] [] (y ∷ outer) same same_outer fits around holds = absurd (omega arith)
+holds-admitted [] (x ∷ b) outer same same_outer fits around holds = absurd (omega arith)
+holds-admitted (e ∷ es) [] outer same same_outer fits around holds = absurd (omega arith)
+holds-admitted (e ∷ es) (x ∷ b) [] same same_outer fits around holds = absurd (omega arith)
+holds-admitted (e ∷ es) (x ∷ b) (y ∷ outer) same same_outer fits around holds =
+    let here = (around 0 e x (omega arith) y (All-head FitsEnds y outer fits)).1 holds.0 in (
+      here.0,
+      (here.1, holds-admitted es b outer (omega arith) (omega arith) (All-tail FitsEnds y outer fits) (λ i f d l. around (suc i) f d (omega arith)) holds.1),
+    )
+
+pub IsAround-all : (axes : ℕ) (es : List Ends) (b : List Interval) → length es ≡ axes → length b ≡ axes →
+    ((i : ℕ) (e : Ends) (d : Interval) → i < axes → AreAround (get_or b i d) (get_or es i e)) → IsAround axes b (in_order es)
+IsAround-all axes es b es_long b_long around outer is =
+    let same : length es ≡ length b = omega (arith, es_long, b_long) in
+    let same_outer : length outer ≡ length b = omega (arith, is.axes_are, b_long) in
+    let each : (i : ℕ) (e : Ends) (d : Interval) → i < length es → AreAround (get_or b i d) (get_or es i e) = λ i e d l. around i e d (omega (arith, es_long, l)) in (
+      (λ admitted. admitted-holds es b outer same same_outer is.fits each admitted),
+      (λ holds. holds-admitted es b outer same same_outer is.fits each holds),
     )

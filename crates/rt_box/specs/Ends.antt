@@ -27,6 +27,10 @@ AdmitsSide e side = Includes e.lo side.lo × Includes e.hi side.hi
 abbrev pub AdmitsAxis : List Ends → List Interval → ℕ → Type 0
 AdmitsAxis es b axis = (e : Ends) (d : Interval) → AdmitsSide (slice_index_or es axis e) (slice_index_or b axis d)
 
+-- exactly the sides are admitted that cover the interval
+abbrev pub AreAround : Interval → Ends → Type 0
+AreAround inner e = (side : Interval) → FitsEnds side → (AdmitsSide e side ↔ Covers side inner)
+
 -- each interval within the side is admitted: either end may be any number of the side
 abbrev pub AdmitsWithinSide : Ends → Interval → Type 0
 AdmitsWithinSide e side = Covers e.lo side × Covers e.hi side

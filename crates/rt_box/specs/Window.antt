@@ -29,6 +29,10 @@ pub record Narrows (old new : List Interval) (coordinate : ℕ) (op : Operator) 
 abbrev pub Admits : List Interval → List Interval → Type 0
 Admits window b = AllZip Includes window (coordinates b)
 
+-- the window admits exactly the boxes that hold the box
+abbrev pub IsAround : ℕ → List Interval → List Interval → Type 0
+IsAround axes b window = (outer : List Interval) → IsBox axes outer → (Admits window outer ↔ Holds outer b)
+
 -- some box that lies in b is admitted
 abbrev pub MayHold : ℕ → List Interval → List Interval → Type 0
 MayHold axes window b = (inner : List Interval) × IsBox axes inner × Holds b inner × Admits window inner

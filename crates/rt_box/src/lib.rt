@@ -5,7 +5,7 @@
 //!   states the bound that sums of it need.
 //! - `Window` holds what a search asks of each coordinate. It admits a box exactly where all of its
 //!   comparisons but `<>` hold, its `reach` exactly the boxes into which an admitted box fits, and its `core` those into
-//!   which only admitted boxes fit.
+//!   which only admitted boxes fit. The one `around` a box admits the boxes that hold it.
 //! - `Capacity` is the greatest number of cells in a node, with the two numbers that follow from it.
 //! - `laws` states what searching and splitting rest on, over the definitions that the contracts cite.
 //!

@@ -6,9 +6,9 @@
 ghost use Rattle.std.specs.Prelude.{◌≡◌, ◌+◌, ◌*◌, ◌<◌, ◌≤◌, ◌↔◌, IsTrue, All, [], ◌∷◌, take, drop, length};
 ghost use Rattle.rt_box.specs.declared.interval.Interval.{Interval};
 ghost use Rattle.rt_box.specs.Bits.{Tells, AreLanes, IsClear, Halves};
-ghost use Rattle.rt_box.specs.Ends.{AdmitsSide, AdmitsAxis, Reaches, HasCore};
+ghost use Rattle.rt_box.specs.Ends.{AdmitsSide, AdmitsAxis, AreAround, Reaches, HasCore};
 ghost use Rattle.rt_box.specs.Rect.{IsBox};
-ghost use Rattle.rt_box.specs.Window.{IsUnlimited, Narrows, Admits, MayHold, IsReach, IsCore};
+ghost use Rattle.rt_box.specs.Window.{IsUnlimited, IsAround, Narrows, Admits, MayHold, IsReach, IsCore};
 
 use crate::interval::Interval;
 use crate::operator::Operator;
@@ -67,6 +67,22 @@ impl Ends {
         Ends {
             lo: Interval::EMPTY,
             hi: Interval::EMPTY,
+        }
+    }
+
+    /// What the ends of a side are where it covers an interval: it begins no later, and ends no sooner.
+    fn around(inner: &Interval) -> Ends
+        ensures { AreAround inner.now result }
+    {
+        Ends {
+            lo: Interval {
+                lo: i32::MIN,
+                hi: inner.lo,
+            },
+            hi: Interval {
+                lo: inner.hi,
+                hi: i32::MAX,
+            },
         }
     }
 
@@ -176,6 +192,22 @@ impl<const D: usize> Window<D> {
                 hi: Interval::ALL,
             }; D],
         }
+    }
+
+    /// The window that admits the boxes that hold this one.
+    #[inline]
+    pub fn around(rect: &Rect<D>) -> Window<D>
+        ensures { IsAround D rect.now result }
+    {
+        rect.facts();
+        let mut axes = [Ends {
+            lo: Interval::ALL,
+            hi: Interval::ALL,
+        }; D];
+        for axis in 0..D {
+            axes[axis] = Ends::around(rect.side(axis));
+        }
+        Window { axes }
     }
 
     /// Takes the numbers from a coordinate of which the comparison with `value` doesn't hold; `<>` takes

@@ -1,9 +1,10 @@
 -- Cells that hold the new box, and those that don't: where it has an area, the former alone don't grow.
-use Rattle.std.proofs.Common.{◌≡◌, inl, inr, ℕ, zero, suc, get_or, ◌+◌, ◌*◌, ◌<◌, ◌≤◌, ℤ, pos, negsuc, ◌≤ℤ◌, ◌-ℤ◌, Option, None, Some, MatchOption, IfSome, is_some, true, false, List, [], ◌∷◌, length, All, arith, ap, ◌∙◌, sym, subst, refl}
+use Rattle.std.proofs.Common.{◌≡◌, ◌⊎◌, inl, inr, ℕ, zero, suc, get_or, ◌+◌, ◌-◌, ◌*◌, ◌<◌, ◌≤◌, ℤ, pos, negsuc, ◌≤ℤ◌, ◌-ℤ◌, false, List, [], ◌∷◌, length, All, arith, ap, ◌∙◌, sym, subst, refl}
 use Rattle.std.proofs.Math.Nat.{mul-le-mul, mul-lt-mul_of_pos_left, mul-lt-mul_of_pos_right}
-use Rattle.std.proofs.lemmas.Bool.{cases_eq, cases_lt, false≢true}
+use Rattle.std.proofs.lemmas.Bool.{cases_lt}
 use Rattle.std.proofs.lemmas.Int.{ints, clamps}
-use Rattle.std.proofs.lemmas.List.{get_or_read}
+use Rattle.std.proofs.lemmas.List.{get_or_default, get_or_read}
+use Rattle.std.specs.Int.Bits.{bit_and}
 use Rattle.std.proofs.lemmas.List.Elements.{All-tail}
 use Rattle.rt_box.specs.declared.interval.Interval.{Interval}
 use Rattle.rt_box.specs.Interval.{Covers, or_zero, side, cover}
@@ -12,8 +13,9 @@ use Rattle.rt_box.proofs.Intervals.{side-le}
 use Rattle.rt_box.proofs.Holding.{area-le, area-le-union, Holds-union_right}
 use Rattle.rt_tree_choice.specs.Hull.{box_at}
 use Rattle.rt_tree_choice.specs.Subtree.{area_enlargement, IsBestChild}
-use Rattle.rt_tree_choice.specs.Costs.{growths}
+use Rattle.rt_tree_choice.specs.Costs.{growths, HoldersStay}
 use Rattle.rt_tree_choice.specs.Keys.{Less, IsLeast}
+use Rattle.rt_tree_choice.proofs.Bits.{TellsFrom, IsNext, none-left}
 use Rattle.rt_tree_choice.proofs.Growth.{union-holder}
 use Rattle.rt_tree_choice.proofs.Keys.{ranked, IsLeast-takes, IsLeast-keeps}
 
@@ -72,89 +74,143 @@ holder-growths boxes new i a cell within cell_is holds a_is =
     let still : 0 ≡ area_enlargement cell new = omega (arith, ap area (union-holder cell new holds)) in
     ap (λ n. 0 ∷ n ∷ []) a_is ∙ ap (λ n. n ∷ area cell ∷ []) still ∙ ap (λ b. area_enlargement b new ∷ area b ∷ []) here
 
--- a cell that doesn't hold the new box grows
+-- a cell that doesn't hold the new box grows, where either of them has an area
 pub other-grows : (axes : ℕ) (boxes : List (List Interval)) (new : List Interval) (i : ℕ) (cell : List Interval) → i < length boxes →
-    cell ≡ get_or boxes i cell → IsBox axes cell → IsBox axes new → 0 < area new → ¬ Holds cell new → 0 < area_enlargement (box_at boxes i) new
+    cell ≡ get_or boxes i cell → IsBox axes cell → IsBox axes new → (0 < area new) ⊎ (0 < area cell) → ¬ Holds cell new →
+    0 < area_enlargement (box_at boxes i) new
 other-grows axes boxes new i cell within cell_is is_cell is_new some outside =
     let here : cell ≡ box_at boxes i = get_or_read boxes i cell within cell_is _ in
     let same : length cell ≡ length new = omega (arith, is_cell.axes_are, is_new.axes_are) in
-    let wide : 0 < area (union_box cell new) = omega (arith, area-le (union_box cell new) new (Holds-union_right cell new same)) in
+    let wide : 0 < area (union_box cell new) = elim some [
+      | inl new_some ↦ omega (arith, new_some, area-le (union_box cell new) new (Holds-union_right cell new same))
+      | inr cell_some ↦ omega (arith, cell_some, area-le-union cell new same)
+    ] in
     let grows : 0 < area_enlargement cell new = elim (cases_lt (area cell) (area (union_box cell new))) [
       | inl less ↦ omega arith
       | inr no_less ↦ absurd (outside (holds-unchanged cell new same is_cell.ordered wide (omega (arith, area-le-union cell new same))))
     ] in
     subst (λ b. 0 < area_enlargement b new) here grows
 
+-- either has one, where the cells that hold the new box are those that don't grow
+one-solid : (boxes : List (List Interval)) (new : List Interval) (k : ℕ) (d : List Interval) → HoldersStay boxes new → k < length boxes →
+    (0 < area new) ⊎ (0 < area (get_or boxes k d))
+one-solid boxes new k d (inl some) within = inl some
+one-solid boxes new k d (inr each) within = inr (each k d within)
+
 -- ---- the least of the cells that hold the new box, up to the cell at n
 pub record IsLeastHolder (boxes : List (List Interval)) (new : List Interval) (n least best : ℕ) : Type 0 where
   pub growths_are : 0 ∷ least ∷ [] ≡ growths boxes new best
   pub least_so_far : IsLeast (ranked (growths boxes new)) 0 n best
 
-abbrev pub IsHolderSoFar : List (List Interval) → List Interval → ℕ → ℕ → Option ℕ → Type 0
-IsHolderSoFar boxes new n least best = MatchOption best
-    ((k : ℕ) → k < n → 0 < area_enlargement (box_at boxes k) new)
-    (λ b. IsLeastHolder boxes new n least b)
-
 no_less : (least area : ℕ) → least ≤ area → ¬ Less (0 ∷ area ∷ []) (0 ∷ least ∷ [])
 no_less least area more (inl l) = omega arith
 no_less least area more (inr e) = elim e.1 [ inl l ↦ absurd (omega arith) | inr z ↦ z.1 ]
 
-more-first : (m x y : ℕ) → 0 < m → ¬ Less (m ∷ x ∷ []) (0 ∷ y ∷ [])
-more-first m x y some (inl l) = omega arith
-more-first m x y some (inr e) = omega arith
-
--- the cell at n doesn't hold it
-pub passes-other : (boxes : List (List Interval)) (new : List Interval) (n least : ℕ) (best : Option ℕ) →
-    0 < area_enlargement (box_at boxes n) new → IsHolderSoFar boxes new n least best → IsHolderSoFar boxes new (n + 1) least best
-passes-other boxes new n least None grows h = λ k below. elim (cases_eq k n) [
-  | inl same ↦ subst (λ j. 0 < area_enlargement (box_at boxes j) new) (sym same) grows
-  | inr other ↦ h k (omega arith)
-]
-passes-other boxes new n least (Some b) grows h = record {
-  growths_are = h.growths_are;
-  least_so_far = IsLeast-keeps (growths boxes new) 0 n b h.least_so_far refl
-      (subst (λ g. ¬ Less (growths boxes new n) g) h.growths_are
-      (more-first (area_enlargement (box_at boxes n) new) (area (box_at boxes n)) least grows));
-}
-
--- it does, and is the first, or its area is less than the least so far
-pub takes-holder : (boxes : List (List Interval)) (new : List Interval) (n least area : ℕ) (best : Option ℕ) →
-    0 ∷ area ∷ [] ≡ growths boxes new n → IfSome best (λ b. area < least) → IsHolderSoFar boxes new n least best →
-    IsHolderSoFar boxes new (n + 1) area (Some n)
-takes-holder boxes new n least area None growths_are less h = record {
+-- the first one
+pub first-holder : (boxes : List (List Interval)) (new : List Interval) (at area : ℕ) → 0 ∷ area ∷ [] ≡ growths boxes new at →
+    ((k : ℕ) → k < at → 0 < area_enlargement (box_at boxes k) new) → IsLeastHolder boxes new (at + 1) area at
+first-holder boxes new at area growths_are others = record {
   growths_are = growths_are;
   least_so_far = record {
     from_low = omega arith;
     below_high = omega arith;
-    least = λ k above below other. inl (omega (arith, ap (λ xs. get_or xs 0 0) growths_are, h k (omega arith)));
+    least = λ k above below other. inl (omega (arith, ap (λ xs. get_or xs 0 0) growths_are, others k (omega (arith, below, other))));
   };
 }
-takes-holder boxes new n least area (Some b) growths_are less h = record {
+
+-- cells that don't hold it
+pub passes-others : (boxes : List (List Interval)) (new : List Interval) (n m least best : ℕ) → n ≤ m →
+    ((k : ℕ) → n ≤ k → k < m → 0 < area_enlargement (box_at boxes k) new) → IsLeastHolder boxes new n least best → IsLeastHolder boxes new m least best
+passes-others boxes new n m least best up others h = record {
+  growths_are = h.growths_are;
+  least_so_far = record {
+    from_low = omega arith;
+    below_high = omega (arith, up, h.least_so_far.below_high);
+    least = λ k above below other. elim (cases_lt k n) [
+      | inl before ↦ h.least_so_far.least k above before other
+      | inr after ↦ inl (omega (arith, ap (λ xs. get_or xs 0 0) h.growths_are, others k (omega (arith, after)) below))
+    ];
+  };
+}
+
+-- one whose area is less than the least so far
+pub takes-holder : (boxes : List (List Interval)) (new : List Interval) (n least area best : ℕ) → 0 ∷ area ∷ [] ≡ growths boxes new n → area < least →
+    IsLeastHolder boxes new n least best → IsLeastHolder boxes new (n + 1) area n
+takes-holder boxes new n least area best growths_are less h = record {
   growths_are = growths_are;
-  least_so_far = IsLeast-takes (growths boxes new) 0 n b h.least_so_far
-      (subst (λ x. Less x (growths boxes new b)) growths_are (subst (λ y. Less (0 ∷ area ∷ []) y) h.growths_are (inr (refl, inl less))));
+  least_so_far = IsLeast-takes (growths boxes new) 0 n best h.least_so_far
+      (subst (λ x. Less x (growths boxes new best)) growths_are (subst (λ y. Less (0 ∷ area ∷ []) y) h.growths_are (inr (refl, inl less))));
 }
 
 -- or isn't
-pub keeps-holder : (boxes : List (List Interval)) (new : List Interval) (n least area : ℕ) (best : Option ℕ) →
-    0 ∷ area ∷ [] ≡ growths boxes new n → is_some best ≡ true → least ≤ area → IsHolderSoFar boxes new n least best →
-    IsHolderSoFar boxes new (n + 1) least best
-keeps-holder boxes new n least area None growths_are some more h = absurd (false≢true some)
-keeps-holder boxes new n least area (Some b) growths_are some more h = record {
+pub keeps-holder : (boxes : List (List Interval)) (new : List Interval) (n least area best : ℕ) → 0 ∷ area ∷ [] ≡ growths boxes new n → least ≤ area →
+    IsLeastHolder boxes new n least best → IsLeastHolder boxes new (n + 1) least best
+keeps-holder boxes new n least area best growths_are more h = record {
   growths_are = h.growths_are;
-  least_so_far = IsLeast-keeps (growths boxes new) 0 n b h.least_so_far refl
-      (subst (λ x. ¬ Less x (growths boxes new b)) growths_are (subst (λ y. ¬ Less (0 ∷ area ∷ []) y) h.growths_are (no_less least area more)));
+  least_so_far = IsLeast-keeps (growths boxes new) 0 n best h.least_so_far refl
+      (subst (λ x. ¬ Less x (growths boxes new best)) growths_are (subst (λ y. ¬ Less (0 ∷ area ∷ []) y) h.growths_are (no_less least area more)));
 }
 
-pub no-holder : (least area : ℕ) (best : Option ℕ) → is_some best ≡ false → IfSome best (λ b. area < least)
-no-holder least area None none = tt
-no-holder least area (Some b) some = absurd (false≢true (sym some))
+-- ---- where bits tell which cells hold it
+abbrev pub HoldsNew : List Interval → List Interval → Type 0
+HoldsNew new cell = Holds cell new
 
-pub less-than-holder : (least area : ℕ) (best : Option ℕ) → area < least → IfSome best (λ b. area < least)
-less-than-holder least area None less = tt
-less-than-holder least area (Some b) less = less
+-- the cells up to the one at n have been looked at, and the bits tell of the others
+pub record IsHolderSoFar (boxes : List (List Interval)) (new : List Interval) (rest least best : ℕ) : Type 0 where
+  pub n : ℕ
+  pub few : n ≤ length boxes
+  pub holder : IsLeastHolder boxes new n least best
+  pub told : TellsFrom (HoldsNew new) n boxes rest
 
-pub least-holder_best : (boxes : List (List Interval)) (new : List Interval) (n least : ℕ) (best : Option ℕ) → n ≡ length boxes →
-    IsHolderSoFar boxes new n least best → IfSome best (λ b. IsBestChild false boxes new b)
-least-holder_best boxes new n least None e h = tt
-least-holder_best boxes new n least (Some b) e h = subst (λ (m : ℕ). IsLeast (ranked (growths boxes new)) 0 m b) e h.least_so_far
+module _ (axes : ℕ) (boxes : List (List Interval)) (new : List Interval) (are_boxes : All (IsBox axes) boxes) (is_new : IsBox axes new) (stay : HoldersStay boxes new) where
+  grows : (k : ℕ) → k < length boxes → ((d : List Interval) → ¬ HoldsNew new (get_or boxes k d)) → 0 < area_enlargement (box_at boxes k) new
+  grows k within outside =
+      let cell = get_or boxes k new in
+      other-grows axes boxes new k cell within (get_or_default boxes k new cell within) (are_boxes k new within) is_new (one-solid boxes new k new stay within) (outside new)
+
+  from_next : (bits at : ℕ) → TellsFrom (HoldsNew new) (suc at) boxes bits → TellsFrom (HoldsNew new) (at + 1) boxes bits
+  from_next bits at told = subst (λ (m : ℕ). TellsFrom (HoldsNew new) m boxes bits) {x = suc at} (omega arith) told
+
+  stays : (at least : ℕ) (cell : List Interval) → at < length boxes → cell ≡ get_or boxes at cell → ((d : List Interval) → HoldsNew new (get_or boxes at d)) →
+      least ≡ area cell → 0 ∷ least ∷ [] ≡ growths boxes new at
+  stays at least cell within cell_is holds is =
+      holder-growths boxes new at least cell within cell_is (subst (HoldsNew new) (sym cell_is) (holds cell)) is
+
+  pub begins : (bits at least : ℕ) (cell : List Interval) → IsNext (HoldsNew new) 0 boxes bits at → cell ≡ get_or boxes at cell → least ≡ area cell →
+      IsHolderSoFar boxes new (bit_and bits (bits - 1)) least at
+  begins bits at least cell next cell_is is = record {
+    n = at + 1;
+    few = let h = next.within in omega (arith, h);
+    holder = first-holder boxes new at least (stays at least cell next.within cell_is next.has is)
+        (λ k below. grows k (omega (arith, below, next.within)) (λ d. next.others k d (omega arith) below));
+    told = from_next _ at next.rest;
+  }
+
+  -- the cells between are passed over
+  passed : (rest least best at : ℕ) (h : IsHolderSoFar boxes new rest least best) → IsNext (HoldsNew new) h.n boxes rest at → IsLeastHolder boxes new at least best
+  passed rest least best at h next =
+      passes-others boxes new h.n at least best next.from
+      (λ k above below. grows k (omega (arith, below, next.within)) (λ d. next.others k d above below)) h.holder
+
+  pub takes : (rest least best at area_is : ℕ) (cell : List Interval) (h : IsHolderSoFar boxes new rest least best) → IsNext (HoldsNew new) h.n boxes rest at →
+      cell ≡ get_or boxes at cell → area_is ≡ area cell → area_is < least → IsHolderSoFar boxes new (bit_and rest (rest - 1)) area_is at
+  takes rest least best at area_is cell h next cell_is is less = record {
+    n = at + 1;
+    few = let h = next.within in omega (arith, h);
+    holder = takes-holder boxes new at least area_is best (stays at area_is cell next.within cell_is next.has is) less (passed rest least best at h next);
+    told = from_next _ at next.rest;
+  }
+
+  pub keeps : (rest least best at area_is : ℕ) (cell : List Interval) (h : IsHolderSoFar boxes new rest least best) → IsNext (HoldsNew new) h.n boxes rest at →
+      cell ≡ get_or boxes at cell → area_is ≡ area cell → least ≤ area_is → IsHolderSoFar boxes new (bit_and rest (rest - 1)) least best
+  keeps rest least best at area_is cell h next cell_is is more = record {
+    n = at + 1;
+    few = let h = next.within in omega (arith, h);
+    holder = keeps-holder boxes new at least area_is best (stays at area_is cell next.within cell_is next.has is) more (passed rest least best at h next);
+    told = from_next _ at next.rest;
+  }
+
+  pub ends : (rest least best : ℕ) → rest ≡ 0 → IsHolderSoFar boxes new rest least best → IsBestChild false boxes new best
+  ends rest least best none h =
+      (passes-others boxes new h.n (length boxes) least best h.few
+      (λ k above below. grows k below (λ d. none-left (HoldsNew new) h.n boxes rest none h.told k d above below)) h.holder).least_so_far

@@ -4,6 +4,9 @@ pub mod Growth
 pub mod Covering
 pub mod Keys
 pub mod Lists
+pub mod Digits
+pub mod EntryNumbers
+pub mod Bits
 pub mod Outliers
 pub mod Areas
 pub mod Holders

@@ -1,5 +1,5 @@
 -- What a cell costs that takes in a new box, as numbers that are compared from the first on.
-use Rattle.std.specs.Prelude.{◌≡◌, ℕ, ◌+◌, ◌≤◌, Bool, true, false, List, [], ◌∷◌, sum_by}
+use Rattle.std.specs.Prelude.{◌≡◌, ◌⊎◌, ℕ, ◌+◌, ◌<◌, ◌≤◌, Bool, true, false, List, [], ◌∷◌, sum_by, All}
 use Rattle.rt_box.specs.declared.interval.Interval.{Interval}
 use Rattle.rt_box.specs.Rect.{area, overlap}
 use Rattle.rt_tree_choice.specs.declared.plane.Growth.{Growth}
@@ -31,3 +31,7 @@ growth_numbers g = g.enlargement ∷ g.area ∷ []
 
 abbrev pub growths : List (List Interval) → List Interval → ℕ → List ℕ
 growths boxes new position = area_enlargement (box_at boxes position) new ∷ area (box_at boxes position) ∷ []
+
+-- the new box has an area, or each cell has one: then a cell that doesn't hold the new box grows
+abbrev pub HoldersStay : List (List Interval) → List Interval → Type 0
+HoldersStay boxes new = (0 < area new) ⊎ All (λ cell. 0 < area cell) boxes

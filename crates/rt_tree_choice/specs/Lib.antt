@@ -5,6 +5,7 @@ pub mod Costs
 pub mod Sorting
 pub mod Split
 pub mod Reinsertion
+pub mod Numbers
 pub mod Entries
 pub mod Outliers
 pub mod Judgements

@@ -20,6 +20,7 @@
 mod holder;
 mod hulls;
 pub mod laws;
+mod numbers;
 mod plane;
 mod reinsertion;
 mod sorting;

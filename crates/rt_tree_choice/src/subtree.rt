@@ -10,7 +10,7 @@ ghost use Rattle.rt_tree_choice.specs.Keys.{Less};
 ghost use Rattle.rt_tree_choice.specs.Subtree.{overlap_enlargement, area_enlargement, IsBestChild};
 ghost use Rattle.rt_tree_choice.specs.Costs.{numbers, costs, IsGrowthWithin};
 
-use crate::holder::least_holder;
+use crate::holder::{holders_stay, least_holder};
 use crate::plane::least_growth;
 use rt_box::Rect;
 
@@ -118,7 +118,7 @@ fn least_enlargement<const D: usize>(boxes: &[Rect<D>], new_box: &Rect<D>) -> us
     ensures { IsBestChild false boxes.now new_box.now result }
 {
     // Mostly some cell holds the new box.
-    if new_box.area() > 0 {
+    if holders_stay(boxes, new_box) {
         if let Some(best) = least_holder(boxes, new_box) {
             return best;
         }

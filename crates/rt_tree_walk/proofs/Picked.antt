@@ -1,15 +1,14 @@
 -- The cells that a number's bits pick.
-use Rattle.std.proofs.Common.{◌≡◌, ℕ, zero, suc, ◌+◌, ◌-◌, ◌*◌, ◌/◌, ◌%◌, ◌==◌, ◌^◌, ◌<◌, ◌≤◌, min, cond, List, [], ◌∷◌, All, length, map, get_or, refl, sym, ap, ap₂, subst, ◌∙◌, arith, inl, inr}
+use Rattle.std.proofs.Common.{◌≡◌, ℕ, zero, suc, ◌+◌, ◌-◌, ◌*◌, ◌/◌, ◌%◌, ◌==◌, ◌^◌, ◌<◌, ◌≤◌, cond, List, [], ◌∷◌, All, length, map, get_or, refl, sym, ap, subst, ◌∙◌, arith, inl, inr}
 use Rattle.std.proofs.Math.Nat.{two-pow-succ}
 use Rattle.std.proofs.lemmas.Bool.{cases_eq}
 use Rattle.std.proofs.lemmas.List.{length-map}
 use Rattle.std.proofs.lemmas.List.Elements.{All-head, All-tail}
 use Rattle.std.proofs.lemmas.Nat.{ones_le_self}
 use Rattle.std.specs.Int.Bits.{bit_and}
-use lib.Bits.{and_step, and_self}
 use lib.Count.{count_trailing_zeros, under, ones, ones_step}
 use Rattle.rt_box.specs.declared.interval.Interval.{Interval}
-use Rattle.rt_box.proofs.Telling.{Tells-below}
+use Rattle.rt_box.proofs.Telling.{cleared-odd, cleared-even, Tells-below}
 use Rattle.rt_box.specs.Bits.{Tells}
 use Rattle.rt_box.specs.Rect.{IsBox}
 use Rattle.rt_box.specs.Window.{Admits, IsReach}
@@ -18,21 +17,6 @@ use Rattle.rt_tree_node.specs.Places.{key_of}
 use Rattle.rt_tree_walk.specs.Search.{row_of}
 use Rattle.rt_tree_walk.specs.Visits.{picked, TakesRows, TakesChildren}
 use Rattle.rt_tree_walk.proofs.Taking.{TakesRows-none, TakesRows-front, TakesRows-skips, TakesChildren-none, TakesChildren-front, TakesChildren-skips}
-
--- what is left where the lowest set bit is cleared: half of it, by the lowest bit
-cleared-odd : (n : ℕ) → n % 2 ≡ 1 → (bit_and n (n - 1) % 2 ≡ 0) × (bit_and n (n - 1) / 2 ≡ n / 2)
-cleared-odd n odd =
-    let half : (n - 1) / 2 ≡ n / 2 = omega (arith, odd) in
-    let low : min (n % 2) ((n - 1) % 2) ≡ 0 = omega (arith, odd) in
-    let is : bit_and n (n - 1) ≡ n / 2 * 2 + 0 = and_step n (n - 1) ∙ ap₂ (λ u v. u * 2 + v) (ap (bit_and (n / 2)) half ∙ and_self (n / 2)) low in
-    (omega (arith, is), omega (arith, is))
-
-cleared-even : (n : ℕ) → n % 2 ≡ 0 → 0 < n → (bit_and n (n - 1) % 2 ≡ 0) × (bit_and n (n - 1) / 2 ≡ bit_and (n / 2) (n / 2 - 1))
-cleared-even n even some =
-    let half : (n - 1) / 2 ≡ n / 2 - 1 = omega (arith, even, some) in
-    let low : min (n % 2) ((n - 1) % 2) ≡ 0 = omega (arith, even) in
-    let is : bit_and n (n - 1) ≡ bit_and (n / 2) (n / 2 - 1) * 2 + 0 = and_step n (n - 1) ∙ ap₂ (λ u v. u * 2 + v) (ap (bit_and (n / 2)) half) low in
-    (omega (arith, is), omega (arith, is))
 
 module _ {D : ℕ} where
   abbrev turn : Cell D → List (Cell D) → ℕ → List (Cell D)

@@ -1,28 +1,54 @@
-use Rattle.std.proofs.Common.{not, arith, ap, ◌∙◌}
-use Rattle.rt_tree_choice.proofs.Holders.{passes-other, takes-holder, keeps-holder, no-holder, less-than-holder, least-holder_best}
+use Rattle.std.proofs.Common.{ℕ, arith}
+use lib.Count.{count_trailing_zeros}
+use Rattle.rt_tree_choice.proofs.Bits.{next-is}
+use Rattle.rt_tree_choice.proofs.Holders.{HoldsNew, begins, takes, keeps, ends}
 use Rattle.rt_tree_choice.proofs.holder.least_holder.Goals as goal
-use Rattle.rt_tree_choice.proofs.holder.least_holder.Goals.{in-Some+then-is_none, then-is_none-via-then-is_none, then-is_none-via-else-is_none+then-area-least, in-Some+else-is_none+else-area-least, in_default}
+use Rattle.rt_tree_choice.proofs.holder.least_holder.Goals.{then-area-least, else-area-least}
 
-pub loop-position-preserved : goal.loop-position-preserved
-loop-position-preserved g c =
+pub bounds-boxes-best : goal.bounds-boxes-best
+bounds-boxes-best g c =
+    (next-is (HoldsNew c.args.new_box.now) 64 0 c.args.boxes.now c.holders-rest.result (omega (arith, c.requires.few)) (omega (arith, c.if-rest-eq0.false)) c.holders-rest.ensures.told).within
+
+pub offset_bounds-boxes-best : goal.offset_bounds-boxes-best
+offset_bounds-boxes-best g c =
+    let below = (next-is (HoldsNew c.args.new_box.now) 64 0 c.args.boxes.now c.holders-rest.result (omega (arith, c.requires.few)) (omega (arith, c.if-rest-eq0.false)) c.holders-rest.ensures.told).within in
+    omega (arith, below)
+
+pub loop-rest-init : goal.loop-rest-init
+loop-rest-init g c =
     let boxes = c.args.boxes.now in
     let new = c.args.new_box.now in
-    let n = c.loop-position.position in
-    let best = c.loop-position.best in
-    let least = c.loop-position.least in
-    let inv = c.loop-position.invariant in
-    elim c.match-area_of_holder.branch [
-      | in-Some+then-is_none w ↦
-          rw (w.best-is, w.least-is) (takes-holder boxes new n least w.in-Some.area best w.in-Some.ensures
-          (elim w.then-is_none.branch [
-            | then-is_none-via-then-is_none w' ↦ no-holder least w.in-Some.area best (w.is_none.ensures ∙ ap not w'.if-is_none.true)
-            | then-is_none-via-else-is_none+then-area-least w' ↦ less-than-holder least w.in-Some.area best w'.if-area-least.true
-          ]) inv)
-      | in-Some+else-is_none+else-area-least w ↦
-          rw (w.best-is, w.least-is) (keeps-holder boxes new n least w.in-Some.area best w.in-Some.ensures
-          (w.is_none.ensures ∙ ap not w.if-is_none.false) w.if-area-least.false inv)
-      | in_default w ↦ rw (w.best-is, w.least-is) (passes-other boxes new n least best w.in_default.ensures inv)
+    let bits = c.holders-rest.result in
+    begins g.row.D boxes new c.holders-rest.ensures.boxes c.facts.ensures c.requires.stay bits (count_trailing_zeros 64 bits) c.area-least.result c.index-boxes-best.result
+    (next-is (HoldsNew new) 64 0 boxes bits (omega (arith, c.requires.few)) (omega (arith, c.if-rest-eq0.false)) c.holders-rest.ensures.told)
+    c.index-boxes-best.is c.area-least.ensures.value
+
+pub bounds-boxes-position : goal.bounds-boxes-position
+bounds-boxes-position g c =
+    let before = c.loop-rest.invariant in
+    (next-is (HoldsNew c.args.new_box.now) 64 before.n c.args.boxes.now c.loop-rest.rest (omega (arith, c.requires.few)) (omega (arith, c.loop-rest-test.true)) before.told).within
+
+pub offset_bounds-boxes-position : goal.offset_bounds-boxes-position
+offset_bounds-boxes-position g c =
+    let before = c.loop-rest.invariant in
+    let below = (next-is (HoldsNew c.args.new_box.now) 64 before.n c.args.boxes.now c.loop-rest.rest (omega (arith, c.requires.few)) (omega (arith, c.loop-rest-test.true)) before.told).within in
+    omega (arith, below)
+
+pub loop-rest-preserved : goal.loop-rest-preserved
+loop-rest-preserved g c =
+    let boxes = c.args.boxes.now in
+    let new = c.args.new_box.now in
+    let rest : ℕ = c.loop-rest.rest in
+    let before = c.loop-rest.invariant in
+    let next = next-is (HoldsNew new) 64 before.n boxes rest (omega (arith, c.requires.few)) (omega (arith, c.loop-rest-test.true)) before.told in
+    elim c.if-area-least.branch [
+      | then-area-least w ↦ rw (w.best-is, w.least-is) (takes g.row.D boxes new c.holders-rest.ensures.boxes c.facts.ensures c.requires.stay rest c.loop-rest.least c.loop-rest.best _ _ _
+          before next c.index-boxes-position.is c.area-area.ensures.value w.if-area-least.true)
+      | else-area-least w ↦ rw (w.best-is, w.least-is) (keeps g.row.D boxes new c.holders-rest.ensures.boxes c.facts.ensures c.requires.stay rest c.loop-rest.least c.loop-rest.best _ _ _
+          before next c.index-boxes-position.is c.area-area.ensures.value w.if-area-least.false)
     ]
 
 pub returns : goal.returns
-returns g c = least-holder_best _ _ c.loop-position.position _ _ (omega arith) c.loop-position.invariant
+returns g c =
+    ends g.row.D c.args.boxes.now c.args.new_box.now c.holders-rest.ensures.boxes c.facts.ensures c.requires.stay c.loop-rest.rest c.loop-rest.least c.loop-rest.best
+    (omega (arith, c.loop-rest-test.false)) c.loop-rest.invariant
