@@ -12,13 +12,14 @@
  *     juicedelta_close(&tree);
  *
  * Keep a handle as a call left it. Use no copy of it: once one of two copies was used, the other no longer knows what
- * it holds. A handle is used by one call at a time, on one thread; two handles have nothing in common.
+ * it holds. A handle is used by one call at a time, and may go to another thread between two calls; two handles have
+ * nothing in common.
  *
  * Answers. Each call answers JUICEDELTA_OK or another value of juicedelta_code. No call ends the process. A call
- * that does not answer JUICEDELTA_OK changes neither what the handle holds nor what the caller's pointers lead to, but
- * where it is said.
+ * that does not answer JUICEDELTA_OK changes, unless documented, neither an object nor an output argument.
  *
- * Pointers are never NULL, not even to a buffer of length 0. No pointer is kept after the call.
+ * Pointers are never NULL, not even to a buffer of length 0. What two pointers of a call lead to does not overlap. No
+ * pointer is kept after the call.
  *
  * Boxes. On each axis the box goes from `min` to `max`, both ends included. A row's box has min <= max; no row has a point in
  * common with a box whose min is above its max.
@@ -32,6 +33,13 @@
 #ifdef __cplusplus
 extern "C" {
 #endif
+
+/* The version of this header, as words and as 1,000,000 * major + 1,000 * minor + patch. */
+#define JUICEDELTA_VERSION "0.1.0"
+#define JUICEDELTA_VERSION_NUMBER 1000
+
+/* The number of the library's version. */
+uint32_t juicedelta_version(void);
 
 /* What a call answers. */
 typedef enum juicedelta_code {
@@ -132,16 +140,23 @@ static inline int juicedelta_random_keys(uint64_t keys[2])
 
 /*
  * Opens a tree without rows. Its nodes have at most `capacity` cells, from 5 to 51; 51 is SQLite's. The keys are two
- * random words, as of juicedelta_random_keys. Nothing is closed for it: close the handle first.
+ * random words, as of juicedelta_random_keys. An open handle fails with ALREADY_OPEN.
  * ALREADY_OPEN, BAD_CAPACITY, OUT_OF_MEMORY.
  */
 int32_t juicedelta_tree2_open(juicedelta_handle *handle, uint32_t capacity, uint64_t first_key, uint64_t second_key);
 
 /*
  * Inserts a row.
- * CLOSED, OTHER_KIND, BAD_BOX, ID_TAKEN, TREE_FULL, OUT_OF_MEMORY.
+ * CLOSED, OTHER_KIND, BAD_BOX, ID_TAKEN, TREE_FULL, OUT_OF_MEMORY: the first of these that applies.
  */
 int32_t juicedelta_tree2_insert(juicedelta_handle *handle, int64_t id, const juicedelta_box2 *box);
+
+/*
+ * Gives the row with that id another box. If it has that box already, nothing changes. A refused move leaves the row in
+ * its place.
+ * CLOSED, OTHER_KIND, BAD_BOX, ID_MISSING, OUT_OF_MEMORY: the first of these that applies.
+ */
+int32_t juicedelta_tree2_move(juicedelta_handle *handle, int64_t id, const juicedelta_box2 *box);
 
 /*
  * Removes the row with that id. It needs no memory.
@@ -215,6 +230,7 @@ int32_t juicedelta_tree2_clear(juicedelta_handle *handle);
 
 int32_t juicedelta_tree1_open(juicedelta_handle *handle, uint32_t capacity, uint64_t first_key, uint64_t second_key);
 int32_t juicedelta_tree1_insert(juicedelta_handle *handle, int64_t id, const juicedelta_box1 *box);
+int32_t juicedelta_tree1_move(juicedelta_handle *handle, int64_t id, const juicedelta_box1 *box);
 int32_t juicedelta_tree1_remove(juicedelta_handle *handle, int64_t id);
 int32_t juicedelta_tree1_get(juicedelta_handle *handle, int64_t id, juicedelta_box1 *box);
 int32_t juicedelta_tree1_len(juicedelta_handle *handle, uint64_t *rows);
@@ -228,6 +244,7 @@ int32_t juicedelta_tree1_clear(juicedelta_handle *handle);
 
 int32_t juicedelta_tree3_open(juicedelta_handle *handle, uint32_t capacity, uint64_t first_key, uint64_t second_key);
 int32_t juicedelta_tree3_insert(juicedelta_handle *handle, int64_t id, const juicedelta_box3 *box);
+int32_t juicedelta_tree3_move(juicedelta_handle *handle, int64_t id, const juicedelta_box3 *box);
 int32_t juicedelta_tree3_remove(juicedelta_handle *handle, int64_t id);
 int32_t juicedelta_tree3_get(juicedelta_handle *handle, int64_t id, juicedelta_box3 *box);
 int32_t juicedelta_tree3_len(juicedelta_handle *handle, uint64_t *rows);

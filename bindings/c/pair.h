@@ -102,6 +102,7 @@ int32_t plain_close(juicedelta_handle *handle);
 
 int32_t LIST(open)(juicedelta_handle *handle, uint32_t capacity, uint64_t first_key, uint64_t second_key);
 int32_t LIST(insert)(juicedelta_handle *handle, int64_t id, const BOX *box);
+int32_t LIST(move)(juicedelta_handle *handle, int64_t id, const BOX *box);
 int32_t LIST(remove)(juicedelta_handle *handle, int64_t id);
 int32_t LIST(get)(juicedelta_handle *handle, int64_t id, BOX *box);
 int32_t LIST(len)(juicedelta_handle *handle, uint64_t *rows);
@@ -214,6 +215,19 @@ static void PAIR(nearest)(source *from, TWO *pair)
     CHECK(memcmp(rows, wanted, total * sizeof *rows) == 0 && is_untouched(rows, total * sizeof *rows, sizeof rows));
 }
 
+/* A row moves to a near place, to any, or to its own. */
+static void PAIR(move)(source *from, TWO *pair, int64_t id)
+{
+    BOX box = PAIR(box)(from, 60, 1);
+    int32_t code;
+    if (below(from, 4) == 0)
+        LIST(get)(&pair->list, id, &box);
+    if (below(from, 2) == 0 && box.max[0] < INT32_MAX)
+        box.max[0]++;
+    TRY(code, TREE(move)(&pair->tree, id, &box), 1);
+    CHECK(code == LIST(move)(&pair->list, id, &box));
+}
+
 /* The tree's dump is opened by both in place of what they hold; and once with another byte, which may make it bad. */
 static void PAIR(dump)(source *from, TWO *pair)
 {
@@ -261,7 +275,7 @@ static void PAIR(step)(source *from, TWO *pair)
     int32_t code;
     BOX box, wanted;
     uint64_t rows = 77, all = 0;
-    switch (below(from, 12)) {
+    switch (below(from, 14)) {
     case 0:
     case 1:
     case 2:
@@ -293,6 +307,10 @@ static void PAIR(step)(source *from, TWO *pair)
         PAIR(nearest)(from, pair);
         break;
     case 10:
+    case 11:
+        PAIR(move)(from, pair, id);
+        break;
+    case 12:
         arm(1);
         CHECK(TREE(len)(&pair->tree, &rows) == JUICEDELTA_OK);
         CHECK(!disarm() && LIST(len)(&pair->list, &all) == JUICEDELTA_OK && rows == all);

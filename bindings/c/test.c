@@ -174,6 +174,7 @@ static void script_codes(void)
         }                                                                                                              \
         memset(&got, 7, sizeof got);                                                                                   \
         CHECK(juicedelta_tree##D##_insert(&tree, 1, &box) == JUICEDELTA_CLOSED);                                       \
+        CHECK(juicedelta_tree##D##_move(&tree, 1, &box) == JUICEDELTA_CLOSED);                                         \
         CHECK(juicedelta_tree##D##_remove(&tree, 1) == JUICEDELTA_CLOSED);                                             \
         CHECK(juicedelta_tree##D##_get(&tree, 1, &got) == JUICEDELTA_CLOSED);                                          \
         CHECK(juicedelta_tree##D##_len(&tree, &rows) == JUICEDELTA_CLOSED);                                            \
@@ -195,6 +196,10 @@ static void script_codes(void)
         CHECK(juicedelta_tree##D##_insert(&tree, INT64_MIN, &box) == JUICEDELTA_OK);                                   \
         CHECK(juicedelta_tree##D##_insert(&tree, INT64_MIN, &box) == JUICEDELTA_ID_TAKEN);                             \
         CHECK(juicedelta_tree##D##_insert(&tree, 5, &upside) == JUICEDELTA_BAD_BOX);                                   \
+        CHECK(juicedelta_tree##D##_insert(&tree, INT64_MIN, &upside) == JUICEDELTA_BAD_BOX);                           \
+        CHECK(juicedelta_tree##D##_move(&tree, INT64_MIN, &upside) == JUICEDELTA_BAD_BOX);                             \
+        CHECK(juicedelta_tree##D##_move(&tree, 5, &upside) == JUICEDELTA_BAD_BOX);                                     \
+        CHECK(juicedelta_tree##D##_move(&tree, 5, &box) == JUICEDELTA_ID_MISSING);                                     \
         CHECK(juicedelta_tree##D##_remove(&tree, 5) == JUICEDELTA_ID_MISSING);                                         \
         CHECK(juicedelta_tree##D##_get(&tree, 5, &got) == JUICEDELTA_ID_MISSING);                                      \
         CHECK(got.min[0] == 0x07070707);                                                                               \
@@ -203,6 +208,7 @@ static void script_codes(void)
         CHECK(memcmp(&got, &box, sizeof box) == 0);                                                                    \
         CHECK(juicedelta_script_open(&shell, 51, 1, 2) == JUICEDELTA_OK);                                              \
         CHECK(juicedelta_tree##D##_insert(&shell, 1, &box) == JUICEDELTA_OTHER_KIND);                                  \
+        CHECK(juicedelta_tree##D##_move(&shell, 1, &box) == JUICEDELTA_OTHER_KIND);                                    \
         CHECK(juicedelta_tree##D##_remove(&shell, 1) == JUICEDELTA_OTHER_KIND);                                        \
         CHECK(juicedelta_tree##D##_get(&shell, 1, &got) == JUICEDELTA_OTHER_KIND);                                     \
         CHECK(juicedelta_tree##D##_len(&shell, &rows) == JUICEDELTA_OTHER_KIND);                                       \
@@ -308,7 +314,7 @@ static void refused_script(void)
     }
 }
 
-/* So many rows come, are found, and go, each at its own place. */
+/* So many rows come, a fifth of them move, they are found, and half of them go. */
 static void many(int32_t rows)
 {
     juicedelta_handle tree = {0};
@@ -318,6 +324,11 @@ static void many(int32_t rows)
     for (int32_t row = 0; row < rows; row++) {
         juicedelta_box2 own = {{row % 1024 * 10, row / 1024 * 10}, {row % 1024 * 10 + 9, row / 1024 * 10 + 9}};
         CHECK(juicedelta_tree2_insert(&tree, row, &own) == JUICEDELTA_OK);
+    }
+    for (int32_t row = 0; row < rows; row += 5) {
+        juicedelta_box2 own = {{row % 1024 * 10, row / 1024 * 10 + 1}, {row % 1024 * 10 + 9, row / 1024 * 10 + 10}};
+        CHECK(juicedelta_tree2_move(&tree, row, &own) == JUICEDELTA_OK);
+        CHECK(juicedelta_tree2_get(&tree, row, &got) == JUICEDELTA_OK && memcmp(&got, &own, sizeof own) == 0);
     }
     CHECK(juicedelta_tree2_insert(&tree, -1, &box) == (rows == 1048576 ? JUICEDELTA_TREE_FULL : JUICEDELTA_OK));
     CHECK(juicedelta_tree2_count(&tree, &space, &total) == JUICEDELTA_OK && total == (uint64_t)rows + (rows < 1048576));
@@ -334,6 +345,7 @@ int main(int count, char **words)
     int number = count > 2 ? atoi(words[2]) : 0;
     long before = blocks;
     if (strcmp(part, "calls") == 0) {
+        CHECK(juicedelta_version() == JUICEDELTA_VERSION_NUMBER);
         scripts();
         script_codes();
         tree1_codes();

@@ -1,5 +1,5 @@
 -- What a call does to a tree, by its code (own).
-use Rattle.std.specs.Prelude.{◌≡◌, ℕ, ◌^◌, ◌<◌, ◌≤◌, Bool, ℤ, ◌≤ℤ◌, List, [], ◌∷◌, ◌++◌, length, map, count_by, Result, Ok, Err, Some, None, IsSome}
+use Rattle.std.specs.Prelude.{◌≡◌, ◌≢◌, ℕ, ◌^◌, ◌<◌, ◌≤◌, Bool, ℤ, ◌≤ℤ◌, List, [], ◌∷◌, ◌++◌, length, map, count_by, Result, Ok, Err, Some, None, IsSome}
 use Rattle.std.specs.List.{AllZip}
 use Rattle.std.specs.List.Sorted.{IsPermutation, IsSortedByKey}
 use Rattle.std.specs.Ordering.{int_cmp}
@@ -15,7 +15,7 @@ use Rattle.rt_check_dump.specs.Faults.{IsTextOf}
 use Rattle.rt_handle.specs.declared.object.Kept.{Kept}
 use Rattle.rt_tree.specs.Lists.{TreeLists, empty_lists}
 use Rattle.rt_tree.specs.Rows.{box_in, box_of, rows_of, GainsRow, LosesRow}
-use Rattle.rt_tree.specs.Changes.{IsInsertion}
+use Rattle.rt_tree.specs.Changes.{IsInsertion, IsRemoval, IsReplacement}
 use Rattle.rt_tree_node.specs.declared.arena.Work.{Work}
 use Rattle.rt_tree_nearest.specs.Nearest.{nearest_rows}
 use Rattle.rt_tree_walk.specs.declared.searching.Row.{Row}
@@ -76,20 +76,37 @@ module _ {D : ℕ} where
   LoadsNone of_kind text OutOfMemory = Unit {0}
   LoadsNone of_kind text code = ⊥
 
-  -- The row came. Or the box has a least number above its greatest, the id is taken, there are 2^20 rows, or there is no
-  -- memory, and the rows are as before.
+  -- The row is inserted by the rules, in a tree of the same capacity. Or, in this order, the box has a least number above its
+  -- greatest, the id is taken, there are 2^20 rows, or there is no memory; the rows are as before then.
   abbrev pub Inserts : ℤ → List ℤ → List ℤ → TreeLists D → TreeLists D → Code → Type 0
   Inserts id min max old new Done =
-      (rect : List Interval) × (los rect ≡ min) × (his rect ≡ max) × (box_of old.lists id ≡ None) × GainsRow old.lists new.lists id rect
+      (rect : List Interval) × (los rect ≡ min) × (his rect ≡ max) × (box_of old.lists id ≡ None) × GainsRow old.lists new.lists id rect ×
+      ((work : Work) × IsInsertion old.lists new.lists id rect work) × (new.lists.capacity ≡ old.lists.capacity)
   Inserts id min max old new BadBox = (¬ AllZip ◌≤ℤ◌ min max) × (new ≡ old)
-  Inserts id min max old new IdTaken = IsSome (box_of old.lists id) × (new ≡ old)
-  Inserts id min max old new TreeFull = (2 ^ 20 ≤ length old.lists.rows) × (new ≡ old)
-  Inserts id min max old new OutOfMemory = new.lists ≡ old.lists
+  Inserts id min max old new IdTaken = AllZip ◌≤ℤ◌ min max × IsSome (box_of old.lists id) × (new ≡ old)
+  Inserts id min max old new TreeFull =
+      AllZip ◌≤ℤ◌ min max × (box_of old.lists id ≡ None) × (2 ^ 20 ≤ length old.lists.rows) × (new ≡ old)
+  Inserts id min max old new OutOfMemory =
+      AllZip ◌≤ℤ◌ min max × (box_of old.lists id ≡ None) × (length old.lists.rows < 2 ^ 20) × (new.lists ≡ old.lists)
   Inserts id min max old new code = ⊥
 
-  -- the row is gone; or there was none, and nothing changes
+  -- The row with that id gets the box by the rules; if it has it already, the tree stays. Or, in this order, the box has a
+  -- least number above its greatest, no row has the id, or there is no memory; the rows are as before then.
+  abbrev pub Moves : ℤ → List ℤ → List ℤ → TreeLists D → TreeLists D → Code → Type 0
+  Moves id min max old new Done =
+      IsSome (box_of old.lists id) × (new.lists.capacity ≡ old.lists.capacity) ×
+      ((rect : List Interval) × (los rect ≡ min) × (his rect ≡ max) × (box_of old.lists id ≡ Some rect → new.lists ≡ old.lists) ×
+      (box_of old.lists id ≢ Some rect → IsReplacement old.lists new.lists id rect))
+  Moves id min max old new BadBox = (¬ AllZip ◌≤ℤ◌ min max) × (new ≡ old)
+  Moves id min max old new IdMissing = AllZip ◌≤ℤ◌ min max × (box_of old.lists id ≡ None) × (new ≡ old)
+  Moves id min max old new OutOfMemory = AllZip ◌≤ℤ◌ min max × IsSome (box_of old.lists id) × (new.lists ≡ old.lists)
+  Moves id min max old new code = ⊥
+
+  -- the row is removed by the rules, from a tree of the same capacity; or there was none, and nothing changes
   abbrev pub Removes : ℤ → TreeLists D → TreeLists D → Code → Type 0
-  Removes id old new Done = (rect : List Interval) × LosesRow old.lists new.lists id rect
+  Removes id old new Done =
+      (rect : List Interval) × LosesRow old.lists new.lists id rect × IsRemoval old.lists new.lists id rect ×
+      (new.lists.capacity ≡ old.lists.capacity)
   Removes id old new IdMissing = (box_of old.lists id ≡ None) × (new ≡ old)
   Removes id old new code = ⊥
 

@@ -27,3 +27,4 @@ mod script;
 mod space;
 mod touching;
 mod tree;
+mod version;

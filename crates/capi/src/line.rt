@@ -5,7 +5,7 @@ ghost use Rattle.rt_check_dump.specs.declared.dump.AnyShadow.TheVariants.{One};
 ghost use Rattle.capi.specs.Calls.{Opens, OnLine, IsLine};
 ghost use Rattle.capi.specs.Loading.{IsOfKind, LoadsDump};
 ghost use Rattle.capi.specs.Plain.{box1, row1};
-ghost use Rattle.capi.specs.Trees.{IsNew, IsOfDump, LoadsNone, MakesNone, Inserts, Removes, GetsInto, Clears, Counts, CountsTouching, Searches, FindsNearest, Dumps};
+ghost use Rattle.capi.specs.Trees.{IsNew, IsOfDump, LoadsNone, MakesNone, Inserts, Moves, Removes, GetsInto, Clears, Counts, CountsTouching, Searches, FindsNearest, Dumps};
 
 use crate::code::Code;
 use crate::dump::dump;
@@ -14,7 +14,7 @@ use crate::holding::fill;
 use crate::keys::Keys;
 use crate::loading::{load, read};
 use crate::plain::{FromRect, FromRow};
-use crate::tree::{clear, get, insert, len, new_tree, remove};
+use crate::tree::{clear, get, insert, len, new_tree, remove, replace};
 use rt_box::Rect;
 use rt_check::Shadow;
 use rt_check_dump::AnyShadow;
@@ -159,6 +159,27 @@ pub extern "C" fn juicedelta_tree1_insert(
     };
     let code = match &mut *object {
         Object::Line(kept) => insert(&mut kept.tree, id, rect.min, rect.max),
+        _ => Code::OtherKind,
+    };
+    handle.put(object);
+    code.number()
+}
+
+/// Gives a row another box.
+#[unsafe(no_mangle)]
+pub extern "C" fn juicedelta_tree1_move(
+    alloc: Global,
+    handle: &mut Handle,
+    id: i64,
+    rect: &Box1,
+) -> i32
+    ensures { OnLine handle.old.held handle.new.held (λ old. Moves id rect.now.min rect.now.max old.tree) result }
+{
+    let Some(mut object) = handle.take(alloc) else {
+        return Code::Closed.number();
+    };
+    let code = match &mut *object {
+        Object::Line(kept) => replace(&mut kept.tree, id, rect.min, rect.max),
         _ => Code::OtherKind,
     };
     handle.put(object);

@@ -2,7 +2,7 @@
 
 ghost use Rattle.std.specs.Prelude.{◌≡◌, ◌≢◌, ◌≤◌};
 ghost use Rattle.capi.specs.declared.code.Code.TheVariants.{Done};
-ghost use Rattle.capi.specs.Trees.{Makes, Inserts, Removes, GetsInto, Counts, Clears};
+ghost use Rattle.capi.specs.Trees.{Makes, Inserts, Moves, Removes, GetsInto, Counts, Clears};
 
 use crate::code::Code;
 use crate::keys::Keys;
@@ -60,6 +60,25 @@ pub fn insert<const D: usize>(tree: &mut Tree<D>, id: i64, min: [i32; D], max: [
         return Code::OutOfMemory;
     }
     let _ = tree.insert(&id, &rect);
+    Code::Done
+}
+
+/// Gives the row with that id another box.
+pub fn replace<const D: usize>(tree: &mut Tree<D>, id: i64, min: [i32; D], max: [i32; D]) -> Code
+    requires some { 1 ≤ D }
+    requires few { D ≤ 3 }
+    ensures { Moves id min.entry max.entry tree.old tree.new result }
+{
+    let Some(rect) = Rect::new(min, max) else {
+        return Code::BadBox;
+    };
+    if !tree.contains(&id) {
+        return Code::IdMissing;
+    }
+    if tree.reserve(1).is_err() {
+        return Code::OutOfMemory;
+    }
+    tree.replace(&id, &rect);
     Code::Done
 }
 

@@ -4,12 +4,13 @@
 
 use rt_box::Capacity;
 use rt_bytes::{OverWrite, RunFault, Sink, SliceReader, Status};
+use rt_check_draw::{Choice, run_draw};
 use rt_check_report::run_check;
 use rt_shell::{Options, run};
 use std::hash::RandomState;
 use std::process::Abort;
 use std::test::Fail;
-use test_devices::{FailingReader, FailingWriter, OneByteWriter, UnflushableWriter};
+use test_devices::{FailingReader, FailingWriter, FlushCounter, OneByteWriter, UnflushableWriter};
 
 /// Two rows, shown by rising id.
 const ROWS: Script<'static> = Script {
@@ -215,5 +216,65 @@ fn a_report_that_cannot_be_written_leaves_a_front(rt: HostRuntime) -> Result<(),
     );
     assert!(rt; outcome == Err(RunFault::Write));
     assert!(rt; writer.inner.inner.bytes() == report);
+    Ok(())
+}
+
+/// A writer that counts its flushes.
+fn counting(rt: &impl AllocGlobal) -> OverWrite<FlushCounter<Vec<u8>>> {
+    OverWrite::new(FlushCounter::new(Vec::new(rt.alloc())))
+}
+
+/// The writer was flushed once, after all writes.
+fn expect_flushed(rt: &impl Abort, writer: OverWrite<FlushCounter<Vec<u8>>>) {
+    let counter = writer.into_inner();
+    assert!(rt; !counter.inner.is_empty());
+    assert!(rt; counter.flushes == 1);
+    assert!(rt; counter.writes_since == 0);
+}
+
+#[test]
+fn the_end_of_a_script_flushes(rt: HostRuntime) -> Result<(), Fail> {
+    let mut writer = counting(&rt);
+    let outcome = run(
+        rt.alloc(),
+        RandomState::new(&rt)?,
+        &mut SliceReader::new(VIEW.text, 4096),
+        &mut writer,
+        &options_of(&VIEW)?,
+    );
+    assert!(rt; outcome == Ok(Status::Clean));
+    expect_flushed(&rt, writer);
+    Ok(())
+}
+
+#[test]
+fn a_report_and_a_picture_flush(rt: HostRuntime) -> Result<(), Fail> {
+    let keys = RandomState::new(&rt)?;
+    let mut writer = counting(&rt);
+    let outcome = run_check(
+        rt.alloc(),
+        keys,
+        &mut SliceReader::new(DUMP, 4096),
+        &mut writer,
+    );
+    assert!(rt; outcome == Ok(Status::Clean));
+    expect_flushed(&rt, writer);
+
+    let choice = Choice {
+        axes: None,
+        lowest: 0,
+        highest: u8::MAX,
+        all: false,
+    };
+    let mut writer = counting(&rt);
+    let outcome = run_draw(
+        rt.alloc(),
+        keys,
+        &choice,
+        &mut SliceReader::new(DUMP, 4096),
+        &mut writer,
+    );
+    assert!(rt; outcome == Ok(Status::Clean));
+    expect_flushed(&rt, writer);
     Ok(())
 }

@@ -22,7 +22,27 @@ fn expect_rows(rt: &impl Abort, tree: &Tree<2>, rows: i64) {
     assert!(rt; i64::try_from(tree.len()) == Ok(rows));
 }
 
-/// Asks for a shadow and a search; a refusal changes nothing.
+/// Searches into a list, counts and looks for the nearest row; a list that is kept keeps its prefix after a refusal.
+fn find(rt: &(impl Abort + AllocGlobal), tree: &Tree<2>) {
+    let window = Window::all();
+    if let Ok(count) = tree.count(rt.alloc(), &window) {
+        assert!(rt; count == tree.len());
+    }
+    let mut rows = Vec::new(rt.alloc());
+    for turn in 1..=2usize {
+        let before = rows.len();
+        let is_found = tree.search_into(rt.alloc(), &window, &mut rows).is_ok();
+        assert!(rt; rows.len() >= before, "{turn}");
+        assert!(rt; !is_found || rows.len() == before.wrapping_add(tree.len()));
+    }
+    if let Ok(nearest) = tree.nearest(rt.alloc(), &[37, 53], 1) {
+        // Row 1 begins there.
+        let id = nearest.first().map(|row| row.id);
+        assert!(rt; id == tree.contains(&1).then_some(1));
+    }
+}
+
+/// Asks for a shadow and for rows; a refusal changes nothing.
 fn look(
     rt: &(impl Abort + AllocGlobal),
     keys: RandomState,
@@ -35,6 +55,7 @@ fn look(
     if let Ok(found) = tree.search(rt.alloc(), &Window::all()) {
         assert!(rt; found.rows.len() == tree.len());
     }
+    find(rt, tree);
     expect_rows(rt, tree, rows);
     Ok(())
 }
