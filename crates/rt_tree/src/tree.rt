@@ -245,9 +245,10 @@ impl<const D: usize> Tree<D> {
         Some(location.rect)
     }
 
-    /// The ids of the rows, in no order.
+    /// The ids of the rows, each once, in no order.
     pub fn ids(&self) -> &[i64]
-        ensures { (id : ℤ) → list_any (int_eq id) result.now ≡ is_some (box_of self.now.lists id) }
+        ensures ids { (id : ℤ) → list_any (int_eq id) result.now ≡ is_some (box_of self.now.lists id) }
+        ensures count { length result.now ≡ length self.now.lists.rows }
     {
         self.arena.leaves.keys().as_slice()
     }

@@ -1,4 +1,4 @@
-use Rattle.std.proofs.Common.{sym, ap, ◌∙◌}
+use Rattle.std.proofs.Common.{length, sym, ap, ◌∙◌}
 use Rattle.std.specs.Prelude.{is_some}
 use Rattle.std.specs.List.{list_any}
 use Rattle.std.specs.Ordering.{int_eq}
@@ -7,12 +7,18 @@ use Rattle.rt_tree.specs.Lists.{TreeLists}
 use Rattle.rt_tree.specs.Rows.{box_of}
 use Rattle.rt_tree.proofs.Kept.{settled}
 use Rattle.rt_tree.proofs.Rows.{has-row}
+use Rattle.rt_tree.proofs.Shape.{entries-long}
 use Rattle.rt_tree.proofs.tree.Tree.ids.Goals as goal
 
-pub returns : goal.returns
-returns g c = λ id.
+pub returns-clause-ids : goal.returns-clause-ids
+returns-clause-ids g c = λ id.
     let t = c.self.inside.arena in
     ap (list_any (int_eq id)) (c.as_slice.ensures ∙ c.keys.ensures.rest)
     ∙ sym (is_some-lookup (int_eq id) t.leaves.entries)
     ∙ sym (has-row t (settled c.self.inside c.self.invariant) id)
     ∙ ap (λ (v : TreeLists g.row.D). is_some (box_of v.lists id)) c.self.view_is
+
+pub returns-clause-count : goal.returns-clause-count
+returns-clause-count g c =
+    ap length c.as_slice.ensures ∙ c.keys.ensures.len ∙ sym (entries-long c.self.inside.arena)
+    ∙ ap (λ (v : TreeLists g.row.D). length v.lists.rows) c.self.view_is
