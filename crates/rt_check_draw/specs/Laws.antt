@@ -6,14 +6,21 @@ use Rattle.rt_check_draw.specs.declared.choice.Axes.{Axes}
 use Rattle.rt_check_draw.specs.declared.choice.Choice.{Choice}
 use Rattle.rt_check_draw.specs.declared.scale.Range.{Range}
 use Rattle.rt_check_draw.specs.declared.scale.Place.{Place}
-use Rattle.rt_check_draw.specs.Scale.{plot, left, upper, place_in, ends_of, range_of, frame_of, place_of}
+use Rattle.rt_check_draw.specs.Scale.{plot, left, upper, place_in, side_across, side_up, ends_of, range_of, frame_of, place_of}
 use Rattle.rt_check_draw.specs.Levels.{rows_of, levels_of, is_drawn}
 use Rattle.rt_check_draw.specs.Markup.{IsDocument}
 use Rattle.rt_check_draw.specs.Picture.{picture_of}
 
--- no greater coordinate stands further left or down
+-- no greater coordinate has a lower place
 abbrev pub ScaleIsMonotone : Type 0
 ScaleIsMonotone = (r : Range) (a b : ℤ) → a ≤ℤ b → place_in r a ≤ place_in r b
+
+-- The ends of two boxes on an axis are in order. Where that axis goes to the right, the one with the greater lower end begins
+-- no further left; where it goes upwards, the one with the greater upper end reaches no less high, since an SVG counts downwards.
+abbrev pub SidesKeepDirection : Type 0
+SidesKeepDirection = (r one other : Range) → one.lo ≤ℤ one.hi → other.lo ≤ℤ other.hi →
+    (one.lo ≤ℤ other.lo → (side_across r one).start ≤ (side_across r other).start) ×
+    (one.hi ≤ℤ other.hi → (side_up r other).start ≤ (side_up r one).start)
 
 -- each coordinate stands in the plot
 abbrev pub ScaleStaysInPlot : Type 0

@@ -1,11 +1,17 @@
 //! What the picture keeps of a tree, as laws of the definitions that the contracts cite. Each function does
 //! nothing: its contract is the law.
 
-ghost use Rattle.rt_check_draw.specs.Laws.{ScaleIsMonotone, ScaleStaysInPlot, RangeCoversCells, BoxesStayInFrame, EachLevelIsDrawnOnce, PictureIsWellFormed};
+ghost use Rattle.rt_check_draw.specs.Laws.{ScaleIsMonotone, SidesKeepDirection, ScaleStaysInPlot, RangeCoversCells, BoxesStayInFrame, EachLevelIsDrawnOnce, PictureIsWellFormed};
 
-/// Of two coordinates the greater stands no further left, or down.
+/// Of two coordinates the greater has no lower place on its axis.
 pub fn scale_is_monotone()
     ensures { ScaleIsMonotone }
+{}
+
+/// Of two boxes the one whose lower end is greater begins no further left, and the one whose upper end is greater reaches no less
+/// high.
+pub fn sides_keep_direction()
+    ensures { SidesKeepDirection }
 {}
 
 /// Each coordinate stands in the plot.
