@@ -41,8 +41,12 @@ def filled(rows, widest, roll):
 
 
 def main(fence_count, thing_count, move_count, is_timed=False):
+    """Moves things about, always in the same way."""
     sequence = numbers()
-    roll = lambda limit: next(sequence) % limit  # noqa: E731
+
+    def roll(limit):
+        return next(sequence) % limit
+
     fences, things = filled(fence_count, WIDEST_FENCE, roll), filled(thing_count, WIDEST_THING, roll)
     lines, begun = 0, time.process_time()
     for _ in range(move_count):
@@ -57,4 +61,5 @@ def main(fence_count, thing_count, move_count, is_timed=False):
         print(f"{lines} lines; {(time.process_time() - begun) / move_count * 1e6:.1f} us a move")
 
 
-main(*map(int, sys.argv[1:4]), len(sys.argv) > 4)
+if __name__ == "__main__":
+    main(*map(int, sys.argv[1:4]), len(sys.argv) > 4)

@@ -41,4 +41,5 @@ def main(table, database=None):
                 connection.execute(statement)
 
 
-main(*sys.argv[1:])
+if __name__ == "__main__":
+    main(*sys.argv[1:])
