@@ -20,8 +20,7 @@ def moved(fences, things, thing, box):
     before = set(fences.intersection(things.box(thing)))
     after = set(fences.intersection(box))
     things.move(thing, box)
-    for fence in sorted(before | after):
-        yield "=" if fence in before & after else "+" if fence in after else "-", fence
+    return [("=" if fence in before & after else "+" if fence in after else "-", fence) for fence in sorted(before | after)]
 
 
 def numbers():
