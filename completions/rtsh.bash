@@ -9,7 +9,7 @@ _rtsh() {
     elif [[ ${COMP_WORDS[1]} == help ]]; then
         words="run check draw"
     elif [[ $word == -* && ${COMP_WORDS[1]} == run ]]; then
-        words="--capacity --bail --echo --unbuffered --help"
+        words="--capacity --bail --echo --unbuffered --where --help"
     elif [[ $word == -* && ${COMP_WORDS[1]} == draw ]]; then
         words="--axes --levels --all --help"
     elif [[ $word == -* ]]; then

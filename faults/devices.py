@@ -22,6 +22,8 @@ DUMP = b"rtree 1 5 1 1 0\nnode 1 0 - 0\nend\n"
 
 # What a person types, line by line, and what must show before the next line is typed.
 PROMPT, CONTINUATION = b"rtsh> ", b" ...> "
+IN_TEXT, IN_NAME, IN_COMMENT = b" '..> ", b' "..> ', b" *..> "
+HINT = b"rtsh: Enter .help for help, or .quit to end.\n"
 TYPED = [
     (b"CREATE VIRTUAL TABLE t USING rtree_i32(id,a,b);", PROMPT),
     (b"INSERT INTO t VALUES(9,5,7),", CONTINUATION),
@@ -252,27 +254,58 @@ def typed_at_a_terminal(program):
 
 
 def quit_at_a_terminal(program):
-    """These lines end the run between pieces, and in a statement they are part of it."""
+    """These lines end the run between pieces and in a statement, which is then incomplete."""
     for line in (b".quit\n", b".exit\n", b" .QUIT ;\n"):
-        wrong = typed(program, [(b"SELECT\n", CONTINUATION), (b".quit\n", CONTINUATION), (b";", b""), (b"\n", REFUSED + PROMPT), (line, b"")], 1)
+        wrong = typed(program, [(line, b"")], 0) or typed(program, [(b"SELECT\n", CONTINUATION), (line, b"refused 1 2: incomplete input\n")], 1)
         if wrong:
             return f"{line}: {wrong}"
-    return typed(program, [(b".exit\n", b"")], 0)
+    return None
+
+
+def open_at_a_terminal(program):
+    """The prompt shows an open quote or comment, in which these lines are part of the statement."""
+    for opened, prompt, closed in ((b"'", IN_TEXT, b"'"), (b'"', IN_NAME, b'"'), (b"/*", IN_COMMENT, b"*/")):
+        lines = [(b"SELECT " + opened + b"\n", prompt), (b".quit\n", prompt), (b".help\n", prompt), (closed + b"\n", CONTINUATION)]
+        wrong = typed(program, [*lines, (b"-- '\n", CONTINUATION), (b".quit or not\n", CONTINUATION), (b";\n", REFUSED + PROMPT), (b"\x04", b"\n")], 1)
+        if wrong:
+            return f"{opened}: {wrong}"
+    # Between pieces a comment has no piece around it, and Ctrl-D breaks a line, which .quit then goes on with.
+    lines = [(b"/* it's\n", IN_COMMENT), (b".quit\n", IN_COMMENT), (b"*/\n", PROMPT), (b"SELECT\x04", CONTINUATION), (b".quit\n", CONTINUATION)]
+    return typed(program, [*lines, (b";\n", REFUSED + PROMPT), (b".quit\n", b"")], 1)
+
+
+def lost_at_a_terminal(program):
+    """Lines of other shells are refused as ever, and a hint follows."""
+    unknown = b"refused 1 21: unknown command\n"
+    for line in (b".tables\n", b".schema t\n", b".q\n"):
+        wrong = typed(program, [(line, unknown + HINT + PROMPT), (b"\n", PROMPT), (b".exit\n", b"")], 1)
+        if wrong:
+            return f"{line}: {wrong}"
+    for word in (b"quit", b"EXIT", b"help"):
+        lines = [(word + b"\n", HINT + CONTINUATION), (b"exit\n", CONTINUATION), (b";\n", REFUSED + PROMPT)]
+        wrong = typed(program, [*lines, (word + b" ;\n", REFUSED.replace(b"1 1", b"2 1") + HINT + PROMPT), (b".quit\n", b"")], 1)
+        if wrong:
+            return f"{word}: {wrong}"
+    return None
 
 
 def helped_at_a_terminal(program):
-    """The help fits on a screen, and is no part of the script."""
+    """The help fits on a screen, and is no part of the script, nor of a statement in which it is asked for."""
     with at_a_terminal(program, ["run"], "stdin", "stdout", "stderr") as (terminal, _):
         shown(terminal, PROMPT)
         os.write(terminal, b".help\n")
         lines = shown(terminal, PROMPT).decode().splitlines()
         if len(lines) > 24 or max(map(len, lines)) > 80:
             return f"{len(lines)} lines, the longest of {max(map(len, lines))} characters"
-        words = "CREATE DROP INSERT UPDATE DELETE SELECT rtreecheck WHERE .watch .view .unwatch .nodes .help .quit .exit Ctrl-D".split()
+        words = "CREATE DROP INSERT UPDATE DELETE SELECT rtreecheck WHERE .watch .view .unwatch .nodes .help .quit .exit Ctrl-D rlwrap".split()
         lacking = [word for word in words if not any(word in line for line in lines)]
-        os.write(terminal, b"FOO;\n")
-        text = shown(terminal, REFUSED + PROMPT)
-        return f"lacks {lacking}" if lacking else None if text == REFUSED + PROMPT else f"then: {text}"
+        os.write(terminal, b"CREATE VIRTUAL TABLE t\n")
+        shown(terminal, CONTINUATION)
+        os.write(terminal, b".help\n")
+        again = shown(terminal, CONTINUATION).decode().splitlines()
+        os.write(terminal, b"USING rtree_i32(id,a,b);SELECT * FROM t; FOO;\n")
+        text, wanted = shown(terminal, PROMPT), REFUSED.replace(b"1 1", b"3 1") + PROMPT
+        return f"lacks {lacking}" if lacking or again[:-1] != lines[:-1] else None if text == wanted else f"then: {text}"
 
 
 def terminal_lines_in_a_pipe(program):
@@ -290,21 +323,114 @@ def all_shown(terminal, started):
     return text.replace(b"\r\n", b"\n")
 
 
-def lines_of_refusals(program):
-    """The error output is a terminal: it names the line of each refused statement of a file or a pipe, and nothing else."""
-    script = b"FOO; SELECT 'refused 1';\n-- a comment\n\n  SELECT *\nFROM t;.view v\n.nodes t\n" + ROWS + b"SELECT '" + b"\n" * 70_000 + b"';\nSELECT id\n"
-    numbers = [(1, 1), (2, 1), (3, 4), (4, 5), (5, 6), (9, 70_007), (10, 70_008)]
+# Each piece of a script that is refused: its number and its line, and if its syntax is wrong the line, the column and the
+# word that no statement goes on with. All were counted by hand.
+WRONG = b"""FOO; SELECT 'refused 1';
+-- a comment
+
+  SELECT *
+FROM t;.view v
+.nodes t
+/* \xc3\xa9 */ SELECT '\xc3\xa9\xc3\xa9', /* ;
+ */ id FROM t;
+CREATE VIRTUAL TABLE t USING rtree_i32(id, a, b, +n);
+  SELECT id, n
+  FROM t
+  WHERE a <= <= 5;
+INSERT INTO t VALUES (1, 2, 3, 'x'),
+  (2, 3, 0x10, 'y');
+DELETE FROM t WHERE n = "n"; SELECT * FROM t LIMIT 5;
+.view
+.watch v FROM t where\x20
+.view v w
+UPDATE t SET a = 5, \xc3\xa9 = a * 2;
+SELECT * FROM t WHERE a = 99999999999999999999;
+INSERT INTO t VALUES ('it''s
+there', 5 6);
+CREATE VIRTUAL TABLE IF NOT there USING rtree_i32(id, a, b);
+DROP TABLE IF there;
+DELETE FROM t WHERE a IS X'0G';
+SELECT a FROM t ORDER BY a 'a\x1b[2Jb';
+UPDATE t SET a = 'aaaaaaaaaabbbbbbbbbbccccccccccddddddddddeeeeeeeeee' WHERE 'aaaaaaaaaabbbbbbbbbbccccccccccddddddddddeeeeeeeeee' = 5;
+INSERT INTO t VALUES (1,2,3,'');SELECT id FROM t;
+"""
+STOPS = [
+    (1, 1, "line 1, column 1: FOO"),
+    (2, 1, "line 1, column 13: 'refused 1'"),
+    (3, 4, None),
+    (4, 5, None),
+    (5, 6, None),
+    (6, 7, "line 7, column 16: '\u00e9\u00e9'"),
+    (8, 10, "line 12, column 14: <="),
+    (9, 13, "line 14, column 10: 0x10"),
+    (10, 15, 'line 15, column 25: "n"'),
+    (11, 15, "line 15, column 46: LIMIT"),
+    (12, 16, "line 16, column 6: the end of the line"),
+    (13, 17, "line 17, column 23: the end of the line"),
+    (14, 18, "line 18, column 9: w"),
+    (15, 19, "line 19, column 27: *"),
+    (16, 20, None),
+    (17, 21, "line 22, column 11: 6"),
+    (18, 23, "line 23, column 29: there"),
+    (19, 24, "line 24, column 15: there"),
+    (20, 25, "line 25, column 26: X"),
+    (21, 26, "line 26, column 28: 'a"),
+    (22, 27, "line 27, column 77: 'aaaaaaaaaabbbbbbbbbbccccccccccddddddddd"),
+]
+
+
+def told(name, stops):
+    """What the error output says of these refused pieces."""
+    lines = (f"rtsh: {name}: line {line}: statement {number} was refused{f' at {at}' if at else ''}\n" for number, line, at in stops)
+    return "".join(lines).encode()
+
+
+def places_of_refusals(program):
+    """The error output tells where each refused statement of a file or a pipe stands, in their order, and nothing else, if it
+    is a terminal or --where is given. Without both it says nothing."""
+    # The last pieces are too long and incomplete, and a line feed in a quote counts.
+    script = WRONG + b"FOO /*" + b"\n" * 65_000 + b"*/;" + b" " * 200_000 + b"SELECT '" + b"\n" * 70_000 + b"'; BAR;\nSELECT id\n"
+    stops = [*STOPS, (25, 29, "line 29, column 1: FOO"), (26, 135_029, None), (27, 135_029, "line 135029, column 4: BAR"), (28, 135_030, None)]
     with tempfile.NamedTemporaryFile() as file:
         file.write(script)
         file.flush()
-        for words, given, name in ((["run"], script, "standard input"), (["run", "--echo", file.name], b"", file.name)):
-            wanted = "".join(f"rtsh: {name}: line {line}: statement {number} was refused\n" for number, line in numbers)
-            with at_a_terminal(program, words, "stderr", stdin=subprocess.PIPE, stdout=subprocess.DEVNULL) as (terminal, started):
+        for words, given, name in (([], script, "standard input"), (["--echo", file.name], b"", file.name)):
+            wanted = told(name, stops)
+            with at_a_terminal(program, ["run", *words], "stderr", stdin=subprocess.PIPE, stdout=subprocess.DEVNULL) as (terminal, started):
                 threading.Thread(target=lambda: feed(started, [given]), daemon=True).start()
                 text = all_shown(terminal, started)
-                if text.decode() != wanted or started.returncode != 1:
-                    return f"{words}: {text}, status {started.returncode}"
+                if text != wanted or started.returncode != 1:
+                    return f"{words}: {text[:3000]}, status {started.returncode}"
+            plain, where = (program.run(["run", *options, *words], given) for options in ([], ["--where"]))
+            if where.complained != wanted or where != plain or plain.complained:
+                return f"{words}: {where.complained[:3000]}, {where}, {plain}"
     return None
+
+
+def places_in_part(program):
+    """A run that ends at the first refusal tells its place, be it read byte by byte or beside its output."""
+    script, wanted = b"-- one\nSELECT * FROM t\n LIMIT 5; FOO;", told("standard input", [(1, 2, "line 3, column 2: LIMIT")])
+    outcome = program.run(["run", "--where", "--bail"], script)
+    if outcome.complained != wanted:
+        return str(outcome)
+    outcome, _ = fed(program, ["run", "--where", "--bail"], [script[at : at + 1] for at in range(len(script))])
+    if outcome.complained != wanted:
+        return str(outcome)
+    beside = by_shell(program, "$RTSH run --where --unbuffered 2>&1", script)
+    both = REFUSED + wanted + b"refused 2 1: syntax error\n" + told("standard input", [(2, 3, "line 3, column 11: FOO")])
+    return None if beside.printed == both else str(beside)
+
+
+def places_at_a_terminal(program):
+    """With --where a typed script's refusals are told too, before the next prompt."""
+    line = b"SELECT 5; .view v\n"
+    first = REFUSED + told("standard input", [(1, 1, "line 1, column 8: 5")])
+    second = b"refused 2 16: no such view\n" + told("standard input", [(2, 1, None)])
+    with at_a_terminal(program, ["run", "--where"], "stdin", "stdout", "stderr") as (terminal, _):
+        shown(terminal, PROMPT)
+        os.write(terminal, line)
+        text = shown(terminal, second + PROMPT)
+    return None if text == first + second + PROMPT else str(text)
 
 
 def part_read(program):
@@ -406,9 +532,13 @@ CHECKS = {
     "an output that is read late": slow_output,
     "a script that is typed at a terminal": typed_at_a_terminal,
     "lines that end a run at a terminal": quit_at_a_terminal,
+    "open quotes and comments at a terminal": open_at_a_terminal,
+    "lines of other shells at a terminal": lost_at_a_terminal,
     "help at a terminal": helped_at_a_terminal,
     "lines of a terminal in a pipe": terminal_lines_in_a_pipe,
-    "lines of refused statements at a terminal": lines_of_refusals,
+    "places of refused statements": places_of_refusals,
+    "places of refused statements in part of a script": places_in_part,
+    "places of refused statements at a terminal": places_at_a_terminal,
     "the part read of a long file at a terminal": part_read,
     "a program that speaks with the shell": spoken_with,
     "a first contact": first_contact,

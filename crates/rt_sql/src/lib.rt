@@ -2,6 +2,7 @@
 //!
 //! - `parse` makes of a piece the statement that its tokens spell, or says by a `Refusal` why there
 //!   is none.
+//! - `refused_at` finds the token of a piece that no statement goes on with.
 //! - `Stmt`, what it is made of, and `Refusal` are those of `rt_sql_statement`, passed on.
 //! - `laws`: tokens spell at most one statement, and each piece has one answer.
 //!
@@ -25,7 +26,7 @@ mod token;
 mod tokens;
 mod word;
 
-pub use parser::parse;
+pub use parser::{parse, refused_at};
 pub use rt_sql_statement::{
     Blob, ColumnDef, Compare, Cond, Edit, Items, Name, Operator, Refusal, Rule, Source, Stmt, Test,
     Text, Value,

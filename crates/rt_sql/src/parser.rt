@@ -3,7 +3,7 @@
 //! A text that spells no statement with integers within 64 bits is read again with integers of any size, to find
 //! its refusal (`specs/Parse.antt`).
 
-ghost use Rattle.std.specs.Prelude.{◌≡◌, ◌⊎◌, Contains, MatchOption, None, Err};
+ghost use Rattle.std.specs.Prelude.{◌≡◌, ◌≤◌, ◌⊎◌, length, Contains, IfSome, IsSome, MatchOption, None, Err};
 ghost use Rattle.rt_sql.specs.Lex.{piece_tokens};
 ghost use Rattle.rt_sql.specs.Number.{number_by};
 ghost use Rattle.rt_sql.specs.Parse.{IsText, ParsesText, ParsesUnlessMemory};
@@ -16,6 +16,7 @@ use crate::tokens::Tokens;
 use rt_sql_cut::{Ending, Piece};
 use rt_sql_statement::{Refusal, Stmt};
 use std::alloc::Global;
+use std::ops::Range;
 
 /// The text, if it is UTF-8 with no zero byte.
 fn as_text(bytes: &[u8]) -> Option<&str>
@@ -92,5 +93,23 @@ pub fn parse(alloc: Global, piece: &Piece<'_>) -> Result<Stmt, Refusal>
             Some(text) => parse_text(alloc, text),
             None => Err(Refusal::NotUtf8),
         },
+    }
+}
+
+/// Where the tokens of a piece stop beginning a statement, if that is why `parse` refuses it: the bytes of the first token
+/// that no statement goes on with, or the end of the text if more is due. It is none too if memory runs out.
+#[cold]
+pub fn refused_at(alloc: Global, piece: &Piece<'_>) -> Option<Range<usize>>
+    ensures refused { IsSome result → ParsesUnlessMemory piece.now (Err Refusal.SyntaxError) }
+    ensures within { IfSome result (λ at. (at.start ≤ at.end) × (at.end ≤ length piece.now.text)) }
+{
+    let Err(Refusal::SyntaxError) = parse(alloc, piece) else {
+        return None;
+    };
+    let text = as_text(piece.text())?;
+    let mut tokens = Tokens::new(text);
+    match whole(alloc, &mut tokens, Numbers::AnySize) {
+        Err(Refusal::SyntaxError) => Some(tokens.next_in(text)),
+        _ => None,
     }
 }

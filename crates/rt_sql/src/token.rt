@@ -71,6 +71,20 @@ pub enum Sign {
     GreaterOrEqual,
 }
 
+impl Sign {
+    /// How many characters it has.
+    fn width(self) -> usize {
+        match self {
+            Sign::DoubleEqual
+            | Sign::LessGreater
+            | Sign::BangEqual
+            | Sign::LessOrEqual
+            | Sign::GreaterOrEqual => 2,
+            _ => 1,
+        }
+    }
+}
+
 /// The least part of a statement that means something, which borrows the statement's text.
 #[derive(Debug, Drop)]
 pub enum Token<'a> {
@@ -104,6 +118,18 @@ impl<'a> Token<'a> {
         match self {
             Token::Sign(own) => *own == sign,
             _ => false,
+        }
+    }
+
+    /// How many bytes it takes in its text.
+    pub fn width(&self) -> usize {
+        match self {
+            Token::Word(spelling) | Token::Digits(spelling) => spelling.as_str().len(),
+            Token::Dot(word) => word.as_str().len().saturating_add(1),
+            Token::Quoted(inside) | Token::Text(inside) => inside.as_str().len().saturating_add(2),
+            Token::Blob(digits) => digits.as_str().len().saturating_add(3),
+            Token::Sign(sign) => sign.width(),
+            Token::Bad => 1,
         }
     }
 

@@ -7,6 +7,7 @@ use crate::lexer::{dot_len, lex};
 use crate::token::{Sign, Spelling, Token};
 use rt_sql_statement::Refusal;
 use std::marker::Model;
+use std::ops::Range;
 
 /// The tokens of a text from a place on. Each is cut as it is reached.
 #[derive(Debug, Drop)]
@@ -30,7 +31,7 @@ impl<'a> Model for Tokens<'a> {
 }
 
 impl<'a> Tokens<'a> {
-    ghost use Rattle.std.specs.Prelude.{◌≡◌, if◌then◌else◌};
+    ghost use Rattle.std.specs.Prelude.{◌≡◌, ◌≤◌, length, if◌then◌else◌};
     ghost use Rattle.std.specs.Option.{option_copied};
     ghost use Rattle.rt_sql.specs.Lex.{piece_tokens, tokens_of};
     ghost use Rattle.rt_sql.specs.Reading as reading;
@@ -92,6 +93,17 @@ impl<'a> Tokens<'a> {
         ensures { result ≡ reading.first (reading.rest self.now) }
     {
         Tokens::of(self.text).next
+    }
+
+    /// Where the next token stands in the text that these are the tokens of, or that text's end if none is left.
+    #[cold]
+    #[inline(never)]
+    pub fn next_in(&self, whole: &str) -> Range<usize>
+        ensures { (result.start ≤ result.end) × (result.end ≤ length whole.now) }
+    {
+        let end = whole.len().saturating_sub(self.text.len());
+        let width = self.next.as_ref().map_or(0, |token| token.width());
+        end.saturating_sub(width)..end
     }
 
     /// The sign is the next token.

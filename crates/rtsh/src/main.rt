@@ -113,12 +113,12 @@ fn read_input<'a>(rt: &HostRuntime, asked: &Asked<'a>) -> Result<Status, Fault<'
         return read_unattended(rt, reader, name, length, asked);
     }
     if !is_attended(rt) {
-        return read_from(rt, reader, name, asked, None);
+        return read_traced(rt, reader, name, None, asked, false);
     }
     match asked {
         Asked::Run(_, _) => {
             let reader = Prompting::new(rt.alloc(), reader, rt)?;
-            read_from(rt, reader, name, asked, None)
+            read_traced(rt, reader, name, None, asked, false)
         }
         Asked::Check(_) | Asked::Draw(_, _) => {
             hint_at_dump(rt);
@@ -141,18 +141,30 @@ fn read_unattended<'a, R: Read + Drop>(
     length: Option<u64>,
     asked: &Asked<'a>,
 ) -> Result<Status, Fault<'a>> {
-    let Asked::Run(manner, _) = asked else {
-        return read_from(rt, reader, name, asked, None);
+    let is_seen = rt.stderr().is_terminal();
+    let length = length.filter(|_length| is_seen);
+    read_traced(rt, reader, name, length, asked, is_seen)
+}
+
+/// Reads a script so that the error output tells where each refused piece stands, by default or where it is asked for.
+fn read_traced<'a, R: Read + Drop>(
+    rt: &HostRuntime,
+    reader: R,
+    name: &'a str,
+    length: Option<u64>,
+    asked: &Asked<'a>,
+    by_default: bool,
+) -> Result<Status, Fault<'a>> {
+    let manner = match asked {
+        Asked::Run(manner, _) if by_default || manner.tells_where => manner,
+        _ => return read_from(rt, reader, name, asked, None),
     };
-    if !rt.stderr().is_terminal() {
-        return read_from(rt, reader, name, asked, None);
-    }
     let trail = Trail::new(name, length, manner.echo, rt.stdout().is_terminal());
-    let Ok(reader) = Traced::new(rt.alloc(), reader, rt, &trail) else {
+    let Ok(mut reader) = Traced::new(rt.alloc(), reader, rt, &trail) else {
         return Err(Fault::Run(RunFault::Memory));
     };
-    let answer = read_from(rt, reader, name, asked, Some(&trail));
-    trail.end(rt);
+    let answer = read_from(rt, &mut reader, name, asked, Some(&trail));
+    reader.end();
     answer
 }
 

@@ -54,6 +54,8 @@ pub struct Manner {
     pub echo: bool,
     /// Each answer is written before the next piece is read.
     pub is_unbuffered: bool,
+    /// The error output shows where each refused piece stands.
+    pub tells_where: bool,
 }
 
 /// What `rtsh draw` draws of a tree.
@@ -87,8 +89,8 @@ nothing. The dot commands are
   .unwatch NAME                      forgets a view
   .nodes TABLE                       prints the dump of a table's tree, which `rtsh check` reads
 
-At a terminal the error output has a prompt. There .help lists the statements, and .quit, .exit
-or Ctrl-D on an empty line ends the input.";
+At a terminal the error output has a prompt, which shows an open quote or comment. There .help
+lists the statements, and .quit, .exit or Ctrl-D on an empty line ends the input.";
 
 const CHECK_HELP: &str =
     "A dump is what `.nodes TABLE` prints. Its tree is sound where nine conditions hold:
@@ -203,6 +205,12 @@ fn run<'a>(alloc: Global) -> Result<Command<'a>, AllocError> {
         .long("unbuffered")
         .help("Writes each answer before the next statement is read, into a pipe too")
         .action(ArgAction::SetTrue);
+    let place = Arg::new(alloc, "where")
+        .long("where")
+        .help(
+            "Shows on the error output the line of each refused statement, and the word where its syntax fails; a terminal there shows them anyway, unless the script is typed",
+        )
+        .action(ArgAction::SetTrue);
     Ok(
         Command::new(alloc, "run")
             .about("Runs a script, and prints what it gives")
@@ -211,6 +219,7 @@ fn run<'a>(alloc: Global) -> Result<Command<'a>, AllocError> {
             .arg(bail)?
             .arg(echo)?
             .arg(unbuffered)?
+            .arg(place)?
             .arg(file(
                 alloc,
                 "The script; without it, or with `-`, standard input is read",
@@ -282,6 +291,7 @@ fn asked_by<'a>(matches: &ArgMatches<'a>) -> Option<Asked<'a>> {
         bail: matches.get_flag("bail"),
         echo: matches.get_flag("echo"),
         is_unbuffered: matches.get_flag("unbuffered"),
+        tells_where: matches.get_flag("where"),
     };
     Some(Asked::Run(manner, file))
 }

@@ -1,12 +1,12 @@
-//! What a terminal at the error output shows of a script from a file or a pipe: the line of each refused statement, and how
-//! much of a long file is read.
+//! What the error output shows of a script: where each refused piece stands, and how much of a long file is read.
 //!
 //! `Traced` gives the script up to the end of one piece at a time, so whatever is written before the next read answers that
-//! piece. `Tracing` looks at how that begins: no answer but a refusal begins with `refused`. Both write their traces in one
-//! `Trail`.
+//! piece. `Tracing` looks at how that begins: no answer but a refusal begins with `refused`. Both share one `Trail`.
 
+use crate::place::{Place, Word, word_at};
+use rt_sql::refused_at;
 use rt_sql_cut::Cutter;
-use std::alloc::{AllocError, Global};
+use std::alloc::Global;
 use std::cell::Cell;
 use std::io::{self, BufRead, BufReader, Read, Write};
 
@@ -19,21 +19,19 @@ const REFUSED: &[u8] = b"refused ";
 /// Clears the line of a terminal.
 const CLEAR: &str = "\r\x1b[K";
 
-/// The piece that was read last.
+/// How many bytes are kept of what was read: as many as the longest piece has, and its line feed.
+const KEPT: usize = 65_537;
+
+/// How an answer begins, as far as it was written.
 #[derive(Clone, Copy)]
-struct LastPiece {
-    number: u64,
-    /// The line where it begins, or where it ends if it is too long.
-    line: u64,
-    /// How many bytes are written before its answer.
+struct Answer {
+    /// How many bytes are written before it.
     echoed: usize,
-    /// How many bytes of `REFUSED` its answer began with, until another byte came.
+    /// How many bytes of `REFUSED` it began with.
     matched: usize,
-    /// Its answer begins otherwise, or its refusal was told.
-    is_done: bool,
 }
 
-/// How far a script has come.
+/// What the reader and the writer of a script share.
 #[derive(Drop)]
 pub struct Trail<'a> {
     name: &'a str,
@@ -43,47 +41,31 @@ pub struct Trail<'a> {
     echo: bool,
     /// The output is a terminal too, so what is written there doesn't follow the part read.
     is_shared: bool,
-    last: Cell<LastPiece>,
+    /// The answer to the last piece, until it goes on otherwise than a refusal, or was told.
+    answer: Cell<Option<Answer>>,
     /// The hundredth parts that show.
     shown: Cell<Option<u64>>,
 }
 
 impl<'a> Trail<'a> {
-    /// Nothing was read yet of what has this name and this length, where it is known.
+    /// Nothing was read yet of what has this name. Its length is given if the part read is to be shown.
     pub fn new(name: &'a str, length: Option<u64>, echo: bool, is_shared: bool) -> Trail<'a> {
         Trail {
             name,
             length: length.filter(|length| *length >= LONG),
             echo,
             is_shared,
-            last: Cell::new(LastPiece {
-                number: 0,
-                line: 1,
-                echoed: 0,
-                matched: 0,
-                is_done: true,
-            }),
+            answer: Cell::new(None),
             shown: Cell::new(None),
         }
     }
 
-    /// Nothing more is read or written: tells the last refusal, and clears the part read.
-    pub fn end(&self, rt: &impl Eprint) {
-        self.tell(rt);
-        self.clear(rt);
-    }
-
-    /// Tells at which line the last piece was refused, if it was.
-    fn tell(&self, rt: &impl Eprint) {
-        let mut last = self.last.get();
-        if last.is_done || last.matched < REFUSED.len() {
-            return;
+    /// Whether the last piece was refused, which is told once.
+    fn takes_refusal(&self) -> bool {
+        match self.answer.replace(None) {
+            Some(answer) => answer.matched >= REFUSED.len(),
+            None => false,
         }
-        self.clear(rt);
-        let (name, line, number) = (self.name, last.line, last.number);
-        let _ = eprintln!(rt; "rtsh: {name}: line {line}: statement {number} was refused");
-        last.is_done = true;
-        self.last.set(last);
     }
 
     /// Shows how much was read, if that is another hundredth part of a long file.
@@ -107,56 +89,55 @@ impl<'a> Trail<'a> {
         }
     }
 
-    /// The next piece was read: its line, and the length of its text, which is none if it is too long.
-    fn begin(&self, line: u64, length: usize) {
+    /// The next piece was read, whose text has this length, which is none if it is too long.
+    fn begin(&self, length: usize) {
         let echoed = if self.echo && length > 0 {
             length.saturating_add(1)
         } else {
             0
         };
-        self.last.set(LastPiece {
-            number: self.last.get().number.saturating_add(1),
-            line,
-            echoed,
-            matched: 0,
-            is_done: false,
-        });
+        self.answer.set(Some(Answer { echoed, matched: 0 }));
     }
 
     /// More was written.
     fn follow(&self, bytes: &[u8]) {
-        let mut last = self.last.get();
-        if last.is_done || last.matched == REFUSED.len() {
+        let Some(mut answer) = self.answer.get() else {
             return;
-        }
-        let skipped = bytes.len().min(last.echoed);
-        last.echoed -= skipped;
+        };
+        let skipped = bytes.len().min(answer.echoed);
+        answer.echoed -= skipped;
         for byte in &bytes[skipped..] {
-            if REFUSED.get(last.matched) != Some(byte) {
-                last.is_done = last.matched < REFUSED.len();
-                break;
+            match REFUSED.get(answer.matched) {
+                Some(due) if due == byte => answer.matched = answer.matched.saturating_add(1),
+                Some(_) => {
+                    self.answer.set(None);
+                    return;
+                }
+                None => break,
             }
-            last.matched = last.matched.saturating_add(1);
         }
-        self.last.set(last);
+        self.answer.set(Some(answer));
     }
 }
 
-/// How many line feeds are among these bytes.
-fn line_feeds(bytes: &[u8]) -> u64 {
-    bytes.iter().filter(|byte| **byte == b'\n').count() as u64
-}
-
-/// A reader of a script that gives at most one piece at a time.
+/// A reader of a script that gives at most one piece at a time, and tells where each refused one stands.
 #[derive(Drop)]
 pub struct Traced<'a, 'n, R: Read + Drop, E> {
     inner: BufReader<R>,
+    alloc: Global,
     rt: &'a E,
     trail: &'a Trail<'n>,
+    /// Has the last piece ready until the next read.
     cutter: Cutter,
-    /// How many bytes were read, and how many line feeds are among them.
+    /// The number of the last piece.
+    number: u64,
+    /// Where it begins, or where it ends if it is too long.
+    begun: Place,
+    /// What was read behind it, or the end of that, and where this begins.
+    recent: Vec<u8>,
+    front: Place,
+    /// How many bytes were read.
     read: u64,
-    lines: u64,
 }
 
 impl<'a, 'n, R: Read + Drop, E: Eprint> Traced<'a, 'n, R, E> {
@@ -169,33 +150,90 @@ impl<'a, 'n, R: Read + Drop, E: Eprint> Traced<'a, 'n, R, E> {
     ) -> Result<Traced<'a, 'n, R, E>, io::Error> {
         Ok(Traced {
             inner: BufReader::new(alloc, inner)?,
+            alloc,
             rt,
             trail,
             cutter: Cutter::new(alloc)?,
+            number: 0,
+            begun: Place::START,
+            recent: Vec::with_capacity(alloc, KEPT.saturating_mul(3))?,
+            front: Place::START,
             read: 0,
-            lines: 0,
         })
     }
 
-    /// Notes the piece that the cutter has ready, if it has one, whose end these bytes are.
+    /// Nothing more is read or written: tells the last refusal, and clears the part read.
+    pub fn end(&self) {
+        self.tell();
+        self.trail.clear(self.rt);
+    }
+
+    /// Tells where the last piece stands, if it was refused.
+    fn tell(&self) {
+        if !self.trail.takes_refusal() {
+            return;
+        }
+        self.trail.clear(self.rt);
+        let (name, number, line) = (self.trail.name, self.number, self.begun.line);
+        let _ = match self.stop() {
+            None => eprintln!(self.rt; "rtsh: {name}: line {line}: statement {number} was refused"),
+            Some((place, word)) => {
+                eprintln!(self.rt;
+                    "rtsh: {name}: line {line}: statement {number} was refused at {place}: {word}"
+                )
+            }
+        };
+    }
+
+    /// The word of the last piece that no statement goes on with, and its place, if the piece was refused for that.
+    fn stop(&self) -> Option<(Place, Word<'_>)> {
+        let piece = self.cutter.ready()?;
+        let at = refused_at(self.alloc, &piece)?;
+        let (before, rest) = piece.text().split_at(at.start);
+        let word = word_at(rest, at.end - at.start)?;
+        Some((self.begun.after(before), word))
+    }
+
+    /// The length of the text of the piece that has ended, if one has.
+    fn ended_len(&self) -> Option<usize> {
+        let piece = self.cutter.ready()?;
+        Some(piece.text().len())
+    }
+
+    /// Keeps these bytes, and notes the piece whose end they are, if it has come.
     fn note(&mut self, bytes: &[u8]) {
-        let Some(piece) = self.cutter.ready() else {
+        let _ = self.recent.extend_from_slice(bytes);
+        let Some(length) = self.ended_len() else {
+            if self.recent.len() > KEPT.saturating_mul(2) {
+                self.keep_last(KEPT);
+            }
             return;
         };
-        let text = piece.text();
         // The line feed that ends a dot line isn't of its text.
         let ended = if bytes.ends_with(b"\n") { 1 } else { 0 };
-        let begun = self
-            .lines
-            .saturating_sub(line_feeds(text).saturating_add(ended));
-        self.trail.begin(begun.saturating_add(1), text.len());
-        self.cutter.clear();
+        self.trail.begin(length);
+        self.number = self.number.saturating_add(1);
+        self.keep_last(length.saturating_add(ended));
+        self.begun = self.front;
+        self.keep_last(0);
+    }
+
+    /// Keeps no more than this many of the last bytes.
+    fn keep_last(&mut self, count: usize) {
+        let left = count.min(self.recent.len());
+        let gone = self.recent.len() - left;
+        self.front = self.front.after(&self.recent[..gone]);
+        self.recent.copy_within(gone.., 0);
+        self.recent.truncate(left);
     }
 }
 
 impl<'a, 'n, R: Read + Drop, E: Eprint> Read for Traced<'a, 'n, R, E> {
     fn read(&mut self, buffer: &mut [u8]) -> io::Result<usize> {
-        self.trail.tell(self.rt);
+        self.tell();
+        if self.cutter.ready().is_some() {
+            self.cutter.clear();
+        }
         let found = self.inner.fill_buf()?;
         let found = &found[..found.len().min(buffer.len())];
         let count = self.cutter.feed(found);
@@ -204,7 +242,6 @@ impl<'a, 'n, R: Read + Drop, E: Eprint> Read for Traced<'a, 'n, R, E> {
         if count == 0 {
             self.cutter.finish();
         }
-        self.lines = self.lines.saturating_add(line_feeds(&buffer[..count]));
         self.note(&buffer[..count]);
         self.read = self.read.saturating_add(count as u64);
         self.trail.show(self.rt, self.read);
