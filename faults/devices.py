@@ -435,7 +435,7 @@ def places_at_a_terminal(program):
 
 def part_read(program):
     """A file of more than a megabyte shows how much of it is read, on one line, which is clear at the end. A shorter one and
-    a pipe don't."""
+    a pipe don't, and nothing shows where the error output is no terminal."""
     long = ROWS + b"-- more\n" * 200_000
     for script, given, is_shown in ((long, None, True), (ROWS, None, False), (b"", long, False)):
         with tempfile.NamedTemporaryFile() as file:
@@ -449,7 +449,10 @@ def part_read(program):
         is_right = parts == sorted(set(parts)) and parts[-1:] == [100] and text.endswith(b"% read\r\x1b[K") and b"\n" not in text
         if printed != PRINTED or (not is_right if is_shown else text):
             return f"{text[-300:]}, printed {printed}"
-    return None
+    with tempfile.NamedTemporaryFile() as file:
+        file.write(long)
+        file.flush()
+        return same(program.run(["run", "--where", file.name]), 0, PRINTED)
 
 
 def spoken_with(program):
