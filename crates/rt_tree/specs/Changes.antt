@@ -62,8 +62,8 @@ module _ {D : ℕ} where
     pub plain : work.reinsertions ≡ 0 → root_level new ≡ root_level old + work.splits
 
   -- The steps of an insertion, on the nodes that the lists show: the row waits for a leaf, and the cells that wait are
-  -- placed in turn.
-  pub record InsertsInSteps (old new : ShadowLists D) (id : ℤ) (rect : List Interval) : Type 0 where
+  -- placed in turn, with so much work.
+  pub record InsertsInSteps (old new : ShadowLists D) (id : ℤ) (rect : List Interval) (work : Work) : Type 0 where
     pub before : Arena D
     pub shown_before : outside before ≡ old
     pub whole : IsWhole before
@@ -74,11 +74,11 @@ module _ {D : ℕ} where
     pub shown_after : outside after ≡ new
     pub none_waits : after.waiting.items ≡ []
     pub marks : ℕ
-    pub turns : PlacesInTurn awaiting after marks
+    pub turns : PlacesInTurn awaiting 0 after marks work
 
   -- a row is taken, with so much work, step by step
   pub record IsInsertion (old new : ShadowLists D) (id : ℤ) (rect : List Interval) (work : Work) : Type 0 where
-    pub steps : InsertsInSteps old new id rect
+    pub steps : InsertsInSteps old new id rect work
     pub takes : TakesRow old new id rect
     pub takes_work : TakesWork old new takes.leaf work
 

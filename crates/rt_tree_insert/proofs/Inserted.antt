@@ -41,7 +41,7 @@ module _ (cells capacity level level1 splits reinsertions : ℕ) (o : Outcome ce
 
 module _ {D : ℕ} where
   module _ (old mid new : Arena D) (c : Cell D) (work : Work) (awaits : AwaitsLeaf old mid c) (idle : old.waiting.items ≡ [])
-      (settled : Settles mid new 0) (turned : (marks : ℕ) × PlacesInTurn mid new marks) (counted : CountsWork mid new 0 work) (placed : PlacesRow mid new c work) where
+      (settled : Settles mid new 0) (turned : (marks : ℕ) × PlacesInTurn mid 0 new marks work) (counted : CountsWork mid new 0 work) (placed : PlacesRow mid new c work) where
     start : Arena D
     start = awaiting_arena old mid c awaits idle
 

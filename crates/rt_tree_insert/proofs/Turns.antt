@@ -21,6 +21,10 @@ use Rattle.rt_tree_insert.proofs.Few.{few-levels, few-waiting, fewer-nodes_than_
 share-few : (capacity : ℕ) → IsCapacity capacity → reinsertion_share capacity ≤ 15
 share-few capacity is = let high = is.1 in omega arith
 
+-- none was done
+abbrev no_work : Work
+no_work = record { placements = 0; splits = 0; reinsertions = 0 }
+
 module _ {D : ℕ} where
   long-waiting : (l : ℕ) (cells : List (Cell D)) → length (waiting_at l cells) ≡ length cells
   long-waiting l [] = refl
@@ -50,7 +54,7 @@ module _ {D : ℕ} where
     pub room : now.nodes.capacity ≡ old.nodes.capacity
     pub waiting_room : vec_capacity now.waiting ≡ vec_capacity old.waiting
     pub branched : IsBranched old → IsBranched now
-    pub turns : PlacesInTurn old now marks
+    pub turns : PlacesInTurn old base now marks work
     pub placements : vec_len now.waiting + work.placements ≡ vec_len old.waiting + reinsertion_share old.capacity * work.reinsertions
     pub few : work.reinsertions ≤ marks
     pub marked : marks ≤ now.level
@@ -58,9 +62,8 @@ module _ {D : ℕ} where
     pub alone : (cell : Cell D) → old.waiting.items ≡ record { level = 0; cell = cell } ∷ [] →
         Unturned old now marks work ⊎ Turned old now cell work
 
-  pub progress-none : (t : Arena D) (base marks : ℕ) (work : Work) → IsWhole t → base < vec_len t.waiting →
-      marks ≡ 0 → work.placements ≡ 0 → work.splits ≡ 0 → work.reinsertions ≡ 0 → Progress t t base marks work
-  progress-none t base marks work whole waits unmarked no_placements no_splits no_reinsertions = record {
+  pub progress-none : (t : Arena D) (base : ℕ) → IsWhole t → base < vec_len t.waiting → Progress t t base 0 no_work
+  progress-none t base whole waits = record {
     whole = whole;
     base_waits = omega arith;
     first = refl;
@@ -70,12 +73,12 @@ module _ {D : ℕ} where
     room = refl;
     waiting_room = omega arith;
     branched = λ h. h;
-    turns = subst (PlacesInTurn t t) (sym unmarked) PlacesInTurn.none;
-    placements = let none = ap (λ r. reinsertion_share t.capacity * r) no_reinsertions in omega (arith, none);
+    turns = PlacesInTurn.none;
+    placements = omega arith;
     few = omega arith;
     marked = omega arith;
     nodes = omega arith;
-    alone = λ cell e. inl record { same = refl; unmarked = unmarked; no_splits = no_splits; no_reinsertions = no_reinsertions };
+    alone = λ cell e. inl record { same = refl; unmarked = refl; no_splits = refl; no_reinsertions = refl };
   }
 
   module _ (old now new : Arena D) (base marks marks1 : ℕ) (work work1 : Work) (p : Progress old now base marks work)
@@ -199,7 +202,7 @@ module _ {D : ℕ} where
           room = places.room ∙ p.room;
           waiting_room = let a = p.waiting_room in let b = places.waiting_room in omega arith;
           branched = λ h. places.branched (p.branched h);
-          turns = PlacesInTurn.next p.turns places;
+          turns = PlacesInTurn.next p.turns (omega (arith, more)) places;
           placements = turn-placements;
           few = elim places.waits [ inl a ↦ omega (arith, a.counted, a.unmarked, a.marked) | inr n ↦ omega (arith, n.counted, n.marked) ];
           marked = elim places.waits [ inl a ↦ omega (arith, a.marked, a.inner) | inr n ↦ omega (arith, n.marked) ];

@@ -42,7 +42,7 @@ module _ {D : ℕ} where
     pub awaiting : Arena D
     pub awaits : AwaitsLeaf old awaiting record { number = id; rect = rect }
     pub marks : ℕ
-    pub turns : PlacesInTurn awaiting new marks
+    pub turns : PlacesInTurn awaiting 0 new marks work
     pub leaf : ℕ
     pub path : List ℕ
     pub leads : LeadsTo old.nodes 0 old.level old.root rect leaf path

@@ -10,11 +10,12 @@ use Rattle.rt_tree_node.specs.Path.{LeadsTo}
 use Rattle.rt_tree_place.specs.Placing.{JoinsLeaf, HalvesRoot, PlacesLast}
 
 module _ {D : ℕ} where
-  -- cells inserted one after the other, each time the last that waits; levels below the marks are marked, none at first
-  pub data PlacesInTurn (old : Arena D) : Arena D → ℕ → Type 0 where
-    none : PlacesInTurn old old 0
-    next : {t u : Arena D} {marks marks1 : ℕ} {work work1 : Work} → PlacesInTurn old t marks → PlacesLast t u marks marks1 work work1 →
-        PlacesInTurn old u marks1
+  -- the waiting cells but the first `base`, inserted one after the other, each time the last that waits; levels below the
+  -- marks are marked, none at first, and the work is that of these insertions alone
+  pub data PlacesInTurn (old : Arena D) (base : ℕ) : Arena D → ℕ → Work → Type 0 where
+    none : PlacesInTurn old base old 0 record { placements = 0; splits = 0; reinsertions = 0 }
+    next : {t u : Arena D} {marks marks1 : ℕ} {work work1 : Work} → PlacesInTurn old base t marks work →
+        base < length t.waiting.items → PlacesLast t u marks marks1 work work1 → PlacesInTurn old base u marks1 work1
 
   -- All waiting cells but the first `base` were placed, and each that was inserted again. A level gives up cells at
   -- most once; a split makes one node, and so does a new root.

@@ -21,7 +21,7 @@ pub fn settle<const D: usize>(tree: &mut Arena<D>, base: usize) -> Work
     requires room { HasRoom tree.old (row_count tree.old) }
     requires waiting_room { vec_len tree.old.waiting + 512 ≤ vec_capacity tree.old.waiting }
     ensures settles { Settles tree.old tree.new base }
-    ensures turns { (marks : ℕ) × PlacesInTurn tree.old tree.new marks }
+    ensures turns { (marks : ℕ) × PlacesInTurn tree.old base tree.new marks result }
     ensures counts { CountsWork tree.old tree.new base result }
     ensures alone { (cell : Cell D) → tree.old.waiting.items ≡ record { level = 0; cell = cell } ∷ [] → PlacesRow tree.old tree.new cell result }
 {

@@ -159,7 +159,9 @@ module _ {D : ℕ} (t : Arena D) (key parent : ℕ) (but : IsSoundBut t key) (up
         room = (r.change p has).room;
         waiting_room = refl;
       };
-      exact = λ enough. record {
+      parent_is = up;
+      condenses = inl record {
+        filled = enough;
         waiting = refl;
         shape = keeps-shape;
         full = λ away. let least = parent-least away in let long = same-long parent in omega arith;
@@ -213,5 +215,13 @@ module _ {D : ℕ} (t : Arena D) (key parent : ℕ) (but : IsSoundBut t key) (up
           room = d.room;
           waiting_room = room;
         };
-        exact = λ enough. let long = ap length own in absurd (omega arith);
+        parent_is = up;
+        condenses = inr record {
+          underfull = omega (arith, ap length own);
+          level = n.level;
+          here = ap level_of has;
+          at = at;
+          dissolves = d;
+          orphans = items ∙ ap (λ cs. ws ++ waiting_at n.level cs) (sym own);
+        };
       }

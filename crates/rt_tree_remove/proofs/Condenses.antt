@@ -16,7 +16,7 @@ use Rattle.rt_tree_node.specs.Path.{KeepsShape}
 use Rattle.rt_tree_node.specs.Whole.{IsWhole}
 use Rattle.rt_tree_place.proofs.Rested.{rested-whole}
 use Rattle.rt_tree_remove.specs.Above.{way_up}
-use Rattle.rt_tree_remove.specs.Steps.{IsSoundBut, KeepsHomes, Climbs, IsCondensed, Spares, IsClimbing, Condenses}
+use Rattle.rt_tree_remove.specs.Steps.{IsSoundBut, KeepsHomes, Adjusts, Climbs, IsCondensed, Spares, CondensesTo, IsClimbing, Condenses}
 use Rattle.rt_tree_remove.proofs.Climbs.{parent-level}
 use Rattle.rt_tree_remove.proofs.Dissolved.{unnamed-below, parent-named}
 
@@ -105,6 +105,7 @@ module _ {D : ℕ} where
   climbing-start t leaf but bottom = record {
     but = but;
     keeps = KeepsHomes-none t;
+    steps = CondensesTo.none;
     exact = λ roomy. record {
       waiting = refl;
       shape = KeepsShape-none t.nodes (way_up t.nodes t.level leaf);
@@ -117,10 +118,14 @@ module _ {D : ℕ} where
     };
   }
 
+  -- a filled node stays
+  adjusted : (t u : Arena D) (key parent : ℕ) → Climbs t u key parent → least_fill t.capacity ≤ length (cells_at t.nodes key) → Adjusts t u key parent
+  adjusted t u key parent climbs filled = elim climbs.condenses [ inl a ↦ a | inr e ↦ absurd (omega (arith, e.underfull)) ]
+
   spares-more : (s t u : Arena D) (leaf key parent : ℕ) → IsSoundBut t key → parent_at t.nodes key ≡ Some parent → KeepsHomes s t → Climbs t u key parent →
       Spares s t leaf key → key ≢ t.root → Spares s u leaf parent
   spares-more s t u leaf key parent but up keeps climbs so_far away =
-      let exact = climbs.exact (so_far.full away) in
+      let exact = adjusted t u key parent climbs (so_far.full away) in
       let on = so_far.above key (way_up-first s.nodes so_far.levels key) in
       let new_level = climbs.up so_far.level so_far.here in
       let high = climbs.next.sound.linked.levels parent (suc so_far.level) new_level in
@@ -147,6 +152,7 @@ module _ {D : ℕ} where
       record {
         but = climbs.next;
         keeps = KeepsHomes-then s t u so_far.keeps climbs.keeps;
+        steps = CondensesTo.step so_far.steps climbs;
         exact = λ roomy. spares-more s t u leaf key parent so_far.but up so_far.keeps climbs (so_far.exact roomy) away;
       }
 
@@ -159,6 +165,9 @@ module _ {D : ℕ} where
         whole = whole-at_root t key but at_root;
         keeps = so_far.keeps;
         few = subst (λ l. length t.waiting.items ≤ (least_fill t.capacity - 1) * l) level_is but.few;
+        last = key;
+        steps = so_far.steps;
+        ends = inl at_root;
         waiting = λ roomy. (so_far.exact roomy).waiting;
         shape = λ roomy. (so_far.exact roomy).shape;
       }
@@ -175,6 +184,9 @@ module _ {D : ℕ} where
         whole = rested-whole t key parent but.level but.sound but.here up above condensed.filled but.most condensed.box;
         keeps = so_far.keeps;
         few = omega arith;
+        last = key;
+        steps = so_far.steps;
+        ends = inr (parent, up, condensed);
         waiting = λ roomy. (so_far.exact roomy).waiting;
         shape = λ roomy. (so_far.exact roomy).shape;
       }

@@ -166,7 +166,7 @@ module _ {D : ℕ} (old : Arena D) (id : ℤ) (location : Location D) (b : Slab 
     one_waits = waits-one between awaiting cell awaits idle
 
     -- and was placed
-    pub replaces : (new : Arena D) (work : Work) → Settles awaiting new 0 → (marks : ℕ) × PlacesInTurn awaiting new marks → CountsWork awaiting new 0 work →
+    pub replaces : (new : Arena D) (work : Work) → Settles awaiting new 0 → (marks : ℕ) × PlacesInTurn awaiting 0 new marks work → CountsWork awaiting new 0 work →
         ((c : Cell D) → awaiting.waiting.items ≡ record { level = 0; cell = c } ∷ [] → PlacesRow awaiting new c work) → Replaces old new id location.rect rect
     replaces new work settled turned counted placed = record {
       between = between;

@@ -29,6 +29,7 @@ use Rattle.rt_tree_remove.proofs.Changed.{changed-levels, changed-parents, chang
 use Rattle.rt_tree_remove.proofs.Condenses.{KeepsShape-then}
 use Rattle.rt_tree_remove.proofs.Dissolved.{leaf-same}
 use Rattle.rt_tree_remove.proofs.Placed.{room-for}
+use Rattle.rt_tree_remove.proofs.WayGiven.{way-still}
 use Rattle.rt_tree_remove.proofs.Reordered.{reordered-linked, reordered-fitted, reordered-homes, reordered-rows}
 
 -- what the keys alone tell
@@ -217,7 +218,7 @@ module _ {D : ℕ} where
         let s3 : Arena D = record s2 { waiting = u.waiting } in
         let stays : s4 ≡ s3 = places.still none3 in
         let branched2 = still-branched s0 s1 s2 id leaf at rect takes condenses roomy branched in
-        let end : s5 ≡ s3 = gives.still (places.branched branched2) ∙ stays in
+        let end : s5 ≡ s3 = way-still s4 s5 gives (places.branched branched2) ∙ stays in
         let exact2 = leaves-leaf s0 s1 s2 id leaf at rect takes condenses roomy in
         let exact3 : LeavesLeaf s0 s3 leaf at record { number = id; rect = rect } = record {
           was = exact2.was;

@@ -1,5 +1,5 @@
 -- An inner root with one child, which is the root now.
-use Rattle.std.proofs.Common.{◌≡◌, ◌≢◌, ℕ, suc, ◌<◌, ◌≤◌, Bool, ℤ, pos, List, [], map, length, get_or, Option, Some, None, count_by, arith, refl, ap, sym, subst, ◌∙◌, inl, inr}
+use Rattle.std.proofs.Common.{◌≡◌, ◌≢◌, ℕ, suc, ◌<◌, ◌≤◌, Bool, ℤ, pos, List, [], ◌∷◌, map, length, get_or, Option, Some, None, count_by, arith, refl, ap, sym, subst, ◌∙◌, inl, inr}
 use Rattle.std.specs.List.{All}
 use Rattle.std.specs.Prelude.{unsigned_abs}
 use Rattle.std.specs.Ordering.{int_eq}
@@ -20,19 +20,23 @@ use Rattle.rt_tree_node.specs.Whole.{IsWhole, IsBranched}
 use Rattle.rt_tree_node.proofs.Places.{inner-at_inner, leaf-at_inner, named-none}
 use Rattle.rt_tree_node.proofs.Links.{above-some, NamesChild-same}
 use Rattle.rt_tree_node.proofs.Homes.{homes-same}
-use Rattle.rt_tree_remove.specs.Steps.{GivesWay}
+use Rattle.rt_tree_remove.specs.Steps.{LosesRoot, GivesWay}
 use Rattle.rt_tree_remove.proofs.Dissolved.{parent-named, leaf-same}
 use Rattle.rt_tree_remove.proofs.Changed.{named-at}
 use Rattle.rt_tree_remove.proofs.Sums.{sums-same}
 
 module _ {D : ℕ} where
-  -- the root left the slab, and its child has no parent any more
-  pub record LosesRoot (old new : Slab (NodeCells D)) (root child : ℕ) : Type 0 where
-    pub gone : get new root ≡ None
-    pub levels : (k : ℕ) → k ≢ root → level_at new k ≡ level_at old k
-    pub parents : (k : ℕ) → k ≢ root → k ≢ child → parent_at new k ≡ parent_at old k
-    pub top : parent_at new child ≡ None
-    pub cells : (k : ℕ) → k ≢ root → cells_at new k ≡ cells_at old k
+  one-alone : (cs : List (Cell D)) (d : Cell D) → length cs ≡ 1 → cs ≡ get_or cs 0 d ∷ []
+  one-alone [] d one = absurd (omega arith)
+  one-alone (c ∷ []) d one = refl
+  one-alone (c ∷ b ∷ cs) d one = absurd (omega arith)
+
+  -- a root with two cells, or a leaf, stays
+  pub way-still : (s t : Arena D) → GivesWay s t → IsBranched s → t ≡ s
+  way-still s t gives branched = elim gives.way [
+    | inl kept ↦ kept.1
+    | inr h ↦ let two = branched (let high = h.level in omega arith) in absurd (omega (arith, ap length h.only))
+  ]
 
   pub loses-root : (a s b : Slab (NodeCells D)) (root child : ℕ) (n : NodeCells D) → root ≢ child → Updates a s root None → get s child ≡ Some n →
       Puts s b child (record n { parent = None }) → LosesRoot a b root child
@@ -208,7 +212,7 @@ module _ {D : ℕ} (t : Arena D) (l child : ℕ) (whole : IsWhole t) (idle : t.w
       leaves = refl;
       capacity = refl;
       room = room;
-      still = λ two. let both = two (omega arith) in absurd (omega arith);
+      way = inr record { level = height; cell = get_or (cells_at t.nodes t.root) 0 some-cell; only = one-alone (cells_at t.nodes t.root) some-cell root-long; root = sym (child_is some-cell); nodes = h };
     }
 
 module _ {D : ℕ} where
@@ -222,5 +226,5 @@ module _ {D : ℕ} where
     leaves = refl;
     capacity = refl;
     room = refl;
-    still = λ two. refl;
+    way = inl (branched, refl);
   }

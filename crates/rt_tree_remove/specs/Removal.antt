@@ -32,8 +32,8 @@ module _ {D : ℕ} where
     pub others : (k : ℕ) → k ≢ leaf → KeepsShape old.nodes new.nodes (way_up old.nodes old.level leaf) k
     pub homes : (other : ℤ) → other ≢ cell.number → leaf_of int_eq new.leaves other ≡ leaf_of int_eq old.leaves other
 
-  -- The steps: the row leaves its leaf, thin nodes leave the tree from there up, their cells are placed again, those of
-  -- the lowest level first, and a root with one child gives way.
+  -- The steps: the row leaves its leaf, underfull nodes leave the tree from there up, their cells are inserted again, those
+  -- of the lowest level first, and a root with one child gives way.
   pub record RemovesInSteps (old new : Arena D) (id : ℤ) (rect : List Interval) : Type 0 where
     pub leaf : ℕ
     pub at : ℕ

@@ -1,7 +1,7 @@
--- The steps of a removal, and the trees between them: a cell leaves its leaf, nodes that are too thin then leave
--- the tree and their cells wait, and a root with one child gives way (Guttman 1984, section 3.3; that the waiting
--- cells are placed before the root gives way is own).
-use Rattle.std.specs.Prelude.{◌≡◌, ◌≢◌, ℕ, suc, ◌+◌, ◌-◌, ◌*◌, ◌<◌, ◌≤◌, Bool, ℤ, List, length, take, remove, slice_get, slice_index_or, if◌then◌else◌, None, Some, All, Contains, vec_len, vec_capacity, ◌<ℤ◌}
+-- The steps of a removal, and the trees between them: a cell leaves its leaf, underfull nodes leave the tree from there up
+-- and their cells wait, these are inserted again, and a root with one child gives way (Guttman 1984, section 3.3; Beckmann,
+-- Kriegel, Schneider, Seeger 1990, section 4; that each waiting cell is inserted by itself is own).
+use Rattle.std.specs.Prelude.{◌≡◌, ◌≢◌, ◌⊎◌, ℕ, suc, ◌+◌, ◌-◌, ◌*◌, ◌<◌, ◌≤◌, Bool, ℤ, List, [], ◌∷◌, ◌++◌, length, take, remove, slice_get, slice_index_or, if◌then◌else◌, None, Some, All, Contains, vec_len, vec_capacity, ◌<ℤ◌}
 use Rattle.std.specs.List.{AllZip}
 use Rattle.std.specs.Ordering.{int_eq}
 use Rattle.slab.specs.Slab.{Slab, get}
@@ -9,9 +9,10 @@ use Rattle.indexmap.specs.IndexMap.{IndexMap, get as leaf_of, spare, index_map_l
 use Rattle.rt_box.specs.declared.interval.Interval.{Interval}
 use Rattle.rt_box.specs.Capacity.{least_fill}
 use Rattle.rt_tree_node.specs.declared.arena.Arena.{Arena}
+use Rattle.rt_tree_node.specs.declared.arena.Work.{Work}
 use Rattle.rt_tree_node.specs.declared.cell.Cell.{Cell}
 use Rattle.rt_tree_node.specs.Node.{NodeCells}
-use Rattle.rt_tree_node.specs.Places.{key_of, no_cell, cells_at, level_at, parent_at, count_rows}
+use Rattle.rt_tree_node.specs.Places.{key_of, no_cell, cells_at, level_at, parent_at, count_rows, waiting_at}
 use Rattle.rt_tree_node.specs.Whole.{IsSound, IsWhole, IsBranched}
 use Rattle.rt_tree_node.specs.Changes.{Changes}
 use Rattle.rt_tree_node.specs.Homes.{KeepsIds}
@@ -85,18 +86,31 @@ module _ {D : ℕ} where
     pub room : new.nodes.capacity ≡ old.nodes.capacity
     pub waiting_room : vec_capacity new.waiting ≡ vec_capacity old.waiting
 
-  -- a step up that took nothing out: of all cells only the box of the one that names the node changed
-  pub record KeepsShapes (old new : Arena D) (key parent : ℕ) : Type 0 where
+  -- CondenseTree, a node that is filled (Guttman 1984, section 3.3, CT4): it stays, and of all cells only the box of the one
+  -- that names it changed
+  pub record Adjusts (old new : Arena D) (key parent : ℕ) : Type 0 where
+    pub filled : least_fill old.capacity ≤ length (cells_at old.nodes key)
     pub waiting : new.waiting.items ≡ old.waiting.items
     pub shape : (path : List ℕ) → Contains path key → (k : ℕ) → KeepsShape old.nodes new.nodes path k
     pub full : parent ≢ new.root → least_fill new.capacity ≤ length (cells_at new.nodes parent)
 
+  -- CondenseTree, an underfull node (Guttman 1984, section 3.3, CT3): it leaves the tree, and its cells wait for nodes of its
+  -- level, in the order that they had, behind those that waited already
+  pub record Eliminates (old new : Arena D) (key parent : ℕ) : Type 0 where
+    pub underfull : length (cells_at old.nodes key) < least_fill old.capacity
+    pub level : ℕ
+    pub here : level_at old.nodes key ≡ Some level
+    pub at : ℕ
+    pub dissolves : Dissolves old.nodes new.nodes key parent at
+    pub orphans : new.waiting.items ≡ old.waiting.items ++ waiting_at level (cells_at old.nodes key)
+
   -- a step up: the node is in order or gone, and its parent may now be out of shape
   pub record Climbs (old new : Arena D) (key parent : ℕ) : Type 0 where
     pub next : IsSoundBut new parent
+    pub parent_is : parent_at old.nodes key ≡ Some parent
     pub up : (l : ℕ) → level_at old.nodes key ≡ Some l → level_at new.nodes parent ≡ Some (suc l)
     pub keeps : KeepsHomes old new
-    pub exact : least_fill old.capacity ≤ length (cells_at old.nodes key) → KeepsShapes old new key parent
+    pub condenses : Adjusts old new key parent ⊎ Eliminates old new key parent
 
   -- nothing is left to be done on the way up: the node has enough cells, and the cell above it has the least box
   pub record IsCondensed (t : Arena D) (key parent : ℕ) : Type 0 where
@@ -119,21 +133,47 @@ module _ {D : ℕ} where
   abbrev pub IsRoomy : Arena D → ℕ → Type 0
   IsRoomy t leaf = leaf ≢ t.root → least_fill t.capacity ≤ length (cells_at t.nodes leaf)
 
+  -- steps up from the leaf, one after the other, have come to the node at the key
+  pub data CondensesTo (old : Arena D) (leaf : ℕ) : Arena D → ℕ → Type 0 where
+    none : CondensesTo old leaf old leaf
+    step : {t u : Arena D} {key parent : ℕ} → CondensesTo old leaf t key → Climbs t u key parent → CondensesTo old leaf u parent
+
   -- the steps up from the leaf so far
   pub record IsClimbing (old t : Arena D) (leaf key : ℕ) : Type 0 where
     pub but : IsSoundBut t key
     pub keeps : KeepsHomes old t
+    pub steps : CondensesTo old leaf t key
     pub exact : IsRoomy old leaf → Spares old t leaf key
 
-  -- no node is out of shape any more, and the cells of the thin ones wait
+  -- CondenseTree: no node is underfull any more, and the cells of those that were wait. The steps up from the leaf end at the
+  -- root, or where nothing is left to be done
   pub record Condenses (old new : Arena D) (leaf : ℕ) : Type 0 where
     pub whole : IsWhole new
     pub keeps : KeepsHomes old new
     pub few : length new.waiting.items ≤ (least_fill new.capacity - 1) * new.level
+    pub last : ℕ
+    pub steps : CondensesTo old leaf new last
+    pub ends : (last ≡ new.root) ⊎ ((parent : ℕ) × (parent_at new.nodes last ≡ Some parent) × IsCondensed new last parent)
     pub waiting : IsRoomy old leaf → new.waiting.items ≡ old.waiting.items
     pub shape : IsRoomy old leaf → (k : ℕ) → KeepsShape old.nodes new.nodes (way_up old.nodes old.level leaf) k
 
-  -- the root gave way to its only child, if it had but one; nothing waits
+  -- the root left the slab, and its child has no parent; all other nodes are the same
+  pub record LosesRoot (old new : Slab (NodeCells D)) (root child : ℕ) : Type 0 where
+    pub gone : get new root ≡ None
+    pub levels : (k : ℕ) → k ≢ root → level_at new k ≡ level_at old k
+    pub parents : (k : ℕ) → k ≢ root → k ≢ child → parent_at new k ≡ parent_at old k
+    pub top : parent_at new child ≡ None
+    pub cells : (k : ℕ) → k ≢ root → cells_at new k ≡ cells_at old k
+
+  -- the tree is shortened (Guttman 1984, section 3.3, D4): the only child of the root is the root, a level lower
+  pub record ShortensTree (old new : Arena D) : Type 0 where
+    pub level : old.level ≡ suc new.level
+    pub cell : Cell D
+    pub only : cells_at old.nodes old.root ≡ cell ∷ []
+    pub root : new.root ≡ key_of cell
+    pub nodes : LosesRoot old.nodes new.nodes old.root new.root
+
+  -- an inner root with one child gave way to it, and another root stayed; what waits is the same
   pub record GivesWay (old new : Arena D) : Type 0 where
     pub whole : IsWhole new
     pub branched : IsBranched new
@@ -143,7 +183,7 @@ module _ {D : ℕ} where
     pub leaves : new.leaves ≡ old.leaves
     pub capacity : new.capacity ≡ old.capacity
     pub room : new.nodes.capacity ≡ old.nodes.capacity
-    pub still : IsBranched old → new ≡ old
+    pub way : (IsBranched old × (new ≡ old)) ⊎ ShortensTree old new
 
   -- where the row with the id lies: the map has the id at the index and leads it to the leaf, and there the cell at the
   -- position has it and the box
@@ -176,8 +216,8 @@ module _ {D : ℕ} where
   -- waiting cells placed one after the other, each by itself, the last first: no level is marked before
   pub data SettlesInTurn (old : Arena D) : Arena D → Type 0 where
     none : SettlesInTurn old old
-    next : {t u : Arena D} {base marks : ℕ} → SettlesInTurn old t → suc base ≡ length t.waiting.items → PlacesInTurn t u marks →
-        u.waiting.items ≡ take base t.waiting.items → SettlesInTurn old u
+    next : {t u : Arena D} {base marks : ℕ} {work : Work} → SettlesInTurn old t → suc base ≡ length t.waiting.items →
+        PlacesInTurn t base u marks work → u.waiting.items ≡ take base t.waiting.items → SettlesInTurn old u
 
   -- some of the waiting cells were placed, the last first
   pub record Places (old new : Arena D) : Type 0 where

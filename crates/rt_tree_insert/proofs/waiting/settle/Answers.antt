@@ -1,11 +1,11 @@
-use Rattle.std.proofs.Common.{◌+◌, ◌^◌, ◌≤◌, vec_len, vec_capacity, arith, refl, rules}
+use Rattle.std.proofs.Common.{◌+◌, ◌^◌, ◌≤◌, vec_len, vec_capacity, arith, rules}
 use Rattle.slab.specs.Slab.{HasRoomFor}
 use Rattle.rt_tree_node.specs.Whole.{IsWhole}
 use Rattle.rt_tree_insert.proofs.Turns.{progress-none, may-turn, measure-falls, progress-turn, rows-bounded, settles-end, counts-end, row-end}
 use Rattle.rt_tree_insert.proofs.waiting.settle.Goals as goal
 
 pub loop-tree-init : goal.loop-tree-init
-loop-tree-init g c = progress-none c.args.tree.now c.args.base 0 _ c.requires.whole c.requires.waits refl refl refl refl
+loop-tree-init g c = progress-none c.args.tree.now c.args.base c.requires.whole c.requires.waits
 
 pub place_last-requires : goal.place_last-requires
 place_last-requires g c =
