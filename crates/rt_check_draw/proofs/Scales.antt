@@ -44,16 +44,15 @@ keep-direction r one other order order' =
     let low : place_in r one.lo ≤ place_in r one.hi = scale-monotone r one.lo one.hi order in
     let low' : place_in r other.lo ≤ place_in r other.hi = scale-monotone r other.lo other.hi order' in
     let high : place_in r one.hi ≤ 80000 = scale-bound r one.hi in
-    let high' : place_in r other.hi ≤ 80000 = scale-bound r other.hi in
-    (
-        λ h.
-            let le : place_in r one.lo ≤ place_in r other.lo = scale-monotone r one.lo other.lo h in
-            let here = begins 10000 (place_in r one.lo) (place_in r one.hi) low high in
-            let there = begins 10000 (place_in r other.lo) (place_in r other.hi) low' high' in
-            omega (arith, le, here, there),
-        λ h.
-            let le : place_in r one.hi ≤ place_in r other.hi = scale-monotone r one.hi other.hi h in
-            let here = begins 4000 (80000 - place_in r one.hi) (80000 - place_in r one.lo) (omega (arith, low)) (omega arith) in
-            let there = begins 4000 (80000 - place_in r other.hi) (80000 - place_in r other.lo) (omega (arith, low')) (omega arith) in
-            omega (arith, le, here, there),
+    let high' : place_in r other.hi ≤ 80000 = scale-bound r other.hi in (
+      λ h.
+          let le : place_in r one.lo ≤ place_in r other.lo = scale-monotone r one.lo other.lo h in
+          let here = begins 10000 (place_in r one.lo) (place_in r one.hi) low high in
+          let there = begins 10000 (place_in r other.lo) (place_in r other.hi) low' high' in
+          omega (arith, le, here, there),
+      λ h.
+          let le : place_in r one.hi ≤ place_in r other.hi = scale-monotone r one.hi other.hi h in
+          let here = begins 4000 (80000 - place_in r one.hi) (80000 - place_in r one.lo) (omega (arith, low)) (omega arith) in
+          let there = begins 4000 (80000 - place_in r other.hi) (80000 - place_in r other.lo) (omega (arith, low')) (omega arith) in
+          omega (arith, le, here, there),
     )
