@@ -90,13 +90,17 @@ module _ {D : ℕ} where
       AllZip ◌≤ℤ◌ min max × (box_of old.lists id ≡ None) × (length old.lists.rows < 2 ^ 20) × (new.lists ≡ old.lists)
   Inserts id min max old new code = ⊥
 
-  -- The row with that id gets the box by the rules; if it has it already, the tree stays. Or, in this order, the box has a
-  -- least number above its greatest, no row has the id, or there is no memory; the rows are as before then.
+  -- the row with that id gets the box by the rules, in a tree of the same capacity; if it has it already, the tree stays
+  pub record MovesRow (old new : ShadowLists D) (id : ℤ) (rect : List Interval) : Type 0 where
+    pub there : IsSome (box_of old id)
+    pub same : box_of old id ≡ Some rect → new ≡ old
+    pub other : box_of old id ≢ Some rect → IsReplacement old new id rect
+    pub capacity : new.capacity ≡ old.capacity
+
+  -- The row moves. Or, in this order, the box has a least number above its greatest, no row has the id, or there is no
+  -- memory; the rows are as before then.
   abbrev pub Moves : ℤ → List ℤ → List ℤ → TreeLists D → TreeLists D → Code → Type 0
-  Moves id min max old new Done =
-      IsSome (box_of old.lists id) × (new.lists.capacity ≡ old.lists.capacity) ×
-      ((rect : List Interval) × (los rect ≡ min) × (his rect ≡ max) × (box_of old.lists id ≡ Some rect → new.lists ≡ old.lists) ×
-      (box_of old.lists id ≢ Some rect → IsReplacement old.lists new.lists id rect))
+  Moves id min max old new Done = (rect : List Interval) × (los rect ≡ min) × (his rect ≡ max) × MovesRow old.lists new.lists id rect
   Moves id min max old new BadBox = (¬ AllZip ◌≤ℤ◌ min max) × (new ≡ old)
   Moves id min max old new IdMissing = AllZip ◌≤ℤ◌ min max × (box_of old.lists id ≡ None) × (new ≡ old)
   Moves id min max old new OutOfMemory = AllZip ◌≤ℤ◌ min max × IsSome (box_of old.lists id) × (new.lists ≡ old.lists)
