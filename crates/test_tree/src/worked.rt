@@ -106,7 +106,7 @@ fn a_point_comes_back_and_splits_its_leaf(rt: HostRuntime) -> Result<(), Fail> {
     Ok(())
 }
 
-/// The ids in the leaves of a tree of two levels.
+/// The ids in the leaves, in preorder.
 fn leaves(alloc: Global, keys: RandomState, tree: &Tree<1>) -> Result<Vec<i64>, Fail> {
     let shadow = tree.shadow(alloc, keys)?;
     let mut ids = Vec::new(alloc);
@@ -128,6 +128,43 @@ fn a_point_taken_out_goes_to_the_other_leaf(rt: HostRuntime) -> Result<(), Fail>
     assert!(rt; tree.node_count() == 3);
     assert!(rt;
         leaves(rt.alloc(), keys, &tree)?.as_slice() == [1, 2, 3, 8, 7, 4, 5, 6, 9, 10].as_slice()
+    );
+    Ok(())
+}
+
+/// Points in pairs: 0 and 2, 1 and 3, 2 and 4, and so on.
+fn pairs(alloc: Global, count: i32) -> Result<Vec<i32>, Fail> {
+    let mut places = Vec::new(alloc);
+    for first in 0..count {
+        places.push(first)?;
+        places.push(first.wrapping_add(2))?;
+    }
+    Ok(places)
+}
+
+// The numbers are those of `faults/plain_tree.py`.
+#[test]
+fn cells_of_two_levels_and_of_three_are_inserted_again(rt: HostRuntime) -> Result<(), Fail> {
+    let keys = RandomState::new(&rt)?;
+    let (tree, work) = points(rt.alloc(), keys, pairs(rt.alloc(), 9)?.as_slice())?;
+    assert!(rt; (work.placements, work.splits, work.reinsertions) == (3, 1, 2));
+    assert!(rt; (tree.depth(), tree.node_count()) == (3, 11));
+    assert!(rt;
+        leaves(rt.alloc(), keys, &tree)?.as_slice()
+            == [
+                1, 3, 5, 2, 7, 4, 9, 6, 11, 8, 13, 10, 15, 12, 14, 17, 16, 18
+            ]
+            .as_slice()
+    );
+    let (tree, work) = points(rt.alloc(), keys, pairs(rt.alloc(), 22)?.as_slice())?;
+    assert!(rt; (work.placements, work.splits, work.reinsertions) == (4, 2, 3));
+    assert!(rt; (tree.depth(), tree.node_count()) == (4, 32));
+    let ids = leaves(rt.alloc(), keys, &tree)?;
+    assert!(rt;
+        ids.len() == 44
+            && ids
+                .as_slice()
+                .ends_with([24, 29, 26, 31, 28, 33, 30].as_slice())
     );
     Ok(())
 }
