@@ -1,4 +1,4 @@
-use Rattle.std.proofs.Common.{◌-◌, ◌<◌, length, vec_len, ap, ◌∙◌, arith}
+use Rattle.std.proofs.Common.{◌<◌, length, vec_len, ap, ◌∙◌, arith}
 use Rattle.std.proofs.lemmas.List.{length-take}
 use Rattle.rt_tree_remove.specs.Steps.{SettlesInTurn}
 use Rattle.rt_tree_remove.proofs.Placed.{some-wait, placed-none}
@@ -19,7 +19,7 @@ loop-tree-preserved g c =
       capacity = s.capacity ∙ p.capacity;
       room = s.room ∙ p.room;
       waiting_room = omega (arith, s.waiting_room, p.waiting_room);
-      fewer = omega (arith, ap (λ ws. length ws) s.waiting, length-take (c.len-base.result - 1) c.loop-tree.tree.waiting.items, p.fewer);
+      fewer = omega (arith, ap (λ ws. length ws) s.waiting ∙ length-take _ c.loop-tree.tree.waiting.items, p.fewer);
       branched = λ h. s.branched (p.branched h);
       still = λ none. absurd (omega (arith, p.fewer, some, none));
       turns = SettlesInTurn.next p.turns (omega (arith, c.len-base.ensures, some)) c.settle.ensures.turns.1 s.waiting;
