@@ -28,7 +28,7 @@ impl Model for Handle {
     ghost also_owns = { λ h. handle_owns h.alloc h.at h.count h.held };
 }
 
-// Between two calls a handle may go to another thread: its object may.
+// Between two calls a handle may go to another thread, as its object may.
 unsafe impl Send for Handle {}
 
 // The functions with a raw pointer, each with a proof by hand.

@@ -1,6 +1,6 @@
 -- The steps of a removal, and the trees between them: a cell leaves its leaf, underfull nodes leave the tree from there up
--- and their cells wait, these are inserted again, and a root with one child gives way (Guttman 1984, section 3.3; Beckmann,
--- Kriegel, Schneider, Seeger 1990, section 4; that each waiting cell is inserted by itself is own).
+-- and their cells wait, the cells are inserted again, and a root with one child gives way (Guttman 1984, section 3.3, with
+-- the Insert of Beckmann, Kriegel, Schneider, Seeger 1990, section 4; in which order the cells wait is own).
 use Rattle.std.specs.Prelude.{◌≡◌, ◌≢◌, ◌⊎◌, ℕ, suc, ◌+◌, ◌-◌, ◌*◌, ◌<◌, ◌≤◌, Bool, ℤ, List, [], ◌∷◌, ◌++◌, length, take, remove, slice_get, slice_index_or, if◌then◌else◌, None, Some, All, Contains, vec_len, vec_capacity, ◌<ℤ◌}
 use Rattle.std.specs.List.{AllZip}
 use Rattle.std.specs.Ordering.{int_eq}
