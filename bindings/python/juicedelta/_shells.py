@@ -1,0 +1,91 @@
+"""Script shells."""
+
+from __future__ import annotations
+
+import ctypes
+from typing import List, SupportsIndex, Tuple
+
+from ._calls import SCRIPT_CALLS, Call, Owner, capacity_of
+from ._script import Change, Value, begun_by, changes_of, ended, lines_of, refusal_of, rows_of
+
+
+class Shell(Owner):
+    """A script shell: it is fed a script in whatever parts. It can't be copied or pickled.
+
+    >>> shell = Shell()
+    >>> shell.execute("CREATE VIRTUAL TABLE t USING rtree_i32(id, a, b, +c); INSERT INTO t VALUES (1, 2, 3, 'it''s');")
+    []
+    >>> shell.execute("SELECT id, a FROM t;"), shell.rows("SELECT id, c FROM t")
+    (['1|2'], [(1, "it's")])
+    >>> shell.changes(".watch low FROM t WHERE a < 5"), shell.changes("DELETE FROM t; INSERT INTO t VALUES (2, 5, 5, NULL)")
+    ([], [Change(view='low', sign='-', row=(1, 2, 3, "it's"))])
+    >>> shell.execute("DELETE FROM u;"), shell.finish()
+    (['refused 8 5: no such table'], [])
+    """
+
+    _open: Call
+    _exec: Call
+    _finish: Call
+    _output_length: Call
+    _output: Call
+    _drop_output: Call
+
+    def __init__(self, capacity: SupportsIndex = 51) -> None:
+        self._hold(SCRIPT_CALLS, "_open", capacity_of(capacity))
+        self._begun = ""
+
+    def execute(self, text: str) -> List[str]:
+        """Feeds the shell some text, and answers the lines that it prints. A refused statement prints one too.
+
+        A line has a line feed only in a text in quotes.
+        """
+        return lines_of(self._fed(text, begun_by(self._begun + text)))
+
+    def rows(self, select: str) -> List[Tuple[Value, ...]]:
+        """The rows of a SELECT, or of `.view NAME`: NULL is None, a blob bytes. The last `;` or line feed may be missing.
+
+        A refused statement raises StatementRefused. A quote or a comment without its end is a ValueError, as is a
+        statement without its end that `execute` was fed before; then the shell is fed nothing.
+        """
+        printed = self._answered(select)
+        try:
+            return rows_of(printed)
+        except ValueError:
+            raise ValueError("something else than rows is printed: " + printed[:1000]) from None
+
+    def changes(self, text: str) -> List[Change]:
+        """Feeds the shell statements, and answers how they change the views. What a SELECT prints is left out.
+
+        Errors are those of `rows`. After StatementRefused the refused statement has changed nothing, and the others of
+        the text are carried out, but their changes aren't answered: feed one at a time where that matters.
+        """
+        return changes_of(self._answered(text))
+
+    def finish(self) -> List[str]:
+        """Ends the script, and answers the lines that its end prints: a last statement without `;` is refused."""
+        self._do(self._finish, ctypes.byref(ctypes.c_uint32()))
+        self._begun = ""
+        return lines_of(self._printed())
+
+    def _answered(self, text: str) -> str:
+        printed = self._fed(ended(self._begun, text), "")
+        refusal = refusal_of(printed)
+        if refusal:
+            raise refusal
+        return printed
+
+    def _fed(self, text: str, begun: str) -> str:
+        data = text.encode()
+        self._do(self._exec, data, len(data))
+        self._begun = begun
+        return self._printed()
+
+    def _printed(self) -> str:
+        length = self._number(self._output_length)
+        if length == 0:
+            return ""
+        buffer = ctypes.create_string_buffer(length)
+        self._do(self._output, buffer, length)
+        self._do(self._drop_output)
+        # A statement that is no UTF-8 is refused, so that all that is printed is UTF-8.
+        return ctypes.string_at(buffer, length).decode()

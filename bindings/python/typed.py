@@ -1,0 +1,75 @@
+"""A program with each call, for `mypy --strict`: an answer has the type that is written, and an `ignore` hides an error."""
+
+from typing import Iterator, List, Tuple, Union
+
+import juicedelta
+from juicedelta import Change, Item, JuicedeltaError, RTree, Shell, StatementRefused, Value
+
+
+class Id:
+    def __index__(self) -> int:
+        return 3
+
+
+def trees(either: bool) -> None:
+    tree = RTree(dimension=2, capacity=51)
+    tree.insert(1, (0, 0, 1, 1))
+    tree.insert(Id(), [5, 5, 6, 6])
+    tree.move(1, range(4))
+    box: Tuple[int, ...] = tree.box(1)
+    number: int = tree.count(box) + len(tree) + tree.dimension
+    ids: Iterator[int] = tree.intersection(box)
+    ids = tree.intersection(box, objects=False)
+    ids = tree.nearest((0, 0))
+    ids = tree.nearest((0, 0), 2, False)
+    rows: Iterator[Item] = tree.intersection(box, True)
+    rows = tree.intersection(box, objects=True)
+    rows = tree.nearest((0, 0), 2, True)
+    rows = tree.nearest((0, 0), objects=True)
+    both: Union[Iterator[int], Iterator[Item]] = tree.intersection(box, either)
+    both = tree.nearest((0, 0), 2, either)
+    both = tree.nearest((0, 0), objects=either)
+    item: Item = next(rows)
+    there: bool = item.id in tree and item.bbox == box
+    text: str = tree.dump()
+    again: RTree = RTree.from_dump(text)
+    all_ids: List[int] = list(again)
+    tree.delete(1)
+    tree.delete(Id(), (5, 5, 6, 6))
+    tree.clear()
+    tree.close()
+    print(number, list(ids), list(both), there, all_ids)
+
+
+def shells() -> None:
+    shell = Shell(capacity=51)
+    lines: List[str] = shell.execute("CREATE VIRTUAL TABLE t USING rtree_i32(id, a, b, +c);")
+    changes: List[Change] = shell.changes(".watch v FROM t\nINSERT INTO t VALUES (1, 2, 3, 'x')")
+    view, sign, values = changes[0]
+    words: str = view + sign + changes[0].view
+    rows: List[Tuple[Value, ...]] = shell.rows("SELECT * FROM t")
+    lines += shell.finish()
+    shell.close()
+    print(lines, words, values, rows)
+
+
+def errors(code: JuicedeltaError, refusal: StatementRefused) -> str:
+    numbers: Tuple[int, int, int] = code.code, refusal.statement, refusal.number
+    return f"{numbers}{refusal.words}{juicedelta.__version__}"
+
+
+def wrong(tree: RTree, shell: Shell) -> None:
+    """Not called."""
+    tree.insert(1.5, (0, 0, 1, 1))  # type: ignore[arg-type]
+    tree.move(1, (0.5, 0, 1, 1))  # type: ignore[arg-type]
+    tree.count("0011")  # type: ignore[arg-type]
+    tree.search((0, 0, 1, 1))  # type: ignore[attr-defined]
+    next(tree.intersection((0, 0, 1, 1))).bbox  # type: ignore[attr-defined]
+    next(tree.nearest((0, 0), objects=True)) + 1  # type: ignore[operator]
+    shell.rows(b"SELECT * FROM t;")  # type: ignore[arg-type]
+
+
+if __name__ == "__main__":
+    trees(True)
+    shells()
+    print(errors(JuicedeltaError(7), StatementRefused(1, 5, "no such table")))
