@@ -290,6 +290,9 @@ def test_forged():
     assert shell.rows("SELECT id FROM t") == [(1,)]
     assert raised(StatementRefused, "no such table", shell.changes, f"{insertion} DELETE FROM u; DELETE FROM t WHERE id = 1;").number == 5
     assert shell.rows("SELECT id FROM t") == [(2,)]
+    shell = table()
+    shell.execute('.watch "5|" FROM t\n')
+    raised(ValueError, "something else than rows is printed: -5| 1|0|0|NULL|NULL", shell.rows, "DELETE FROM t")
 
 
 def test_random_changes():

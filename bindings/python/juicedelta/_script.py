@@ -105,9 +105,12 @@ _TEXT = re.compile(r"('[^']*'(?:'[^']*')*)")
 
 def rows_of(printed: str) -> List[Tuple[Value, ...]]:
     """The rows, where nothing else is printed; else a ValueError."""
-    # What stands outside of the texts, and the texts. A byte 0, which no shell prints, marks where they stood.
+    # The texts, and what stands outside of them, where a byte 0, which no shell prints, marks each. No row has a blank
+    # there; a change has one behind the view's name, a refusal between its words.
     parts = _TEXT.split(printed)
-    texts = iter(parts[1::2])
+    texts, outside = iter(parts[1::2]), "T\0".join(parts[::2])
+    if " " in outside:
+        raise ValueError(outside)
 
     def value(cell: str) -> Value:
         if cell == "NULL":
@@ -118,10 +121,10 @@ def rows_of(printed: str) -> List[Tuple[Value, ...]]:
             return bytes.fromhex(next(texts)[1:-1])
         raise ValueError(cell)
 
-    # Digits and `-` come before `:`. No call is made for them by name, since most values are integers.
+    # Only integers come before `:`. Most values are integers, so they are read without a call of `value`.
     return [
         tuple([int(cell) if cell < ":" else value(cell) for cell in line.split("|")])
         if "\0" in line or "N" in line
         else tuple(map(int, line.split("|")))
-        for line in "T\0".join(parts[::2]).split("\n")[:-1]
+        for line in outside.split("\n")[:-1]
     ]
