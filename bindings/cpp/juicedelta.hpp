@@ -6,14 +6,17 @@
 //
 // A tree or a shell owns what it holds. It can be moved, not copied; what was moved from is closed. It is used by one
 // thread at a time, so no method is const. A call that is refused throws an Error with its code, and changes nothing but
-// where juicedelta.h says so. Boxes hold both ends.
+// where juicedelta.h says so. Boxes hold both ends. A tree keeps the memory that its searches write to, 1 MiB at most; a
+// search that needs more than is kept runs twice.
 #ifndef JUICEDELTA_HPP
 #define JUICEDELTA_HPP
 
 #include "juicedelta.h"
 
 #include <algorithm>
+#include <cstddef>
 #include <cstdint>
+#include <new>
 #include <optional>
 #include <random>
 #include <stdexcept>
@@ -34,10 +37,10 @@ public:
 private:
     static const char *words(std::int32_t code)
     {
-        static const char *const all[] = {"done", "nothing is held", "an object of another kind is held", "open already",
-            "the capacity is not from 5 to 51", "on some axis min is above max", "the id is taken", "no row has that id",
-            "the result is longer than the buffer", "no memory is left", "the tree has 1,048,576 rows", "the script has ended",
-            "the script is longer than 2^63 bytes", "the text is not the dump of a sound tree"};
+        static const char *const all[] = {"done", "nothing is held", "an object of another kind is held",
+            "an object is held already", "the capacity is not from 5 to 51", "on some axis min is above max", "the id is taken",
+            "no row has that id", "the result is longer than the buffer", "no memory is left", "the tree has 1,048,576 rows",
+            "the script has ended", "the script is longer than 2^63 bytes", "the text is not the dump of a sound tree"};
         return code >= 0 && code <= JUICEDELTA_BAD_DUMP ? all[code] : "unknown code";
     }
     juicedelta_code code_;
@@ -50,6 +53,9 @@ inline void check(std::int32_t code, std::int32_t other = JUICEDELTA_OK)
         throw Error(code);
 }
 
+// The library's version: 1002003 stands for 1.2.3. That of the header is JUICEDELTA_VERSION_NUMBER.
+inline std::uint32_t version() noexcept { return juicedelta_version(); }
+
 namespace detail {
 // The types and calls for trees of D axes.
 template <int D> struct Calls;
@@ -58,8 +64,9 @@ template <int D> struct Calls;
     template <> struct Calls<D> {                                                                                      \
         using Box = juicedelta_box##D; using Point = juicedelta_point##D; using Row = juicedelta_row##D;               \
         JUICEDELTA_CALL(D, open) JUICEDELTA_CALL(D, open_dump) JUICEDELTA_CALL(D, dump) JUICEDELTA_CALL(D, clear)       \
-        JUICEDELTA_CALL(D, insert) JUICEDELTA_CALL(D, remove) JUICEDELTA_CALL(D, get) JUICEDELTA_CALL(D, len)           \
-        JUICEDELTA_CALL(D, count) JUICEDELTA_CALL(D, search) JUICEDELTA_CALL(D, search_rows) JUICEDELTA_CALL(D, nearest) \
+        JUICEDELTA_CALL(D, insert) JUICEDELTA_CALL(D, remove) JUICEDELTA_CALL(D, move) JUICEDELTA_CALL(D, get)          \
+        JUICEDELTA_CALL(D, len) JUICEDELTA_CALL(D, count) JUICEDELTA_CALL(D, search) JUICEDELTA_CALL(D, search_rows)    \
+        JUICEDELTA_CALL(D, nearest)                                                                                    \
     };
 JUICEDELTA_CALLS(1) JUICEDELTA_CALLS(2) JUICEDELTA_CALLS(3)
 #undef JUICEDELTA_CALLS
@@ -84,8 +91,10 @@ template <class Items, class Call> Items filled(std::size_t room, Call call)
         std::int32_t code = call(items.data(), room, &total);
         room = static_cast<std::size_t>(total);
         check(code, JUICEDELTA_BUFFER_TOO_SMALL);
-        if (code == JUICEDELTA_OK)
-            return items.resize(room), items;
+        if (code == JUICEDELTA_OK) {
+            items.resize(room);
+            return items;
+        }
     }
 }
 
@@ -120,6 +129,8 @@ public:
     }
     void insert(std::int64_t id, const Box<D> &box) { check(Calls::insert(handle(), id, &box)); }
     void remove(std::int64_t id) { check(Calls::remove(handle(), id)); }
+    // Gives the row with that id this box.
+    void move(std::int64_t id, const Box<D> &box) { check(Calls::move(handle(), id, &box)); }
     std::optional<Box<D>> get(std::int64_t id)
     {
         Box<D> box;
@@ -129,13 +140,14 @@ public:
     }
     std::size_t size() { return number(Calls::len); }
     // The ids of the rows that touch the box, in no stated order, the rows with their boxes, and how many they are.
-    std::vector<std::int64_t> search(const Box<D> &box) { return listed<std::int64_t>(64, Calls::search, &box); }
-    std::vector<Row<D>> search_rows(const Box<D> &box) { return listed<Row<D>>(64, Calls::search_rows, &box); }
+    std::vector<std::int64_t> search(const Box<D> &box) { return found<std::int64_t>(Calls::search, box); }
+    std::vector<Row<D>> search_rows(const Box<D> &box) { return found<Row<D>>(Calls::search_rows, box); }
     std::size_t count(const Box<D> &box) { return number(Calls::count, &box); }
     // The `most` rows nearest to the point, the nearest first, of equal ones the lower id first.
     std::vector<Row<D>> nearest(const Point<D> &point, std::size_t most = 1)
     {
-        return listed<Row<D>>(std::min(most, size()), Calls::nearest, &point);
+        auto nearest = [&](auto... to) { return Calls::nearest(handle(), &point, to...); };
+        return detail::filled<std::vector<Row<D>>>(std::min(most, size()), nearest);
     }
 #if __cplusplus >= 202002L
     // Writes the ids to the front of the span, if it has room for all. Answers how many there are.
@@ -162,10 +174,32 @@ private:
         check(call(handle(), words..., &number));
         return static_cast<std::size_t>(number);
     }
-    template <class Item, class Call, class At> std::vector<Item> listed(std::size_t room, Call call, const At *place)
+    // What a search finds. It takes the kept memory out meanwhile, since a program's own `operator new` may search too.
+    template <class Item, class Call> std::vector<Item> found(Call call, const Box<D> &box)
     {
-        return detail::filled<std::vector<Item>>(room, [&](auto... to) { return call(handle(), place, to...); });
+        constexpr std::size_t most = 1 << 20;
+        auto search = [&](auto... to) { return call(handle(), &box, to...); };
+        std::vector<std::byte> bytes = std::move(kept_);
+        if (bytes.empty())
+            bytes.resize(512);
+        auto front = reinterpret_cast<Item *>(bytes.data());
+        std::uint64_t total = 0;
+        std::int32_t code = search(front, bytes.size() / sizeof(Item), &total);
+        check(code, JUICEDELTA_BUFFER_TOO_SMALL);
+        std::vector<Item> items(front, front + (code == JUICEDELTA_OK ? total : 0));
+        if (code == JUICEDELTA_BUFFER_TOO_SMALL) {
+            items = detail::filled<std::vector<Item>>(static_cast<std::size_t>(total), search);
+            const std::size_t needed = items.size() * sizeof(Item);
+            try {
+                if (needed <= most)
+                    bytes = std::vector<std::byte>(std::min(2 * needed, most));
+            } catch (const std::bad_alloc &) { // No more is kept then.
+            }
+        }
+        kept_ = std::move(bytes);
+        return items;
     }
+    std::vector<std::byte> kept_;
 };
 
 // A script shell: it is fed a script in whatever parts.

@@ -4,6 +4,9 @@
 
 #include <cstdio>
 #include <cstdlib>
+#include <malloc.h>
+#include <new>
+#include <numeric>
 #include <type_traits>
 #include <unistd.h>
 
@@ -17,6 +20,31 @@
 
 using juicedelta::Shell;
 using juicedelta::Tree;
+
+// How often `new` was called, which call from now on it refuses, what it does first in the next one, and how many bytes the
+// program holds by it, and held at most.
+static int allocations, refused_allocation;
+static void (*when_allocating)();
+static std::size_t held, most_held;
+
+void *operator new(std::size_t size)
+{
+    if (auto call = std::exchange(when_allocating, nullptr))
+        call();
+    allocations++;
+    void *memory = refused_allocation > 0 && --refused_allocation == 0 ? nullptr : std::malloc(size);
+    if (!memory)
+        throw std::bad_alloc();
+    held += malloc_usable_size(memory);
+    most_held = std::max(most_held, held);
+    return memory;
+}
+void operator delete(void *memory) noexcept
+{
+    held -= memory ? malloc_usable_size(memory) : 0;
+    std::free(memory);
+}
+void operator delete(void *memory, std::size_t) noexcept { operator delete(memory); }
 
 // The code that a call throws.
 template <class Call> static juicedelta_code refused(Call call)
@@ -56,6 +84,14 @@ template <int D> static void tree()
     CHECK(nearest.size() == 3 && nearest[0].id == 0 && nearest[1].id == 1 && nearest[2].id == 2);
     CHECK(tree.nearest(point, 0).empty() && tree.nearest(point, 1000).size() == 199);
     CHECK(tree.get(7)->max[0] == 75 && !tree.get(100));
+    tree.move(7, cube<D>(-20, 0));
+    CHECK(tree.nearest(point)[0].id == 7 && tree.count(cube<D>(70, 75)) == 0 && tree.size() == 199);
+    tree.move(7, cube<D>(70, 75));
+    std::string dump = tree.dump();
+    tree.move(7, cube<D>(70, 75));
+    CHECK(tree.dump() == dump);
+    CHECK(refused([&] { tree.move(7, cube<D>(1, 0)); }) == JUICEDELTA_BAD_BOX && tree.get(7)->min[D - 1] == 70);
+    CHECK(refused([&] { tree.move(100, cube<D>(0, 1)); }) == JUICEDELTA_ID_MISSING && tree.size() == 199);
 #if __cplusplus >= 202002L
     std::int64_t buffer[3] = {-1, -1, -1};
     CHECK(tree.search(cube<D>(0, 25), buffer) == 3 && buffer[0] + buffer[1] + buffer[2] == 3);
@@ -92,14 +128,71 @@ static void codes()
     CHECK(refused([] { check(JUICEDELTA_TOO_LONG); }) == JUICEDELTA_TOO_LONG);
     CHECK(refused([] { Tree<2>::from_dump("rtree 2 5 1 0\n"); }) == JUICEDELTA_BAD_DUMP);
     CHECK(std::string(juicedelta::Error(JUICEDELTA_ID_TAKEN).what()) == "the id is taken");
+    CHECK(std::string(juicedelta::Error(JUICEDELTA_ALREADY_OPEN).what()) == "an object is held already");
+    CHECK(juicedelta::version() == JUICEDELTA_VERSION_NUMBER);
     CHECK(moved.size() == 1);
+}
+
+// A tree of so many rows in a line, and whether a search finds those from `first` to `last`.
+static Tree<1> line(int rows)
+{
+    Tree<1> tree;
+    for (int id = 0; id < rows; id++)
+        tree.insert(id, {{id}, {id}});
+    return tree;
+}
+static bool finds(Tree<1> &tree, int first, int last)
+{
+    auto ids = tree.search({{first}, {last}});
+    std::sort(ids.begin(), ids.end());
+    std::vector<std::int64_t> wanted(ids.size());
+    std::iota(wanted.begin(), wanted.end(), first);
+    return ids == wanted && ids.size() == std::size_t(last - first + 1);
+}
+
+// A search allocates its result and nothing else, once the tree has memory enough, and a dump little more than its text.
+static void results()
+{
+    static Tree<1> tree = line(10000);
+    CHECK(finds(tree, 0, 5999));
+    for (int rows : {0, 1, 20, 65, 1044, 6000}) {
+        int before = allocations;
+        auto ids = tree.search({{0}, {rows - 1}});
+        CHECK(allocations - before == (rows > 0) && ids.size() == std::size_t(rows) && ids.capacity() == ids.size());
+    }
+    when_allocating = [] { CHECK(finds(tree, 100, 199)); };
+    CHECK(finds(tree, 500, 599) && !when_allocating);
+    std::size_t before = most_held = held;
+    std::string dump = tree.dump();
+    CHECK(dump.size() > 100000 && most_held - before < dump.size() * 3 / 2);
+}
+
+// Each allocation of a first search is refused in turn. The third is memory to keep, which the search can do without.
+static void refusals()
+{
+    for (int nth = 1; nth <= 4; nth++) {
+        Tree<1> tree = line(1000);
+        bool is_refused = false;
+        refused_allocation = nth;
+        try {
+            tree.search({{0}, {999}});
+        } catch (const std::bad_alloc &) {
+            is_refused = true;
+        }
+        refused_allocation = 0;
+        CHECK(is_refused == (nth < 3) && finds(tree, 0, 999));
+    }
 }
 
 static void full()
 {
-    Tree<1> tree;
-    for (int id = 0; id < 1048576; id++)
-        tree.insert(id, {{id}, {id}});
+    constexpr std::size_t mebibyte = 1 << 20, page = 4096;
+    Tree<1> tree = line(1048576);
+    std::size_t before = most_held = held;
+    CHECK(finds(tree, 0, 131071) && held - before < mebibyte + page);
+    most_held = held;
+    CHECK(tree.search({{0}, {1048575}}).size() == 1048576);
+    CHECK(most_held - before < 9 * mebibyte + 2 * page && held - before < mebibyte + page);
     CHECK(refused([&] { tree.insert(-1, {{0}, {0}}); }) == JUICEDELTA_TREE_FULL);
     CHECK(tree.size() == 1048576 && tree.count({{7}, {1006}}) == 1000);
 }
@@ -132,6 +225,8 @@ int main(int count, char **)
         tree<2>();
         tree<3>();
         codes();
+        results();
+        refusals();
         if (__cplusplus < 202002L) // once is enough
             full();
         shell();
