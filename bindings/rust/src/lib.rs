@@ -1,13 +1,15 @@
 //! R\*-trees of boxes of whole numbers, and scripts over tables of them, by the library of Juicedelta.
 //!
 //! A tree or a shell is freed when it is dropped. It may go to another thread (`Send`), and one thread at a time uses
-//! it (not `Sync`). A call that is refused answers an [`Error`] and changes nothing, unless it says otherwise.
+//! it (not `Sync`). A call that is refused answers an [`Error`] and changes nothing, unless it says otherwise. A tree
+//! keeps the memory that its searches write to, 1 MiB at most; a search that needs more than is kept runs twice.
 
 #[cfg(test)]
 mod tests;
 
 use std::hash::{BuildHasher, RandomState};
-use std::{cell::Cell, ffi::c_void, fmt, mem::MaybeUninit, ptr::NonNull};
+use std::mem::{size_of, size_of_val, MaybeUninit};
+use std::{cell::Cell, ffi::c_void, fmt, ptr::NonNull, slice};
 
 /// A box of D axes, with both ends; `min` is at most `max` on each.
 #[repr(C)]
@@ -58,6 +60,15 @@ fn check(code: i32) -> Result<(), Error> {
     (code as usize).checked_sub(1).map_or(Ok(()), |place| Err(ERRORS[place].0))
 }
 
+/// The library's version: 1,002,003 stands for 1.2.3.
+pub fn version() -> u32 {
+    extern "C" {
+        fn juicedelta_version() -> u32;
+    }
+    // SAFETY: it takes nothing.
+    unsafe { juicedelta_version() }
+}
+
 /// A `juicedelta_handle`. A call may change it behind a shared reference: no call comes back to its caller before it ends.
 #[repr(C)]
 #[derive(Default)]
@@ -76,6 +87,13 @@ impl Drop for Handle {
     }
 }
 
+/// A handle, and the memory that a tree keeps for its searches.
+#[derive(Default)]
+struct Held {
+    handle: Handle,
+    kept: Cell<Vec<u64>>,
+}
+
 /// What a call writes.
 fn written<T>(call: impl FnOnce(*mut T) -> i32) -> Result<T, Error> {
     let mut value = MaybeUninit::uninit();
@@ -83,11 +101,16 @@ fn written<T>(call: impl FnOnce(*mut T) -> i32) -> Result<T, Error> {
     check(call(value.as_mut_ptr())).map(|()| unsafe { value.assume_init() })
 }
 
+/// An empty vector with room for so many.
+fn room_for<T>(length: usize) -> Result<Vec<T>, Error> {
+    let mut items = Vec::new();
+    items.try_reserve_exact(length).map(|()| items).map_err(|_| Error::OutOfMemory)
+}
+
 /// The items that a call writes, which tells how many there are; it is called again with more room where they need it.
 fn filled<T>(mut room: usize, call: impl Fn(*mut T, usize, &mut u64) -> i32) -> Result<Vec<T>, Error> {
     loop {
-        let (mut items, mut total) = (Vec::new(), 0);
-        items.try_reserve_exact(room).map_err(|_| Error::OutOfMemory)?;
+        let (mut items, mut total) = (room_for(room)?, 0);
         let answer = check(call(items.as_mut_ptr(), room, &mut total));
         room = total as usize;
         if answer != Err(Error::BufferTooSmall) {
@@ -96,6 +119,31 @@ fn filled<T>(mut room: usize, call: impl Fn(*mut T, usize, &mut u64) -> i32) -> 
             return answer.map(|()| items);
         }
     }
+}
+
+/// The items that a search writes. It takes the kept memory out meanwhile, since a program's own allocator may search too.
+fn found<T: Copy>(kept: &Cell<Vec<u64>>, call: impl Fn(*mut T, usize, &mut u64) -> i32) -> Result<Vec<T>, Error> {
+    const MOST: usize = 1 << 20;
+    let mut words = kept.take();
+    if words.capacity() == 0 {
+        words = room_for(64)?;
+    }
+    let (front, bytes, mut total) = (words.as_mut_ptr().cast(), size_of::<u64>() * words.capacity(), 0);
+    let answer = check(call(front, bytes / size_of::<T>(), &mut total));
+    let items = if answer == Err(Error::BufferTooSmall) {
+        let items = filled(total as usize, call)?;
+        if size_of_val(&*items) <= MOST {
+            words = room_for(MOST.min(2 * size_of_val(&*items)) / size_of::<u64>()).unwrap_or(words);
+        }
+        items
+    } else {
+        let mut items = answer.and_then(|()| room_for(total as usize))?;
+        // SAFETY: a call that answers 0 wrote so many.
+        items.extend_from_slice(unsafe { slice::from_raw_parts(front, total as usize) });
+        items
+    };
+    kept.set(words);
+    Ok(items)
 }
 
 /// Constructors, and methods over the calls with a prefix. In round brackets stands what a call takes, and behind a `;` what
@@ -115,7 +163,7 @@ macro_rules! methods {
 
         /// What a call opens with two random words, for the hashes of ids.
         fn opened(open: impl FnOnce(&Self, u64, u64) -> Result<(), Error>) -> Result<Self, Error> {
-            let (new, random) = (Self(Handle::default()), RandomState::new());
+            let (new, random) = (Self(Held::default()), RandomState::new());
             open(&new, random.hash_one(1), random.hash_one(2)).map(|()| new)
         }
 
@@ -126,7 +174,7 @@ macro_rules! methods {
                 fn c(_: &Handle $(, _: $type)* $(, _: *mut $value)? $(, _: *mut $item, _: usize, _: &mut u64)?) -> i32;
             }
             let $call = |$(value: *mut $value)? $(items: *mut $item, room: usize, total: &mut u64)?| unsafe {
-                c(&$this.0 $(, $word)* $(, value as *mut $value)? $(, items as *mut $item, room, total)?)
+                c(&$this.0.handle $(, $word)* $(, value as *mut $value)? $(, items as *mut $item, room, total)?)
             };
             $body
         })*
@@ -144,7 +192,7 @@ macro_rules! methods {
 /// assert_eq!(shops.nearest(&[29, 3], 1)?[0].id, 2);
 /// # Ok::<(), juicedelta::Error>(())
 /// ```
-pub struct Tree<const D: usize>(Handle);
+pub struct Tree<const D: usize>(Held);
 
 macro_rules! tree {
     ($D:literal, $prefix:literal) => {
@@ -167,15 +215,24 @@ macro_rules! tree {
                 /// How many rows have a point in common with the box.
                 pub fn count(&self, rect: &Rect<$D>)[u64] -> u64 { written(call) }
                 /// The ids of the rows that have a point in common with the box, in no stated order.
-                pub fn search(&self, rect: &Rect<$D>)[..i64] -> Vec<i64> { filled(64, call) }
+                pub fn search(&self, rect: &Rect<$D>)[..i64] -> Vec<i64> { found(&self.0.kept, call) }
                 /// The same with their boxes.
-                pub fn search_rows(&self, rect: &Rect<$D>)[..Row<$D>] -> Vec<Row<$D>> { filled(64, call) }
+                pub fn search_rows(&self, rect: &Rect<$D>)[..Row<$D>] -> Vec<Row<$D>> { found(&self.0.kept, call) }
                 /// The `most` rows nearest to the point, the nearest first, of equal ones the lower id first.
                 pub fn nearest(&self, point: &[i32; $D]; most: usize)[..Row<$D>] -> Vec<Row<$D>> {
                     filled(most.min(self.len()? as usize), call)
                 }
                 /// The dump, as `.nodes` prints it in a script.
                 pub fn dump(&self)[..u8] -> Vec<u8> { filled(4096, call) }
+            }
+
+            /// Gives the row with that id this box (`BadBox`, `IdMissing`).
+            pub fn update(&mut self, id: i64, rect: &Rect<$D>) -> Result<(), Error> {
+                extern "C" {
+                    #[link_name = concat!($prefix, "move")]
+                    fn c(_: &Handle, _: i64, _: &Rect<$D>) -> i32;
+                }
+                check(unsafe { c(&self.0.handle, id, rect) })
             }
 
             /// The rows of a dump, which `dump` or a script's `.nodes` wrote (`BadDump`, `TreeFull`).
@@ -203,7 +260,7 @@ tree!(3, "juicedelta_tree3_");
 /// assert_eq!(shell.execute("SELECT * FROM t;")?, "1|2|3\n");
 /// # Ok::<(), juicedelta::Error>(())
 /// ```
-pub struct Shell(Handle);
+pub struct Shell(Held);
 
 impl Shell {
     methods! { self call "juicedelta_script_"
@@ -216,16 +273,20 @@ impl Shell {
         pub fn finish(&mut self)[u32] -> (bool, String) { Ok((written(call)? != 0, self.printed()?)) }
     }
 
-    /// Feeds the shell some text, and answers what it prints (`Ended`; `OutOfMemory`: it takes no more of the script).
+    /// Feeds the shell some text, and answers what it prints (`Ended`; `OutOfMemory`: it takes no more of the script, or
+    /// the next call answers what it printed).
     pub fn execute(&mut self, text: &str) -> Result<String, Error> {
         self.exec(text.as_ptr(), text.len())?;
         self.printed()
     }
 
     fn printed(&mut self) -> Result<String, Error> {
-        let mut text = vec![0; self.output_length()? as usize];
-        self.output(text.as_mut_ptr(), text.len())?;
+        let length = self.output_length()? as usize;
+        let mut text = room_for(length)?;
+        self.output(text.as_mut_ptr(), length)?;
+        // SAFETY: the call wrote so many.
+        unsafe { text.set_len(length) };
         self.drop_output()?;
-        Ok(String::from_utf8_lossy(&text).into_owned())
+        Ok(String::from_utf8(text).unwrap_or_else(|it| String::from_utf8_lossy(it.as_bytes()).into_owned()))
     }
 }
