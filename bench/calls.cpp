@@ -1,11 +1,12 @@
 // The work of `rt_bench tree 2 ROWS` on uniform rows, by the C calls: calls ROWS. The same rows and windows are drawn by the same
-// arithmetic. Compiled with -DPEER_BOOST or -DPEER_SPATIALINDEX, by Boost.Geometry's rtree<.., rstar<51>> or libspatialindex's
-// R*-tree, which need their headers. Prints a line of nanoseconds a call and a checksum for each kind of call.
+// arithmetic. Compiled with -DWRAPPER, by juicedelta.hpp; with -DPEER_BOOST or -DPEER_SPATIALINDEX, by Boost.Geometry's
+// rtree<.., rstar<51>> or libspatialindex's R*-tree, which need their headers. Prints a line of nanoseconds a call and a checksum for each kind of call.
 #include <chrono>
 #include <cmath>
 #include <cstdint>
 #include <cstdio>
 #include <cstdlib>
+#include <numeric>
 #include <utility>
 #include <vector>
 
@@ -110,6 +111,24 @@ public:
         Index_Free(ids);
         return 10; // with those that are as near as the tenth
     }
+};
+#elif defined(WRAPPER)
+#include "juicedelta.hpp"
+
+class Tree {
+    juicedelta::Tree<2> tree;
+    static juicedelta::Box<2> of(const Box &box) { return {{box.min[0], box.min[1]}, {box.max[0], box.max[1]}}; }
+
+public:
+    void insert(int64_t id, const Box &box) { tree.insert(id, of(box)); }
+    void remove(int64_t id, const Box &) { tree.remove(id); }
+    int64_t search(const Box &box)
+    {
+        std::vector<int64_t> ids = tree.search(of(box));
+        return std::accumulate(ids.begin(), ids.end(), int64_t(0));
+    }
+    int64_t count(const Box &box) { return int64_t(tree.count(of(box))); }
+    int64_t nearest(const int32_t *at) { return int64_t(tree.nearest({{at[0], at[1]}}, 10).size()); }
 };
 #else
 #include "juicedelta.h"
