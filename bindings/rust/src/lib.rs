@@ -9,7 +9,7 @@ mod tests;
 
 use std::hash::{BuildHasher, RandomState};
 use std::mem::{size_of, size_of_val, MaybeUninit};
-use std::{cell::Cell, ffi::c_void, fmt, ptr::NonNull, slice};
+use std::{cell::Cell, ffi::c_void, fmt, ptr::NonNull};
 
 /// A box of D axes, with both ends; `min` is at most `max` on each.
 #[repr(C)]
@@ -122,7 +122,7 @@ fn filled<T>(mut room: usize, call: impl Fn(*mut T, usize, &mut u64) -> i32) -> 
 }
 
 /// The items that a search writes. It takes the kept memory out meanwhile, since a program's own allocator may search too.
-fn found<T: Copy>(kept: &Cell<Vec<u64>>, call: impl Fn(*mut T, usize, &mut u64) -> i32) -> Result<Vec<T>, Error> {
+fn found<T>(kept: &Cell<Vec<u64>>, call: impl Fn(*mut T, usize, &mut u64) -> i32) -> Result<Vec<T>, Error> {
     const MOST: usize = 1 << 20;
     let mut words = kept.take();
     if words.capacity() == 0 {
@@ -137,9 +137,12 @@ fn found<T: Copy>(kept: &Cell<Vec<u64>>, call: impl Fn(*mut T, usize, &mut u64) 
         }
         items
     } else {
-        let mut items = answer.and_then(|()| room_for(total as usize))?;
+        let mut items = answer.and_then(|()| room_for::<T>(total as usize))?;
         // SAFETY: a call that answers 0 wrote so many.
-        items.extend_from_slice(unsafe { slice::from_raw_parts(front, total as usize) });
+        unsafe {
+            items.as_mut_ptr().copy_from_nonoverlapping(front, total as usize);
+            items.set_len(total as usize);
+        }
         items
     };
     kept.set(words);
