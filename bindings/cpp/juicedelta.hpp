@@ -6,7 +6,7 @@
 //
 // A tree or a shell owns what it holds. It can be moved, not copied; what was moved from is closed. It is used by one
 // thread at a time, so no method is const. A call that is refused throws an Error with its code, and changes nothing but
-// where juicedelta.h says so. Boxes hold both ends. A tree keeps the memory that its searches write to, 1 MiB at most; a
+// where juicedelta.h says so. Boxes hold both ends. A thread keeps the memory that its searches write to, 1 MiB at most; a
 // search that needs more than is kept runs twice.
 #ifndef JUICEDELTA_HPP
 #define JUICEDELTA_HPP
@@ -98,6 +98,49 @@ template <class Items, class Call> Items filled(std::size_t room, Call call)
     }
 }
 
+// The memory that a thread's searches write to. A search takes it out, since a program's own `operator new` may search too.
+class Kept {
+public:
+    static std::vector<std::byte> take() { return is_over ? std::vector<std::byte>() : std::exchange(own.bytes, {}); }
+    static void put(std::vector<std::byte> bytes) noexcept
+    {
+        if (!is_over)
+            own.bytes = std::move(bytes);
+    }
+private:
+    ~Kept() { is_over = true; } // Other objects of the thread may search when they end.
+    std::vector<std::byte> bytes;
+    static thread_local Kept own;
+    static thread_local bool is_over;
+};
+inline thread_local Kept Kept::own;
+inline thread_local bool Kept::is_over = false;
+
+// The items that a search writes. Where the kept memory is too small it is called again, and more is kept.
+template <class Item, class Search> std::vector<Item> found(Search search)
+{
+    constexpr std::size_t most = 1 << 20;
+    std::vector<std::byte> bytes = Kept::take();
+    if (bytes.empty())
+        bytes.resize(512);
+    auto front = reinterpret_cast<Item *>(bytes.data());
+    std::uint64_t total = 0;
+    std::int32_t code = search(front, bytes.size() / sizeof(Item), &total);
+    check(code, JUICEDELTA_BUFFER_TOO_SMALL);
+    std::vector<Item> items(front, front + (code == JUICEDELTA_OK ? total : 0));
+    if (code == JUICEDELTA_BUFFER_TOO_SMALL) {
+        items = filled<std::vector<Item>>(static_cast<std::size_t>(total), search);
+        const std::size_t needed = items.size() * sizeof(Item);
+        try {
+            if (needed <= most)
+                bytes = std::vector<std::byte>(std::min(2 * needed, most));
+        } catch (const std::bad_alloc &) { // No more is kept then.
+        }
+    }
+    Kept::put(std::move(bytes));
+    return items;
+}
+
 // A handle that is closed at its end.
 class Owner {
 public:
@@ -174,32 +217,11 @@ private:
         check(call(handle(), words..., &number));
         return static_cast<std::size_t>(number);
     }
-    // What a search finds. It takes the kept memory out meanwhile, since a program's own `operator new` may search too.
+    // The items that a search of this tree finds.
     template <class Item, class Call> std::vector<Item> found(Call call, const Box<D> &box)
     {
-        constexpr std::size_t most = 1 << 20;
-        auto search = [&](auto... to) { return call(handle(), &box, to...); };
-        std::vector<std::byte> bytes = std::move(kept_);
-        if (bytes.empty())
-            bytes.resize(512);
-        auto front = reinterpret_cast<Item *>(bytes.data());
-        std::uint64_t total = 0;
-        std::int32_t code = search(front, bytes.size() / sizeof(Item), &total);
-        check(code, JUICEDELTA_BUFFER_TOO_SMALL);
-        std::vector<Item> items(front, front + (code == JUICEDELTA_OK ? total : 0));
-        if (code == JUICEDELTA_BUFFER_TOO_SMALL) {
-            items = detail::filled<std::vector<Item>>(static_cast<std::size_t>(total), search);
-            const std::size_t needed = items.size() * sizeof(Item);
-            try {
-                if (needed <= most)
-                    bytes = std::vector<std::byte>(std::min(2 * needed, most));
-            } catch (const std::bad_alloc &) { // No more is kept then.
-            }
-        }
-        kept_ = std::move(bytes);
-        return items;
+        return detail::found<Item>([&](auto... to) { return call(handle(), &box, to...); });
     }
-    std::vector<std::byte> kept_;
 };
 
 // A script shell: it is fed a script in whatever parts.

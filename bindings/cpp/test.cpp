@@ -7,6 +7,7 @@
 #include <malloc.h>
 #include <new>
 #include <numeric>
+#include <thread>
 #include <type_traits>
 #include <unistd.h>
 
@@ -150,7 +151,7 @@ static bool finds(Tree<1> &tree, int first, int last)
     return ids == wanted && ids.size() == std::size_t(last - first + 1);
 }
 
-// A search allocates its result and nothing else, once the tree has memory enough, and a dump little more than its text.
+// A search allocates its result and nothing else, once the thread has memory enough, and a dump little more than its text.
 static void results()
 {
     static Tree<1> tree = line(10000);
@@ -167,21 +168,38 @@ static void results()
     CHECK(dump.size() > 100000 && most_held - before < dump.size() * 3 / 2);
 }
 
-// Each allocation of a first search is refused in turn. The third is memory to keep, which the search can do without.
+// Each allocation of a thread's first search is refused in turn. The third is memory to keep, which the search can do without.
 static void refusals()
 {
     for (int nth = 1; nth <= 4; nth++) {
-        Tree<1> tree = line(1000);
-        bool is_refused = false;
-        refused_allocation = nth;
-        try {
-            tree.search({{0}, {999}});
-        } catch (const std::bad_alloc &) {
-            is_refused = true;
-        }
-        refused_allocation = 0;
-        CHECK(is_refused == (nth < 3) && finds(tree, 0, 999));
+        std::thread([nth] {
+            Tree<1> tree = line(1000);
+            bool is_refused = false;
+            refused_allocation = nth;
+            try {
+                tree.search({{0}, {999}});
+            } catch (const std::bad_alloc &) {
+                is_refused = true;
+            }
+            refused_allocation = 0;
+            CHECK(is_refused == (nth < 3) && finds(tree, 0, 999));
+        }).join();
     }
+}
+
+// A tree that a thread keeps to its end is searched after the memory for searches is gone.
+static void last_search()
+{
+    static bool is_found;
+    struct AtEnd {
+        Tree<1> tree = line(100);
+        ~AtEnd() { is_found = finds(tree, 0, 99); }
+    };
+    std::thread([] {
+        thread_local AtEnd at_end;
+        CHECK(finds(at_end.tree, 0, 49));
+    }).join();
+    CHECK(is_found);
 }
 
 static void full()
@@ -227,6 +245,7 @@ int main(int count, char **)
         codes();
         results();
         refusals();
+        last_search();
         if (__cplusplus < 202002L) // once is enough
             full();
         shell();

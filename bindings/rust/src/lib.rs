@@ -1,7 +1,7 @@
 //! R\*-trees of boxes of whole numbers, and scripts over tables of them, by the library of Juicedelta.
 //!
 //! A tree or a shell is freed when it is dropped. It may go to another thread (`Send`), and one thread at a time uses
-//! it (not `Sync`). A call that is refused answers an [`Error`] and changes nothing, unless it says otherwise. A tree
+//! it (not `Sync`). A call that is refused answers an [`Error`] and changes nothing, unless it says otherwise. A thread
 //! keeps the memory that its searches write to, 1 MiB at most; a search that needs more than is kept runs twice.
 
 #[cfg(test)]
@@ -87,11 +87,9 @@ impl Drop for Handle {
     }
 }
 
-/// A handle, and the memory that a tree keeps for its searches.
-#[derive(Default)]
-struct Held {
-    handle: Handle,
-    kept: Cell<Vec<u64>>,
+thread_local! {
+    /// The memory that a thread's searches write to. A search takes it out, since a program's own allocator may search too.
+    static KEPT: Cell<Vec<u64>> = const { Cell::new(Vec::new()) };
 }
 
 /// What a call writes.
@@ -121,10 +119,11 @@ fn filled<T>(mut room: usize, call: impl Fn(*mut T, usize, &mut u64) -> i32) -> 
     }
 }
 
-/// The items that a search writes. It takes the kept memory out meanwhile, since a program's own allocator may search too.
-fn found<T>(kept: &Cell<Vec<u64>>, call: impl Fn(*mut T, usize, &mut u64) -> i32) -> Result<Vec<T>, Error> {
+/// The items that a search writes. Where the kept memory is too small it is called again, and more is kept.
+fn found<T>(call: impl Fn(*mut T, usize, &mut u64) -> i32) -> Result<Vec<T>, Error> {
     const MOST: usize = 1 << 20;
-    let mut words = kept.take();
+    // At its end a thread keeps nothing any more.
+    let mut words = KEPT.try_with(Cell::take).unwrap_or_default();
     if words.capacity() == 0 {
         words = room_for(64)?;
     }
@@ -145,7 +144,7 @@ fn found<T>(kept: &Cell<Vec<u64>>, call: impl Fn(*mut T, usize, &mut u64) -> i32
         }
         items
     };
-    kept.set(words);
+    let _ = KEPT.try_with(|kept| kept.set(words));
     Ok(items)
 }
 
@@ -166,7 +165,7 @@ macro_rules! methods {
 
         /// What a call opens with two random words, for the hashes of ids.
         fn opened(open: impl FnOnce(&Self, u64, u64) -> Result<(), Error>) -> Result<Self, Error> {
-            let (new, random) = (Self(Held::default()), RandomState::new());
+            let (new, random) = (Self(Handle::default()), RandomState::new());
             open(&new, random.hash_one(1), random.hash_one(2)).map(|()| new)
         }
 
@@ -177,7 +176,7 @@ macro_rules! methods {
                 fn c(_: &Handle $(, _: $type)* $(, _: *mut $value)? $(, _: *mut $item, _: usize, _: &mut u64)?) -> i32;
             }
             let $call = |$(value: *mut $value)? $(items: *mut $item, room: usize, total: &mut u64)?| unsafe {
-                c(&$this.0.handle $(, $word)* $(, value as *mut $value)? $(, items as *mut $item, room, total)?)
+                c(&$this.0 $(, $word)* $(, value as *mut $value)? $(, items as *mut $item, room, total)?)
             };
             $body
         })*
@@ -195,7 +194,7 @@ macro_rules! methods {
 /// assert_eq!(shops.nearest(&[29, 3], 1)?[0].id, 2);
 /// # Ok::<(), juicedelta::Error>(())
 /// ```
-pub struct Tree<const D: usize>(Held);
+pub struct Tree<const D: usize>(Handle);
 
 macro_rules! tree {
     ($D:literal, $prefix:literal) => {
@@ -218,9 +217,9 @@ macro_rules! tree {
                 /// How many rows have a point in common with the box.
                 pub fn count(&self, rect: &Rect<$D>)[u64] -> u64 { written(call) }
                 /// The ids of the rows that have a point in common with the box, in no stated order.
-                pub fn search(&self, rect: &Rect<$D>)[..i64] -> Vec<i64> { found(&self.0.kept, call) }
+                pub fn search(&self, rect: &Rect<$D>)[..i64] -> Vec<i64> { found(call) }
                 /// The same with their boxes.
-                pub fn search_rows(&self, rect: &Rect<$D>)[..Row<$D>] -> Vec<Row<$D>> { found(&self.0.kept, call) }
+                pub fn search_rows(&self, rect: &Rect<$D>)[..Row<$D>] -> Vec<Row<$D>> { found(call) }
                 /// The `most` rows nearest to the point, the nearest first, of equal ones the lower id first.
                 pub fn nearest(&self, point: &[i32; $D]; most: usize)[..Row<$D>] -> Vec<Row<$D>> {
                     filled(most.min(self.len()? as usize), call)
@@ -235,7 +234,7 @@ macro_rules! tree {
                     #[link_name = concat!($prefix, "move")]
                     fn c(_: &Handle, _: i64, _: &Rect<$D>) -> i32;
                 }
-                check(unsafe { c(&self.0.handle, id, rect) })
+                check(unsafe { c(&self.0, id, rect) })
             }
 
             /// The rows of a dump, which `dump` or a script's `.nodes` wrote (`BadDump`, `TreeFull`).
@@ -263,7 +262,7 @@ tree!(3, "juicedelta_tree3_");
 /// assert_eq!(shell.execute("SELECT * FROM t;")?, "1|2|3\n");
 /// # Ok::<(), juicedelta::Error>(())
 /// ```
-pub struct Shell(Held);
+pub struct Shell(Handle);
 
 impl Shell {
     methods! { self call "juicedelta_script_"

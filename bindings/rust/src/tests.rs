@@ -4,7 +4,7 @@ use std::alloc::{GlobalAlloc, Layout, System};
 use std::cell::Cell;
 use std::io::Write;
 
-use crate::{check, version, Error, Held, Rect, Shell, Tree};
+use crate::{check, version, Error, Handle, Rect, Shell, Tree};
 
 /// What a thread allocated: how often, and how many bytes it holds, and held at most. Refuses the allocation at `refused`.
 #[derive(Clone, Copy)]
@@ -116,7 +116,7 @@ fn codes() -> Result<(), Error> {
     let mut tree = Tree::<2>::new()?;
     let rect = cube(0, 1);
     tree.insert(1, &rect)?;
-    assert_eq!(Tree::<2>(Held::default()).len(), Err(Error::Closed));
+    assert_eq!(Tree::<2>(Handle::default()).len(), Err(Error::Closed));
     assert_eq!(Tree::<1>(Tree::<2>::new()?.0).len(), Err(Error::OtherKind));
     assert_eq!(tree.open(51, 1, 2), Err(Error::AlreadyOpen));
     assert_eq!(Tree::<2>::with_capacity(4).err(), Some(Error::BadCapacity));
@@ -149,7 +149,7 @@ fn finds(tree: &Tree<1>, rows: i32) -> Result<bool, Error> {
     Ok(ids.into_iter().eq(0..rows.into()))
 }
 
-// A search allocates its result and nothing else, once the tree has memory enough.
+// A search allocates its result and nothing else, once the thread has memory enough.
 #[test]
 fn results() -> Result<(), Error> {
     let tree = line(10_000)?;
@@ -164,18 +164,23 @@ fn results() -> Result<(), Error> {
     Ok(())
 }
 
-// Each allocation of a first search is refused in turn. The third is memory to keep, which the search can do without.
+/// What a thread's first search answers if its nth allocation is refused.
+fn refused(nth: usize) -> Result<Option<Error>, Error> {
+    let tree = line(1000)?;
+    refuse(nth);
+    let refused = tree.search(&cube(0, 999)).err();
+    refuse(0);
+    assert!(finds(&tree, 1000)?);
+    Ok(refused)
+}
+
+// The third allocation is memory to keep, which the search can do without.
 #[test]
-fn refusals() -> Result<(), Error> {
+fn refusals() {
     for nth in 1..=4 {
-        let tree = line(1000)?;
-        refuse(nth);
-        let refused = tree.search(&cube(0, 999)).err();
-        refuse(0);
-        assert_eq!(refused, (nth < 3).then_some(Error::OutOfMemory));
-        assert!(finds(&tree, 1000)?);
+        let answer = std::thread::spawn(move || refused(nth)).join().unwrap();
+        assert_eq!(answer, Ok((nth < 3).then_some(Error::OutOfMemory)));
     }
-    Ok(())
 }
 
 // What is printed waits for memory.
