@@ -11,6 +11,7 @@ from ._trees import Item, RTree
 
 __all__ = ["Change", "Item", "JuicedeltaError", "RTree", "Shell", "StatementRefused", "Value"]
 __version__ = "0.1.0"
+__license__ = "Apache-2.0"
 
 # Tracebacks and pickles name what is public by the package, not by the module that it stands in.
 for _public in (Change, Item, JuicedeltaError, RTree, Shell, StatementRefused):
