@@ -231,6 +231,19 @@ def table():
     return shell
 
 
+def test_many_rows():
+    """Rows with texts in the same columns, and then with other values there."""
+    shell, kept = table(), [(1, 0, 0, None, None)]
+    for id in range(2, 602):
+        kept.append((id, -id, id * 7, random.choice(["", "it's", "'", "a|b", "a\nb"]), str(id)))
+        c = kept[-1][3].replace("'", "''")
+        assert shell.execute(f"INSERT INTO t VALUES ({id}, {-id}, {id * 7}, '{c}', '{id}');") == []
+    for columns in ((0, 1, 2, 3, 4), (3, 0, 4), (3,), (0, 2), (2,)):
+        wanted = [tuple(row[k] for k in columns) for row in kept]
+        select = "SELECT " + ", ".join("id a b c d".split()[k] for k in columns) + " FROM t"
+        assert shell.rows(select) == wanted and shell.rows(select + " WHERE id > 1") == wanted[1:]
+
+
 def test_whole_statements():
     """`rows` and `changes` feed whole statements, or nothing."""
     one, shell = [(1,)], table()
@@ -249,6 +262,9 @@ def test_whole_statements():
         raised(ValueError, "has no end yet", shell.changes, "DELETE FROM t;")
         shell.execute(end)
         assert shell.rows("SELECT id FROM t") == one
+    shell.execute("SELECT id FROM t WHERE c = '" + "a;" * 40000)
+    raised(ValueError, "has no end yet", shell.rows, "SELECT id FROM t;")
+    shell.execute("';")
     shell.execute("DROP TABLE none; -- done")
     assert shell.rows("SELECT id FROM t") == one and shell.execute("SELECT id FROM t;") == ["1"]
     assert raised(StatementRefused, "", shell.rows, "SELECT id FROM t; SELECT id FROM none").number == 5
@@ -365,7 +381,7 @@ def main(words):
         return
     for test in (test_owners, test_errors, test_shell, test_whole_statements, test_random_statements, test_forged):
         test()
-    for test in (test_random_changes, test_version, test_full):
+    for test in (test_many_rows, test_random_changes, test_version, test_full):
         test()
     if doctest.testmod(juicedelta) != (0, 14):
         raise SystemExit("a doctest fails, or isn't found")

@@ -72,7 +72,7 @@ _BACKWARDS = re.compile(r"\n([^' \n]*(?:'[^']*'[^' \n]*)*)(?: ([^\n]*))?")
 
 def lines_of(printed: str) -> List[str]:
     """The lines. A text in quotes may have line feeds, which end none."""
-    if not any("\n" in text for text in printed.split("'")[1::2]):
+    if "'" not in printed or not any("\n" in text for text in printed.split("'")[1::2]):
         return printed.split("\n")[:-1]
     return [f"{words} {row}" if words else row for words, row in _cut(printed)]
 
@@ -100,31 +100,55 @@ def changes_of(printed: str) -> List[Change]:
     return [Change(words[1:], words[0], row) for (words, _), row in zip(found, rows)]
 
 
-_TEXT = re.compile(r"('[^']*'(?:'[^']*')*)")
+_TEXT = re.compile(r"'([^']*(?:''[^']*)*)'")
+_NO_DIGITS = {ord(glyph): None for glyph in "-0123456789"}
+_FEW = 16  # So many lines are read sooner than compared.
+_BLOCK = 256
 
 
 def rows_of(printed: str) -> List[Tuple[Value, ...]]:
     """The rows, where nothing else is printed; else a ValueError."""
-    # The texts, and what stands outside of them, where a byte 0, which no shell prints, marks each. No row has a blank
-    # there; a change has one behind the view's name, a refusal between its words.
+    # The texts, and what stands outside of them, where a byte 0, which no shell prints, marks each.
     parts = _TEXT.split(printed)
-    texts, outside = iter(parts[1::2]), "T\0".join(parts[::2])
+    texts, outside = parts[1::2], "T\0".join(parts[::2])
+    # No row has a blank there; a change has one behind the view's name, a refusal between its words.
     if " " in outside:
         raise ValueError(outside)
+    if "''" in printed:
+        texts = [text.replace("''", "'") for text in texts]
+    lines = outside.split("\n")[:-1]
+    if len(lines) > _FEW:
+        forms = outside.translate(_NO_DIGITS)
+        form = forms[: forms.find("\n") + 1]
+        if forms == form * len(lines) and not form.strip("|T\0\n"):
+            return _rows_alike(lines, form.split("|"), texts)
+    return _rows_unlike(lines, texts)
+
+
+def _rows_alike(lines: List[str], cells: List[str], texts: List[str]) -> List[Tuple[Value, ...]]:
+    """The rows of lines with texts in the columns where these cells have them, and integers in all others."""
+    rows: List[Tuple[Value, ...]] = []
+    columns = len(texts) // len(lines)
+    # No value takes a step of the interpreter, and what is made of a block of lines on the way stays in the cache.
+    for at in range(0, len(lines), _BLOCK):
+        integers = map(int, filter(None, "|".join(lines[at : at + _BLOCK]).replace("T\0", "").split("|")))
+        quoted = iter(texts[at * columns : (at + _BLOCK) * columns])
+        rows += zip(*[quoted if "T" in cell else integers for cell in cells])
+    return rows
+
+
+def _rows_unlike(lines: List[str], texts: List[str]) -> List[Tuple[Value, ...]]:
+    left = iter(texts)
 
     def value(cell: str) -> Value:
         if cell == "NULL":
             return None
-        if cell == "T\0":
-            return next(texts)[1:-1].replace("''", "'")
         if cell == "XT\0":
-            return bytes.fromhex(next(texts)[1:-1])
+            return bytes.fromhex(next(left))
         raise ValueError(cell)
 
-    # Only integers come before `:`. Most values are integers, so they are read without a call of `value`.
+    # Only integers come before `:`.
     return [
-        tuple([int(cell) if cell < ":" else value(cell) for cell in line.split("|")])
-        if "\0" in line or "N" in line
-        else tuple(map(int, line.split("|")))
-        for line in outside.split("\n")[:-1]
+        tuple([int(cell) if cell < ":" else next(left) if cell == "T\0" else value(cell) for cell in line.split("|")])
+        for line in lines
     ]

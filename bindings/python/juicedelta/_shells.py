@@ -8,6 +8,8 @@ from typing import List, SupportsIndex, Tuple
 from ._calls import SCRIPT_CALLS, Call, Owner, capacity_of
 from ._script import Change, Value, begun_by, changes_of, ended, lines_of, refusal_of, rows_of
 
+_SHORT = 1000  # Where a text of so many characters stops is looked for only when that matters.
+
 
 class Shell(Owner):
     """A script shell: it is fed a script in whatever parts. It can't be copied or pickled.
@@ -32,6 +34,7 @@ class Shell(Owner):
 
     def __init__(self, capacity: SupportsIndex = 51) -> None:
         self._hold(SCRIPT_CALLS, "_open", capacity_of(capacity))
+        # What was fed stops where this text does.
         self._begun = ""
 
     def execute(self, text: str) -> List[str]:
@@ -39,7 +42,8 @@ class Shell(Owner):
 
         A line has a line feed only in a text in quotes.
         """
-        return lines_of(self._fed(text, begun_by(self._begun + text)))
+        begun = self._begun + text
+        return lines_of(self._fed(text, begun if len(begun) < _SHORT else begun_by(begun)))
 
     def rows(self, select: str) -> List[Tuple[Value, ...]]:
         """The rows of a SELECT, or of `.view NAME`: NULL is None, a blob bytes. The last `;` or line feed may be missing.
@@ -68,7 +72,7 @@ class Shell(Owner):
         return lines_of(self._printed())
 
     def _answered(self, text: str) -> str:
-        printed = self._fed(ended(self._begun, text), "")
+        printed = self._fed(ended(self._begun and begun_by(self._begun), text), "")
         refusal = refusal_of(printed)
         if refusal:
             raise refusal
@@ -88,4 +92,4 @@ class Shell(Owner):
         self._do(self._output, buffer, length)
         self._do(self._drop_output)
         # A statement that is no UTF-8 is refused, so that all that is printed is UTF-8.
-        return ctypes.string_at(buffer, length).decode()
+        return buffer.raw.decode()
