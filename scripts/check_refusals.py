@@ -27,10 +27,11 @@ def refusal(said):
 def main():
     log, *words = sys.argv[1:]
     told = {edit: refusal(rest) for edit, rest in SAID.findall(Path(log).read_text(errors="replace"))}
-    if words == ["--write"]:
-        LIST.write_text("".join(f"{edit}: {told[edit]}\n" for edit in sorted(told)))
-    listed = dict(line.split(": ", 1) for line in LIST.read_text().splitlines())
     edits = {f"{file.parts[-3]}/{file.stem}" for file in ROOT.glob("crates/*/must-fail/*.edit")}
+    listed = dict(line.split(": ", 1) for line in LIST.read_text().splitlines()) if LIST.exists() else {}
+    if words == ["--write"]:
+        listed = {edit: goal for edit, goal in {**listed, **told}.items() if edit in edits}
+        LIST.write_text("".join(f"{edit}: {goal}\n" for edit, goal in sorted(listed.items())))
     wrong = [f"{edit} is no edit" for edit in sorted(listed.keys() - edits)]
     wrong += [f"{edit} isn't listed" for edit in sorted(edits - listed.keys())]
     wrong += [f"{edit} is refused by {told[edit]}, not {listed[edit]}" for edit in sorted(told.keys() & listed.keys()) if told[edit] != listed[edit]]
