@@ -1,20 +1,19 @@
-# make demo      compiles rtsh without proving it, runs the scripts of examples/ and checks its dumps with it
+# make           proves rtsh and the crates that it stands on, and builds bin/rtsh
+# make demo      compiles rtsh without proving it, runs the scripts and dumps of examples/, and compares what it prints
 # make try       compiles rtsh without proving it, and runs a script of yours: make try SCRIPT=file.sql
 # make picture   compiles rtsh without proving it, and draws examples/town.svg, which README shows
-# make test      runs all tests and worked cases without proving anything, and holds the documents against the cases
-# make           proves rtsh and the crates that it stands on, and builds bin/rtsh
-# make bindings  proves the calls for other languages, builds lib/libjuicedelta.a and lib/libjuicedelta.so, and tests them
-# make install   copies rtsh, the libraries, headers, Python package, man page and completions, which make and make bindings
-#                built, below a folder: make install PREFIX=FOLDER
-# make dist      packs the same in dist/, for machines without the toolchain
+# make test      runs all tests, worked cases and recipes without proving anything, and compares the documents with the cases
 # make check     proves what changed in all crates
-# make gate      proves everything from nothing, tries the edits that must fail, runs the tests and programs that were proved, then
-#                injects faults into the built program, gives it hard devices, and holds its trees against plain ones, and tests
-#                the calls from other languages
+# make gate      proves everything, tries the edits that must fail, and runs the proved tests and programs; injects faults into the
+#                built program, gives it hard devices, and compares its trees with plain ones; and tests the calls from other languages
+# make bindings  proves the calls for other languages, builds lib/libjuicedelta.a and lib/libjuicedelta.so, and tests them
+# make install   copies what make and make bindings built, with headers, packages, documents and completions, below a folder:
+#                make install PREFIX=FOLDER
+# make dist      packs the same in dist/, for machines without the toolchain
 # make fuzz      tries random calls of the libraries beside plain lists, and scripts in parts beside scripts in one piece:
-#                make fuzz SECONDS=N
-# make bench     prints how long the choices of the R*-tree take, and the calls of whole trees, beside Boost's where that is
-#                installed, whole scripts through bin/rtsh beside sqlite3's shell, and the calls from C and Python
+#                make fuzz SECONDS=N. It needs what make bindings built
+# make bench     prints the times of the R*-tree's choices and of the calls of whole trees; if make built it, of scripts through
+#                bin/rtsh; if make bindings built them, of calls from C and Python; all beside other libraries that are installed
 
 SHELL := /bin/bash
 
@@ -33,7 +32,7 @@ picture: tools
 	@scripts/picture
 
 test: tools
-	@scripts/test
+	@scripts/test.py
 
 bindings: tools
 	@scripts/build_bindings
@@ -59,8 +58,8 @@ fuzz:
 
 bench: tools
 	@scripts/bench
-	@if [ -x bin/rtsh ]; then scripts/bench_scripts; else echo "scripts aren't timed: make builds bin/rtsh"; fi
-	@if [ -f lib/libjuicedelta.a ]; then scripts/bench_bindings; else echo "calls aren't timed: make bindings builds the libraries"; fi
+	@if [ -x bin/rtsh ]; then scripts/bench_scripts.py; else echo "scripts aren't timed: make builds bin/rtsh"; fi
+	@if [ -f lib/libjuicedelta.a ]; then scripts/bench_bindings.py; else echo "calls aren't timed: make bindings builds the libraries"; fi
 
 tools:
 	@command -v rt > /dev/null || { echo "juicedelta: the command rt (the Rattle toolchain) is missing" >&2; exit 1; }

@@ -1,9 +1,10 @@
 #!/usr/bin/env python3
-"""Prints how long calls of the library take: from C beside the calls from C++ and Rattle, Boost's rstar<51> and libspatialindex,
-from Python beside python3-rtree and sqlite3, where these are installed.
+"""bench_bindings.py [FOLDER]: prints how long calls of the library take.
 
-The programs run by turns, three times each, and the least time of a call counts. What they found is compared. ROWS gives the
-number of rows. It reads the libraries of lib/, or of the folder that is named, and runs the rt_bench that scripts/bench built.
+From C beside the calls from C++ and Rattle, Boost's rstar<51> and libspatialindex; from Python beside python3-rtree and sqlite3. What
+isn't installed is left out, and a line says so. The programs run by turns, three times each, and the least time of a call counts. What
+they found is compared. ROWS gives the number of rows. It needs g++ and the libraries of lib/, which make bindings builds, or of
+FOLDER; the calls from Rattle are those of rt_bench, which scripts/bench builds.
 """
 
 import os
@@ -16,7 +17,7 @@ FOLDER = os.path.abspath(sys.argv[1] if len(sys.argv) > 1 else os.path.join(TOP,
 ROWS = os.environ.get("ROWS", "100000")
 TURNS = 3
 
-# Where the line of `rt_bench tree` on uniform rows has the nanoseconds of each call, and what the counts found.
+# The places in the line of `rt_bench tree` on uniform rows of the nanoseconds of each call, and of what the counts found.
 RATTLE = os.path.join(TOP, "crates", "rt_bench", "out", "rt_bench")
 PLACES = {"insert": 3, "search_10": 6, "search_1000": 7, "count_1000": 11, "nearest_10": 12, "delete": 4}
 FOUND = {"count_1000": 10}
@@ -54,7 +55,7 @@ def rattle():
 
 
 def run(command):
-    """The nanoseconds of each kind of call, and its checksum where there is one."""
+    """The nanoseconds of each kind of call, and its checksum if there is one."""
     answer = subprocess.run(command, stdout=subprocess.PIPE, check=True, text=True)
     lines = [line.split() for line in answer.stdout.splitlines()]
     if command[0] == RATTLE:
@@ -74,7 +75,7 @@ def measure(language, programs):
                     sys.exit(f"{name} answers {call} otherwise than before")
                 best[name, call] = (min(time, before[0]), sum)
     names = list(programs)
-    print(f"\n{language}, {ROWS} rows, nanoseconds a call; behind the strokes Juicedelta's time from {language} over that")
+    print(f"\n{language}, {ROWS} rows, nanoseconds a call; after the strokes Juicedelta's time from {language} over that")
     print(f"{'':12}" + "".join(f"{name:>24}" for name in names))
     for call in [call for name, call in best if name == names[0] and call != "left"]:
         own = best[names[0], call][0]
@@ -86,16 +87,25 @@ def measure(language, programs):
             sys.exit(f"{name} answers {call} otherwise than {names[0]}")
 
 
-os.environ["JUICEDELTA_LIBRARY"] = os.path.join(FOLDER, "libjuicedelta.so")
-os.environ["PYTHONPATH"] = os.path.join(TOP, "bindings", "python")
-with tempfile.TemporaryDirectory() as room:
-    measure("C", {
-        "juicedelta": compiled(room, "juicedelta", os.path.join(FOLDER, "libjuicedelta.a")),
-        "c++": compiled(room, "c++", "-DWRAPPER", "-Ibindings/cpp", os.path.join(FOLDER, "libjuicedelta.a")),
-        "rattle": rattle(),
-        "boost": compiled(room, "boost", "-DPEER_BOOST"),
-        "spatialindex": compiled(room, "spatialindex", "-DPEER_SPATIALINDEX", "-lspatialindex_c", "-lspatialindex"),
+def main():
+    """Measures the calls from C, and those from Python."""
+    os.environ["JUICEDELTA_LIBRARY"] = os.path.join(FOLDER, "libjuicedelta.so")
+    os.environ["PYTHONPATH"] = os.path.join(TOP, "bindings", "python")
+    library = os.path.join(FOLDER, "libjuicedelta.a")
+    with tempfile.TemporaryDirectory() as room:
+        measure("C", {
+            "juicedelta": compiled(room, "juicedelta", library),
+            "c++": compiled(room, "c++", "-DWRAPPER", "-Ibindings/cpp", library),
+            "rattle": rattle(),
+            "boost": compiled(room, "boost", "-DPEER_BOOST"),
+            "spatialindex": compiled(room, "spatialindex", "-DPEER_SPATIALINDEX", "-lspatialindex_c", "-lspatialindex"),
+        })
+    measure("Python", {
+        "juicedelta": python("juicedelta", "juicedelta"),
+        "rtree": python("rtree", "rtree"),
+        "sqlite3": python("sqlite3", "sqlite3"),
     })
-measure("Python", {
-    "juicedelta": python("juicedelta", "juicedelta"), "rtree": python("rtree", "rtree"), "sqlite3": python("sqlite3", "sqlite3"),
-})
+
+
+if __name__ == "__main__":
+    main()

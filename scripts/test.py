@@ -1,10 +1,10 @@
 #!/usr/bin/env python3
-"""Runs all tests and worked cases, as many side by side as there are processors. Nothing is proved: `make gate` does that.
+"""Runs all tests and worked cases, as many side by side as there are processors, and proves nothing: `make gate` does that.
 
-Each task is one of the toolchain's trials, which compiles a crate and all below it with checks: the crates with tests, and through
-`rtsh` the worked scripts and dumps, as they are and some with an allocation refused, and scripts that dump a tree after each
-statement. The guide's recipes run too, where their programs are there. A line tells how each task ended; all that a trial said is in
-bin/test.
+A task is a trial, `rt try`, which compiles a crate and all crates below it with run-time checks. There is one for each crate with
+tests, and some for rtsh: the worked scripts and dumps, the same with an allocation refused, and scripts that dump a tree after each
+statement. Two tasks compile nothing: the documents are compared with the cases, and the guide's recipes run if their programs are
+there. A line tells how each task ended; all that a trial said is in bin/test. It needs rt.
 """
 
 import os
@@ -26,10 +26,10 @@ import cases  # noqa: E402
 import follow  # noqa: E402
 
 WORKED = cases.cases(CRATES / "test_cases" / "data")
-# Which allocation is refused in a third of them: one of the first statement's, in most scripts, and a later one in another third.
+# The allocation that is refused in each third of them: in most scripts one of the first statement's, and a later one.
 REFUSED_ALLOCATIONS = {40: WORKED[::3], 100: WORKED[1::3]}
-# Tests that only proved code, which runs without checks, ends in time: make gate runs them. Here they are soon given up, by
-# crate, where other tests may take their time on a busy machine.
+# Tests, by crate, that take too long with run-time checks: make gate runs them on proved code, which has none. The trial of such a
+# crate is stopped SOON; other trials may take longer, since the machine may be busy.
 OF_THE_GATE = {"test_table": {"full::a_full_table_takes_other_rows_in_the_place_of_its_own"}}
 SOON, SECONDS = 20, 300
 
@@ -43,14 +43,14 @@ def tried(name, crate, words):
 
 
 def documents():
-    """Holds the documents' sessions against the worked cases."""
+    """Compares the documents' sessions with the worked cases."""
     ran = subprocess.run([ROOT / "scripts" / "check_documents"], capture_output=True, text=True)
     return (1, []) if ran.returncode == 0 else (0, ran.stdout.splitlines())
 
 
 def recipes():
     """Runs the recipes of the guide, and says which are left out."""
-    ran = subprocess.run([ROOT / "scripts" / "test_recipes"], capture_output=True, text=True)
+    ran = subprocess.run([ROOT / "scripts" / "test_recipes.py"], capture_output=True, text=True)
     lines = ran.stdout.splitlines() + ran.stderr.splitlines()[-1:]
     for line in lines:
         if " was left out: " in line:
@@ -98,8 +98,10 @@ def followed_trees():
 
 def with_refused(allocation, worked):
     """None stops at a fault, with an allocation refused: it goes on, or says that memory ran out."""
-    ends = [("ended", status) for status in "013"]
-    return of_cases(f"cases-{allocation}", worked, "--fail-alloc", str(allocation), is_right=lambda _, run, status, __: (run, status) in ends)
+    def is_right(_, run, status, __):
+        return run == "ended" and status in ("0", "1", "3")
+
+    return of_cases(f"cases-{allocation}", worked, "--fail-alloc", str(allocation), is_right=is_right)
 
 
 def with_tests():

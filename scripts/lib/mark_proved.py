@@ -1,9 +1,10 @@
 #!/usr/bin/env python3
-"""mark_proved FOLDER: has `rt lib` take what `rt ci` proved in a folder.
+"""mark_proved.py FOLDER: writes the stamps by which `rt lib` takes what `rt ci` has just proved in FOLDER. It needs rt.
 
-`rt ci` proves a static library, and doesn't build it. `rt lib` does, and would first prove all crates below it again: beside what
-`rt ci` built stands no stamp, by which `rt lib` knows the text that it was built from. Where a stamp doesn't fit, it proves the
-crate again. A checkout with stamps keeps them: there `rt ci` has put the work of earlier checks back, which is of their text."""
+`rt ci` proves a static library, but doesn't build it. `rt lib` builds it, and first proves each crate below it again, unless a
+stamp says from which text that crate was built. `rt ci` writes no stamps. If a crate's text changes later, its stamp no longer fits,
+and `rt lib` proves it again. Stamps that are there already stay: they came back with the work of earlier checks, and are of its text.
+"""
 
 import os
 import subprocess

@@ -1,8 +1,8 @@
 #!/usr/bin/env python3
-"""Runs the recipes of docs/GUIDE.md and the programs of examples/ that they name, and compares what they give.
+"""Runs the recipes of docs/GUIDE.md and the programs of examples/ that they name, and compares what they print.
 
-Where a program is missing, a line says what was left out. rtsh isn't run: what it prints of the scripts here is that of the worked
-cases, which run beside.
+If a program is missing, a line says what was left out. rtsh isn't run: the worked cases say what it prints of these scripts, and
+make test and make gate run them.
 """
 
 import random
@@ -17,7 +17,7 @@ ROOT = Path(__file__).resolve().parent.parent
 DATA = ROOT / "crates" / "test_cases" / "data"
 AWK, PYTHON = ["-f", ROOT / "examples/degrees.awk", "-v", "table=trees"], [sys.executable, ROOT / "examples/degrees.py", "trees"]
 
-# Lines in degrees, and the boxes in ten millionths, counted by hand: whole ones stay, of the others minima fall and maxima rise.
+# Lines in degrees, and the boxes in ten millionths, counted by hand: of numbers that aren't whole, minima fall and maxima rise.
 DEGREES = """\
 1,89.2772,89.27720001,-0.5,1,oak's
 2,-0.00000001,-0.00000001,-89.99999999,-89.99999999,
@@ -108,7 +108,7 @@ def through_sqlite(folder):
 
 
 def as_inserts():
-    """What it prints is the script that sqlite3 wrote, but for the order and the first and last statement."""
+    """It prints the script that sqlite3 wrote, except the order and the first and last statement."""
     script = case("sqlite_by_quote.sql")
     printed = run([sys.executable, ROOT / "examples/inserts.py", "trees"], case("sqlite_by_quote.out"))
     between = re.split(r"(?<=;)\n", script)[1:-2]

@@ -1,5 +1,5 @@
-# Lines of WHO AXES SHAPE ROWS INSERTION REMOVAL LOOK-UP SEARCH SEARCH BYTES FOUND FOUND: the least of each number, and
-# Boost's and the ratio to it where it ran.
+# Reads the lines of scripts/bench, WHO AXES SHAPE ROWS INSERTION REMOVAL LOOK-UP SEARCH SEARCH BYTES FOUND FOUND, and prints the
+# least of each number; if Boost ran too, Boost's least and the ratio to it.
 {
     row = $2 " " $3 " " $4
     if (!(row in known)) { known[row] = ++rows; name[rows] = row }

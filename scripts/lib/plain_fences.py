@@ -1,5 +1,5 @@
 #!/usr/bin/env python3
-"""plain_fences FENCES THINGS MOVES: prints what examples/fences.c and examples/fences.py must print, by a loop over all fences."""
+"""plain_fences.py FENCES THINGS MOVES: prints what examples/fences.c and examples/fences.py must print, by a loop over all fences."""
 
 import sys
 
