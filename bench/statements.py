@@ -1,4 +1,4 @@
-"""The statements by which scripts are timed and counted: boxes of two dimensions, spread evenly over a square."""
+"""The statements that scripts/bench_scripts.py times and scripts/count.py counts: boxes of two axes, spread evenly over a square."""
 
 import random
 
@@ -9,6 +9,7 @@ KINDS = {
     "many": "window of one row in a hundred, by id",
     "many_loose": "window of one row in a hundred",
     "all": "SELECT * of all rows",
+    "ids": "SELECT id of all rows",
     "updates": "update by id",
     "deletes": "delete by id",
 }
@@ -22,8 +23,8 @@ def of_a_hundredth(side):
     return side // 10
 
 
-# How long the sides of a window are, and the order that it asks for. Rows come by rising id in any case from rtsh; sqlite3
-# sorts them where it is asked to.
+# How long the sides of a window are, and the order that its SELECT asks for. From rtsh rows come by rising id in any case; sqlite3
+# sorts them only if it is asked to.
 LENGTHS = {
     "few": (of_ten, " ORDER BY id"),
     "few_loose": (of_ten, ""),
@@ -33,7 +34,7 @@ LENGTHS = {
 
 
 class Scripts:
-    """Statements on a table of so many rows; the same at each run."""
+    """Statements on a table with this number of rows; the same at each run."""
 
     def __init__(self, rows):
         self.rows = rows
@@ -57,8 +58,8 @@ class Scripts:
         return f"maxX>={x} AND minX<={x + length} AND maxY>={y} AND minY<={y + length}"
 
     def statement(self, kind):
-        if kind == "all":
-            return "SELECT * FROM t;"
+        if kind in ("all", "ids"):
+            return f"SELECT {'*' if kind == 'all' else 'id'} FROM t;"
         if kind in LENGTHS:
             length, order = LENGTHS[kind]
             return f"SELECT * FROM t WHERE {self.window(length(self.side))}{order};"

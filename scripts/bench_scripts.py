@@ -1,11 +1,11 @@
 #!/usr/bin/env python3
-"""Prints how long statements take through rtsh, beside sqlite3's shell where that is installed.
+"""Prints how long statements take through bin/rtsh, beside sqlite3's shell if that is installed.
 
 Both programs read from a pipe, sqlite3 in one transaction. They are loaded, and then get the same statements by turns. What
-counts is the processor time that a program took from one line to another: so loading stands in no statement's time, and
-both programs get their share of what else the machine does. Both run on one processor, and this script on others: what
-slows that processor down slows both. The lines that both print are compared. ROWS gives the numbers of rows, ROUNDS how often
-each kind of statement takes its turn. It needs Linux, for /proc and the choice of a processor.
+counts is the processor time that a program took from one line to another: so no statement's time includes the loading, and
+what else the machine does slows both programs alike. Both run on one processor, and this script on others. The lines that both print
+are compared. ROWS gives the numbers of rows, ROUNDS how often each kind of statement takes its turn. It needs Linux, for /proc
+and the choice of a processor, and bin/rtsh, which make builds.
 """
 
 import fcntl
@@ -74,23 +74,26 @@ class Program:
 
 
 def line(name, times):
-    """Prints the median time of a statement, of a program or two, and of the ratios of two the median, the least and the greatest."""
+    """Prints the median time of a statement, and beside another program's its time too, and their ratio."""
     own, *peer = [statistics.median(its) for its in times]
-    beside = ""
-    if peer:
-        ratios = [one / other for one, other in zip(*times)]
-        beside = f"  /{peer[0]:9.2f} us = {statistics.median(ratios):.3f} ({min(ratios):.3f} to {max(ratios):.3f})"
+    beside = f"  /{peer[0]:9.2f} us = {ratio(*times)}" if peer else ""
     print(f"{name:<38} {own:8.2f} us{beside}", flush=True)
 
 
+def ratio(times, others):
+    """The median of the ratios of the turns, and the least and the greatest of them."""
+    ratios = [one / other for one, other in zip(times, others)]
+    return f"{statistics.median(ratios):.3f} ({min(ratios):.3f} to {max(ratios):.3f})"
+
+
 def in_order(printed):
-    """The printed lines in an order of their own, since sqlite3 gives rows in any order where none is asked for."""
+    """The printed lines, sorted as text, since sqlite3 gives rows in any order unless it is asked for one."""
     subprocess.run(["sort", "-o", printed, printed], env={"LC_ALL": "C"}, check=True)
     return printed
 
 
 def programs(folder):
-    """rtsh, and sqlite3 where it is there, before their first statement, with nothing printed."""
+    """rtsh, and sqlite3 if it is there, before their first statement, with nothing printed."""
     started = [Program(["bin/rtsh", "run"], f"{folder}/own")]
     peer = shutil.which("sqlite3")
     if peer:
@@ -106,7 +109,7 @@ def in_turn(turn, programs):
 
 
 def loaded(rows, load, folder):
-    """Both programs, loaded, which is timed in several turns where the rows are few."""
+    """Both programs, loaded; the loading of few rows is timed in several turns."""
     times, turns = [[], []], ROUNDS if rows <= 100000 else 1
     for turn in range(turns):
         both = programs(folder)
@@ -130,7 +133,8 @@ def measure(rows, folder):
     print("  memory " + " / ".join(f"{it.peak()} MB" for it in both))
     times = {kind: [[] for _ in both] for kind in KINDS}
     many = 1000 if rows <= 100000 else 200
-    counts = {"few": 20000, "few_loose": 20000, "many": many, "many_loose": many, "all": 10 if rows <= 100000 else 1}
+    whole = 10 if rows <= 100000 else 1
+    counts = {"few": 20000, "few_loose": 20000, "many": many, "many_loose": many, "all": whole, "ids": whole}
     counts.update({"updates": 20000, "deletes": min(20000, rows // 20)})
     for turn in range(ROUNDS):
         for kind, count in counts.items():
@@ -139,6 +143,8 @@ def measure(rows, folder):
                 times[kind][at].append(both[at].feed(statements) / count)
     for kind, name in KINDS.items():
         line(name, times[kind])
+        if kind == "ids":
+            print("  over SELECT *: " + " / ".join(ratio(*both_kinds) for both_kinds in zip(times["ids"], times["all"])))
     print("  memory " + " / ".join(f"{it.peak()} MB" for it in both))
     end(both)
     if len(both) == 2 and not filecmp.cmp(*(in_order(it.printed) for it in both), shallow=False):
@@ -155,13 +161,15 @@ def measure(rows, folder):
 
 
 def main():
+    """Measures tables of all sizes."""
     os.chdir(os.path.join(os.path.dirname(os.path.abspath(__file__)), ".."))
     os.sched_setaffinity(0, PROCESSORS - OWN or OWN)
-    print("\nmicroseconds of the processor a statement of scripts through rtsh; behind the strokes sqlite3's in one transaction,")
-    print(f"then the ratio, with its least and greatest; medians of {ROUNDS} turns, and of one loading above 100000 rows")
+    print("\nmicroseconds of the processor a statement takes through rtsh; after a stroke sqlite3's, in one transaction, and the ratio,")
+    print(f"with its least and greatest; medians of {ROUNDS} turns, and one loading above 100000 rows")
     with tempfile.TemporaryDirectory() as folder:
         for rows in ROWS:
             measure(rows, folder)
 
 
-main()
+if __name__ == "__main__":
+    main()
