@@ -5,7 +5,8 @@
 # make test      runs all tests, worked cases and recipes without proving anything, and compares the documents with the cases
 # make check     proves what changed in all crates
 # make gate      proves everything, tries the edits that must fail, and runs the proved tests and programs; injects faults into the
-#                built program, gives it hard devices, and compares its trees with plain ones; and tests the calls from other languages
+#                built program, gives it hard devices, and compares its trees with plain ones; tests the calls from other languages;
+#                and compares what refused each edit with faults/refusals.txt. All that rt says is in bin/gate.log
 # make bindings  proves the calls for other languages, builds lib/libjuicedelta.a and lib/libjuicedelta.so, and tests them
 # make install   copies what make and make bindings built, with headers, packages, documents and completions, below a folder:
 #                make install PREFIX=FOLDER
@@ -48,10 +49,12 @@ check: tools
 	@scripts/prove
 
 gate: tools
-	rt ci
+	@mkdir -p bin
+	set -o pipefail; rt ci 2>&1 | tee bin/gate.log
 	@scripts/faults
 	@scripts/build_bindings .
 	@scripts/test_bindings
+	@scripts/check_refusals.py bin/gate.log
 
 fuzz:
 	@scripts/fuzz_bindings "$(SECONDS)"

@@ -1,8 +1,10 @@
 #!/usr/bin/env python3
-"""check_refusals.py LOG [--write]: holds what refused each must-fail edit, as `rt ci` said in the log, against faults/refusals.txt.
+"""check_refusals.py LOG [--write]: compares what refused each must-fail edit with faults/refusals.txt.
 
-A line of that list names an edit, and the first goal that the prover left open: the file of the code, and the clause. An edit that
-is refused for another goal than before may show nothing of the contract that it attacks: look at it, then run this with --write.
+LOG has what `rt ci` or `rt must-fail` printed; `make gate` leaves it in bin/gate.log. A line of the list names an edit, and the first
+goal that the prover left open: its file, and its clause. No line or column stands there, so code may move in its file; and what rt
+kept of an earlier run it prints again word by word. If another goal refuses an edit than before, the edit may show nothing of the
+contract that it attacks: look at it, then run this with --write.
 """
 
 import re
@@ -11,35 +13,73 @@ from pathlib import Path
 
 ROOT = Path(__file__).resolve().parent.parent
 LIST = ROOT / "faults" / "refusals.txt"
-SAID = re.compile(r"must-fail (\S+)\.edit: refused, as it must be(.*)")
-GOAL = re.compile(r"(?:note: )?(\S+?):\d+:\d+: (.*)")
+HEAD = "# EDIT: FILE CLAUSE, the first goal that the prover leaves open; scripts/check_refusals.py writes this list.\n"
+TOLD = re.compile(r"^rt: must-fail (\S+)\.edit: (.*)$", re.MULTILINE)
+REFUSED = "refused, as it must be"
+GOAL = re.compile(r"(?:note: )?(?:\./)?(\S+?):\d+:\d+: (.*)")
+
+# rt cuts a message off, and a longer line number leaves fewer letters of it. At least these are always there.
+LETTERS = 60
+
+# What rt says before the goal if the contract isn't what refused the edit.
+REASONS = {"only by a limit of the prover": "(by a limit) ", "only because a proof file names": "(by a name) "}
 
 
-def refusal(said):
-    """The file and the clause of what was said of an edit, or its words if it names none."""
-    found = GOAL.search(said)
+def goal(told):
+    """The file and the clause of what was told of a refused edit."""
+    reason = next((short for words, short in REASONS.items() if words in told), "")
+    found = GOAL.search(told)
     if not found:
-        return said.strip(" :")
-    clause = re.search(r"`([^`]*)`", found.group(2))
-    return f"{found.group(1)} {clause.group(1) if clause else found.group(2)}"
+        return reason + (told.strip(" :")[:LETTERS] or "no goal")
+    file, message = found.groups()
+    clause = re.search(r"`([^`]+)", message)
+    return f"{reason}{file} {(clause[1] if clause else message)[:LETTERS]}"
 
 
-def main():
-    log, *words = sys.argv[1:]
-    told = {edit: refusal(rest) for edit, rest in SAID.findall(Path(log).read_text(errors="replace"))}
+def read_log(log):
+    """The goals of the edits that were refused, and what was said of the others."""
+    told = dict(TOLD.findall(Path(log).read_text(errors="replace")))
+    refused = {edit: goal(words.removeprefix(REFUSED)) for edit, words in told.items() if words.startswith(REFUSED)}
+    return refused, {edit: words for edit, words in told.items() if edit not in refused}
+
+
+def read_list():
+    """The goals of the list, by their edits."""
+    lines = LIST.read_text().splitlines() if LIST.exists() else []
+    return dict(line.split(": ", 1) for line in lines if not line.startswith("#"))
+
+
+def differences(edits, refused, others, listed):
+    """What doesn't agree, a line each. A log of some crates alone says nothing of the edits of others."""
+    yield from (f"{edit} is listed, and is no edit" for edit in sorted(listed.keys() - edits))
+    for edit in sorted(edits):
+        if edit in others:
+            yield f"{edit} is not refused: {others[edit]}"
+        elif edit not in listed:
+            yield f"{edit} is not listed; it is refused by: {refused.get(edit, 'the log has no word of it')}"
+        elif refused.get(edit, listed[edit]) != listed[edit]:
+            yield f"{edit} is refused by: {refused[edit]}; before by: {listed[edit]}"
+
+
+def main(log, *words):
+    """Compares, or writes the list anew. Edits of which the log has no word keep their lines."""
     edits = {f"{file.parts[-3]}/{file.stem}" for file in ROOT.glob("crates/*/must-fail/*.edit")}
-    listed = dict(line.split(": ", 1) for line in LIST.read_text().splitlines()) if LIST.exists() else {}
-    if words == ["--write"]:
-        listed = {edit: goal for edit, goal in {**listed, **told}.items() if edit in edits}
-        LIST.write_text("".join(f"{edit}: {goal}\n" for edit, goal in sorted(listed.items())))
-    wrong = [f"{edit} is no edit" for edit in sorted(listed.keys() - edits)]
-    wrong += [f"{edit} isn't listed" for edit in sorted(edits - listed.keys())]
-    wrong += [f"{edit} is refused by {told[edit]}, not {listed[edit]}" for edit in sorted(told.keys() & listed.keys()) if told[edit] != listed[edit]]
-    for line in wrong:
+    (refused, others), listed = read_log(log), read_list()
+    found = list(differences(edits, refused, others, listed))
+    for line in found:
         print(f"refusals: {line}")
-    print(f"refusals: {len(edits)} edits, {len(told)} of them told in this run, {len(wrong)} not as faults/refusals.txt says")
-    return 1 if wrong else 0
+    if words == ("--write",):
+        listed = {edit: it for edit, it in {**listed, **refused}.items() if edit in edits}
+        LIST.write_text(HEAD + "".join(f"{edit}: {it}\n" for edit, it in sorted(listed.items())))
+        print(f"refusals: wrote faults/refusals.txt, {len(listed)} of {len(edits)} edits")
+        return 0
+    if found:
+        print(f"refusals: look at these; then scripts/check_refusals.py {log} --write writes what refuses them to faults/refusals.txt")
+    print(f"refusals: {len(edits)} edits, {len(refused)} refused in this log, {len(found)} not as faults/refusals.txt has them")
+    return 1 if found else 0
 
 
 if __name__ == "__main__":
-    sys.exit(main())
+    if len(sys.argv) not in (2, 3) or sys.argv[2:] not in ([], ["--write"]):
+        sys.exit("check_refusals.py LOG [--write]")
+    sys.exit(main(*sys.argv[1:]))
