@@ -206,7 +206,7 @@ template <class Call> static void timed(const char *name, uint64_t calls, Call c
 int main(int count, char **words)
 {
     const uint64_t rows = count > 1 ? std::strtoull(words[1], nullptr, 10) : 100000, few = 2000, many = 200;
-    // Half the side of a window that holds so many rows: a hundredth of them is a thousand of 100,000.
+    // Half the side of a window that holds this number of rows: a hundredth of them is a thousand of 100,000.
     auto reach = [=](uint64_t held) { return int32_t(std::sqrt(double(1000000000000 * held / rows))) / 2; };
     auto window = [=](uint64_t at, int32_t grow) { return box_of(mixed(at) % rows + 1, grow); };
     const int32_t ten = reach(10), thousand = reach(rows / 100 + 1);

@@ -11,14 +11,14 @@ import cases
 
 REFUSED = re.compile(rb"^refused (\d+) 20: out of memory\n", re.MULTILINE)
 
-# Of longer outputs no further byte is tried, and longer scripts are not read byte by byte.
+# Writes fail up to this byte of an output, and longer scripts are not read byte by byte.
 MOST_PRINTED = 400
 MOST_READ = 500
 
 
 def growths_refused(program, case):
-    """Refuses each allocation in turn, until a run meets no refusal. Each run ends for want of memory with nothing printed,
-    or prints what the script prints where at most one piece is refused."""
+    """Refuses each allocation in turn, until a run meets no refusal. Each run says that memory ran out and prints nothing, or
+    prints what the script prints if at most one piece is refused."""
     ended = marked = 0
 
     @lru_cache(maxsize=None)
@@ -48,7 +48,7 @@ def growths_refused(program, case):
 
 def writes_refused(program, case):
     """Has the output fail after each number of bytes, or take none from there on. Then each write of one byte fails in turn,
-    and those after it would succeed. What the device took before is out, and nothing more."""
+    and those after it would succeed. The device has the bytes that it took before, and nothing more."""
     printed = case.wanted.printed
     rooms = range(min(len(printed), MOST_PRINTED))
     for room in rooms:
@@ -63,7 +63,7 @@ def writes_refused(program, case):
 
 
 def reads_refused(program, case):
-    """Has each read of one byte fail in turn: the lines of the pieces that were complete before are out, of a dump none."""
+    """Has each read of one byte fail in turn. A script prints the lines of the pieces that were complete before, a dump none."""
     if len(case.given) > MOST_READ:
         return None, "longer than is tried"
     ends = [ended_by for _, _, ended_by in cases.pieces(case.given) if ended_by]

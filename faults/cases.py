@@ -29,7 +29,7 @@ class Case:
 
 
 def cases(folder):
-    """The cases of the list, but for those of many dumps."""
+    """The cases of the list, except those of many dumps."""
     found = []
     for line in (Path(folder) / "cases.txt").read_text().splitlines():
         words = line.split()
@@ -57,7 +57,8 @@ def case(folder, name, status, command, *options):
 
 
 def pieces(script):
-    """Where each piece of a script begins and ends, and how many bytes of the script end it, or None where its own end does."""
+    """For each piece of a script: where it begins, where it ends, and how many bytes of the script say that it has ended, or None
+    if only the script's own end says so."""
     found, at = [], GAP.match(script).end()
     while at < len(script):
         is_line = script.startswith(b".", at)
@@ -69,6 +70,6 @@ def pieces(script):
 
 
 def with_refused(script, number):
-    """The script with a piece that is refused in the place of the piece of this number, from 1."""
+    """The script with a piece that is refused in place of the nth, counted from 1."""
     start, end, _ = pieces(script)[number - 1]
     return script[:start] + b"FOO;" + script[end:]

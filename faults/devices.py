@@ -34,7 +34,7 @@ TYPED = [
 ]
 REFUSED = b"refused 1 1: syntax error\n"
 
-# The length of a long input, and what the program may take of memory beside one of any length.
+# The length of a long input, and the memory that the program may take for an input of any length, both in bytes.
 LONG = 100_000_000
 MOST_MEMORY = 64 * 1024 * 1024
 
@@ -182,7 +182,7 @@ def bail_with_more_to_come(program):
 
 
 def slow_input(program):
-    """One byte, then none for long, then one at a time."""
+    """One byte, then none for two seconds, then one at a time."""
 
     def parts():
         yield ROWS[:1]
@@ -195,7 +195,7 @@ def slow_input(program):
 
 
 def slow_output(program):
-    """Nobody reads the output for long; it is more than a pipe holds."""
+    """Nobody reads the output for two seconds; it is more than a pipe holds."""
     words = [b"CREATE VIRTUAL TABLE t USING rtree_i32(id,a,b); INSERT INTO t VALUES(1,2,3);"]
     pipes = {"stdin": subprocess.PIPE, "stdout": subprocess.PIPE, "stderr": subprocess.PIPE}
     started = subprocess.Popen([program.path, "run"], **pipes)
@@ -323,8 +323,8 @@ def all_shown(terminal, started):
     return text.replace(b"\r\n", b"\n")
 
 
-# Each piece of a script that is refused: its number and its line, and if its syntax is wrong the line, the column and the
-# word that no statement goes on with. All were counted by hand.
+# Each refused piece of the script WRONG: its number and its line, and if its syntax is wrong, the line, the column and the word that
+# no statement goes on with. All were counted by hand.
 WRONG = b"""FOO; SELECT 'refused 1';
 -- a comment
 
@@ -408,7 +408,8 @@ def places_of_refusals(program):
 
 
 def places_in_part(program):
-    """A run that ends at the first refusal tells its place, be it read byte by byte or beside its output."""
+    """A run that ends at the first refusal tells its place; so does one that is read byte by byte, and one whose error output
+    goes where its output goes."""
     script, wanted = b"-- one\nSELECT * FROM t\n LIMIT 5; FOO;", told("standard input", [(1, 2, "line 3, column 2: LIMIT")])
     outcome = program.run(["run", "--where", "--bail"], script)
     if outcome.complained != wanted:

@@ -1,6 +1,8 @@
 """Scripts whose table is dumped after each statement, with what they must print by the rules of the R*-tree alone.
 
-Run with the name of a folder, it writes them there.
+    python3 faults/follow.py FOLDER
+
+writes them to FOLDER.
 """
 
 import sys
@@ -12,7 +14,7 @@ from cases import Case
 from plain_tree import Box, Tree
 from program import Outcome
 
-# A trial answers nothing if a script prints 1 MiB or more.
+# `rt try` gives no answer if a script prints more than 1 MiB.
 MOST_PRINTED = 1_000_000
 
 CREATE = {
@@ -54,8 +56,8 @@ def updated(tree: Tree, id: int, number: int) -> str:
 
 
 def in_two_places(tree: Tree) -> Iterator[str]:
-    """Rows come in two places, a leaf for each, until one leaf is full; then all go from the other one, which gets too thin, so
-    that the full leaf takes in its rows while it is the root's only child; and then those of the full leaf go."""
+    """Rows come in two places, a leaf for each, until one leaf is full. Then all go from the other one, which gets underfull, so
+    that the full leaf takes in its rows while it is the root's only child. Then the rows of the full leaf go."""
     odd, even = range(1, 2 * tree.capacity, 2), range(2, tree.capacity + 2, 2)
     for id in sorted([*odd, *even]):
         yield inserted(tree, id, id % 2)
@@ -64,8 +66,8 @@ def in_two_places(tree: Tree) -> Iterator[str]:
 
 
 def all_over(tree: Tree) -> Iterator[str]:
-    """180 rows come, and go in another order; then rows come and go by turns, and those that are left move twice, but for some
-    that get the box that they have."""
+    """180 rows come, and go in another order. Then rows come and go by turns. Those that are left are updated twice, a few of
+    them to the box that they have."""
     for id in range(1, 181):
         yield inserted(tree, id, id)
     for number in range(1, 181):
@@ -80,8 +82,8 @@ def all_over(tree: Tree) -> Iterator[str]:
 
 
 def followed(axes: int, capacity: int) -> Iterator[Case]:
-    """The statements, cut into scripts that print little enough. Each script begins with the statements of those before it,
-    without dumps."""
+    """The statements, cut into scripts that print at most MOST_PRINTED bytes. Each script begins with the statements of those
+    before it, without dumps."""
     tree = Tree(axes, capacity)
     part, done, shown, printed = 1, [CREATE[axes]], [], ""
 

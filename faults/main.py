@@ -1,4 +1,7 @@
-"""Injects faults into the proved program, gives it hard devices, and holds its trees against a plain one: see scripts/faults."""
+"""Injects faults into the built program, gives it hard devices, and compares its trees with a plain one.
+
+scripts/faults runs it: main.py ROOT LIBRARY PROGRAM.. has the checkout, the library that has calls fail, and the programs to test.
+"""
 
 import os
 import subprocess
@@ -32,7 +35,7 @@ TESTS = [
 
 
 def tried(check, *given):
-    """What a check answers; a run that doesn't end, or can't be started, is what is wrong."""
+    """What a check answers; if a run doesn't end, or can't be started, that is what is wrong."""
     try:
         return check(*given)
     except (subprocess.TimeoutExpired, OSError) as fault:
@@ -75,7 +78,7 @@ def check_trees(report, program, followed):
 
 
 def check_tests(report, root, library):
-    """One check for each of the tests, where the gate has left it."""
+    """One check for each test of TESTS, as rt ci built it."""
     for crate, name, check in TESTS:
         path = root / "crates" / crate / "out" / f"{crate}_tests"
         wrong, note = f"{path} is missing: rt ci builds it", ""
@@ -85,14 +88,14 @@ def check_tests(report, root, library):
 
 
 def all_statements(root):
-    """A script whose statements show after each other what was changed. What it prints was worked out by a second program,
+    """A script of each kind of statement, which shows after each what was changed. A second program worked out what it prints,
     from the rules of tables and trees alone."""
     given, printed = ((root / "faults" / f"statements.{ending}").read_bytes() for ending in ("sql", "out"))
     return cases.Case("all statements", ("run", "--capacity", "5"), given, Outcome(1, printed))
 
 
 def main(root, library, *paths):
-    """Checks each program of these paths. Devices are tried beside the calls, which take the processors of a pool."""
+    """Checks each program of these paths. A pool of processes tries failing calls; meanwhile this one tries devices."""
     report, root, began = Report(), Path(root), time.monotonic()
     worked = [*cases.cases(root / "crates" / "test_cases" / "data"), all_statements(root)]
     followed = follow.cases()

@@ -2,7 +2,8 @@
 
     python3 faults/plain_picture.py DUMP [PROBLEMS] [--axes 1,3] [--levels 0-2] [--all]
 
-DUMP is a sound text of a shadow. PROBLEMS has what `rtsh check` prints of it, where that isn't `ok`. It shares nothing with rtsh.
+It prints the SVG. DUMP is the text of a shadow. PROBLEMS has what `rtsh check` prints of it, if that isn't `ok`. It shares nothing
+with rtsh.
 """
 
 from __future__ import annotations

@@ -80,13 +80,14 @@ def best_child(node: Node, new: Box) -> Node:
 
 
 def farthest(cells: Sequence[Cell], share: int) -> list[Cell]:
-    """ReInsert: so many cells whose centres are farthest from that of the box around all, the farthest first."""
+    """ReInsert: the share of cells whose centres are farthest from that of the box around all, the farthest first."""
     around = hull(cell.box for cell in cells)
     return sorted(cells, key=lambda cell: -distance(cell.box, around))[:share]
 
 
 def cuts(cells: Sequence[Cell], axis: int, least: int) -> Iterator[tuple[list[Cell], list[Cell]]]:
-    """The ways to cut the cells in two groups of at least so many along an axis: sorted by lower ends, and then by upper ones."""
+    """The ways to cut the cells in two groups, of at least this number each, along an axis: sorted by lower ends, and then by upper
+    ones."""
     by_lower = sorted(cells, key=lambda cell: cell.box[axis])
     by_upper = sorted(cells, key=lambda cell: cell.box[axis][::-1])
     for ordered in (by_lower, by_upper):
@@ -130,23 +131,23 @@ class Tree:
         self.place(0, Row(id, box))
 
     def remove(self, id: int) -> None:
-        """A row goes. Nodes with too few cells leave the tree, the lowest first, and their cells are placed again, each by
-        itself; then a root with one child gives way to it."""
+        """A row goes. Underfull nodes are dissolved, the lowest first, and then their cells are placed again, each as an insertion
+        of its own. Then a root with one child gives way to it."""
         path, row = self.found(id)
         path[-1].cells.remove(row)
-        waiting = []
+        pending = []
         while len(path) > 1:
             node = path.pop()
             if len(node.cells) < self.least:
                 path[-1].cells.remove(node)
-                waiting += [(node.level, cell) for cell in node.cells]
-        for level, cell in waiting:
+                pending += [(node.level, cell) for cell in node.cells]
+        for level, cell in pending:
             self.place(level, cell)
         if self.root.level > 0 and len(self.root.cells) == 1:
             self.root = self.root.cells[0]
 
     def update(self, id: int, box: Box) -> None:
-        """A row gets a box: it goes and comes, unless it has this box."""
+        """A row gets a box: it goes and comes again, unless it has this box."""
         if self.found(id)[1].box != box:
             self.remove(id)
             self.insert(id, box)
@@ -157,20 +158,20 @@ class Tree:
         return next((path, row) for path in leaves for row in path[-1].cells if row.id == id)
 
     def place(self, level: int, cell: Cell) -> None:
-        """Insert: the cell goes into a node of that level, and then each cell that had to leave its node, the last first."""
+        """Insert: the cell goes into a node of that level; then each cell that had to leave its node is placed, the last first."""
         marked = set()
-        waiting = [(level, cell)]
-        while waiting:
-            level, cell = waiting.pop()
+        pending = [(level, cell)]
+        while pending:
+            level, cell = pending.pop()
             path = [self.root]
             while path[-1].level > level:
                 path.append(best_child(path[-1], cell.box))
             path[-1].cells.append(cell)
-            waiting += self.relieved(path, marked)
+            pending += self.relieved(path, marked)
 
     def relieved(self, path: list[Node], marked: set[int]) -> list[tuple[int, Cell]]:
-        """OverflowTreatment, from the end of the path up. The first overfull node of each level below the root gives up cells,
-        which are answered with the level; others are split."""
+        """OverflowTreatment, from the end of the path up. The first overfull node of each level below the root gives up cells:
+        they and their level are returned. Other overfull nodes are split."""
         while len(path[-1].cells) > self.capacity:
             node = path.pop()
             if path and node.level not in marked:

@@ -10,7 +10,7 @@ SECONDS = 120
 
 @dataclass(frozen=True)
 class Outcome:
-    """A run's status and output, its error output, and whether a call was made to fail in it."""
+    """A run's status and output, its error output, and whether a call of it was made to fail."""
 
     status: int
     printed: bytes
@@ -47,7 +47,7 @@ class Program:
         return Outcome(ran.returncode, ran.stdout, ran.stderr)
 
     def run_with(self, words, given=b"", **calls):
-        """Runs it on these bytes, where calls fail: `calls` are the variables of refuse.c."""
+        """Runs it on these bytes while calls fail: `calls` are the variables of refuse.c."""
         reading, writing = os.pipe()
         environment = {"LD_PRELOAD": self.library, "TOLD": str(writing)}
         environment.update({name: str(value) for name, value in calls.items()})
@@ -68,7 +68,7 @@ class Report:
         self.failed = 0
 
     def add(self, name, wrong):
-        """A check that passed, where nothing is wrong."""
+        """A check, which has passed if nothing is wrong."""
         if wrong:
             self.failed += 1
             print(f"FAILED: {name}: {wrong}", flush=True)

@@ -1,7 +1,7 @@
 /* Loaded before a program (LD_PRELOAD), it has calls of the C library fail, as these variables ask:
  *
  *   REFUSE_ALLOCATION=N  the Nth allocation is refused
- *   BETWEEN=1            of allocations, those alone count that come after a `<` and before a `>` on the error output
+ *   BETWEEN=1            only allocations after a `<` and before a `>` on the error output count
  *   REFUSE_READ=N        the Nth read fails
  *   REFUSE_WRITE=N       the Nth write fails, and later ones don't
  *   REFUSE_AFTER=N       writes take N bytes in all, and then fail
@@ -10,8 +10,8 @@
  *   SHORT=1              each read and write moves one byte
  *   TOLD=D               a byte goes to descriptor D once a call was refused, or moved one byte by SHORT_AT
  *
- * The error output stays as it is. Calls are counted from 1, and from the start of the program on. It includes no file, so
- * that any C compiler for Linux makes it.
+ * Writes to the error output never fail. Calls are counted from 1, from the start of the program. It includes no file, so that any C
+ * compiler for Linux compiles it.
  */
 typedef unsigned long size_t;
 typedef long ssize_t;
@@ -92,7 +92,7 @@ void *realloc(void *block, size_t size) {
   return is_refused() ? 0 : next_realloc(block, size);
 }
 
-/* How many of the bytes of a read or a write may move. */
+/* Returns how many bytes of a read or a write may move. */
 static size_t cut(size_t size) {
   if (is_short && size > 1)
     size = 1;
@@ -112,7 +112,7 @@ ssize_t read(int file, void *buffer, size_t size) {
   return next_read(file, buffer, counts ? cut(size) : size);
 }
 
-/* Takes what there is room for; where there is none, answers so and gives the answer. */
+/* Cuts the size to what is left; returns whether nothing is, and tells so. */
 static int is_full(long *left, size_t *size) {
   if (*left < 0 || *size == 0)
     return 0;

@@ -13,7 +13,7 @@ def rows(first, count):
 
 
 def script():
-    """All rows but one, then what is taken and what is refused at the limit."""
+    """All rows except one; then what is taken and what is refused at the limit."""
     yield "CREATE VIRTUAL TABLE t USING rtree_i32(id,a,b);"
     for first in range(1, MOST_ROWS - 1, ROWS_AT_ONCE):
         yield rows(first, min(ROWS_AT_ONCE, MOST_ROWS - first))

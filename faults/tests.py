@@ -1,4 +1,4 @@
-"""Tests of calls whose memory is refused, run once for each allocation, and of those that ask for none."""
+"""Runs tests of the crates with an allocation refused: each in turn, or those of calls that must ask for none."""
 
 import itertools
 
@@ -15,8 +15,8 @@ def growths_refused(tests, name):
 
 
 def none_between(tests, name):
-    """Would refuse an allocation between a `<` and a `>` that a test prints, and meets none. Answers what is wrong, and how
-    many such pairs there were, in words."""
+    """Refuses the first allocation between a `<` and a `>` that a test prints, and must meet none. Answers what is wrong, and
+    how many such pairs there were, in words."""
     outcome = tests.run_with([name], REFUSE_ALLOCATION=1, BETWEEN=1)
     pairs = outcome.complained.count(b"<>")
     if not passed(outcome) or outcome.met or not pairs:

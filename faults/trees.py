@@ -1,6 +1,6 @@
-"""Random calls of the library's trees beside a plain R*-tree: every few calls both have the same dump.
+"""Random calls of the library's trees and of a plain R*-tree: every few calls both have the same dump.
 
-It reaches the library through the package of bindings/python.
+scripts/test_bindings runs it. It reaches the library through the package of bindings/python.
 """
 
 import random

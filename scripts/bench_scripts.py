@@ -74,7 +74,7 @@ class Program:
 
 
 def line(name, times):
-    """Prints the median time of a statement, and beside another program's its time too, and their ratio."""
+    """Prints the median time of a statement; of two programs, both times and their ratio."""
     own, *peer = [statistics.median(its) for its in times]
     beside = f"  /{peer[0]:9.2f} us = {ratio(*times)}" if peer else ""
     print(f"{name:<38} {own:8.2f} us{beside}", flush=True)
@@ -153,7 +153,7 @@ def measure(rows, folder):
     again = programs(folder)
     load = [CREATE, *scripts.inserts(100)]
     line("insert, 100 rows a statement", [[it.feed(load) / (len(load) - 1)] for it in again])
-    # An update while a window is watched has nothing to stand beside.
+    # sqlite3 has no watched windows to compare with.
     again[0].feed([f".watch v FROM t WHERE {scripts.window(of_a_hundredth(scripts.side))};"])
     updates = [scripts.statement("updates") for _ in range(20000)]
     line("update by id, a window watched", [[again[0].feed(updates) / len(updates)]])
