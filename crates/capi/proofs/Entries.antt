@@ -1,13 +1,14 @@
 -- What a shadow has in which the checker finds no problem: as many entries as rows, no id twice, and boxes.
-use Rattle.std.proofs.Common.{◌≡◌, ℕ, Bool, true, false, not, ◌||◌, cond, ℤ, List, [], ◌++◌, length, Option, Some, None, Contains, arith, refl, sym, subst, inl, inr}
-use Rattle.std.specs.Prelude.{count_by}
+use Rattle.std.proofs.Common.{◌≡◌, ℕ, Bool, true, false, not, ◌||◌, cond, ℤ, List, [], ◌++◌, length, Option, Some, None, Contains, arith, refl, sym, ap, subst, ◌∙◌, inl, inr}
+use Rattle.std.specs.Prelude.{count_by, find, ◌+◌, if◌then◌else◌}
 use Rattle.std.specs.List.{enumerate_from}
-use Rattle.std.specs.Option.{option_map_or}
+use Rattle.std.specs.Option.{option_map, option_map_or}
 use Rattle.std.specs.Ordering.{int_eq}
 use Rattle.std.proofs.lemmas.Bool.{cases_lt, eqb-true, true≢false}
 use Rattle.std.proofs.lemmas.Bool.Decides.{Decides-int_eq}
 use Rattle.std.proofs.lemmas.List.Elements.{All-contains_itself, All-weaker}
 use Rattle.indexmap.specs.Layout.{hash_map}
+use Rattle.rt_box.specs.declared.interval.Interval.{Interval}
 use Rattle.rt_check.specs.declared.node.NodeRow.{NodeRow}
 use Rattle.rt_check.specs.declared.node.RawCell.{RawCell}
 use Rattle.rt_check.specs.declared.node.RowEntry.{RowEntry}
@@ -15,9 +16,11 @@ use Rattle.rt_check.specs.declared.problem.Problem.{Problem}
 use Rattle.rt_check.specs.declared.problem.Condition.TheVariants.{HasPlace, NamesChild, IsOrdered, HoldsChild, FitsChild, IsFilled, HasEntry, HasCell}
 use Rattle.rt_check.specs.Shadow.{ShadowLists}
 use Rattle.rt_check.specs.Conditions.{is_leaf, names_child, is_ordered, holds_child, fits_child, is_filled, has_place, has_entry, has_cell, entry_of, leaf_cells, times_named, root_problems, node_problems, cell_problems, row_problems, IsSound}
+use Rattle.rt_tree_node.proofs.Counts.{count-cons}
 use Rattle.rt_tree_walk.proofs.Reaching.{counted-contained}
-use Rattle.rt_tree.specs.Lists.{IsInShape}
-use Rattle.rt_tree.specs.Rows.{rows_of}
+use Rattle.rt_tree_walk.specs.declared.searching.Row.{Row}
+use Rattle.rt_tree.specs.Lists.{IsInShape, empty_lists}
+use Rattle.rt_tree.specs.Rows.{rows_of, box_of, GainsRow}
 use Rattle.rt_tree.proofs.Members.{contains-none}
 use Rattle.rt_table_store.proofs.Counted.{entries-counted as counted}
 use Rattle.rt_table_store.proofs.Soundness.{append_first, append_rest, none_fails, counted_in, flat_from, found_in, cell_passes}
@@ -26,6 +29,25 @@ use Rattle.capi.specs.Loading.{AreUnique, AreOrdered}
 module _ {D : ℕ} where
   pub entries-counted : (s : ShadowLists D) → IsInShape s → length s.rows ≡ count_by (λ r. true) (rows_of s)
   entries-counted s shape = counted s shape (hash_map {S = Unit {0}} [] tt 0)
+
+  empty-count : (rows : List (Row D)) → count_by (λ r. true) rows ≡ 0 → rows ≡ []
+  empty-count [] none = refl
+  empty-count (r ∷ rows) none = absurd (omega (arith, none, count-cons (λ r. true) r rows))
+
+  rows-none : (s : ShadowLists D) → IsInShape s → length s.rows ≡ 0 → rows_of s ≡ []
+  rows-none s shape none = empty-count (rows_of s) (omega (arith, none, entries-counted s shape))
+
+  -- a tree without entries has no row, and one that comes into another such tree comes into it
+  pub first_absent : (s : ShadowLists D) (id : ℤ) → IsInShape s → length s.rows ≡ 0 → box_of s id ≡ None
+  first_absent s id shape none = ap (λ (rows : List (Row D)). option_map (λ (r : Row D). r.rect) (find (λ (r : Row D). int_eq id r.id) rows)) (rows-none s shape none)
+
+  pub first_gained : (s new : ShadowLists D) (capacity : ℕ) (id : ℤ) (rect : List Interval) → IsInShape s → length s.rows ≡ 0 →
+      GainsRow (empty_lists capacity) new id rect → GainsRow s new id rect
+  first_gained s new capacity id rect shape none gains = record {
+    rows = λ test. gains.rows test ∙ ap (λ (rows : List (Row D)). count_by test rows + (if test record { id = id; rect = rect } then 1 else 0)) (sym (rows-none s shape none));
+    here = gains.here;
+    others = λ other differs. gains.others other differs ∙ sym (first_absent s other shape none);
+  }
 
   -- the cell is one of a leaf
   of_leaf : (n : NodeRow D) (c : RawCell D) (b : Bool) → Contains (cond b n.cells []) c → (b ≡ true) × Contains n.cells c
