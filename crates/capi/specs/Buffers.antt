@@ -3,13 +3,13 @@ use Rattle.std.specs.Prelude.{◌≡◌, ◌<◌, ◌≤◌, ℕ, List, ◌++◌
 use Rattle.capi.specs.declared.code.Code.{Code}
 use Rattle.capi.specs.declared.code.Code.TheVariants.{Done, BufferTooSmall, OutOfMemory}
 
--- the items stand at the buffer's front, and what was behind them stays; or the buffer is shorter, and as before
+-- the items are the buffer's first, and those behind stay; or the buffer is shorter, and unchanged
 abbrev pub Copies : {X : Type 0} → List X → List X → List X → Code → Type 0
 Copies items before after Done = (length items ≤ length before) × (after ≡ items ++ drop (length items) before)
 Copies items before after BufferTooSmall = (length before < length items) × (after ≡ before)
 Copies items before after code = ⊥
 
--- the text is copied, and its length is told; or there is no memory
+-- the text is copied, and its length is told; or no memory is left
 abbrev pub GivesText : List ℕ → List ℕ → List ℕ → ℕ → ℕ → Code → Type 0
 GivesText text before after told total OutOfMemory = (after ≡ before) × (total ≡ told)
 GivesText text before after told total code = (total ≡ length text) × Copies text before after code

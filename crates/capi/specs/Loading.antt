@@ -1,5 +1,5 @@
 -- How a dump is loaded, step by step. No contract of an exported call cites this module.
-use Rattle.std.specs.Prelude.{◌≡◌, ℕ, ◌^◌, ◌≤◌, ◌<◌, ℤ, List, length, Bool, true, All, count_by, Option, Some, None, Result, Ok, Err}
+use Rattle.std.specs.Prelude.{◌≡◌, ℕ, ◌≤◌, ◌<◌, ℤ, List, length, Bool, true, All, count_by, Option, Some, None, Result, Ok, Err}
 use Rattle.rt_check.specs.declared.node.RawCell.{RawCell}
 use Rattle.rt_check.specs.Shadow.{ShadowLists}
 use Rattle.rt_check.specs.Conditions.{IsSound, is_ordered, times_named}
@@ -11,7 +11,7 @@ use Rattle.rt_tree.specs.Rows.{row_in, rows_of}
 use Rattle.rt_tree_walk.specs.declared.searching.Row.{Row}
 use Rattle.capi.specs.declared.code.Code.{Code}
 use Rattle.capi.specs.declared.code.Code.TheVariants.{BadDump, TreeFull, OutOfMemory}
-use Rattle.capi.specs.Trees.{InsertsInTurn, HasRowsOf, IsOfDump, LoadsNone}
+use Rattle.capi.specs.Trees.{most_rows, InsertsInTurn, HasRowsOf, IsOfDump, LoadsNone}
 
 -- the text is the dump of this shadow, and of no other; or of none
 abbrev pub ReadsText : List ℕ → Result AnyShadow Code → Type 0
@@ -32,20 +32,20 @@ module _ {D : ℕ} where
   abbrev pub HasCells : List (RawCell D) → ShadowLists D → Type 0
   HasCells cells tree = (test : Row D → Bool) → count_by test (rows_of tree) ≡ count_by (λ c. test (row_in c)) cells
 
-  -- a tree of such rows, inserted in this order, whose nodes have that many cells at most; or there are too many, or there is
-  -- no memory
+  -- a tree of such rows, inserted in this order, whose nodes have that many cells at most; or there are too many, or no
+  -- memory is left
   abbrev pub GivesTree : ℕ → List (RawCell D) → Result (TreeLists D) Code → Type 0
   GivesTree capacity cells (Ok tree) =
       HasCells cells tree.lists × (tree.lists.capacity ≡ capacity) × InsertsInTurn (empty_lists capacity) cells tree.lists
-  GivesTree capacity cells (Err TreeFull) = 2 ^ 20 < length cells
+  GivesTree capacity cells (Err TreeFull) = most_rows < length cells
   GivesTree capacity cells (Err OutOfMemory) = Unit {0}
   GivesTree capacity cells (Err code) = ⊥
 
-  -- a shadow in which the checker finds no problem is loaded, where it has no more rows than a tree may have
+  -- a shadow in which the checker finds no problem is loaded, if it has no more rows than a tree may have
   abbrev pub Loads : ShadowLists D → Result (Kept D) Code → Type 0
   Loads s (Ok kept) = IsSound s × HasRowsOf s kept
   Loads s (Err BadDump) = ¬ IsSound s
-  Loads s (Err TreeFull) = IsSound s × (2 ^ 20 < length (rows_of s))
+  Loads s (Err TreeFull) = IsSound s × (most_rows < length (rows_of s))
   Loads s (Err OutOfMemory) = Unit {0}
   Loads s (Err code) = ⊥
 

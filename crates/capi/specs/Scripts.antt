@@ -14,7 +14,7 @@ use Rattle.capi.specs.declared.code.Code.TheVariants.{Done, OutOfMemory, Ended, 
 use Rattle.capi.specs.Buffers.{Copies}
 use Rattle.capi.specs.Trees.{MakesNone}
 
--- a shell that was fed nothing and goes on after a refusal
+-- a shell without input so far, which goes on after a refusal
 abbrev pub IsNewShell : ℕ → Option Shell → Type 0
 IsNewShell capacity None = ⊥
 IsNewShell capacity (Some shell) = HasPrinted (record { capacity = capacity; bail = false; echo = false }) shell [] []
@@ -27,7 +27,7 @@ abbrev pub MakesScript : ℕ → Result Script Code → Type 0
 MakesScript capacity (Ok script) = IsNewScript capacity script
 MakesScript capacity (Err code) = MakesNone capacity code
 
--- a write fails for want of memory alone
+-- a write fails only if no memory is left
 abbrev pub code_of_feed : Result Flow FeedFault → Code
 code_of_feed (Ok flow) = Done
 code_of_feed (Err Write) = OutOfMemory
@@ -57,7 +57,7 @@ FinishesIn (Some shell) old new result =
 abbrev pub Finishes : Script → Script → Result Status Code → Type 0
 Finishes old new result = FinishesIn old.shell old new result
 
--- 1 where a piece was refused, and 0 where none was
+-- 1 if a piece was refused, else 0
 abbrev pub number_of_status : Status → ℕ
 number_of_status Clean = 0
 number_of_status Refused = 1

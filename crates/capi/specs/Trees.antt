@@ -24,6 +24,10 @@ use Rattle.capi.specs.Touching.{FindsTouching}
 use Rattle.capi.specs.declared.code.Code.{Code}
 use Rattle.capi.specs.declared.code.Code.TheVariants.{Done, BadCapacity, BadBox, IdTaken, IdMissing, OutOfMemory, TreeFull, BadDump}
 
+-- the most rows of a tree
+abbrev pub most_rows : ℕ
+most_rows = 2 ^ 20
+
 -- why there is no tree
 abbrev pub MakesNone : ℕ → Code → Type 0
 MakesNone capacity BadCapacity = ¬ IsCapacity capacity
@@ -49,7 +53,7 @@ module _ {D : ℕ} where
         IsInsertion old new cell.number (box_in cell) work → InsertsInTurn first (cells ++ cell ∷ []) new
 
   -- The tree has exactly the rows of the shadow, ids and boxes: as many of either pass any test. They are inserted into a
-  -- tree without rows and of the shadow's capacity, those with lower ids first.
+  -- tree without rows and of the shadow's capacity, in ascending order of ids.
   pub record HasRowsOf (s : ShadowLists D) (kept : Kept D) : Type 0 where
     pub rows : (test : Row D → Bool) → count_by test (rows_of kept.tree.lists) ≡ count_by test (rows_of s)
     pub most_cells : kept.tree.lists.capacity ≡ s.capacity
@@ -69,15 +73,15 @@ module _ {D : ℕ} where
   IsOfDump of_kind text kept = (s : ShadowLists D) × IsSoundDump of_kind text s × HasRowsOf s kept
 
   -- Why there is no tree of the text: it is the dump of no such shadow, or of one with more rows than a tree may have, or
-  -- there is no memory.
+  -- no memory is left.
   abbrev pub LoadsNone : (ShadowLists D → AnyShadow) → List ℕ → Code → Type 0
   LoadsNone of_kind text BadDump = (s : ShadowLists D) → ¬ IsSoundDump of_kind text s
-  LoadsNone of_kind text TreeFull = (s : ShadowLists D) × IsSoundDump of_kind text s × (2 ^ 20 < length (rows_of s))
+  LoadsNone of_kind text TreeFull = (s : ShadowLists D) × IsSoundDump of_kind text s × (most_rows < length (rows_of s))
   LoadsNone of_kind text OutOfMemory = Unit {0}
   LoadsNone of_kind text code = ⊥
 
   -- The row is inserted by the rules, in a tree of the same capacity. Or, in this order, the box has a least number above its
-  -- greatest, the id is taken, there are 2^20 rows, or there is no memory; the rows are as before then.
+  -- greatest, the id is taken, there are 2^20 rows, or no memory is left; the rows are then unchanged.
   abbrev pub Inserts : ℤ → List ℤ → List ℤ → TreeLists D → TreeLists D → Code → Type 0
   Inserts id min max old new Done =
       (rect : List Interval) × (los rect ≡ min) × (his rect ≡ max) × (box_of old.lists id ≡ None) × GainsRow old.lists new.lists id rect ×
@@ -85,9 +89,9 @@ module _ {D : ℕ} where
   Inserts id min max old new BadBox = (¬ AllZip ◌≤ℤ◌ min max) × (new ≡ old)
   Inserts id min max old new IdTaken = AllZip ◌≤ℤ◌ min max × IsSome (box_of old.lists id) × (new ≡ old)
   Inserts id min max old new TreeFull =
-      AllZip ◌≤ℤ◌ min max × (box_of old.lists id ≡ None) × (2 ^ 20 ≤ length old.lists.rows) × (new ≡ old)
+      AllZip ◌≤ℤ◌ min max × (box_of old.lists id ≡ None) × (most_rows ≤ length old.lists.rows) × (new ≡ old)
   Inserts id min max old new OutOfMemory =
-      AllZip ◌≤ℤ◌ min max × (box_of old.lists id ≡ None) × (length old.lists.rows < 2 ^ 20) × (new.lists ≡ old.lists)
+      AllZip ◌≤ℤ◌ min max × (box_of old.lists id ≡ None) × (length old.lists.rows < most_rows) × (new.lists ≡ old.lists)
   Inserts id min max old new code = ⊥
 
   -- the row with that id gets the box by the rules, in a tree of the same capacity; if it has it already, the tree stays
@@ -97,8 +101,8 @@ module _ {D : ℕ} where
     pub other : box_of old id ≢ Some rect → IsReplacement old new id rect
     pub capacity : new.capacity ≡ old.capacity
 
-  -- The row moves. Or, in this order, the box has a least number above its greatest, no row has the id, or there is no
-  -- memory; the rows are as before then.
+  -- The row moves. Or, in this order, the box has a least number above its greatest, no row has the id, or no memory is
+  -- left; the rows are then unchanged.
   abbrev pub Moves : ℤ → List ℤ → List ℤ → TreeLists D → TreeLists D → Code → Type 0
   Moves id min max old new Done = (rect : List Interval) × (los rect ≡ min) × (his rect ≡ max) × MovesRow old.lists new.lists id rect
   Moves id min max old new BadBox = (¬ AllZip ◌≤ℤ◌ min max) × (new ≡ old)
@@ -114,48 +118,49 @@ module _ {D : ℕ} where
   Removes id old new IdMissing = (box_of old.lists id ≡ None) × (new ≡ old)
   Removes id old new code = ⊥
 
-  -- no row is there; or there is no memory for the new tree, and the rows are as before
+  -- no row is left; or no memory is left for the new tree, and the rows are unchanged
   abbrev pub Clears : ℕ → TreeLists D → TreeLists D → Code → Type 0
   Clears capacity old new Done = IsEmptyTree capacity new
   Clears capacity old new OutOfMemory = new ≡ old
   Clears capacity old new code = ⊥
 
-  -- the row's box, as the caller has boxes; or there is no such row. The tree stays
+  -- the row's box, as the caller has boxes; or there is no such row. The tree is unchanged
   abbrev pub GetsInto : {B : Type 0} → (List Interval → B) → ℤ → B → TreeLists D → TreeLists D → Code → Type 0
   GetsInto of_rect id told old new Done = (new ≡ old) × ((rect : List Interval) × (box_of old.lists id ≡ Some rect) × (told ≡ of_rect rect))
   GetsInto of_rect id told old new IdMissing = (new ≡ old) × (box_of old.lists id ≡ None)
   GetsInto of_rect id told old new code = ⊥
 
-  -- the number of rows. The tree stays
+  -- the number of rows. The tree is unchanged
   abbrev pub Counts : ℕ → TreeLists D → TreeLists D → Code → Type 0
   Counts rows old new Done = (new ≡ old) × (rows ≡ length old.lists.rows)
   Counts rows old new code = ⊥
 
-  -- as many rows as have a point in common with the box; or there is no memory. The tree stays
+  -- how many rows have a point in common with the box; or no memory is left. The tree is unchanged
   abbrev pub CountsTouching : List ℤ → List ℤ → ℕ → ℕ → TreeLists D → TreeLists D → Code → Type 0
   CountsTouching min max told total old new Done =
       (new ≡ old) × ((rows : List (Row D)) × FindsTouching old.lists min max rows × (total ≡ length rows))
   CountsTouching min max told total old new OutOfMemory = (new ≡ old) × (total ≡ told)
   CountsTouching min max told total old new code = ⊥
 
-  -- what the caller gets of the rows is in its buffer, and their number is told; or there is no memory
+  -- what the caller gets of the rows is in its buffer, and their number is told; or no memory is left
   abbrev pub Gives : {X : Type 0} → (Row D → X) → List (Row D) → List X → List X → ℕ → ℕ → Code → Type 0
   Gives of_row rows before after told total OutOfMemory = (after ≡ before) × (total ≡ told)
   Gives of_row rows before after told total code = (total ≡ length rows) × Copies (map of_row rows) before after code
 
-  -- the same of the rows that have a point in common with the box. The tree stays
+  -- the same of the rows that have a point in common with the box. The tree is unchanged
   abbrev pub Searches : {X : Type 0} → (Row D → X) → List ℤ → List ℤ → List X → List X → ℕ → ℕ → TreeLists D → TreeLists D → Code → Type 0
   Searches of_row min max before after told total old new OutOfMemory = (new ≡ old) × (after ≡ before) × (total ≡ told)
   Searches of_row min max before after told total old new code =
       (new ≡ old) × ((rows : List (Row D)) × FindsTouching old.lists min max rows × Gives of_row rows before after told total code)
 
-  -- the same of the rows nearest to the point, as many as the buffer holds, so that it is never too short. The tree stays
+  -- the same of the rows nearest to the point, as many as the buffer holds, so that it is never too short. The tree
+  -- is unchanged
   abbrev pub FindsNearest : {X : Type 0} → (Row D → X) → List ℤ → List X → List X → ℕ → ℕ → TreeLists D → TreeLists D → Code → Type 0
   FindsNearest of_row point before after told total old new Done =
       (new ≡ old) × Gives of_row (nearest_rows point (length before) (rows_of old.lists)) before after told total Done
   FindsNearest of_row point before after told total old new OutOfMemory = (new ≡ old) × (after ≡ before) × (total ≡ told)
   FindsNearest of_row point before after told total old new code = ⊥
 
-  -- the text of the tree's dump is in the caller's buffer, and its length is told. The tree stays
+  -- the text of the tree's dump is in the caller's buffer, and its length is told. The tree is unchanged
   abbrev pub Dumps : List ℕ → List ℕ → ℕ → ℕ → TreeLists D → TreeLists D → Code → Type 0
   Dumps before after told total old new code = (new ≡ old) × GivesText (shadow_text old.lists) before after told total code

@@ -10,8 +10,8 @@ use Rattle.capi.specs.Touching.{HasCommonPoint}
 abbrev pub Reaches : List ℤ → List ℤ → List Interval → Type 0
 Reaches min max rect = AllZip ◌≤ℤ◌ (los rect) max × AllZip ◌≤ℤ◌ min (his rect)
 
--- of the boxes of so many axes the window admits none; those that reach so far; those that have a point in common with
--- the box from min to max
+-- of the boxes with that many axes the window admits none; those that reach that far; those that have a point in common
+-- with the box from min to max
 abbrev pub AdmitsNone : ℕ → List Interval → Type 0
 AdmitsNone axes window = (rect : List Interval) → IsBox axes rect → Admits window rect → ⊥
 

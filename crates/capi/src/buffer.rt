@@ -4,7 +4,7 @@ ghost use Rattle.capi.specs.Buffers.{Copies};
 
 use crate::code::Code;
 
-/// Copies items to the front of a buffer.
+/// Copies items to the start of a buffer.
 pub fn copy_to<T: Copy>(items: &[T], buffer: &mut [T]) -> Code
     ensures { Copies items.now buffer.old buffer.new result }
 {

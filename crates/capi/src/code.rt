@@ -3,22 +3,36 @@
 ghost use Rattle.std.specs.Prelude.{◌≡◌};
 ghost use Rattle.capi.specs.Codes.{number_of};
 
-/// Whether a call did its work, or why not. `juicedelta.h` says what each means.
+/// Whether a call did its work, or why not.
 #[derive(Clone, Copy, Debug, PartialEq, Eq)]
 pub enum Code {
+    /// The call did its work.
     Done,
+    /// The handle holds nothing.
     Closed,
+    /// The handle holds an object of another kind.
     OtherKind,
+    /// The handle to be opened already holds an object.
     AlreadyOpen,
+    /// The capacity isn't from 5 to 51.
     BadCapacity,
+    /// On some axis the least number is above the greatest.
     BadBox,
+    /// The tree already has a row with that id.
     IdTaken,
+    /// The tree has no row with that id.
     IdMissing,
+    /// The result is longer than the buffer.
     BufferTooSmall,
+    /// No memory is left.
     OutOfMemory,
+    /// The tree has as many rows as a tree may have.
     TreeFull,
+    /// The script was finished before.
     Ended,
+    /// With these bytes the script is longer than 2^63 bytes.
     TooLong,
+    /// The text isn't the dump of a sound tree with that many axes.
     BadDump,
 }
 

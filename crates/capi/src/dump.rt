@@ -9,7 +9,7 @@ use rt_bytes::Sink;
 use rt_check_dump::{AnyShadow, write_dump};
 use std::alloc::Global;
 
-/// Writes the text of a dump to the front of the buffer, and its length to `total`.
+/// Writes the text of a dump to the start of the buffer, and its length in bytes to `total`.
 pub fn dump(alloc: Global, shadow: AnyShadow, buffer: &mut [u8], total: &mut u64) -> Code
     ensures { GivesText (any_text shadow) buffer.old buffer.new total.old total.new result }
 {

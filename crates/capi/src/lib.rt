@@ -1,11 +1,11 @@
 //! The calls of a C program.
 //!
-//! Each call answers a number, that of a `Code`. No call ends the process, and one that refuses leaves the handle as it
-//! was. The C declarations stand in `bindings/c/juicedelta.h`.
+//! Each call answers the number of a `Code`. No call ends the process, and one that refuses leaves the handle as it was.
+//! `bindings/c/juicedelta.h` declares the calls for C.
 //!
 //! An export can't be generic. So `line`, `plane` and `space` hold the calls for one, two and three axes: each takes the
-//! object out of the handle, hands a tree of its kind to a generic function of `tree`, `finding` or `dump`, and puts the
-//! object back. `loading` makes a tree of the rows of a dump.
+//! object out of the handle, hands a tree of its kind to a generic function of `tree`, `query` or `dump`, and puts the
+//! object back. `load` makes a tree of the rows of a dump.
 //!
 //! Stands on `rt_handle`, and in proofs on `rt_table_store`. Definitions: `specs/Codes.antt` (numbers), `Calls.antt`
 //! (what a call does to what a handle holds), `Trees.antt` and `Scripts.antt` (what it does to a tree and to a script
@@ -16,15 +16,15 @@
 mod buffer;
 mod code;
 mod dump;
-mod finding;
-mod holding;
+mod handle;
 mod keys;
 mod line;
-mod loading;
+mod load;
 mod plain;
 mod plane;
+mod query;
 mod script;
 mod space;
-mod touching;
 mod tree;
 mod version;
+mod window;

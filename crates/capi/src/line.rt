@@ -4,16 +4,17 @@ ghost use Rattle.std.specs.Prelude.{◌≡◌, ◌≢◌, pos};
 ghost use Rattle.rt_check_dump.specs.declared.dump.AnyShadow.TheVariants.{One};
 ghost use Rattle.capi.specs.Calls.{Opens, OnLine, IsLine};
 ghost use Rattle.capi.specs.Loading.{IsOfKind, LoadsDump};
-ghost use Rattle.capi.specs.Plain.{box1, row1};
-ghost use Rattle.capi.specs.Trees.{IsNew, IsOfDump, LoadsNone, MakesNone, Inserts, Moves, Removes, GetsInto, Clears, Counts, CountsTouching, Searches, FindsNearest, Dumps};
+ghost use Rattle.capi.specs.Plain.{id_of, box1, row1};
+ghost use Rattle.capi.specs.Trees.{IsNew, IsOfDump, LoadsNone, MakesNone, Inserts, Moves, Removes, GetsInto, Clears, Counts, Dumps};
+ghost use Rattle.capi.specs.Trees.{CountsTouching, Searches, FindsNearest};
 
 use crate::code::Code;
 use crate::dump::dump;
-use crate::finding::{count, nearest, search};
-use crate::holding::fill;
+use crate::handle::fill;
 use crate::keys::Keys;
-use crate::loading::{load, read};
+use crate::load::{load, read};
 use crate::plain::{FromRect, FromRow};
+use crate::query::{count, nearest, search};
 use crate::tree::{clear, get, insert, len, new_tree, remove, replace};
 use rt_box::Rect;
 use rt_check::Shadow;
@@ -27,6 +28,7 @@ use std::hash::RandomState;
 #[repr(C)]
 #[derive(Clone, Copy)]
 pub struct Point1 {
+    /// The coordinate on each axis.
     pub at: [i32; 1],
 }
 
@@ -34,7 +36,9 @@ pub struct Point1 {
 #[repr(C)]
 #[derive(Clone, Copy)]
 pub struct Box1 {
+    /// The least coordinate on each axis.
     pub min: [i32; 1],
+    /// The greatest coordinate on each axis.
     pub max: [i32; 1],
 }
 
@@ -42,7 +46,9 @@ pub struct Box1 {
 #[repr(C)]
 #[derive(Clone, Copy)]
 pub struct Row1 {
+    /// The row's id.
     pub id: i64,
+    /// The row's box.
     pub rect: Box1,
 }
 
@@ -94,7 +100,7 @@ pub extern "C" fn juicedelta_tree1_open(
     fill(alloc, handle, Object::Line(kept)).number()
 }
 
-/// The shadow, where it has one axis.
+/// The shadow if it has one axis, else `None`.
 fn shadow_of(any: AnyShadow) -> Option<Shadow<1>>
     ensures { IsOfKind One any result }
 {
@@ -265,7 +271,8 @@ pub extern "C" fn juicedelta_tree1_count(
     rect: &Box1,
     total: &mut u64,
 ) -> i32
-    ensures rows { OnLine handle.old.held handle.new.held (λ old. CountsTouching rect.now.min rect.now.max total.old total.new old.tree) result }
+    ensures rows { OnLine handle.old.held handle.new.held
+        (λ old. CountsTouching rect.now.min rect.now.max total.old total.new old.tree) result }
     ensures kept { result ≢ pos 0 → total.new ≡ total.old }
 {
     let Some(object) = handle.take(alloc) else {
@@ -288,7 +295,8 @@ pub extern "C" fn juicedelta_tree1_search(
     ids: &mut [i64],
     total: &mut u64,
 ) -> i32
-    ensures found { OnLine handle.old.held handle.new.held (λ old. Searches (λ row. row.id) rect.now.min rect.now.max ids.old ids.new total.old total.new old.tree) result }
+    ensures found { OnLine handle.old.held handle.new.held
+        (λ old. Searches id_of rect.now.min rect.now.max ids.old ids.new total.old total.new old.tree) result }
     ensures kept { result ≢ pos 0 → result ≢ pos 8 → (ids.new ≡ ids.old) × (total.new ≡ total.old) }
 {
     let Some(object) = handle.take(alloc) else {
@@ -311,7 +319,8 @@ pub extern "C" fn juicedelta_tree1_search_rows(
     rows: &mut [Row1],
     total: &mut u64,
 ) -> i32
-    ensures found { OnLine handle.old.held handle.new.held (λ old. Searches row1 rect.now.min rect.now.max rows.old rows.new total.old total.new old.tree) result }
+    ensures found { OnLine handle.old.held handle.new.held
+        (λ old. Searches row1 rect.now.min rect.now.max rows.old rows.new total.old total.new old.tree) result }
     ensures kept { result ≢ pos 0 → result ≢ pos 8 → (rows.new ≡ rows.old) × (total.new ≡ total.old) }
 {
     let Some(object) = handle.take(alloc) else {
@@ -334,7 +343,8 @@ pub extern "C" fn juicedelta_tree1_nearest(
     rows: &mut [Row1],
     total: &mut u64,
 ) -> i32
-    ensures found { OnLine handle.old.held handle.new.held (λ old. FindsNearest row1 point.now.at rows.old rows.new total.old total.new old.tree) result }
+    ensures found { OnLine handle.old.held handle.new.held
+        (λ old. FindsNearest row1 point.now.at rows.old rows.new total.old total.new old.tree) result }
     ensures kept { result ≢ pos 0 → (rows.new ≡ rows.old) × (total.new ≡ total.old) }
 {
     let Some(object) = handle.take(alloc) else {
@@ -365,7 +375,8 @@ pub extern "C" fn juicedelta_tree1_dump(
     text: &mut [u8],
     total: &mut u64,
 ) -> i32
-    ensures text { OnLine handle.old.held handle.new.held (λ old. Dumps text.old text.new total.old total.new old.tree) result }
+    ensures text { OnLine handle.old.held handle.new.held
+        (λ old. Dumps text.old text.new total.old total.new old.tree) result }
     ensures kept { result ≢ pos 0 → result ≢ pos 8 → (text.new ≡ text.old) × (total.new ≡ total.old) }
 {
     let Some(object) = handle.take(alloc) else {

@@ -14,7 +14,7 @@ use rt_tree::Row;
 pub trait FromRect<const D: usize>: Copy {
     ghost of_rect: { List Interval → Self };
 
-    /// That box.
+    /// The box as the caller has it.
     fn from_rect(rect: &Rect<D>) -> Self
         ensures { result ≡ of_rect rect.now };
 }
@@ -23,7 +23,7 @@ pub trait FromRect<const D: usize>: Copy {
 pub trait FromRow<const D: usize>: Copy {
     ghost of_row: { Row D → Self };
 
-    /// That of this row.
+    /// What the caller gets of the row.
     fn from_row(row: &Row<D>) -> Self
         ensures { result ≡ of_row row.now };
 }
@@ -36,7 +36,7 @@ impl<const D: usize> FromRow<D> for i64 {
     }
 }
 
-/// Writes what the caller gets of each row to the front of the buffer.
+/// Writes what the caller gets of each row to the start of the buffer.
 pub fn write_rows<const D: usize, R: FromRow<D>>(rows: &[Row<D>], buffer: &mut [R]) -> Code
     ensures { Copies (map R.of_row rows.now) buffer.old buffer.new result }
 {

@@ -4,16 +4,17 @@ ghost use Rattle.std.specs.Prelude.{◌≡◌, ◌≢◌, pos};
 ghost use Rattle.rt_check_dump.specs.declared.dump.AnyShadow.TheVariants.{Two};
 ghost use Rattle.capi.specs.Calls.{Opens, OnPlane, IsPlane};
 ghost use Rattle.capi.specs.Loading.{IsOfKind, LoadsDump};
-ghost use Rattle.capi.specs.Plain.{box2, row2};
-ghost use Rattle.capi.specs.Trees.{IsNew, IsOfDump, LoadsNone, MakesNone, Inserts, Moves, Removes, GetsInto, Clears, Counts, CountsTouching, Searches, FindsNearest, Dumps};
+ghost use Rattle.capi.specs.Plain.{id_of, box2, row2};
+ghost use Rattle.capi.specs.Trees.{IsNew, IsOfDump, LoadsNone, MakesNone, Inserts, Moves, Removes, GetsInto, Clears, Counts, Dumps};
+ghost use Rattle.capi.specs.Trees.{CountsTouching, Searches, FindsNearest};
 
 use crate::code::Code;
 use crate::dump::dump;
-use crate::finding::{count, nearest, search};
-use crate::holding::fill;
+use crate::handle::fill;
 use crate::keys::Keys;
-use crate::loading::{load, read};
+use crate::load::{load, read};
 use crate::plain::{FromRect, FromRow};
+use crate::query::{count, nearest, search};
 use crate::tree::{clear, get, insert, len, new_tree, remove, replace};
 use rt_box::Rect;
 use rt_check::Shadow;
@@ -27,6 +28,7 @@ use std::hash::RandomState;
 #[repr(C)]
 #[derive(Clone, Copy)]
 pub struct Point2 {
+    /// The coordinate on each axis.
     pub at: [i32; 2],
 }
 
@@ -34,7 +36,9 @@ pub struct Point2 {
 #[repr(C)]
 #[derive(Clone, Copy)]
 pub struct Box2 {
+    /// The least coordinate on each axis.
     pub min: [i32; 2],
+    /// The greatest coordinate on each axis.
     pub max: [i32; 2],
 }
 
@@ -42,7 +46,9 @@ pub struct Box2 {
 #[repr(C)]
 #[derive(Clone, Copy)]
 pub struct Row2 {
+    /// The row's id.
     pub id: i64,
+    /// The row's box.
     pub rect: Box2,
 }
 
@@ -94,7 +100,7 @@ pub extern "C" fn juicedelta_tree2_open(
     fill(alloc, handle, Object::Plane(kept)).number()
 }
 
-/// The shadow, where it has two axes.
+/// The shadow if it has two axes, else `None`.
 fn shadow_of(any: AnyShadow) -> Option<Shadow<2>>
     ensures { IsOfKind Two any result }
 {
@@ -265,7 +271,8 @@ pub extern "C" fn juicedelta_tree2_count(
     rect: &Box2,
     total: &mut u64,
 ) -> i32
-    ensures rows { OnPlane handle.old.held handle.new.held (λ old. CountsTouching rect.now.min rect.now.max total.old total.new old.tree) result }
+    ensures rows { OnPlane handle.old.held handle.new.held
+        (λ old. CountsTouching rect.now.min rect.now.max total.old total.new old.tree) result }
     ensures kept { result ≢ pos 0 → total.new ≡ total.old }
 {
     let Some(object) = handle.take(alloc) else {
@@ -288,7 +295,8 @@ pub extern "C" fn juicedelta_tree2_search(
     ids: &mut [i64],
     total: &mut u64,
 ) -> i32
-    ensures found { OnPlane handle.old.held handle.new.held (λ old. Searches (λ row. row.id) rect.now.min rect.now.max ids.old ids.new total.old total.new old.tree) result }
+    ensures found { OnPlane handle.old.held handle.new.held
+        (λ old. Searches id_of rect.now.min rect.now.max ids.old ids.new total.old total.new old.tree) result }
     ensures kept { result ≢ pos 0 → result ≢ pos 8 → (ids.new ≡ ids.old) × (total.new ≡ total.old) }
 {
     let Some(object) = handle.take(alloc) else {
@@ -311,7 +319,8 @@ pub extern "C" fn juicedelta_tree2_search_rows(
     rows: &mut [Row2],
     total: &mut u64,
 ) -> i32
-    ensures found { OnPlane handle.old.held handle.new.held (λ old. Searches row2 rect.now.min rect.now.max rows.old rows.new total.old total.new old.tree) result }
+    ensures found { OnPlane handle.old.held handle.new.held
+        (λ old. Searches row2 rect.now.min rect.now.max rows.old rows.new total.old total.new old.tree) result }
     ensures kept { result ≢ pos 0 → result ≢ pos 8 → (rows.new ≡ rows.old) × (total.new ≡ total.old) }
 {
     let Some(object) = handle.take(alloc) else {
@@ -334,7 +343,8 @@ pub extern "C" fn juicedelta_tree2_nearest(
     rows: &mut [Row2],
     total: &mut u64,
 ) -> i32
-    ensures found { OnPlane handle.old.held handle.new.held (λ old. FindsNearest row2 point.now.at rows.old rows.new total.old total.new old.tree) result }
+    ensures found { OnPlane handle.old.held handle.new.held
+        (λ old. FindsNearest row2 point.now.at rows.old rows.new total.old total.new old.tree) result }
     ensures kept { result ≢ pos 0 → (rows.new ≡ rows.old) × (total.new ≡ total.old) }
 {
     let Some(object) = handle.take(alloc) else {
@@ -365,7 +375,8 @@ pub extern "C" fn juicedelta_tree2_dump(
     text: &mut [u8],
     total: &mut u64,
 ) -> i32
-    ensures text { OnPlane handle.old.held handle.new.held (λ old. Dumps text.old text.new total.old total.new old.tree) result }
+    ensures text { OnPlane handle.old.held handle.new.held
+        (λ old. Dumps text.old text.new total.old total.new old.tree) result }
     ensures kept { result ≢ pos 0 → result ≢ pos 8 → (text.new ≡ text.old) × (total.new ≡ total.old) }
 {
     let Some(object) = handle.take(alloc) else {

@@ -9,7 +9,7 @@ ghost use Rattle.capi.specs.Trees.{MakesNone};
 
 use crate::buffer::copy_to;
 use crate::code::Code;
-use crate::holding::fill;
+use crate::handle::fill;
 use crate::keys::Keys;
 use rt_box::Capacity;
 use rt_bytes::{Sink, Status};
@@ -19,7 +19,7 @@ use std::alloc::Global;
 use std::hash::RandomState;
 use std::mem::replace;
 
-/// A shell that was fed nothing.
+/// A shell without input so far.
 fn new_script(alloc: Global, capacity: u32, keys: &Keys) -> Result<Script, Code>
     ensures { MakesScript capacity result }
 {
@@ -99,7 +99,7 @@ pub extern "C" fn juicedelta_script_open(
     fill(alloc, handle, Object::Script(script)).number()
 }
 
-/// Feeds the shell.
+/// Feeds the shell the next bytes of its script.
 #[unsafe(no_mangle)]
 pub extern "C" fn juicedelta_script_exec(alloc: Global, handle: &mut Handle, bytes: &[u8]) -> i32
     ensures { OnScript handle.old.held handle.new.held (Executes bytes.now) result }
@@ -185,7 +185,8 @@ pub extern "C" fn juicedelta_script_output_length(
 }
 
 fn copy_output(object: &Object, buffer: &mut [u8]) -> Code
-    ensures copied { OnScript (Some object.now) (Some object.now) (CopiesOutput buffer.old buffer.new) (number_of result) }
+    ensures copied { OnScript (Some object.now) (Some object.now)
+        (CopiesOutput buffer.old buffer.new) (number_of result) }
     ensures kept { result ≢ Done → buffer.new ≡ buffer.old }
 {
     match object {

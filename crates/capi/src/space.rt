@@ -4,16 +4,17 @@ ghost use Rattle.std.specs.Prelude.{◌≡◌, ◌≢◌, pos};
 ghost use Rattle.rt_check_dump.specs.declared.dump.AnyShadow.TheVariants.{Three};
 ghost use Rattle.capi.specs.Calls.{Opens, OnSpace, IsSpace};
 ghost use Rattle.capi.specs.Loading.{IsOfKind, LoadsDump};
-ghost use Rattle.capi.specs.Plain.{box3, row3};
-ghost use Rattle.capi.specs.Trees.{IsNew, IsOfDump, LoadsNone, MakesNone, Inserts, Moves, Removes, GetsInto, Clears, Counts, CountsTouching, Searches, FindsNearest, Dumps};
+ghost use Rattle.capi.specs.Plain.{id_of, box3, row3};
+ghost use Rattle.capi.specs.Trees.{IsNew, IsOfDump, LoadsNone, MakesNone, Inserts, Moves, Removes, GetsInto, Clears, Counts, Dumps};
+ghost use Rattle.capi.specs.Trees.{CountsTouching, Searches, FindsNearest};
 
 use crate::code::Code;
 use crate::dump::dump;
-use crate::finding::{count, nearest, search};
-use crate::holding::fill;
+use crate::handle::fill;
 use crate::keys::Keys;
-use crate::loading::{load, read};
+use crate::load::{load, read};
 use crate::plain::{FromRect, FromRow};
+use crate::query::{count, nearest, search};
 use crate::tree::{clear, get, insert, len, new_tree, remove, replace};
 use rt_box::Rect;
 use rt_check::Shadow;
@@ -27,6 +28,7 @@ use std::hash::RandomState;
 #[repr(C)]
 #[derive(Clone, Copy)]
 pub struct Point3 {
+    /// The coordinate on each axis.
     pub at: [i32; 3],
 }
 
@@ -34,7 +36,9 @@ pub struct Point3 {
 #[repr(C)]
 #[derive(Clone, Copy)]
 pub struct Box3 {
+    /// The least coordinate on each axis.
     pub min: [i32; 3],
+    /// The greatest coordinate on each axis.
     pub max: [i32; 3],
 }
 
@@ -42,7 +46,9 @@ pub struct Box3 {
 #[repr(C)]
 #[derive(Clone, Copy)]
 pub struct Row3 {
+    /// The row's id.
     pub id: i64,
+    /// The row's box.
     pub rect: Box3,
 }
 
@@ -94,7 +100,7 @@ pub extern "C" fn juicedelta_tree3_open(
     fill(alloc, handle, Object::Space(kept)).number()
 }
 
-/// The shadow, where it has three axes.
+/// The shadow if it has three axes, else `None`.
 fn shadow_of(any: AnyShadow) -> Option<Shadow<3>>
     ensures { IsOfKind Three any result }
 {
@@ -127,7 +133,8 @@ pub extern "C" fn juicedelta_tree3_open_dump(
     first_key: u64,
     second_key: u64,
 ) -> i32
-    ensures { Opens handle.old.held handle.new.held (IsSpace (IsOfDump Three text.now)) (LoadsNone Three text.now) result }
+    ensures { Opens handle.old.held handle.new.held
+        (IsSpace (IsOfDump Three text.now)) (LoadsNone Three text.now) result }
 {
     if let Some(object) = handle.take(alloc) {
         handle.put(object);
@@ -265,7 +272,8 @@ pub extern "C" fn juicedelta_tree3_count(
     rect: &Box3,
     total: &mut u64,
 ) -> i32
-    ensures rows { OnSpace handle.old.held handle.new.held (λ old. CountsTouching rect.now.min rect.now.max total.old total.new old.tree) result }
+    ensures rows { OnSpace handle.old.held handle.new.held
+        (λ old. CountsTouching rect.now.min rect.now.max total.old total.new old.tree) result }
     ensures kept { result ≢ pos 0 → total.new ≡ total.old }
 {
     let Some(object) = handle.take(alloc) else {
@@ -288,7 +296,8 @@ pub extern "C" fn juicedelta_tree3_search(
     ids: &mut [i64],
     total: &mut u64,
 ) -> i32
-    ensures found { OnSpace handle.old.held handle.new.held (λ old. Searches (λ row. row.id) rect.now.min rect.now.max ids.old ids.new total.old total.new old.tree) result }
+    ensures found { OnSpace handle.old.held handle.new.held
+        (λ old. Searches id_of rect.now.min rect.now.max ids.old ids.new total.old total.new old.tree) result }
     ensures kept { result ≢ pos 0 → result ≢ pos 8 → (ids.new ≡ ids.old) × (total.new ≡ total.old) }
 {
     let Some(object) = handle.take(alloc) else {
@@ -311,7 +320,8 @@ pub extern "C" fn juicedelta_tree3_search_rows(
     rows: &mut [Row3],
     total: &mut u64,
 ) -> i32
-    ensures found { OnSpace handle.old.held handle.new.held (λ old. Searches row3 rect.now.min rect.now.max rows.old rows.new total.old total.new old.tree) result }
+    ensures found { OnSpace handle.old.held handle.new.held
+        (λ old. Searches row3 rect.now.min rect.now.max rows.old rows.new total.old total.new old.tree) result }
     ensures kept { result ≢ pos 0 → result ≢ pos 8 → (rows.new ≡ rows.old) × (total.new ≡ total.old) }
 {
     let Some(object) = handle.take(alloc) else {
@@ -334,7 +344,8 @@ pub extern "C" fn juicedelta_tree3_nearest(
     rows: &mut [Row3],
     total: &mut u64,
 ) -> i32
-    ensures found { OnSpace handle.old.held handle.new.held (λ old. FindsNearest row3 point.now.at rows.old rows.new total.old total.new old.tree) result }
+    ensures found { OnSpace handle.old.held handle.new.held
+        (λ old. FindsNearest row3 point.now.at rows.old rows.new total.old total.new old.tree) result }
     ensures kept { result ≢ pos 0 → (rows.new ≡ rows.old) × (total.new ≡ total.old) }
 {
     let Some(object) = handle.take(alloc) else {
@@ -365,7 +376,8 @@ pub extern "C" fn juicedelta_tree3_dump(
     text: &mut [u8],
     total: &mut u64,
 ) -> i32
-    ensures text { OnSpace handle.old.held handle.new.held (λ old. Dumps text.old text.new total.old total.new old.tree) result }
+    ensures text { OnSpace handle.old.held handle.new.held
+        (λ old. Dumps text.old text.new total.old total.new old.tree) result }
     ensures kept { result ≢ pos 0 → result ≢ pos 8 → (text.new ≡ text.old) × (total.new ≡ total.old) }
 {
     let Some(object) = handle.take(alloc) else {

@@ -14,7 +14,7 @@ use std::alloc::Global;
 use std::hash::RandomState;
 
 /// The most rows of a tree.
-pub const FULL: usize = 1 << 20;
+pub const MOST_ROWS_OF_A_TREE: usize = 1 << 20;
 
 /// A tree without rows.
 pub fn new_tree<const D: usize>(alloc: Global, capacity: u32, keys: &Keys) -> Result<Kept<D>, Code>
@@ -53,7 +53,7 @@ pub fn insert<const D: usize>(tree: &mut Tree<D>, id: i64, min: [i32; D], max: [
     if tree.get(&id).is_some() {
         return Code::IdTaken;
     }
-    if tree.len() >= FULL {
+    if tree.len() >= MOST_ROWS_OF_A_TREE {
         return Code::TreeFull;
     }
     if tree.reserve(1).is_err() {
@@ -119,7 +119,7 @@ pub fn len<const D: usize>(tree: &Tree<D>, rows: &mut u64) -> Code
     Code::Done
 }
 
-/// Takes all rows out. The memory of the tree goes back, and a new one takes its place.
+/// Removes all rows. The tree's memory is freed, and a new tree takes its place.
 pub fn clear<const D: usize>(alloc: Global, kept: &mut Kept<D>) -> Code
     requires some { 1 ≤ D }
     requires few { D ≤ 3 }
