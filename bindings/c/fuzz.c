@@ -28,7 +28,7 @@ CALLS(1)
 CALLS(2)
 CALLS(3)
 
-/* What a shell prints of a script that is fed in parts of so many bytes. */
+/* What a shell prints of a script that is fed in parts of `part` bytes. */
 static uint8_t *printed(const uint8_t *script, size_t length, size_t part, uint64_t *count, uint32_t *refused)
 {
     juicedelta_handle shell = {0};

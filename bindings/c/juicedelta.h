@@ -48,15 +48,15 @@ typedef enum juicedelta_code {
     JUICEDELTA_CLOSED = 1,
     /* The handle holds an object of another kind. */
     JUICEDELTA_OTHER_KIND = 2,
-    /* The handle that is to be opened holds an object. */
+    /* The handle to be opened already holds an object. */
     JUICEDELTA_ALREADY_OPEN = 3,
     /* The capacity of nodes is not from 5 to 51. */
     JUICEDELTA_BAD_CAPACITY = 4,
     /* On some axis min is above max. */
     JUICEDELTA_BAD_BOX = 5,
-    /* A row with that id is there. */
+    /* The tree already has a row with that id. */
     JUICEDELTA_ID_TAKEN = 6,
-    /* No row with that id is there. */
+    /* The tree has no row with that id. */
     JUICEDELTA_ID_MISSING = 7,
     /* The result is longer than the buffer. */
     JUICEDELTA_BUFFER_TOO_SMALL = 8,
@@ -68,7 +68,7 @@ typedef enum juicedelta_code {
     JUICEDELTA_ENDED = 11,
     /* With these bytes the script is longer than 2^63 bytes. */
     JUICEDELTA_TOO_LONG = 12,
-    /* The text is not the dump of a sound tree of so many axes. */
+    /* The text is not the dump of a sound tree with that many axes. */
     JUICEDELTA_BAD_DUMP = 13
 } juicedelta_code;
 
@@ -122,7 +122,7 @@ int32_t juicedelta_close(juicedelta_handle *handle);
 
 /*
  * Fills two words at random, for a call that opens. They are the keys of the hashes of ids: no answer depends on them,
- * but who can guess them can choose ids that make look-ups slow. Answers 0, or -1 where the system gives none.
+ * but who can guess them can choose ids that make look-ups slow. Answers 0, or -1 if the system gives none.
  */
 #ifdef __linux__
 #include <sys/random.h>
@@ -177,10 +177,10 @@ int32_t juicedelta_tree2_get(juicedelta_handle *handle, int64_t id, juicedelta_b
 int32_t juicedelta_tree2_len(juicedelta_handle *handle, uint64_t *rows);
 
 /*
- * Writes the ids of the rows whose boxes have a point in common with `box` to the front of `ids`, each once, in no stated
+ * Writes the ids of the rows whose boxes have a point in common with `box` to the start of `ids`, each once, in no stated
  * order, and to `total` how many there are.
  * CLOSED, OTHER_KIND, OUT_OF_MEMORY.
- * BUFFER_TOO_SMALL: there are more than `length`. No id is written, and `total` is.
+ * BUFFER_TOO_SMALL: there are more than `length`. Only `total` is written.
  */
 int32_t juicedelta_tree2_search(juicedelta_handle *handle, const juicedelta_box2 *box, int64_t *ids, size_t length, uint64_t *total);
 
@@ -191,15 +191,15 @@ int32_t juicedelta_tree2_search(juicedelta_handle *handle, const juicedelta_box2
 int32_t juicedelta_tree2_count(juicedelta_handle *handle, const juicedelta_box2 *box, uint64_t *total);
 
 /*
- * As juicedelta_tree2_search, with the boxes: writes the rows to the front of `rows`, each once, in no stated order, and
+ * As juicedelta_tree2_search, with the boxes: writes the rows to the start of `rows`, each once, in no stated order, and
  * to `total` how many there are.
  * CLOSED, OTHER_KIND, OUT_OF_MEMORY.
- * BUFFER_TOO_SMALL: there are more than `length`. No row is written, and `total` is.
+ * BUFFER_TOO_SMALL: there are more than `length`. Only `total` is written.
  */
 int32_t juicedelta_tree2_search_rows(juicedelta_handle *handle, const juicedelta_box2 *box, juicedelta_row2 *rows, size_t length, uint64_t *total);
 
 /*
- * Writes the `length` rows that are nearest to the point to the front of `rows`, or all rows where there are fewer, and
+ * Writes the `length` rows that are nearest to the point to the start of `rows`, or all rows if there are fewer, and
  * to `total` how many it wrote. The distance of a row is that of the point to its box, 0 inside of it. The nearest row
  * comes first, and of two equally near that with the lower id.
  * CLOSED, OTHER_KIND, OUT_OF_MEMORY.
@@ -207,24 +207,25 @@ int32_t juicedelta_tree2_search_rows(juicedelta_handle *handle, const juicedelta
 int32_t juicedelta_tree2_nearest(juicedelta_handle *handle, const juicedelta_point2 *point, juicedelta_row2 *rows, size_t length, uint64_t *total);
 
 /*
- * Writes the tree's dump, which is the text that `.nodes` prints in a script and `rtsh check` reads, to the front of
- * `text`, and its length in bytes to `total`. No byte 0 is put behind it.
+ * Writes the tree's dump, which is the text that `.nodes` prints in a script and `rtsh check` reads, to the start of
+ * `text`, and its length in bytes to `total`. No zero byte follows it.
  * CLOSED, OTHER_KIND, OUT_OF_MEMORY.
- * BUFFER_TOO_SMALL: the dump has more than `length` bytes. None is written, and `total` is.
+ * BUFFER_TOO_SMALL: the dump has more than `length` bytes. Only `total` is written.
  */
 int32_t juicedelta_tree2_dump(juicedelta_handle *handle, uint8_t *text, size_t length, uint64_t *total);
 
 /*
- * Opens a tree with the rows of a dump of `length` bytes: each is inserted, those with lower ids first, so that the new
- * tree's own dump may differ. The capacity is the dump's. The keys are as for juicedelta_tree2_open.
+ * Opens a tree with the rows of a dump of `length` bytes: each is inserted, in ascending order of ids, so
+ * the new tree's own dump may differ. The capacity is the dump's. The keys are as for juicedelta_tree2_open.
  * ALREADY_OPEN, TREE_FULL, OUT_OF_MEMORY.
  * BAD_DUMP: the text is no dump, or one of another number of axes, or `rtsh check` finds a problem in its tree.
  */
 int32_t juicedelta_tree2_open_dump(juicedelta_handle *handle, const uint8_t *text, size_t length, uint64_t first_key, uint64_t second_key);
 
 /*
- * Takes all rows out, and gives their memory back. The capacity stays.
- * CLOSED, OTHER_KIND, OUT_OF_MEMORY: a new tree takes the place of the old one.
+ * Removes all rows, and frees their memory. The capacity stays.
+ * CLOSED, OTHER_KIND.
+ * OUT_OF_MEMORY: none is left for the new tree that takes the place of the old one.
  */
 int32_t juicedelta_tree2_clear(juicedelta_handle *handle);
 
@@ -258,7 +259,7 @@ int32_t juicedelta_tree3_clear(juicedelta_handle *handle);
 
 /* ---- Script shells ----------------------------------------------------------------------------------------------
  *
- * A shell is fed a script in whatever parts, and prints what `rtsh run` prints. The handle keeps what was printed until
+ * A shell is fed a script in parts of any size, and prints what `rtsh run` prints. The handle keeps what was printed until
  * the caller drops it. A statement that is refused prints a line that begins with `refused`, and the script goes on.
  * A handle that holds anything else answers OTHER_KIND, and a closed one CLOSED.
  */
@@ -272,19 +273,19 @@ int32_t juicedelta_script_open(juicedelta_handle *handle, uint32_t capacity, uin
 
 /*
  * Feeds the shell the next `length` bytes of the script. It carries out the statements that end in them, and what they
- * print comes behind the output.
+ * print is appended to the output.
  * CLOSED, OTHER_KIND, ENDED, TOO_LONG.
- * OUT_OF_MEMORY: there was none for the output. Some statements may have been carried out; the shell takes no more of
+ * OUT_OF_MEMORY: none was left for the output. Some statements may have been carried out; the shell takes no more of
  * the script, and answers OUT_OF_MEMORY from then on. (A statement that finds no memory is refused, as in `rtsh`.)
  */
 int32_t juicedelta_script_exec(juicedelta_handle *handle, const uint8_t *bytes, size_t length);
 
 /*
  * Ends the script, and writes to `refused` whether any statement was refused in the whole of it, 1 or 0. A last dot line
- * needs no line feed; a last statement without a `;` is refused as incomplete. What is printed of them comes behind the
+ * needs no line feed; a last statement without a `;` is refused as incomplete. What they print is appended to the
  * output, which can be read until the handle is closed.
  * CLOSED, OTHER_KIND, ENDED.
- * OUT_OF_MEMORY: there was none for the output, now or before. The script has ended all the same.
+ * OUT_OF_MEMORY: none was left for the output, now or before. The script has ended nevertheless.
  */
 int32_t juicedelta_script_finish(juicedelta_handle *handle, uint32_t *refused);
 
@@ -295,13 +296,13 @@ int32_t juicedelta_script_finish(juicedelta_handle *handle, uint32_t *refused);
 int32_t juicedelta_script_output_length(juicedelta_handle *handle, uint64_t *length);
 
 /*
- * Copies the whole output to the front of the buffer; no byte 0 is put behind it. The output stays.
+ * Copies the whole output to the start of the buffer; no zero byte follows it. The output stays.
  * CLOSED, OTHER_KIND, BUFFER_TOO_SMALL.
  */
 int32_t juicedelta_script_output(juicedelta_handle *handle, uint8_t *buffer, size_t length);
 
 /*
- * Drops the output, and gives its memory back.
+ * Drops the output, and frees its memory.
  * CLOSED, OTHER_KIND.
  */
 int32_t juicedelta_script_drop_output(juicedelta_handle *handle);

@@ -1,5 +1,5 @@
 /*
- * A tree and its oracle, a plain list, side by side: each step makes a call of both, and ends the program where their
+ * A tree and its oracle, a plain list, side by side: each step makes a call of both, and ends the program if their
  * answers differ. Include it with AXES defined as 1, 2 and 3 in turn; the oracle's calls are those of plain.c under the
  * names plain_.. The including file has `arm` and `disarm`: from arm(N) to disarm() the Nth allocation is refused, and
  * disarm() answers whether one was. With an `arm` that does nothing each call is made once.
@@ -24,7 +24,7 @@ static int disarm(void);
         }                                                                                                              \
     } while (0)
 
-/* Where choices come from: bytes until there are none, or without bytes a generator (xorshift). */
+/* The source of choices: bytes until there are none, or without bytes a generator (xorshift). */
 typedef struct source {
     const uint8_t *bytes;
     size_t length;

@@ -6,7 +6,7 @@
  *   test calls CALLS    what each call answers; CALLS random calls on each number of axes, at capacities 5 and 51, beside
  *                       the oracle; handles opened and closed a thousand times
  *   test refused CALLS  random calls beside the oracle, with each allocation refused in turn, and a script
- *   test rows ROWS      so many rows come and go
+ *   test rows ROWS      ROWS rows are inserted and removed
  */
 #define _GNU_SOURCE
 #define AXES 1
@@ -67,7 +67,7 @@ static int disarm(void)
 
 /* ---- Scripts ----------------------------------------------------------------------------------------------------- */
 
-/* Text in, text out: what the shell prints of a script that is fed in parts of so many bytes. */
+/* Text in, text out: what the shell prints of a script that is fed in parts of `part` bytes. */
 static char *printed(const char *script, size_t part, uint32_t *refused)
 {
     juicedelta_handle shell = {0};

@@ -82,7 +82,7 @@ template <class Call, class... Words> void open(Call call, juicedelta_handle *ha
 // The bytes of a text. The calls take no null pointer, which an empty view may have.
 inline const std::uint8_t *bytes_of(std::string_view text) { return (const std::uint8_t *)(text.data() ? text.data() : ""); }
 
-// The items that a call writes which tells how many there are; it is called again with more room where they need it.
+// The items that a call writes which tells how many there are; it is called again with more room if they need it.
 template <class Items, class Call> Items filled(std::size_t room, Call call)
 {
     for (Items items;;) {
@@ -116,7 +116,7 @@ private:
 inline thread_local Kept Kept::own;
 inline thread_local bool Kept::is_over = false;
 
-// The items that a search writes. Where the kept memory is too small it is called again, and more is kept.
+// The items that a search writes. If the kept memory is too small it is called again, and more is kept.
 template <class Item, class Search> std::vector<Item> found(Search search)
 {
     constexpr std::size_t most = 1 << 20;
@@ -193,7 +193,7 @@ public:
         return detail::filled<std::vector<Row<D>>>(std::min(most, size()), nearest);
     }
 #if __cplusplus >= 202002L
-    // Writes the ids to the front of the span, if it has room for all. Answers how many there are.
+    // Writes the ids to the start of the span, if it has room for all. Answers how many there are.
     std::size_t search(const Box<D> &box, std::span<std::int64_t> ids)
     {
         std::int64_t none;

@@ -134,7 +134,7 @@ static void codes()
     CHECK(moved.size() == 1);
 }
 
-// A tree of so many rows in a line, and whether a search finds those from `first` to `last`.
+// A tree of `rows` rows in a line, and whether a search finds those from `first` to `last`.
 static Tree<1> line(int rows)
 {
     Tree<1> tree;

@@ -20,7 +20,7 @@ class _Handle(ctypes.Structure):
 
 
 def _load() -> ctypes.PyDLL:
-    # In a checkout three folders up is the checkout, and where it is installed the folder of libraries.
+    # In a checkout this is the checkout, three folders up; in an installed package it is the folder of libraries.
     above = Path(__file__).resolve().parents[3]
     beside = [str(file) for file in (above / "lib" / "libjuicedelta.so", above / "libjuicedelta.so") if file.exists()]
     try:
@@ -85,7 +85,7 @@ class Owner:
         return number.value
 
     def _filled(self, kind: str, width: int, room: int, call: Call, *words: object) -> array.array[int]:
-        """The items that a call writes, of `width` bytes each; it is called again with more room where they need it."""
+        """The items that a call writes, of `width` bytes each; it is called again with more room if they need it."""
         total = ctypes.c_uint64()
         while True:
             data: array.array[int] = array.array(kind, bytes(width * room or width))

@@ -56,7 +56,7 @@ def _begun_by(text: str) -> str:
 
 
 def ended(begun: str, text: str) -> str:
-    """The text, with what makes whole pieces of it where `begun` was fed before."""
+    """The text, with what makes whole pieces of it if `begun` was fed before."""
     if begun not in ("", "--"):
         raise ValueError("a statement or comment that was fed before has no end yet: feed it by execute")
     end = _ENDS.get(begun_by(text))
@@ -107,7 +107,7 @@ _BLOCK = 256
 
 
 def rows_of(printed: str) -> List[Tuple[Value, ...]]:
-    """The rows, where nothing else is printed; else a ValueError."""
+    """The rows if nothing else is printed; else a ValueError."""
     # The texts, and what stands outside of them, where a byte 0, which no shell prints, marks each.
     parts = _TEXT.split(printed)
     texts, outside = parts[1::2], "T\0".join(parts[::2])

@@ -8,7 +8,7 @@ from typing import List, SupportsIndex, Tuple
 from ._calls import SCRIPT_CALLS, Call, Owner, capacity_of
 from ._script import Change, Value, begun_by, changes_of, ended, lines_of, refusal_of, rows_of
 
-_SHORT = 1000  # Where a text of so many characters stops is looked for only when that matters.
+_SHORT = 1000  # For a text of this many characters, where it stops is computed only if that matters.
 
 
 class Shell(Owner):
@@ -61,7 +61,7 @@ class Shell(Owner):
         """Feeds the shell statements, and answers how they change the views. What a SELECT prints is left out.
 
         Errors are those of `rows`. After StatementRefused the refused statement has changed nothing, and the others of
-        the text are carried out, but their changes aren't answered: feed one at a time where that matters.
+        the text are carried out, but their changes aren't answered: feed one at a time if that matters.
         """
         return changes_of(self._answered(text))
 

@@ -99,27 +99,27 @@ fn written<T>(call: impl FnOnce(*mut T) -> i32) -> Result<T, Error> {
     check(call(value.as_mut_ptr())).map(|()| unsafe { value.assume_init() })
 }
 
-/// An empty vector with room for so many.
+/// An empty vector with room for `length` items.
 fn room_for<T>(length: usize) -> Result<Vec<T>, Error> {
     let mut items = Vec::new();
     items.try_reserve_exact(length).map(|()| items).map_err(|_| Error::OutOfMemory)
 }
 
-/// The items that a call writes, which tells how many there are; it is called again with more room where they need it.
+/// The items that a call writes, which tells how many there are; it is called again with more room if they need it.
 fn filled<T>(mut room: usize, call: impl Fn(*mut T, usize, &mut u64) -> i32) -> Result<Vec<T>, Error> {
     loop {
         let (mut items, mut total) = (room_for(room)?, 0);
         let answer = check(call(items.as_mut_ptr(), room, &mut total));
         room = total as usize;
         if answer != Err(Error::BufferTooSmall) {
-            // SAFETY: a call that answers 0 wrote so many, and a refused one left the total at 0.
+            // SAFETY: a call that answers 0 wrote `total` items, and a refused one left the total at 0.
             unsafe { items.set_len(room) };
             return answer.map(|()| items);
         }
     }
 }
 
-/// The items that a search writes. Where the kept memory is too small it is called again, and more is kept.
+/// The items that a search writes. If the kept memory is too small it is called again, and more is kept.
 fn found<T>(call: impl Fn(*mut T, usize, &mut u64) -> i32) -> Result<Vec<T>, Error> {
     const MOST: usize = 1 << 20;
     // At its end a thread keeps nothing any more.
@@ -137,7 +137,7 @@ fn found<T>(call: impl Fn(*mut T, usize, &mut u64) -> i32) -> Result<Vec<T>, Err
         items
     } else {
         let mut items = answer.and_then(|()| room_for::<T>(total as usize))?;
-        // SAFETY: a call that answers 0 wrote so many.
+        // SAFETY: a call that answers 0 wrote `total` items.
         unsafe {
             items.as_mut_ptr().copy_from_nonoverlapping(front, total as usize);
             items.set_len(total as usize);
@@ -286,7 +286,7 @@ impl Shell {
         let length = self.output_length()? as usize;
         let mut text = room_for(length)?;
         self.output(text.as_mut_ptr(), length)?;
-        // SAFETY: the call wrote so many.
+        // SAFETY: the call wrote that many bytes.
         unsafe { text.set_len(length) };
         self.drop_output()?;
         Ok(String::from_utf8(text).unwrap_or_else(|it| String::from_utf8_lossy(it.as_bytes()).into_owned()))

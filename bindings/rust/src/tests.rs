@@ -24,7 +24,7 @@ struct Counted;
 #[global_allocator]
 static COUNTED: Counted = Counted;
 
-// SAFETY: the system's, but for what is refused.
+// SAFETY: the system's, except what is refused.
 unsafe impl GlobalAlloc for Counted {
     unsafe fn alloc(&self, layout: Layout) -> *mut u8 {
         let mut counts = COUNTS.get();
@@ -135,14 +135,14 @@ fn versions() {
     assert_eq!(numbers.fold(0, |all, number| 1000 * all + number), version());
 }
 
-/// A tree of so many rows in a line.
+/// A tree of `rows` rows in a line.
 fn line(rows: i32) -> Result<Tree<1>, Error> {
     let mut tree = Tree::<1>::new()?;
     (0..rows).try_for_each(|id| tree.insert(id.into(), &cube(id, id)))?;
     Ok(tree)
 }
 
-/// Whether a search finds the rows of the line from 0 on, so many.
+/// Whether a search finds the first `rows` rows of the line.
 fn finds(tree: &Tree<1>, rows: i32) -> Result<bool, Error> {
     let mut ids = tree.search(&cube(0, rows - 1))?;
     ids.sort_unstable();
@@ -208,7 +208,7 @@ fn full() -> Result<(), Error> {
     Ok(())
 }
 
-// faults/refuse.c refuses the allocations between the two marks, so it runs alone, where that is loaded.
+// faults/refuse.c refuses the allocations between the two marks, so it runs alone, if that is loaded.
 #[test]
 #[ignore]
 fn memory() -> Result<(), Error> {

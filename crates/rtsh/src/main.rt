@@ -3,19 +3,20 @@
 //! - It reads the command line (`rtsh_command`), opens the file, and hands over to `rt_shell::run`,
 //!   `rt_check_report::run_check` or `rt_check_draw::run_draw`, whose contracts say what is written.
 //! - `rtsh_terminal` has what goes to the error output.
-//! - Exit status: 0 where nothing was refused and no problem found (or help was asked for), 1 where something was,
-//!   2 where the command line was refused, and 3 where a file couldn't be opened, a device failed or memory ran out.
+//! - Exit status: 0 if nothing was refused and no problem found (or help was asked for), 1 if something was,
+//!   2 if the command line was refused, and 3 if a file couldn't be opened, a device failed or memory ran out.
 //!
-//! No contract can say what a file or a terminal gave, so the program itself is proved safe and to end, no more.
+//! No contract can say what a file or a terminal gave, so only the program's safety and termination are proved.
 #![tactic(auto)]
 
 use rt_bytes::{ByteReader, ByteWriter, OverRead, OverWrite, RunFault, Status};
 use rt_check_draw::{Axes, Choice, run_draw};
 use rt_check_report::run_check;
 use rt_shell::{Options, run};
-use rtsh_command::{Asked, Drawing, Manner, Unasked};
+use rtsh_command::{DrawOptions, NoRequest, Request, RunOptions};
 use rtsh_terminal::{
-    Cause, Fault, Noting, Prompting, Traced, Tracing, Trail, hint_at_dump, is_attended,
+    Cause, Fault, PromptReader, ReasonKeeper, TraceReader, TraceWriter, Trail, hint_at_dump,
+    is_attended,
 };
 use std::alloc::{AllocError, Global};
 use std::env;
@@ -24,14 +25,14 @@ use std::hash::RandomState;
 use std::io::{self, BufWriter, IsTerminal, Read, Write};
 use std::process::ExitCode;
 
-/// How many bytes of the output are gathered before they are written, where nobody waits for them.
-const GATHERED: usize = 65_536;
+/// The size of the output buffer in bytes, if no person waits for the output.
+const BUFFER_SIZE: usize = 65_536;
 
-/// How many pages of the stack are written to at the start, more than a run takes.
+/// How many pages of the stack are written to at the start: more than a run takes.
 const PAGES: usize = 128;
 
-/// The bytes of a page.
-const PAGE: usize = 4096;
+/// The size of a page in bytes.
+const PAGE_SIZE: usize = 4096;
 
 fn main(rt: HostRuntime) -> ExitCode {
     let Ok(words) = words(&rt) else {
@@ -46,22 +47,22 @@ fn main(rt: HostRuntime) -> ExitCode {
     }
 }
 
-/// Takes the memory of the stack. Where memory is limited, the stack can't grow once all is taken, and the system would end
+/// Takes the memory of the stack. If memory is limited, the stack can't grow once all is taken, and the system would end
 /// the process. Says whether what was written there can be read.
 #[inline(never)]
 fn grow_stack() -> bool {
-    let mut pages = [[0; PAGE]; PAGES];
+    let mut pages = [[0; PAGE_SIZE]; PAGES];
     is_filled(&mut pages)
 }
 
 // Out of line, so that the caller has the pages on its stack.
 #[inline(never)]
-fn is_filled(pages: &mut [[u8; PAGE]]) -> bool {
-    pages.fill([1; PAGE]);
+fn is_filled(pages: &mut [[u8; PAGE_SIZE]]) -> bool {
+    pages.fill([1; PAGE_SIZE]);
     pages.last().is_some_and(|page| page[0] == 1)
 }
 
-/// Says why the program came to no end.
+/// Prints why the program failed.
 fn failed(rt: &HostRuntime, fault: Fault<'_>) -> ExitCode {
     let _ = eprintln!(rt; "rtsh: {fault}");
     ExitCode::from(3)
@@ -74,55 +75,55 @@ fn words(rt: &HostRuntime) -> Result<Vec<String>, AllocError> {
     words.collect(rt.alloc())
 }
 
-/// Reads the command line, and does what it asks for.
+/// Reads the command line, and carries out its request.
 fn start<'a>(rt: &HostRuntime, words: &'a [String]) -> Result<ExitCode, Fault<'a>> {
-    let asked = match rtsh_command::read(rt, words) {
-        Ok(asked) => asked,
-        Err(Unasked::Helped) => return Ok(ExitCode::SUCCESS),
-        Err(Unasked::Refused) => return Ok(ExitCode::from(2)),
-        Err(Unasked::OutOfMemory) => return Err(Fault::Run(RunFault::Memory)),
-        Err(Unasked::Write(reason)) => return Err(Fault::write(Some(reason))),
+    let request = match rtsh_command::read(rt, words) {
+        Ok(request) => request,
+        Err(NoRequest::Helped) => return Ok(ExitCode::SUCCESS),
+        Err(NoRequest::Refused) => return Ok(ExitCode::from(2)),
+        Err(NoRequest::OutOfMemory) => return Err(Fault::Run(RunFault::Memory)),
+        Err(NoRequest::Write(reason)) => return Err(Fault::write(Some(reason))),
     };
-    match carry_out(rt, &asked)? {
+    match carry_out(rt, &request)? {
         Status::Clean => Ok(ExitCode::SUCCESS),
         Status::Refused => Ok(ExitCode::from(1)),
     }
 }
 
-fn carry_out<'a>(rt: &HostRuntime, asked: &Asked<'a>) -> Result<Status, Fault<'a>> {
-    let file = match asked {
-        Asked::Run(_, file) | Asked::Check(file) | Asked::Draw(_, file) => *file,
+fn carry_out<'a>(rt: &HostRuntime, request: &Request<'a>) -> Result<Status, Fault<'a>> {
+    let file = match request {
+        Request::Run(_, file) | Request::Check(file) | Request::Draw(_, file) => *file,
     };
     match file {
-        None => read_input(rt, asked),
+        None => read_input(rt, request),
         Some(name) => match File::open(rt, name) {
             Ok(file) => {
                 let length = length_of(file.metadata());
-                read_unattended(rt, file, name, length, asked)
+                read_unattended(rt, file, name, length, request)
             }
             Err(reason) => Err(Fault::OpenFile(Cause { name, reason })),
         },
     }
 }
 
-/// Reads standard input, with prompts where a person types it.
-fn read_input<'a>(rt: &HostRuntime, asked: &Asked<'a>) -> Result<Status, Fault<'a>> {
+/// Reads standard input, with prompts if a person types it.
+fn read_input<'a>(rt: &HostRuntime, request: &Request<'a>) -> Result<Status, Fault<'a>> {
     let (reader, name) = (rt.reader(), "standard input");
     if !rt.stdin().is_terminal() {
         let length = length_of(fs::metadata(rt, "/dev/stdin"));
-        return read_unattended(rt, reader, name, length, asked);
+        return read_unattended(rt, reader, name, length, request);
     }
     if !is_attended(rt) {
-        return read_traced(rt, reader, name, None, asked, false);
+        return read_traced(rt, reader, name, None, request, false);
     }
-    match asked {
-        Asked::Run(_, _) => {
-            let reader = Prompting::new(rt.alloc(), reader, rt)?;
-            read_traced(rt, reader, name, None, asked, false)
+    match request {
+        Request::Run(_, _) => {
+            let reader = PromptReader::new(rt.alloc(), reader, rt)?;
+            read_traced(rt, reader, name, None, request, false)
         }
-        Asked::Check(_) | Asked::Draw(_, _) => {
+        Request::Check(_) | Request::Draw(_, _) => {
             hint_at_dump(rt);
-            read_from(rt, reader, name, asked, None)
+            read_from(rt, reader, name, request, None)
         }
     }
 }
@@ -133,47 +134,47 @@ fn length_of(found: io::Result<Metadata>) -> Option<u64> {
     found.is_file().then_some(found.len())
 }
 
-/// Reads what nobody types. Where the error output is a terminal, it shows how a script comes on.
+/// Reads input that no person types. If the error output is a terminal, it shows the progress of a script.
 fn read_unattended<'a, R: Read + Drop>(
     rt: &HostRuntime,
     reader: R,
     name: &'a str,
     length: Option<u64>,
-    asked: &Asked<'a>,
+    request: &Request<'a>,
 ) -> Result<Status, Fault<'a>> {
     let is_seen = rt.stderr().is_terminal();
     let length = length.filter(|_length| is_seen);
-    read_traced(rt, reader, name, length, asked, is_seen)
+    read_traced(rt, reader, name, length, request, is_seen)
 }
 
-/// Reads a script so that the error output tells where each refused piece stands, by default or where it is asked for.
+/// Reads a script so that the error output tells where each refused piece stands, by default or if the options ask for it.
 fn read_traced<'a, R: Read + Drop>(
     rt: &HostRuntime,
     reader: R,
     name: &'a str,
     length: Option<u64>,
-    asked: &Asked<'a>,
+    request: &Request<'a>,
     by_default: bool,
 ) -> Result<Status, Fault<'a>> {
-    let manner = match asked {
-        Asked::Run(manner, _) if by_default || manner.tells_where => manner,
-        _ => return read_from(rt, reader, name, asked, None),
+    let options = match request {
+        Request::Run(options, _) if by_default || options.tells_where => options,
+        _ => return read_from(rt, reader, name, request, None),
     };
-    let trail = Trail::new(name, length, manner.echo, rt.stdout().is_terminal());
-    let Ok(mut reader) = Traced::new(rt.alloc(), reader, rt, &trail) else {
+    let trail = Trail::new(name, length, options.echo, rt.stdout().is_terminal());
+    let Ok(mut reader) = TraceReader::new(rt.alloc(), reader, rt, &trail) else {
         return Err(Fault::Run(RunFault::Memory));
     };
-    let answer = read_from(rt, &mut reader, name, asked, Some(&trail));
+    let answer = read_from(rt, &mut reader, name, request, Some(&trail));
     reader.end();
     answer
 }
 
-/// At a terminal, and where it is asked for, each answer is written at once; else answers are gathered before they are written.
+/// Writes each answer at once at a terminal, or if the options ask for it; otherwise answers are buffered.
 fn read_from<'a, 't, R: Read + Drop>(
     rt: &'t HostRuntime,
     reader: R,
     name: &'a str,
-    asked: &Asked<'a>,
+    request: &Request<'a>,
     trail: Option<&'t Trail<'a>>,
 ) -> Result<Status, Fault<'a>> {
     let keys = match RandomState::new(rt) {
@@ -182,14 +183,14 @@ fn read_from<'a, 't, R: Read + Drop>(
         Err(reason) => return Err(Fault::read("random bytes", Some(reason))),
     };
     let writer = io::writer(rt);
-    if rt.stdout().is_terminal() || is_unbuffered(asked) {
-        let (answer, _writer) = read_and_trace(rt, keys, reader, name, writer, asked, trail);
+    if rt.stdout().is_terminal() || is_unbuffered(request) {
+        let (answer, _writer) = read_and_trace(rt, keys, reader, name, writer, request, trail);
         return answer;
     }
-    let Ok(buffer) = BufWriter::with_capacity(rt.alloc(), GATHERED, writer) else {
+    let Ok(buffer) = BufWriter::with_capacity(rt.alloc(), BUFFER_SIZE, writer) else {
         return Err(Fault::Run(RunFault::Memory));
     };
-    let (answer, buffer) = read_and_trace(rt, keys, reader, name, buffer, asked, trail);
+    let (answer, buffer) = read_and_trace(rt, keys, reader, name, buffer, request, trail);
     if let Err(fault) = &answer
         && fault.is_of_writing()
     {
@@ -199,40 +200,40 @@ fn read_from<'a, 't, R: Read + Drop>(
     answer
 }
 
-fn is_unbuffered(asked: &Asked<'_>) -> bool {
-    matches!(asked, Asked::Run(manner, _) if manner.is_unbuffered)
+fn is_unbuffered(request: &Request<'_>) -> bool {
+    matches!(request, Request::Run(options, _) if options.is_unbuffered)
 }
 
-/// Does what is asked, beside a trail where there is one. Hands the writer back.
+/// Carries out the request, beside a trail if there is one. Hands the writer back.
 fn read_and_trace<'a, 't, R: Read + Drop, W: Write + Drop>(
     rt: &'t HostRuntime,
     keys: RandomState,
     reader: R,
     name: &'a str,
     writer: W,
-    asked: &Asked<'a>,
+    request: &Request<'a>,
     trail: Option<&'t Trail<'a>>,
 ) -> (Result<Status, Fault<'a>>, W) {
     let Some(trail) = trail else {
-        return read_and_write(rt.alloc(), keys, reader, name, writer, asked);
+        return read_and_write(rt.alloc(), keys, reader, name, writer, request);
     };
-    let writer = Tracing::new(writer, rt, trail);
-    let (answer, writer) = read_and_write(rt.alloc(), keys, reader, name, writer, asked);
+    let writer = TraceWriter::new(writer, rt, trail);
+    let (answer, writer) = read_and_write(rt.alloc(), keys, reader, name, writer, request);
     (answer, writer.into_inner())
 }
 
-/// Does what is asked, and says of a fault why it came. Hands the writer back.
+/// Carries out the request, and adds the system's reason to a fault. Hands the writer back.
 fn read_and_write<'a, R: Read + Drop, W: Write + Drop>(
     alloc: Global,
     keys: RandomState,
     reader: R,
     name: &'a str,
     writer: W,
-    asked: &Asked<'a>,
+    request: &Request<'a>,
 ) -> (Result<Status, Fault<'a>>, W) {
-    let mut reader = OverRead::new(Noting::new(reader));
-    let mut writer = OverWrite::new(Noting::new(writer));
-    let answer = answer(alloc, keys, &mut reader, &mut writer, asked);
+    let mut reader = OverRead::new(ReasonKeeper::new(reader));
+    let mut writer = OverWrite::new(ReasonKeeper::new(writer));
+    let answer = answer(alloc, keys, &mut reader, &mut writer, request);
     let (writer, reason) = writer.into_inner().into_parts();
     let answer = match answer {
         Ok(status) => Ok(status),
@@ -243,22 +244,22 @@ fn read_and_write<'a, R: Read + Drop, W: Write + Drop>(
     (answer, writer)
 }
 
-/// What the shell is told.
-fn options_of(manner: &Manner) -> Options {
+/// The options as the shell has them.
+fn options_of(options: &RunOptions) -> Options {
     Options {
-        capacity: manner.capacity,
-        bail: manner.bail,
-        echo: manner.echo,
+        capacity: options.capacity,
+        bail: options.bail,
+        echo: options.echo,
     }
 }
 
-/// What is drawn.
-fn choice_of(drawing: &Drawing) -> Choice {
+/// The options as the picture has them.
+fn choice_of(options: &DrawOptions) -> Choice {
     Choice {
-        axes: drawing.axes.map(|(across, up)| Axes { across, up }),
-        lowest: drawing.lowest,
-        highest: drawing.highest,
-        all: drawing.all,
+        axes: options.axes.map(|(across, up)| Axes { across, up }),
+        lowest: options.lowest,
+        highest: options.highest,
+        all: options.all,
     }
 }
 
@@ -267,11 +268,11 @@ fn answer<R: ByteReader, W: ByteWriter>(
     keys: RandomState,
     reader: &mut R,
     writer: &mut W,
-    asked: &Asked<'_>,
+    request: &Request<'_>,
 ) -> Result<Status, RunFault> {
-    match asked {
-        Asked::Run(manner, _) => run(alloc, keys, reader, writer, &options_of(manner)),
-        Asked::Check(_) => run_check(alloc, keys, reader, writer),
-        Asked::Draw(drawing, _) => run_draw(alloc, keys, &choice_of(drawing), reader, writer),
+    match request {
+        Request::Run(options, _) => run(alloc, keys, reader, writer, &options_of(options)),
+        Request::Check(_) => run_check(alloc, keys, reader, writer),
+        Request::Draw(options, _) => run_draw(alloc, keys, &choice_of(options), reader, writer),
     }
 }

@@ -1,10 +1,10 @@
 //! The command line of `rtsh`.
 //!
-//! `read` returns what its words ask for, as an `Asked`. If they ask for help, or are wrong, it prints the help or what is
-//! wrong, and returns an `Unasked`. `clap` parses the words.
+//! `read` returns what its words ask for, as a `Request`. If they ask for help, or are wrong, it prints the help or what is
+//! wrong, and returns a `NoRequest`. `clap` parses the words.
 //!
-//! Stands on `rt_box` alone, so that it is proved beside the tree. So it has a type of its own for what is drawn, of which
-//! `rtsh` makes that of `rt_check_draw`. It is proved safe and to end, no more.
+//! Stands on `rt_box` alone, so that it is proved beside the tree. So it has its own type for what is drawn, which `rtsh`
+//! converts to that of `rt_check_draw`. Only safety and termination are proved.
 #![tactic(auto)]
 
 use clap::error::ErrorKind;
@@ -13,23 +13,23 @@ use rt_box::Capacity;
 use std::alloc::{AllocError, Global};
 use std::{fs, io};
 
-/// What the command line asks for, and of which file; none is the standard input.
+/// What the command line asks for, and the file's name; `None` is standard input.
 #[derive(Drop)]
-pub enum Asked<'a> {
-    /// `rtsh run`: the script is run so.
-    Run(Manner, Option<&'a str>),
-    /// `rtsh check`: the dump is checked.
+pub enum Request<'a> {
+    /// `rtsh run`: run the script with these options.
+    Run(RunOptions, Option<&'a str>),
+    /// `rtsh check`: check the dump.
     Check(Option<&'a str>),
-    /// `rtsh draw`: this is drawn of the dump.
-    Draw(Drawing, Option<&'a str>),
+    /// `rtsh draw`: draw this part of the dump.
+    Draw(DrawOptions, Option<&'a str>),
 }
 
-/// Why nothing is to be done for a command line.
+/// Why there is nothing to do for a command line.
 #[derive(Clone, Copy, Debug)]
-pub enum Unasked {
+pub enum NoRequest {
     /// It asked for help or the version, which is printed.
     Helped,
-    /// It was refused, and what is wrong is printed.
+    /// The command line was refused, and its fault is printed.
     Refused,
     /// No memory was left.
     OutOfMemory,
@@ -37,16 +37,16 @@ pub enum Unasked {
     Write(io::Error),
 }
 
-impl From<AllocError> for Unasked {
-    fn from(_error: AllocError) -> Unasked {
-        Unasked::OutOfMemory
+impl From<AllocError> for NoRequest {
+    fn from(_error: AllocError) -> NoRequest {
+        NoRequest::OutOfMemory
     }
 }
 
 /// How `rtsh run` runs a script.
 #[derive(Clone, Copy)]
-pub struct Manner {
-    /// How many cells a node of a table's tree holds at most.
+pub struct RunOptions {
+    /// The greatest number of cells in a node of a table's tree.
     pub capacity: Capacity,
     /// The run ends after the first refusal.
     pub bail: bool,
@@ -60,8 +60,8 @@ pub struct Manner {
 
 /// What `rtsh draw` draws of a tree.
 #[derive(Clone, Copy)]
-pub struct Drawing {
-    /// The axis to the right and the one upwards, from 0 on; one alone is drawn as bars. Without them, the first ones.
+pub struct DrawOptions {
+    /// The axis to the right and the one upwards, counted from 0; one alone is drawn as bars. `None`: the first ones.
     pub axes: Option<(usize, Option<usize>)>,
     /// The lowest level.
     pub lowest: u8,
@@ -128,33 +128,33 @@ const STATUS_HELP: &str = "Exit status:
 ///
 /// # Errors
 ///
-/// `Helped` where help or the version is printed, `Refused` where what is wrong is printed, `Write` where the help
+/// `Helped` if help or the version is printed, `Refused` if what is wrong is printed, `Write` if the help
 /// couldn't be printed, and `OutOfMemory`.
-pub fn read<'a>(rt: &HostRuntime, words: &'a [String]) -> Result<Asked<'a>, Unasked> {
+pub fn read<'a>(rt: &HostRuntime, words: &'a [String]) -> Result<Request<'a>, NoRequest> {
     let parsed = program(rt.alloc())?.try_get_matches_from(words);
     let matches = match parsed {
         Ok(matches) => matches,
         Err(error) => return Err(tell(rt, words, &error)),
     };
-    match asked_by(&matches) {
-        Some(asked) => Ok(asked),
-        None => Err(Unasked::Refused),
+    match request_of(&matches) {
+        Some(request) => Ok(request),
+        None => Err(NoRequest::Refused),
     }
 }
 
 /// Prints what is wrong with the command line, or the help that it asked for.
-fn tell(rt: &HostRuntime, words: &[String], error: &Error) -> Unasked {
+fn tell(rt: &HostRuntime, words: &[String], error: &Error) -> NoRequest {
     if error.kind() == ErrorKind::OutOfMemory {
-        return Unasked::OutOfMemory;
+        return NoRequest::OutOfMemory;
     }
     let printed = error.print(rt);
     if error.use_stderr() {
         hint_at_run(rt, words, error.kind());
-        return Unasked::Refused;
+        return NoRequest::Refused;
     }
     match printed {
-        Ok(()) => Unasked::Helped,
-        Err(reason) => Unasked::Write(reason),
+        Ok(()) => NoRequest::Helped,
+        Err(reason) => NoRequest::Write(reason),
     }
 }
 
@@ -276,30 +276,30 @@ fn file<'a>(alloc: Global, help: &'a str) -> Arg<'a> {
 }
 
 /// What the parsed command line asks for.
-fn asked_by<'a>(matches: &ArgMatches<'a>) -> Option<Asked<'a>> {
+fn request_of<'a>(matches: &ArgMatches<'a>) -> Option<Request<'a>> {
     let (name, matches) = matches.subcommand()?;
     let file = matches.get_str("file").filter(|file| *file != "-");
     if name == "check" {
-        return Some(Asked::Check(file));
+        return Some(Request::Check(file));
     }
     if name == "draw" {
-        return Some(Asked::Draw(drawing_of(matches), file));
+        return Some(Request::Draw(draw_options_of(matches), file));
     }
     let capacity = Capacity::new(matches.get_one::<u8>("capacity")?)?;
-    let manner = Manner {
+    let options = RunOptions {
         capacity,
         bail: matches.get_flag("bail"),
         echo: matches.get_flag("echo"),
         is_unbuffered: matches.get_flag("unbuffered"),
         tells_where: matches.get_flag("where"),
     };
-    Some(Asked::Run(manner, file))
+    Some(Request::Run(options, file))
 }
 
-/// What is to be drawn.
-fn drawing_of(matches: &ArgMatches<'_>) -> Drawing {
+/// The options of `rtsh draw`.
+fn draw_options_of(matches: &ArgMatches<'_>) -> DrawOptions {
     let (lowest, highest) = levels_of(matches);
-    Drawing {
+    DrawOptions {
         axes: matches.get_str("axes").and_then(axes_of),
         lowest,
         highest,

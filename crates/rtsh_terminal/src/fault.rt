@@ -1,6 +1,6 @@
-//! Why the program came to no end, and the readers and writers that remember it.
+//! Why the program failed, and the readers and writers that remember the reason.
 //!
-//! A `RunFault` doesn't have the system's reason, so `Noting` keeps the last one beside it.
+//! A `RunFault` doesn't have the system's reason, so `ReasonKeeper` keeps the last one beside it.
 
 use rt_bytes::RunFault;
 use std::alloc::AllocError;
@@ -8,7 +8,7 @@ use std::fmt;
 use std::io::{self, Read, Write};
 use thiserror::Error;
 
-/// Why the program came to no end.
+/// Why the program failed.
 #[derive(Clone, Copy, Debug, Error)]
 pub enum Fault<'a> {
     /// A file couldn't be opened.
@@ -17,7 +17,7 @@ pub enum Fault<'a> {
     /// A read, a write or a flush failed, and the system said why.
     #[error("{0}: {1}")]
     Device(RunFault, Cause<'a>),
-    /// The run came to no end, without a reason of the system.
+    /// The run failed, without a reason from the system.
     #[error(transparent)]
     Run(#[from] RunFault),
 }
@@ -73,15 +73,15 @@ impl<'a> fmt::Display for Cause<'a> {
 
 /// A reader or a writer that remembers the reason of its last failure.
 #[derive(Drop)]
-pub struct Noting<T> {
+pub struct ReasonKeeper<T> {
     inner: T,
     reason: Option<io::Error>,
 }
 
-impl<T> Noting<T> {
+impl<T> ReasonKeeper<T> {
     /// Nothing has failed yet.
-    pub fn new(inner: T) -> Noting<T> {
-        Noting {
+    pub fn new(inner: T) -> ReasonKeeper<T> {
+        ReasonKeeper {
             inner,
             reason: None,
         }
@@ -94,7 +94,7 @@ impl<T> Noting<T> {
 
     /// What it was laid over, and why that last failed.
     pub fn into_parts(self) -> (T, Option<io::Error>) {
-        let Noting { inner, reason } = self;
+        let ReasonKeeper { inner, reason } = self;
         (inner, reason)
     }
 }
@@ -106,7 +106,7 @@ fn note<T>(reason: &mut Option<io::Error>, answer: &io::Result<T>) {
     }
 }
 
-impl<R: Read> Read for Noting<R> {
+impl<R: Read> Read for ReasonKeeper<R> {
     ghost remaining = { λ r. R.remaining r.inner };
 
     fn read(&mut self, buffer: &mut [u8]) -> io::Result<usize> {
@@ -116,7 +116,7 @@ impl<R: Read> Read for Noting<R> {
     }
 }
 
-impl<W: Write> Write for Noting<W> {
+impl<W: Write> Write for ReasonKeeper<W> {
     ghost contents = { λ w. W.contents w.inner };
 
     fn write(&mut self, bytes: &[u8]) -> io::Result<usize> {

@@ -65,7 +65,7 @@ pub(crate) fn word_at(text: &[u8], length: usize) -> Option<Word<'_>> {
     Some(Word { text })
 }
 
-/// How many bytes at the front a word may hold.
+/// How many bytes at the start a word may hold.
 fn front_len(bytes: &[u8]) -> usize {
     bytes
         .iter()

@@ -112,27 +112,27 @@ fn is_unknown(alloc: Global, piece: &Piece<'_>) -> bool {
 
 /// A reader of a script that is typed, which prints a prompt before each read.
 #[derive(Drop)]
-pub struct Prompting<'a, R, E> {
+pub struct PromptReader<'a, R, E> {
     alloc: Global,
     inner: R,
     rt: &'a E,
     /// Stands where the bytes so far stop.
     cutter: Cutter,
-    /// The bytes since the last place between pieces. Where memory runs out some lack, and a prompt may be wrong.
+    /// The bytes since the last place between pieces. If memory runs out some lack, and a prompt may be wrong.
     pending: Vec<u8>,
     /// The last line was one of another shell.
     is_lost: bool,
 }
 
-impl<'a, R: Read, E: Eprint> Prompting<'a, R, E> {
+impl<'a, R: Read, E: Eprint> PromptReader<'a, R, E> {
     /// Prints how a statement and the input are ended.
-    pub fn new(alloc: Global, inner: R, rt: &'a E) -> Result<Prompting<'a, R, E>, AllocError>
+    pub fn new(alloc: Global, inner: R, rt: &'a E) -> Result<PromptReader<'a, R, E>, AllocError>
     where
         R: Drop,
     {
         let cutter = Cutter::new(alloc)?;
         let _ = eprintln!(rt; "{SCRIPT_HINT}");
-        Ok(Prompting {
+        Ok(PromptReader {
             alloc,
             inner,
             rt,
@@ -207,7 +207,7 @@ impl<'a, R: Read, E: Eprint> Prompting<'a, R, E> {
     }
 }
 
-impl<'a, R: Read, E: Eprint> Read for Prompting<'a, R, E> {
+impl<'a, R: Read, E: Eprint> Read for PromptReader<'a, R, E> {
     fn read(&mut self, buffer: &mut [u8]) -> io::Result<usize> {
         for _line in 0..u64::MAX {
             let takes_commands = self.prompt();

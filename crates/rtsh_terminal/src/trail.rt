@@ -1,7 +1,7 @@
 //! What the error output shows of a script: where each refused piece stands, and how much of a long file is read.
 //!
-//! `Traced` gives the script up to the end of one piece at a time, so whatever is written before the next read answers that
-//! piece. `Tracing` looks at how that begins: no answer but a refusal begins with `refused`. Both share one `Trail`.
+//! `TraceReader` gives the script up to the end of one piece at a time, so whatever is written before the next read answers that
+//! piece. `TraceWriter` looks at how that begins: no answer but a refusal begins with `refused`. Both share one `Trail`.
 
 use crate::place::{Place, Word, word_at};
 use rt_sql::refused_at;
@@ -10,7 +10,7 @@ use std::alloc::Global;
 use std::cell::Cell;
 use std::io::{self, BufRead, BufReader, Read, Write};
 
-/// How many bytes a script has at least whose part read is shown.
+/// The length in bytes from which on a script's progress is shown.
 const LONG: u64 = 1_000_001;
 
 /// How a refusal's line begins.
@@ -19,7 +19,7 @@ const REFUSED: &[u8] = b"refused ";
 /// Clears the line of a terminal.
 const CLEAR: &str = "\r\x1b[K";
 
-/// How many bytes are kept of what was read: as many as the longest piece has, and its line feed.
+/// How many of the last bytes read are kept: as many as the longest piece has, and its line feed.
 const KEPT: usize = 65_537;
 
 /// How an answer begins, as far as it was written.
@@ -120,9 +120,9 @@ impl<'a> Trail<'a> {
     }
 }
 
-/// A reader of a script that gives at most one piece at a time, and tells where each refused one stands.
+/// A reader of a script that gives at most one piece at a time, and tells where each refused piece stands.
 #[derive(Drop)]
-pub struct Traced<'a, 'n, R: Read + Drop, E> {
+pub struct TraceReader<'a, 'n, R: Read + Drop, E> {
     inner: BufReader<R>,
     alloc: Global,
     rt: &'a E,
@@ -140,15 +140,15 @@ pub struct Traced<'a, 'n, R: Read + Drop, E> {
     read: u64,
 }
 
-impl<'a, 'n, R: Read + Drop, E: Eprint> Traced<'a, 'n, R, E> {
+impl<'a, 'n, R: Read + Drop, E: Eprint> TraceReader<'a, 'n, R, E> {
     /// Nothing was read yet.
     pub fn new(
         alloc: Global,
         inner: R,
         rt: &'a E,
         trail: &'a Trail<'n>,
-    ) -> Result<Traced<'a, 'n, R, E>, io::Error> {
-        Ok(Traced {
+    ) -> Result<TraceReader<'a, 'n, R, E>, io::Error> {
+        Ok(TraceReader {
             inner: BufReader::new(alloc, inner)?,
             alloc,
             rt,
@@ -228,7 +228,7 @@ impl<'a, 'n, R: Read + Drop, E: Eprint> Traced<'a, 'n, R, E> {
     }
 }
 
-impl<'a, 'n, R: Read + Drop, E: Eprint> Read for Traced<'a, 'n, R, E> {
+impl<'a, 'n, R: Read + Drop, E: Eprint> Read for TraceReader<'a, 'n, R, E> {
     fn read(&mut self, buffer: &mut [u8]) -> io::Result<usize> {
         self.tell();
         if self.cutter.ready().is_some() {
@@ -251,21 +251,21 @@ impl<'a, 'n, R: Read + Drop, E: Eprint> Read for Traced<'a, 'n, R, E> {
 
 /// A writer of what a script prints.
 #[derive(Drop)]
-pub struct Tracing<'a, 'n, W, E> {
+pub struct TraceWriter<'a, 'n, W, E> {
     inner: W,
     rt: &'a E,
     trail: &'a Trail<'n>,
 }
 
-impl<'a, 'n, W: Write, E: Eprint> Tracing<'a, 'n, W, E> {
+impl<'a, 'n, W: Write, E: Eprint> TraceWriter<'a, 'n, W, E> {
     /// Nothing was written yet.
-    pub fn new(inner: W, rt: &'a E, trail: &'a Trail<'n>) -> Tracing<'a, 'n, W, E> {
-        Tracing { inner, rt, trail }
+    pub fn new(inner: W, rt: &'a E, trail: &'a Trail<'n>) -> TraceWriter<'a, 'n, W, E> {
+        TraceWriter { inner, rt, trail }
     }
 
     /// What it was laid over.
     pub fn into_inner(self) -> W {
-        let Tracing {
+        let TraceWriter {
             inner,
             rt: _,
             trail: _,
@@ -274,7 +274,7 @@ impl<'a, 'n, W: Write, E: Eprint> Tracing<'a, 'n, W, E> {
     }
 }
 
-impl<'a, 'n, W: Write, E: Eprint> Write for Tracing<'a, 'n, W, E> {
+impl<'a, 'n, W: Write, E: Eprint> Write for TraceWriter<'a, 'n, W, E> {
     fn write(&mut self, bytes: &[u8]) -> io::Result<usize> {
         if self.trail.is_shared {
             self.trail.clear(self.rt);

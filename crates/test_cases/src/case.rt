@@ -15,7 +15,7 @@ pub enum Command {
     Run(Options),
     /// The dump is checked.
     Check,
-    /// Each front of the dump is checked, from none of its bytes to all but the last.
+    /// Each prefix of the dump is checked, from none of its bytes to all but the last.
     CheckFronts,
     /// The dump is drawn.
     Draw(Choice),
@@ -47,7 +47,7 @@ pub struct Case<'a> {
 }
 
 impl<'a> Case<'a> {
-    /// Reads a line such as `open_quote 1 run --fill 65528`, or `None` where it isn't one.
+    /// Reads a line such as `open_quote 1 run --fill 65528`, or `None` if it isn't one.
     pub fn read(line: &'a str) -> Option<Case<'a>> {
         let mut words = line.split_whitespace();
         let name = words.next()?;

@@ -3,7 +3,7 @@
 //! is proved again for it.
 //!
 //! `test_cases [FOLDER]` reads the folder, or the one that it is run in, prints a line for each case, and ends with
-//! status 1 where one differs. Each case is run over memory, with reads of 4,096 bytes and of one byte.
+//! status 1 if one differs. Each case is run over memory, with reads of 4,096 bytes and of one byte.
 #![tactic(auto)]
 
 mod case;
@@ -44,7 +44,7 @@ fn main(rt: HostRuntime) -> anyhow::Result<ExitCode> {
     Ok(status)
 }
 
-/// How the input was parted where the case first gave something else than it must.
+/// How the input was parted when the case first differed from what it must give.
 fn first_difference(
     rt: &HostRuntime,
     keys: RandomState,

@@ -15,9 +15,9 @@ use std::io::{Cursor, Read};
 /// How a reader gives its bytes.
 #[derive(Clone, Copy)]
 pub enum Parts {
-    /// So many at a time, at most.
+    /// At most this many at a time.
     OfAtMost(usize),
-    /// So many at first, and then the others.
+    /// This many at first, and then the rest.
     CutAfter(usize),
 }
 
@@ -35,7 +35,7 @@ impl fmt::Display for Parts {
 pub struct Outcome {
     /// All bytes that were printed.
     pub printed: Vec<u8>,
-    /// `Refused` where any of the runs refused something.
+    /// `Refused` if any of the runs refused something.
     pub status: Status,
 }
 

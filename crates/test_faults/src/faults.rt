@@ -12,7 +12,7 @@ use std::process::Abort;
 use std::test::Fail;
 use test_devices::{FailingReader, FailingWriter, FlushCounter, OneByteWriter, UnflushableWriter};
 
-/// Two rows, shown by rising id.
+/// Two rows, shown by ascending id.
 const ROWS: Script<'static> = Script {
     text: b"CREATE VIRTUAL TABLE t USING rtree_i32(id,minX,maxX); INSERT INTO t VALUES(9,5,7); INSERT INTO t VALUES(2,-1,0); SELECT * FROM t;",
     prints: b"2|-1|0\n9|5|7\n",
@@ -83,7 +83,7 @@ fn a_failed_write_leaves_a_front(rt: HostRuntime) -> Result<(), Fail> {
     expect_fronts(&rt, keys, &TREE)
 }
 
-/// The writer takes so many bytes, and of further ones none, without an error of its own.
+/// The writer takes ten bytes and no more, without an error of its own.
 #[test]
 fn a_write_that_takes_no_byte_has_failed(rt: HostRuntime) -> Result<(), Fail> {
     let options = options_of(&ROWS)?;
@@ -147,7 +147,7 @@ fn a_failed_flush_comes_after_all_bytes(rt: HostRuntime) -> Result<(), Fail> {
     expect_all_before_the_flush(&rt, keys, &TREE)
 }
 
-/// What is written where so many bytes are read.
+/// What is written once `read` bytes are read.
 fn written_after<'a>(script: &Script<'a>, read: usize) -> &'a [u8] {
     let mut written = 0;
     for (needed, count) in script.answers {
