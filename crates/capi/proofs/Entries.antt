@@ -19,7 +19,7 @@ use Rattle.rt_check.specs.Conditions.{is_leaf, names_child, is_ordered, holds_ch
 use Rattle.rt_tree_node.proofs.Counts.{count-cons}
 use Rattle.rt_tree_walk.proofs.Reaching.{counted-contained}
 use Rattle.rt_tree_walk.specs.declared.searching.Row.{Row}
-use Rattle.rt_tree.specs.Lists.{IsInShape, empty_lists}
+use Rattle.rt_tree.specs.Lists.{IsInShape}
 use Rattle.rt_tree.specs.Rows.{rows_of, box_of, GainsRow}
 use Rattle.rt_tree.proofs.Members.{contains-none}
 use Rattle.rt_table_store.proofs.Counted.{entries-counted as counted}
@@ -34,19 +34,18 @@ module _ {D : ℕ} where
   empty-count [] none = refl
   empty-count (r ∷ rows) none = absurd (omega (arith, none, count-cons (λ r. true) r rows))
 
-  rows-none : (s : ShadowLists D) → IsInShape s → length s.rows ≡ 0 → rows_of s ≡ []
-  rows-none s shape none = empty-count (rows_of s) (omega (arith, none, entries-counted s shape))
+  pub rows_none : (s : ShadowLists D) → IsInShape s → length s.rows ≡ 0 → rows_of s ≡ []
+  rows_none s shape none = empty-count (rows_of s) (omega (arith, none, entries-counted s shape))
 
-  -- a tree without entries has no row, and one that comes into another such tree comes into it
-  pub first_absent : (s : ShadowLists D) (id : ℤ) → IsInShape s → length s.rows ≡ 0 → box_of s id ≡ None
-  first_absent s id shape none = ap (λ (rows : List (Row D)). option_map (λ (r : Row D). r.rect) (find (λ (r : Row D). int_eq id r.id) rows)) (rows-none s shape none)
+  box-none : (s : ShadowLists D) (id : ℤ) → rows_of s ≡ [] → box_of s id ≡ None
+  box-none s id none = ap (λ (rows : List (Row D)). option_map (λ (r : Row D). r.rect) (find (λ (r : Row D). int_eq id r.id) rows)) none
 
-  pub first_gained : (s new : ShadowLists D) (capacity : ℕ) (id : ℤ) (rect : List Interval) → IsInShape s → length s.rows ≡ 0 →
-      GainsRow (empty_lists capacity) new id rect → GainsRow s new id rect
-  first_gained s new capacity id rect shape none gains = record {
-    rows = λ test. gains.rows test ∙ ap (λ (rows : List (Row D)). count_by test rows + (if test record { id = id; rect = rect } then 1 else 0)) (sym (rows-none s shape none));
+  -- a row that comes into a tree without rows comes into each other such tree
+  pub first_gained : (s before new : ShadowLists D) (id : ℤ) (rect : List Interval) → rows_of s ≡ [] → rows_of before ≡ [] → GainsRow before new id rect → GainsRow s new id rect
+  first_gained s before new id rect none none_before gains = record {
+    rows = λ test. gains.rows test ∙ ap (λ (rows : List (Row D)). count_by test rows + (if test record { id = id; rect = rect } then 1 else 0)) (none_before ∙ sym none);
     here = gains.here;
-    others = λ other differs. gains.others other differs ∙ sym (first_absent s other shape none);
+    others = λ other differs. gains.others other differs ∙ box-none before other none_before ∙ sym (box-none s other none);
   }
 
   -- the cell is one of a leaf
