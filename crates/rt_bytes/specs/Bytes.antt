@@ -24,14 +24,14 @@ abbrev pub WritesAll : Option (List ℕ) → Option (List ℕ) → ℕ → ℕ �
 WritesAll old new faults_old faults_new bytes = Appends old new bytes × (faults_new ≡ faults_old)
 
 -- some front of the bytes was written
-abbrev pub AppendsFront : Option (List ℕ) → Option (List ℕ) → List ℕ → Type 0
-AppendsFront old new bytes = (n : ℕ) × (n ≤ length bytes) × Appends old new (take n bytes)
+abbrev pub AppendsPrefix : Option (List ℕ) → Option (List ℕ) → List ℕ → Type 0
+AppendsPrefix old new bytes = (n : ℕ) × (n ≤ length bytes) × Appends old new (take n bytes)
 
 -- a front of the bytes was written, and one fault counted
-abbrev pub WritesFront : Option (List ℕ) → Option (List ℕ) → ℕ → ℕ → List ℕ → Type 0
-WritesFront old new faults_old faults_new bytes = AppendsFront old new bytes × (faults_new ≡ one_more faults_old)
+abbrev pub WritesPrefix : Option (List ℕ) → Option (List ℕ) → ℕ → ℕ → List ℕ → Type 0
+WritesPrefix old new faults_old faults_new bytes = AppendsPrefix old new bytes × (faults_new ≡ one_more faults_old)
 
 -- at Ok all of the bytes were written; at Err a front of them, and the fault was counted
 abbrev pub Writes : {T E : Type 0} → Option (List ℕ) → Option (List ℕ) → ℕ → ℕ → Result T E → List ℕ → Type 0
 Writes old new faults_old faults_new r bytes =
-    MatchResult r (λ _. WritesAll old new faults_old faults_new bytes) (λ _. WritesFront old new faults_old faults_new bytes)
+    MatchResult r (λ _. WritesAll old new faults_old faults_new bytes) (λ _. WritesPrefix old new faults_old faults_new bytes)

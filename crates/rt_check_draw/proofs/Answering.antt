@@ -1,6 +1,6 @@
 -- What a written picture is of the dump.
 use Rattle.std.proofs.Common.{◌≡◌, ◌∙◌, ap, sym, subst, ℕ, List, Option, Result, Ok, Err}
-use Rattle.rt_bytes.specs.Bytes.{WritesAll, WritesFront}
+use Rattle.rt_bytes.specs.Bytes.{WritesAll, WritesPrefix}
 use Rattle.rt_bytes.specs.declared.device.ByteWriter.{Ghosts as WriterMembers}
 use Rattle.rt_bytes.specs.declared.outcome.Status.{Status}
 use Rattle.rt_bytes.specs.declared.outcome.RunFault.{RunFault}
@@ -22,6 +22,6 @@ module _ {W : Type 0} (w : WriterMembers W) (choice : Choice) (bytes : List ℕ)
   pub writes_drawing : (result : Result Status RunFault) → WritesPicture w picture old new result → WritesDrawing w choice bytes old new result
   writes_drawing (Ok status) wrote =
       (subst (WritesAll (w.written old) (w.written new) (w.faults old) (w.faults new)) same_text wrote.0, wrote.1 ∙ same_status)
-  writes_drawing (Err Write) wrote = subst (WritesFront (w.written old) (w.written new) (w.faults old) (w.faults new)) same_text wrote
+  writes_drawing (Err Write) wrote = subst (WritesPrefix (w.written old) (w.written new) (w.faults old) (w.faults new)) same_text wrote
   writes_drawing (Err Memory) wrote = absurd wrote
   writes_drawing (Err Read) wrote = absurd wrote

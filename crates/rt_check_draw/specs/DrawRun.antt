@@ -1,7 +1,7 @@
 -- What the drawing of a dump does to its reader and its writer (own).
 use Rattle.std.specs.Prelude.{◌≡◌, ℕ, List, codes, Option, None, Some, Result, Ok, Err}
 use Rattle.std.specs.Io.KnownBytes.{Appends}
-use Rattle.rt_bytes.specs.Bytes.{one_more, AppendsFront, WritesAll, WritesFront}
+use Rattle.rt_bytes.specs.Bytes.{one_more, AppendsPrefix, WritesAll, WritesPrefix}
 use Rattle.rt_bytes.specs.Devices.{Devices, Held}
 use Rattle.rt_bytes.specs.declared.device.ByteWriter.{Ghosts as WriterMembers}
 use Rattle.rt_bytes.specs.declared.outcome.Status.{Status}
@@ -29,7 +29,7 @@ picture_status (Some picture) = Clean
 abbrev pub WritesPicture : {W : Type 0} → WriterMembers W → Option (List ℕ) → W → W → Result Status RunFault → Type 0
 WritesPicture w picture old new (Ok status) =
     WritesAll (w.written old) (w.written new) (w.faults old) (w.faults new) (picture_or_refusal picture) × (status ≡ picture_status picture)
-WritesPicture w picture old new (Err Write) = WritesFront (w.written old) (w.written new) (w.faults old) (w.faults new) (picture_or_refusal picture)
+WritesPicture w picture old new (Err Write) = WritesPrefix (w.written old) (w.written new) (w.faults old) (w.faults new) (picture_or_refusal picture)
 WritesPicture w picture old new (Err Memory) = ⊥
 WritesPicture w picture old new (Err Read) = ⊥
 
@@ -46,7 +46,7 @@ drawing_status choice (Err fault) = Refused
 abbrev pub WritesDrawing : {W : Type 0} → WriterMembers W → Choice → List ℕ → W → W → Result Status RunFault → Type 0
 WritesDrawing w choice bytes old new (Ok status) =
     WritesAll (w.written old) (w.written new) (w.faults old) (w.faults new) (drawing_of choice (read_text bytes)) × (status ≡ drawing_status choice (read_text bytes))
-WritesDrawing w choice bytes old new (Err Write) = WritesFront (w.written old) (w.written new) (w.faults old) (w.faults new) (drawing_of choice (read_text bytes))
+WritesDrawing w choice bytes old new (Err Write) = WritesPrefix (w.written old) (w.written new) (w.faults old) (w.faults new) (drawing_of choice (read_text bytes))
 WritesDrawing w choice bytes old new (Err Memory) = (w.written new ≡ w.written old) × (w.faults new ≡ w.faults old)
 WritesDrawing w choice bytes old new (Err Read) = ⊥
 
@@ -63,7 +63,7 @@ pub record DrawsDump (choice : Choice) (old new : Devices) (status : Status) : T
 pub record FailsToDraw (choice : Choice) (old new : Devices) : Type 0 where
   pub bytes : List ℕ
   pub held : Held old.left bytes
-  pub wrote : AppendsFront old.written new.written (drawing_of choice (read_text bytes))
+  pub wrote : AppendsPrefix old.written new.written (drawing_of choice (read_text bytes))
   pub why : new.faults ≡ one_more old.faults
   pub no_read_failed : new.failures ≡ old.failures
 

@@ -3,7 +3,7 @@ use Rattle.std.specs.Prelude.{◌≡◌, ◌⊎◌, ℕ, ◌+◌, ◌^◌, ◌<�
 use Rattle.std.specs.Prelude.{Vec}
 use Rattle.std.specs.declared.alloc.Global.{Global}
 use Rattle.std.specs.Io.KnownBytes.{Appends, Consumes, IsAtEnd}
-use Rattle.rt_bytes.specs.Bytes.{one_more, AppendsFront, WritesAll, WritesFront}
+use Rattle.rt_bytes.specs.Bytes.{one_more, AppendsPrefix, WritesAll, WritesPrefix}
 use Rattle.rt_check_dump.specs.Reading.{read_text}
 use Rattle.rt_bytes.specs.declared.device.ByteWriter.{Ghosts as WriterMembers}
 use Rattle.rt_bytes.specs.declared.outcome.Status.{Status}
@@ -36,7 +36,7 @@ ReadsAll old new (Err Memory) = new.failures ≡ old.failures
 abbrev pub ReportsFault : {W : Type 0} → WriterMembers W → DumpFault → W → W → Result Status RunFault → Type 0
 ReportsFault w (At line fault) old new (Ok status) =
     WritesAll (w.written old) (w.written new) (w.faults old) (w.faults new) (fault_line line fault) × (status ≡ Refused)
-ReportsFault w (At line fault) old new (Err Write) = WritesFront (w.written old) (w.written new) (w.faults old) (w.faults new) (fault_line line fault)
+ReportsFault w (At line fault) old new (Err Write) = WritesPrefix (w.written old) (w.written new) (w.faults old) (w.faults new) (fault_line line fault)
 ReportsFault w (At line fault) old new (Err Read) = ⊥
 ReportsFault w (At line fault) old new (Err Memory) = ⊥
 ReportsFault w NoMemory old new result = (result ≡ Err Memory) × (w.written new ≡ w.written old) × (w.faults new ≡ w.faults old)
@@ -45,7 +45,7 @@ ReportsFault w NoMemory old new result = (result ≡ Err Memory) × (w.written n
 abbrev pub Reports : {W : Type 0} → WriterMembers W → List ℕ → W → W → Result Status RunFault → Type 0
 Reports w bytes old new (Ok status) =
     WritesAll (w.written old) (w.written new) (w.faults old) (w.faults new) (report_on (read_text bytes)) × (status ≡ report_status (read_text bytes))
-Reports w bytes old new (Err Write) = WritesFront (w.written old) (w.written new) (w.faults old) (w.faults new) (report_on (read_text bytes))
+Reports w bytes old new (Err Write) = WritesPrefix (w.written old) (w.written new) (w.faults old) (w.faults new) (report_on (read_text bytes))
 Reports w bytes old new (Err Memory) = (w.written new ≡ w.written old) × (w.faults new ≡ w.faults old)
 Reports w bytes old new (Err Read) = ⊥
 
@@ -69,7 +69,7 @@ pub record FailsToReadDump (old new : Devices) : Type 0 where
 pub record FailsToReport (old new : Devices) : Type 0 where
   pub bytes : List ℕ
   pub held : Held old.left bytes
-  pub wrote : AppendsFront old.written new.written (report_on (read_text bytes))
+  pub wrote : AppendsPrefix old.written new.written (report_on (read_text bytes))
   pub why : new.faults ≡ one_more old.faults
   pub no_read_failed : new.failures ≡ old.failures
 

@@ -3,7 +3,7 @@ use Rattle.std.proofs.Common.{◌≡◌, ◌∙◌, ℕ, ◌+◌, ◌*◌, ◌^�
 use Rattle.std.specs.Io.KnownBytes.{Consumes, Keeps, IsAtEnd}
 use Rattle.rt_bytes.specs.Bytes.{one_more, WritesAll}
 use Rattle.rt_bytes.specs.declared.device.WriteFault.{WriteFault}
-use Rattle.rt_bytes.proofs.Writing.{WritesAll-trans, WritesAll-nil, WritesFront-after, AppendsFront-all}
+use Rattle.rt_bytes.proofs.Writing.{WritesAll-trans, WritesAll-nil, WritesPrefix-after, AppendsPrefix-all}
 use Rattle.rt_bytes.specs.declared.outcome.Status.{Status}
 use Rattle.rt_bytes.specs.declared.outcome.Status.TheVariants.{Refused}
 use Rattle.rt_bytes.specs.Devices.{Devices, most_reads}
@@ -65,7 +65,7 @@ module _ (options : Options) (shell : Shell) (old now : Devices) (turn : ℕ) (s
 
     pub write_fails : Fed (Err Write) → FailsToWrite options old new
     write_fails feeds =
-        let front = WritesFront-after old.written now.written new.written old.faults now.faults new.faults so_far.lines feeds.1.0 so_far.wrote feeds.1.1 in
+        let front = WritesPrefix-after old.written now.written new.written old.faults now.faults new.faults so_far.lines feeds.1.0 so_far.wrote feeds.1.1 in
         record {
           read = so_far.read ++ bytes;
           out = so_far.lines ++ feeds.1.0;
@@ -135,7 +135,7 @@ module _ (options : Options) (shell : Shell) (old now : Devices) (turn : ℕ) (s
 
     pub end_fails : (fault : WriteFault) → EndsWith options so_far.read so_far.lines now.written new.written now.faults new.faults (Err fault) → FailsToWrite options old new
     end_fails fault finishes =
-        let front = WritesFront-after old.written now.written new.written old.faults now.faults new.faults so_far.lines finishes.0 so_far.wrote finishes.1 in
+        let front = WritesPrefix-after old.written now.written new.written old.faults now.faults new.faults so_far.lines finishes.0 so_far.wrote finishes.1 in
         record {
           read = so_far.read;
           out = so_far.lines ++ finishes.0;
@@ -198,7 +198,7 @@ flush_fails options old now new status ran left failures kept faults = record {
     | inl whole ↦ inr (rw left whole.0, (status, whole.1))
     | inr stopped ↦ inl stopped.0
   ];
-  wrote = AppendsFront-all old.written new.written ran.out (Appends-kept old.written now.written new.written ran.out ran.wrote kept);
+  wrote = AppendsPrefix-all old.written new.written ran.out (Appends-kept old.written now.written new.written ran.out ran.wrote kept);
   why = faults ∙ ap one_more ran.no_write_failed;
   no_read_failed = failures ∙ ran.no_read_failed;
 }

@@ -1,11 +1,11 @@
 -- What a shell has printed, and how it comes on.
 use Rattle.std.proofs.Common.{◌≡◌, ◌∙◌, ℕ, ◌+◌, ◌≤◌, Bool, true, false, List, [], ◌++◌, length, Option, Some, None, Result, Ok, Err, refl, sym, ap, subst, arith, append_assoc, append-nil, length-append}
 use Rattle.std.specs.Prelude.{is_some}
-use Rattle.rt_bytes.specs.Bytes.{WritesAll, WritesFront}
+use Rattle.rt_bytes.specs.Bytes.{WritesAll, WritesPrefix}
 use Rattle.rt_bytes.specs.declared.device.WriteFault.{WriteFault}
 use Rattle.rt_bytes.specs.declared.outcome.Status.{Status}
 use Rattle.rt_bytes.specs.declared.outcome.Status.TheVariants.{Refused}
-use Rattle.rt_bytes.proofs.Writing.{WritesAll-nil, AppendsFront-more}
+use Rattle.rt_bytes.proofs.Writing.{WritesAll-nil, AppendsPrefix-more}
 use Rattle.rt_sql_cut.specs.Piece.{PieceText}
 use Rattle.rt_sql_cut.specs.Cutter.{ready_piece}
 use Rattle.rt_sql_cut.proofs.CutterFront.{whole_at}
@@ -85,12 +85,12 @@ module _ (options : Options) (engine : Engine) (fed out : List ℕ) (come : HasC
           so_far_of options _ _ Refused (rw (append_assoc fed bytes rest) (from_start true (bytes ++ rest) takes.0 Refused (stop true rest))),
         )
 
-    pub fails : (fault : WriteFault) → TakesAll engine bytes new w v f g (Err fault) → (lines : List ℕ) × WritesFront w v f g lines × MayPrintSoFar options (fed ++ bytes) (out ++ lines)
+    pub fails : (fault : WriteFault) → TakesAll engine bytes new w v f g (Err fault) → (lines : List ℕ) × WritesPrefix w v f g lines × MayPrintSoFar options (fed ++ bytes) (out ++ lines)
     fails fault takes =
         let reach = takes.2 come.at come.moves.stands true [] in
         let gives : Gives true engine.options (progress_of engine) (come.at ++ bytes) (takes.0 ++ reach.0) reach.1 = rw (append-nil bytes) at reach.2 in (
           takes.0 ++ reach.0,
-          (AppendsFront-more w v takes.0 reach.0 takes.1.0, takes.1.1),
+          (AppendsPrefix-more w v takes.0 reach.0 takes.1.0, takes.1.1),
           so_far_of options _ _ reach.1 (from_start true bytes (takes.0 ++ reach.0) reach.1 gives),
         )
 
@@ -147,7 +147,7 @@ module _ (options : Options) (engine : Engine) (fed out bytes : List ℕ) (new :
       (taken.0, taken.1, subst (λ (r : Result Flow WriteFault). HasPrintedAt r options new (fed ++ bytes) (out ++ taken.0)) (sym is) taken.2)
 
   pub feed_fails : (fault : WriteFault) → after ≡ Err fault → TakesAll engine bytes new w v f g after
-      → (lines : List ℕ) × WritesFront w v f g lines × MayPrintSoFar options (fed ++ bytes) (out ++ lines)
+      → (lines : List ℕ) × WritesPrefix w v f g lines × MayPrintSoFar options (fed ++ bytes) (out ++ lines)
   feed_fails fault is takes = fails options engine fed out come bytes new w v f g fault (subst (λ r. TakesAll engine bytes new w v f g r) is takes)
 
 pub finishes_at : (options : Options) (engine : Engine) (fed out : List ℕ) (w v : Option (List ℕ)) (f g : ℕ) (before : Result Flow WriteFault) (result : Result Status WriteFault) → before ≡ Ok Goes

@@ -4,7 +4,7 @@ use Rattle.std.proofs.lemmas.List.{take_all, take-append-drop}
 use Rattle.std.specs.Prelude.{◌<◌}
 use Rattle.rt_bytes.specs.Bytes.{WritesAll}
 use Rattle.rt_bytes.specs.declared.device.WriteFault.{WriteFault}
-use Rattle.rt_bytes.proofs.Writing.{WritesAll-trans, WritesAll-nil, WritesFront-after}
+use Rattle.rt_bytes.proofs.Writing.{WritesAll-trans, WritesAll-nil, WritesPrefix-after}
 use Rattle.rt_sql_cut.specs.Cutter.{Front, StandsAt, ready_piece}
 use Rattle.rt_shell.specs.declared.engine.Engine.{Engine}
 use Rattle.rt_shell.specs.declared.engine.Flow.TheVariants.{Goes, Stops}
@@ -65,7 +65,7 @@ module _ (old : Engine) (bytes : List ℕ) (now : Engine) (rest more later : Lis
   pub taking_fails : (fault : WriteFault) → AnswersReady (record now { cutter = c }) new u v h g (Err fault) → TakesAll old bytes new w v f g (Err fault)
   taking_fails fault ready = (
     so_far.lines ++ ready_lines (record now { cutter = c }) ready.answer,
-    WritesFront-after w u v f h g _ _ so_far.writes ready.writes,
+    WritesPrefix-after w u v f h g _ _ so_far.writes ready.writes,
     λ x stands. let m = so_far.moves x stands in rw whole (reaches_step old now c ready.answer new x m.0 _ _ more later m.1 (fed m.0 m.1.stands) ready.answers),
   )
 

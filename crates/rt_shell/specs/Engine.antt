@@ -1,7 +1,7 @@
 -- What an engine does with the pieces of a script.
 use Rattle.std.specs.Prelude.{◌≡◌, ◌⊎◌, ℕ, ◌+◌, Bool, true, false, ◌&&◌, if◌then◌else◌, List, [], ◌++◌, Result, Ok, Err, Option, Some, None, IfOk}
 use Rattle.std.specs.Result.{is_err}
-use Rattle.rt_bytes.specs.Bytes.{Writes, WritesAll, WritesFront}
+use Rattle.rt_bytes.specs.Bytes.{Writes, WritesAll, WritesPrefix}
 use Rattle.rt_bytes.specs.declared.device.WriteFault.{WriteFault}
 use Rattle.rt_sql_cut.specs.Piece.{PieceText}
 use Rattle.rt_sql_cut.specs.Pieces.{IsGap, IsWholePiece, IsLastPiece, Pieces, EndedPieces}
@@ -117,11 +117,11 @@ abbrev pub TakesAll : Engine → List ℕ → Engine → Option (List ℕ) → O
 TakesAll old bytes new w v f g (Ok flow) =
     (lines : List ℕ) × WritesAll w v f g lines × ((x : List ℕ) → StandsAt old.cutter x → FlowsOn flow old x bytes lines new)
 TakesAll old bytes new w v f g (Err fault) =
-    (lines : List ℕ) × WritesFront w v f g lines × ((x : List ℕ) → StandsAt old.cutter x → Reaches old x bytes lines)
+    (lines : List ℕ) × WritesPrefix w v f g lines × ((x : List ℕ) → StandsAt old.cutter x → Reaches old x bytes lines)
 
 -- the input has ended, and the last piece is answered
 abbrev pub Finishes : Engine → Option (List ℕ) → Option (List ℕ) → ℕ → ℕ → Result Status WriteFault → Type 0
 Finishes old w v f g (Ok status) =
     (lines : List ℕ) × WritesAll w v f g lines × ((x : List ℕ) → StandsAt old.cutter x → Gives false old.options (progress_of old) x lines status)
 Finishes old w v f g (Err fault) =
-    (lines : List ℕ) × WritesFront w v f g lines × ((x : List ℕ) → StandsAt old.cutter x → (status : Status) × Gives false old.options (progress_of old) x lines status)
+    (lines : List ℕ) × WritesPrefix w v f g lines × ((x : List ℕ) → StandsAt old.cutter x → (status : Status) × Gives false old.options (progress_of old) x lines status)

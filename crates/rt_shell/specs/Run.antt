@@ -1,7 +1,7 @@
 -- What a whole run does to its reader and its writer (own).
 use Rattle.std.specs.Prelude.{◌≡◌, ◌⊎◌, ℕ, ◌+◌, ◌^◌, ◌<◌, List, ◌++◌, length, Result, Ok, Err, IfSome}
 use Rattle.std.specs.Io.KnownBytes.{Appends, Consumes, IsAtEnd}
-use Rattle.rt_bytes.specs.Bytes.{one_more, AppendsFront}
+use Rattle.rt_bytes.specs.Bytes.{one_more, AppendsPrefix}
 use Rattle.rt_bytes.specs.Devices.{Devices, most_reads, Held}
 use Rattle.rt_bytes.specs.declared.outcome.Status.{Status}
 use Rattle.rt_bytes.specs.declared.outcome.RunFault.{RunFault}
@@ -37,7 +37,7 @@ pub record FailsToWrite (options : Options) (old new : Devices) : Type 0 where
   pub out : List ℕ
   pub consumed : Consumes old.left new.left read
   pub transcript : MayPrintSoFar options read out ⊎ (IsAtEnd new.left × ((status : Status) × MayPrint options read out status))
-  pub wrote : AppendsFront old.written new.written out
+  pub wrote : AppendsPrefix old.written new.written out
   pub why : new.faults ≡ one_more old.faults
   pub no_read_failed : new.failures ≡ old.failures
 

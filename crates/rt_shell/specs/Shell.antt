@@ -1,6 +1,6 @@
 -- What a shell that is fed a script has printed (own).
 use Rattle.std.specs.Prelude.{◌≡◌, ◌≢◌, ℕ, ◌+◌, ◌^◌, ◌<◌, ◌≤◌, List, [], ◌++◌, length, Option, Result, Ok, Err}
-use Rattle.rt_bytes.specs.Bytes.{WritesAll, WritesFront}
+use Rattle.rt_bytes.specs.Bytes.{WritesAll, WritesPrefix}
 use Rattle.rt_bytes.specs.declared.device.WriteFault.{WriteFault}
 use Rattle.rt_bytes.specs.declared.outcome.Status.{Status}
 use Rattle.rt_bytes.specs.declared.outcome.Status.TheVariants.{Refused}
@@ -55,7 +55,7 @@ abbrev pub FeedsOn : Options → List ℕ → List ℕ → Shell → List ℕ �
 FeedsOn options fed out old bytes new w v f g (Ok flow) =
     IsAt new flow × ((lines : List ℕ) × WritesAll w v f g lines × HasPrinted options new (fed ++ bytes) (out ++ lines))
 FeedsOn options fed out old bytes new w v f g (Err Write) =
-    HasFailed new × ((lines : List ℕ) × WritesFront w v f g lines × MayPrintSoFar options (fed ++ bytes) (out ++ lines))
+    HasFailed new × ((lines : List ℕ) × WritesPrefix w v f g lines × MayPrintSoFar options (fed ++ bytes) (out ++ lines))
 FeedsOn options fed out old bytes new w v f g (Err TooLong) =
     (2 ^ 63 < length fed + length bytes) × (new ≡ old) × (v ≡ w) × (g ≡ f)
 
@@ -67,7 +67,7 @@ Feeds old bytes new w v f g result =
 abbrev pub EndsWith : Options → List ℕ → List ℕ → Option (List ℕ) → Option (List ℕ) → ℕ → ℕ → Result Status WriteFault → Type 0
 EndsWith options fed out w v f g (Ok status) = (lines : List ℕ) × WritesAll w v f g lines × MayPrint options fed (out ++ lines) status
 EndsWith options fed out w v f g (Err fault) =
-    (lines : List ℕ) × WritesFront w v f g lines × ((status : Status) × MayPrint options fed (out ++ lines) status)
+    (lines : List ℕ) × WritesPrefix w v f g lines × ((status : Status) × MayPrint options fed (out ++ lines) status)
 
 abbrev pub Ends : Shell → Option (List ℕ) → Option (List ℕ) → ℕ → ℕ → Result Status WriteFault → Type 0
 Ends shell w v f g result = (options : Options) (fed out : List ℕ) → HasPrinted options shell fed out → EndsWith options fed out w v f g result

@@ -2,15 +2,15 @@
 use Rattle.std.proofs.Common.{◌≡◌, ℕ, ◌+◌, ◌<◌, List, ◌++◌, subst, length, take, get_or, Result, Option}
 use Rattle.std.specs.Prelude.{IsErr}
 use Rattle.std.specs.List.{flat_map}
-use Rattle.rt_bytes.specs.Bytes.{WritesAll, WritesFront, Writes}
-use Rattle.rt_bytes.proofs.Writing.{WritesAll-part, WritesFront-part, WritesFront-after, WritesFront-more, Writes-failed}
+use Rattle.rt_bytes.specs.Bytes.{WritesAll, WritesPrefix, Writes}
+use Rattle.rt_bytes.proofs.Writing.{WritesAll-part, WritesPrefix-part, WritesPrefix-after, WritesPrefix-more, Writes-failed}
 
 -- all of xs is written and then a front of ys, with zs to come
 pub Writes-middle : {T E : Type 0} (a b c : Option (List ℕ)) (f g h : ℕ) (r : Result T E) (xs ys zs all : List ℕ) → xs ++ ys ++ zs ≡ all
-    → IsErr r → WritesAll a b f g xs → WritesFront b c g h ys → Writes a c f h r all
+    → IsErr r → WritesAll a b f g xs → WritesPrefix b c g h ys → Writes a c f h r all
 Writes-middle a b c f g h r xs ys zs all e failed p q =
-    Writes-failed a c f h r all failed (subst (WritesFront a c f h) e
-    (WritesFront-more a c f h (xs ++ ys) zs (WritesFront-after a b c f g h xs ys p q)))
+    Writes-failed a c f h r all failed (subst (WritesPrefix a c f h) e
+    (WritesPrefix-more a c f h (xs ++ ys) zs (WritesPrefix-after a b c f g h xs ys p q)))
 
 module _ {X : Type 0} (bytes_of : X → List ℕ) where
   -- the items before i and then item i are written
@@ -21,8 +21,8 @@ module _ {X : Type 0} (bytes_of : X → List ℕ) where
       WritesAll-part bytes_of a b c f g h items i x within p (subst (λ (y : X). WritesAll b c g h (bytes_of y)) is q)
 
   -- the items before i are written, and a front of item i
-  pub WritesFront-item : (a b c : Option (List ℕ)) (f g h : ℕ) (items : List X) (i : ℕ) (x : X) → i < length items → x ≡ get_or items i x
-      → WritesAll a b f g (flat_map bytes_of (take i items)) → WritesFront b c g h (bytes_of x)
-      → WritesFront a c f h (flat_map bytes_of items)
-  WritesFront-item a b c f g h items i x within is p q =
-      WritesFront-part bytes_of a b c f g h items i x within p (subst (λ (y : X). WritesFront b c g h (bytes_of y)) is q)
+  pub WritesPrefix-item : (a b c : Option (List ℕ)) (f g h : ℕ) (items : List X) (i : ℕ) (x : X) → i < length items → x ≡ get_or items i x
+      → WritesAll a b f g (flat_map bytes_of (take i items)) → WritesPrefix b c g h (bytes_of x)
+      → WritesPrefix a c f h (flat_map bytes_of items)
+  WritesPrefix-item a b c f g h items i x within is p q =
+      WritesPrefix-part bytes_of a b c f g h items i x within p (subst (λ (y : X). WritesPrefix b c g h (bytes_of y)) is q)

@@ -4,7 +4,7 @@
 //! time, as are all without auxiliary values, and others value by value. `specs/Lines.antt` names the bytes.
 
 ghost use Rattle.std.specs.Prelude.{◌≡◌, ◌<◌, ◌≤◌, ◌++◌, [], if◌then◌else◌, codes, map, length, slice_index_or, take, drop, IfOk, OnErr};
-ghost use Rattle.rt_bytes.specs.Bytes.{WritesAll, WritesFront};
+ghost use Rattle.rt_bytes.specs.Bytes.{WritesAll, WritesPrefix};
 ghost use Rattle.std.specs.Fmt.{signed_decimal};
 ghost use Rattle.std.specs.List.{flat_map, join_by};
 ghost use Rattle.rt_bytes.specs.Devices.{WritesTo};
@@ -222,7 +222,7 @@ fn write_next<W: ByteWriter>(
     requires within { to ≤ length rows.now }
     ensures next { IfOk result (λ next. (from < next) × (next ≤ to)) }
     ensures written { IfOk result (λ next. WritesAll (W.ByteWriter.written writer.old) (W.ByteWriter.written writer.new) (W.ByteWriter.faults writer.old) (W.ByteWriter.faults writer.new) (flat_map row_line (drop from (take next rows.now)))) }
-    ensures failed { OnErr result (WritesFront (W.ByteWriter.written writer.old) (W.ByteWriter.written writer.new) (W.ByteWriter.faults writer.old) (W.ByteWriter.faults writer.new) (flat_map row_line (drop from rows.now))) }
+    ensures failed { OnErr result (WritesPrefix (W.ByteWriter.written writer.old) (W.ByteWriter.written writer.new) (W.ByteWriter.faults writer.old) (W.ByteWriter.faults writer.new) (flat_map row_line (drop from rows.now))) }
 {
     lines.clear();
     match lines.put_rows(rows, from, to) {

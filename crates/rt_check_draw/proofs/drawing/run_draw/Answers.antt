@@ -1,7 +1,7 @@
 use Rattle.std.proofs.Common.{◌∙◌, ap}
 use Rattle.std.proofs.lemmas.Result.{err_from_is_err_and}
 use Rattle.rt_bytes.specs.Bytes.{one_more}
-use Rattle.rt_bytes.proofs.Writing.{AppendsFront-all}
+use Rattle.rt_bytes.proofs.Writing.{AppendsPrefix-all}
 use Rattle.rt_bytes.proofs.Consuming.{held_at_end, Appends-kept}
 use Rattle.rt_check_draw.proofs.drawing.run_draw.Goals as goal
 
@@ -13,7 +13,7 @@ returns-in_err-flush-clause-draws g c =
     rw (p.1, p.2) (record {
       bytes = c.in_ok-bytes.bytes.items;
       held = held_at_end _ _ _ read.consumed read.at_end;
-      wrote = AppendsFront-all _ _ _ (Appends-kept _ _ _ _ (rw c.deref.ensures.value at said.0.0) c.in_err-flush.ensures.bytes);
+      wrote = AppendsPrefix-all _ _ _ (Appends-kept _ _ _ _ (rw c.deref.ensures.value at said.0.0) c.in_err-flush.ensures.bytes);
       why = c.in_err-flush.ensures.failed ∙ ap one_more said.0.1;
       no_read_failed = read.no_read_failed;
     })

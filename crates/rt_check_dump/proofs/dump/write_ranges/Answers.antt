@@ -3,9 +3,9 @@ use Rattle.std.proofs.lemmas.Slice.Zip.{get_or-zip, length-zip}
 use Rattle.std.proofs.Math.Seq.{take-length}
 use Rattle.rt_check.specs.Conditions.{coordinate}
 use Rattle.std.specs.List.{flat_map, zip}
-use Rattle.rt_bytes.specs.Bytes.{WritesFront, WritesAll}
+use Rattle.rt_bytes.specs.Bytes.{WritesPrefix, WritesAll}
 use Rattle.rt_check_dump.specs.Dump.{range_text}
-use Rattle.rt_bytes.proofs.Writing.{WritesAll-part, WritesFront-part, Writes-failed}
+use Rattle.rt_bytes.proofs.Writing.{WritesAll-part, WritesPrefix-part, Writes-failed}
 use Rattle.rt_check_dump.proofs.dump.write_ranges.Goals as goal
 
 pub returns-in_err-write_range : goal.returns-in_err-write_range
@@ -17,12 +17,12 @@ returns-in_err-write_range g c =
     let high : i < length hi = omega (arith, c.axes-axis-end.ensures.hi, c.axes-axis-end.ensures.value, c.loop-axis-test.true) in
     let within : i < length (zip lo hi) = omega (arith, length-zip lo hi, low, high) in
     let this : (coordinate lo i, coordinate hi i) ≡ get_or (zip lo hi) i (pos 0, pos 0) = sym (get_or-zip lo hi i (pos 0, pos 0) low high) in
-    let front : WritesFront (g.W.ByteWriter.written c.loop-axis.writer) (g.W.ByteWriter.written c.write_range.new.writer) (g.W.ByteWriter.faults c.loop-axis.writer)
+    let front : WritesPrefix (g.W.ByteWriter.written c.loop-axis.writer) (g.W.ByteWriter.written c.write_range.new.writer) (g.W.ByteWriter.faults c.loop-axis.writer)
     (g.W.ByteWriter.faults c.write_range.new.writer) (range_text (get_or (zip lo hi) i (pos 0, pos 0))) =
-    subst (λ (r : ℤ × ℤ). WritesFront (g.W.ByteWriter.written c.loop-axis.writer) (g.W.ByteWriter.written c.write_range.new.writer)
+    subst (λ (r : ℤ × ℤ). WritesPrefix (g.W.ByteWriter.written c.loop-axis.writer) (g.W.ByteWriter.written c.write_range.new.writer)
     (g.W.ByteWriter.faults c.loop-axis.writer) (g.W.ByteWriter.faults c.write_range.new.writer) (range_text r)) this c.in_err-write_range.ensures in
     Writes-failed _ _ _ _ _ _ c.from_residual.ensures.0
-    (WritesFront-part range_text _ _ _ _ _ _ (zip lo hi) i (pos 0, pos 0) within c.loop-axis.invariant front)
+    (WritesPrefix-part range_text _ _ _ _ _ _ (zip lo hi) i (pos 0, pos 0) within c.loop-axis.invariant front)
 
 pub loop-axis-preserved : goal.loop-axis-preserved
 loop-axis-preserved g c =

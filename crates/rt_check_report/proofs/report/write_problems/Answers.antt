@@ -1,12 +1,12 @@
 use Rattle.std.proofs.Common.{arith}
-use Rattle.rt_bytes.proofs.Writing.{WritesAll-part, WritesFront-part, Writes-failed}
+use Rattle.rt_bytes.proofs.Writing.{WritesAll-part, WritesPrefix-part, Writes-failed}
 use Rattle.rt_check_report.specs.Report.{problem_line}
 use Rattle.rt_check_report.proofs.report.write_problems.Goals as goal
 
 pub returns-in_err-write_problem : goal.returns-in_err-write_problem
 returns-in_err-write_problem g c =
     Writes-failed _ _ _ _ _ _ c.from_residual.ensures.0
-    (WritesFront-part problem_line _ _ _ _ _ _ c.args.problems.now c.loop-problem.problem-index _ (omega arith)
+    (WritesPrefix-part problem_line _ _ _ _ _ _ c.args.problems.now c.loop-problem.problem-index _ (omega arith)
     c.loop-problem.invariant c.in_err-write_problem.ensures)
 
 pub loop-problem-preserved : goal.loop-problem-preserved

@@ -1,6 +1,6 @@
 use Rattle.std.proofs.Common.{◌≤◌, ◌<◌, take, drop, length, arith}
 use Rattle.std.specs.List.{flat_map}
-use Rattle.rt_bytes.proofs.Writing.{WritesAll-trans, WritesFront-after, Writes-failed}
+use Rattle.rt_bytes.proofs.Writing.{WritesAll-trans, WritesPrefix-after, Writes-failed}
 use Rattle.rt_shell_lines.specs.Lines.{row_line}
 use Rattle.rt_shell_lines.proofs.Groups.{before_and_between, before_and_after}
 use Rattle.rt_shell_lines.proofs.reply.write_list.Goals as goal
@@ -11,7 +11,7 @@ returns-in_err-next g c =
     let from = c.loop-from.from in
     Writes-failed _ _ _ _ _ _ c.from_residual.ensures.0
     (rw (← before_and_after row_line from rows)
-    (WritesFront-after _ _ _ _ _ _ (flat_map row_line (take from rows)) (flat_map row_line (drop from rows)) c.loop-from.invariant.3 c.in_err-next.ensures.failed))
+    (WritesPrefix-after _ _ _ _ _ _ (flat_map row_line (take from rows)) (flat_map row_line (drop from rows)) c.loop-from.invariant.3 c.in_err-next.ensures.failed))
 
 pub loop-from-preserved : goal.loop-from-preserved
 loop-from-preserved g c =

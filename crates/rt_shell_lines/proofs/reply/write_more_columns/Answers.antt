@@ -1,7 +1,7 @@
 use Rattle.std.proofs.Common.{[], ◌++◌, codes, arith, get_or, slice_index_or}
 use Rattle.std.proofs.lemmas.List.{get_or_default}
 use Rattle.rt_bytes.proofs.Writing.{Writes-failed}
-use Rattle.rt_shell_lines.proofs.Sequences.{WritesAll-item, WritesFront-item}
+use Rattle.rt_shell_lines.proofs.Sequences.{WritesAll-item, WritesPrefix-item}
 use Rattle.rt_shell_lines.specs.Lines.{column_text}
 use Rattle.rt_shell_lines.proofs.reply.write_more_columns.Goals as goal
 
@@ -10,7 +10,7 @@ returns-in_err-write_column_after_bar g c =
     let item = get_or c.args.places.now c.loop-place.place-index 0 in
     let row = slice_index_or c.args.rows.now c.args.at [] in
     Writes-failed _ _ _ _ _ _ c.from_residual.ensures.0
-    (WritesFront-item (λ place. codes "|" ++ column_text row place) _ _ _ _ _ _ c.args.places.now c.loop-place.place-index item (omega arith) (get_or_default c.args.places.now c.loop-place.place-index 0 item (omega arith))
+    (WritesPrefix-item (λ place. codes "|" ++ column_text row place) _ _ _ _ _ _ c.args.places.now c.loop-place.place-index item (omega arith) (get_or_default c.args.places.now c.loop-place.place-index 0 item (omega arith))
     c.loop-place.invariant c.in_err-write_column_after_bar.ensures)
 
 pub loop-place-preserved : goal.loop-place-preserved

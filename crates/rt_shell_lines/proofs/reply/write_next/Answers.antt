@@ -1,7 +1,7 @@
 use Rattle.std.proofs.Common.{◌≤◌, take, drop, Result, Ok, Err, arith, rules}
 use Rattle.std.specs.Prelude.{OnErr}
 use Rattle.std.specs.List.{flat_map}
-use Rattle.rt_bytes.proofs.Writing.{WritesFront-more}
+use Rattle.rt_bytes.proofs.Writing.{WritesPrefix-more}
 use Rattle.rt_shell_lines.specs.Lines.{row_line}
 use Rattle.rt_shell_lines.proofs.Groups.{between_and_after}
 use Rattle.rt_shell_lines.proofs.reply.write_next.Goals as goal
@@ -18,4 +18,4 @@ returns-in_err-write_whole-in-Some-clause-failed g c =
     let le : from ≤ to = omega (arith, c.requires.some) in
     on_err c.from_residual.result
     (rw (← between_and_after row_line from to rows le c.requires.within)
-    (WritesFront-more _ _ _ _ (flat_map row_line (drop from (take to rows))) (flat_map row_line (drop to rows)) (search rules)))
+    (WritesPrefix-more _ _ _ _ (flat_map row_line (drop from (take to rows))) (flat_map row_line (drop to rows)) (search rules)))
