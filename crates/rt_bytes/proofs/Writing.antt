@@ -19,15 +19,15 @@ pub WritesAll-trans : (a b c : Option (List ℕ)) (f g h : ℕ) (xs ys : List �
     → WritesAll a b f g xs → WritesAll b c g h ys → WritesAll a c f h (xs ++ ys)
 WritesAll-trans a b c f g h xs ys p q = (Appends-trans a b c xs ys p.0 q.0, q.1 ∙ p.1)
 
--- all is a front
+-- all is a prefix
 pub AppendsPrefix-all : (a b : Option (List ℕ)) (xs : List ℕ) → Appends a b xs → AppendsPrefix a b xs
 AppendsPrefix-all a b xs p = (length xs, omega arith, subst (Appends a b) (sym (take-length xs)) p)
 
--- nothing is a front
+-- nothing is a prefix
 pub AppendsPrefix-kept : (a b : Option (List ℕ)) (xs : List ℕ) → Keeps a b → AppendsPrefix a b xs
 AppendsPrefix-kept a b xs p = (0, omega arith, Appends-kept a a b [] (Appends-nil a) p)
 
--- a front of xs is one of xs and what follows
+-- a prefix of xs is one of xs and what follows
 pub AppendsPrefix-more : (a b : Option (List ℕ)) (xs ys : List ℕ) → AppendsPrefix a b xs → AppendsPrefix a b (xs ++ ys)
 AppendsPrefix-more a b xs ys p =
     let n = p.0 in
@@ -35,7 +35,7 @@ AppendsPrefix-more a b xs ys p =
     let longer : n ≤ length (xs ++ ys) = omega (arith, length-append xs ys) in
     (n, longer, subst (Appends a b) (sym (take-append-le n xs ys within)) p.2)
 
--- all of xs and then a front of ys is a front of both
+-- all of xs and then a prefix of ys is a prefix of both
 pub AppendsPrefix-after : (a b c : Option (List ℕ)) (xs ys : List ℕ) → Appends a b xs → AppendsPrefix b c ys → AppendsPrefix a c (xs ++ ys)
 AppendsPrefix-after a b c xs ys p q =
     let n = q.0 in
@@ -43,11 +43,11 @@ AppendsPrefix-after a b c xs ys p q =
     let longer : length xs + n ≤ length (xs ++ ys) = omega (arith, length-append xs ys) in
     (length xs + n, longer, subst (Appends a c) (sym (take-append-add xs ys n)) (Appends-trans a b c xs (take n ys) p q.2))
 
--- a front of xs is one of xs and what follows, with the fault counted
+-- a prefix of xs is one of xs and what follows, with the fault counted
 pub WritesPrefix-more : (a b : Option (List ℕ)) (f g : ℕ) (xs ys : List ℕ) → WritesPrefix a b f g xs → WritesPrefix a b f g (xs ++ ys)
 WritesPrefix-more a b f g xs ys p = (AppendsPrefix-more a b xs ys p.0, p.1)
 
--- all of xs and then a front of ys is a front of both
+-- all of xs and then a prefix of ys is a prefix of both
 pub WritesPrefix-after : (a b c : Option (List ℕ)) (f g h : ℕ) (xs ys : List ℕ)
     → WritesAll a b f g xs → WritesPrefix b c g h ys → WritesPrefix a c f h (xs ++ ys)
 WritesPrefix-after a b c f g h xs ys p q = (AppendsPrefix-after a b c xs ys p.0 q.0, q.1 ∙ ap one_more p.1)
@@ -87,7 +87,7 @@ module _ {X : Type 0} (bytes_of : X → List ℕ) where
   WritesAll-part a b c f g h parts i d within p q =
       subst (WritesAll a c f h) (sym (flat_map-more parts i d within)) (WritesAll-trans a b c f g h _ _ p q)
 
-  -- the parts before i are written, and a front of part i
+  -- the parts before i are written, and a prefix of part i
   pub WritesPrefix-part : (a b c : Option (List ℕ)) (f g h : ℕ) (parts : List X) (i : ℕ) (d : X) → i < length parts
       → WritesAll a b f g (flat_map bytes_of (take i parts)) → WritesPrefix b c g h (bytes_of (get_or parts i d))
       → WritesPrefix a c f h (flat_map bytes_of parts)

@@ -15,7 +15,7 @@ abbrev pub PassesOn : {T E F : Type 0} → Result T E → F → ℕ → ℕ → 
 PassesOn (Ok given) fault old new r = (r ≡ Ok given) × (new ≡ old)
 PassesOn (Err reason) fault old new r = (r ≡ Err fault) × (new ≡ one_more old)
 
--- a write of so many bytes took none of them, though there were some
+-- a write of `len` bytes took none of them, though there were some
 abbrev pub TookNone : {E : Type 0} → ℕ → Result ℕ E → Type 0
 TookNone len answer = (0 < len) × (answer ≡ Ok 0)
 
@@ -23,15 +23,15 @@ TookNone len answer = (0 < len) × (answer ≡ Ok 0)
 abbrev pub WritesAll : Option (List ℕ) → Option (List ℕ) → ℕ → ℕ → List ℕ → Type 0
 WritesAll old new faults_old faults_new bytes = Appends old new bytes × (faults_new ≡ faults_old)
 
--- some front of the bytes was written
+-- some prefix of the bytes was written
 abbrev pub AppendsPrefix : Option (List ℕ) → Option (List ℕ) → List ℕ → Type 0
 AppendsPrefix old new bytes = (n : ℕ) × (n ≤ length bytes) × Appends old new (take n bytes)
 
--- a front of the bytes was written, and one fault counted
+-- a prefix of the bytes was written, and one fault counted
 abbrev pub WritesPrefix : Option (List ℕ) → Option (List ℕ) → ℕ → ℕ → List ℕ → Type 0
 WritesPrefix old new faults_old faults_new bytes = AppendsPrefix old new bytes × (faults_new ≡ one_more faults_old)
 
--- at Ok all of the bytes were written; at Err a front of them, and the fault was counted
+-- at Ok all of the bytes were written; at Err a prefix of them, and the fault was counted
 abbrev pub Writes : {T E : Type 0} → Option (List ℕ) → Option (List ℕ) → ℕ → ℕ → Result T E → List ℕ → Type 0
 Writes old new faults_old faults_new r bytes =
     MatchResult r (λ _. WritesAll old new faults_old faults_new bytes) (λ _. WritesPrefix old new faults_old faults_new bytes)

@@ -29,7 +29,8 @@ pub(crate) fn pass_on<T, E: Drop, F: Drop>(
     }
 }
 
-/// Passes on the answer to a write of so many bytes, as `pass_on` does; but a write of bytes that took none of them is a fault.
+/// Passes on the answer to a write of `len` bytes, as `pass_on` does. If there are bytes and the write took none, it is a
+/// fault.
 pub(crate) fn pass_on_write<E: Drop, F: Drop>(
     faults: &mut u64,
     len: usize,

@@ -1,6 +1,6 @@
 //! Readers and writers of bytes, whose contracts know what is left, written and counted.
 //!
-//! `left` and `written` are `None` where the bytes aren't known, as of a file. Contracts then speak of the counts
+//! `left` and `written` are `None` if the bytes aren't known, as of a file. Contracts then speak of the counts
 //! alone.
 
 ghost use Rattle.std.specs.Prelude.{◌≡◌, ℕ, ◌<◌, ◌≤◌, Bool, true, false, List, length, IfOk, OnOk, Option};
@@ -22,7 +22,7 @@ pub struct WriteFault;
 
 /// A source of bytes.
 pub trait ByteReader {
-    // The bytes that reads will give from here on, where they are known (of a file they aren't).
+    // The bytes that reads will give from here on, if they are known (of a file they aren't).
     ghost left: { Self → Option (List ℕ) };
 
     // How many reads failed; the count stays at 2^64 - 1.
@@ -31,7 +31,7 @@ pub trait ByteReader {
     // How many reads there were; the count stays at 2^64 - 1.
     ghost reads: { Self → ℕ };
 
-    /// Fills a front of `buffer` and answers how many bytes that is; `Ok(0)` is the end.
+    /// Fills a prefix of `buffer` and answers its length; `Ok(0)` is the end.
     fn read(&mut self, buffer: &mut [u8]) -> Result<usize, ReadFault>
         requires some { 0 < length buffer.old }
         requires few { length buffer.old ≤ 4096 }
@@ -43,7 +43,7 @@ pub trait ByteReader {
 
 /// Where bytes go.
 pub trait ByteWriter {
-    // The bytes written so far, where they are known.
+    // The bytes written so far, if they are known.
     ghost written: { Self → Option (List ℕ) };
 
     // How many writes and flushes failed; the count stays at 2^64 - 1.
@@ -52,8 +52,8 @@ pub trait ByteWriter {
     // Whether a flush succeeded and no byte was written since.
     ghost flushed: { Self → Bool };
 
-    /// Writes a front of `bytes`, at least one byte where there is one, and answers how many
-    /// those are. An `Err` has written nothing.
+    /// Writes a prefix of `bytes` and answers its length, which is 0 only if there are no bytes. An `Err` has written
+    /// nothing.
     fn write(&mut self, bytes: &[u8]) -> Result<usize, WriteFault>
         ensures count { WritesAtMost result bytes.now }
         ensures progress { IfOk result (λ n. 0 < length bytes.now → 0 < n) }

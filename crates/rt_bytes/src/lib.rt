@@ -4,13 +4,13 @@
 //!   written, and count reads and failures.
 //! - `OverRead` and `OverWrite` lay them over std's `Read` and `Write`.
 //! - `SliceReader` and `Sink` stand in memory.
-//! - `write_whole` and `write_parts` write all that they are given, or a front of it.
+//! - `write_whole` and `write_parts` write all that they are given, or after a fault a prefix of it.
 //! - `Status` and `RunFault`: how a run over a reader and a writer ends.
 //!
 //! Whatever a reader gives and a writer takes, what is left, what was written and how many calls failed is said at
-//! each call; a write that failed has written nothing, and a whole write that failed a front.
+//! each call. A write that failed has written nothing, and a whole write that failed a prefix.
 //!
-//! Stands on std's `Read` and `Write`. Definitions: `specs/Bytes.antt` (counts, whole writes, fronts),
+//! Stands on std's `Read` and `Write`. Definitions: `specs/Bytes.antt` (counts, whole writes, prefixes),
 //! `Devices.antt` (what is known of a run's reader and writer), `Memory.antt`.
 #![tactic(auto)]
 

@@ -1,4 +1,4 @@
-//! Writes of all bytes, or of a front of them where the writer fails.
+//! Writes of all bytes, or of a prefix of them if the writer fails.
 //!
 //! A writer may take only some of the bytes at a time; these calls go on until it has taken all. They don't flush.
 
@@ -7,7 +7,7 @@ ghost use Rattle.rt_bytes.specs.Devices.{WritesTo};
 
 use crate::device::{ByteWriter, WriteFault};
 
-/// Writes all of the bytes. After a fault a front of them is written.
+/// Writes all of the bytes. After a fault a prefix of them is written.
 ///
 /// ```
 /// let mut sink = Sink::new(rt.alloc());
@@ -24,8 +24,7 @@ pub fn write_whole<W: ByteWriter>(writer: &mut W, bytes: &[u8]) -> Result<(), Wr
     Ok(())
 }
 
-/// Writes all of the parts, one after the other. After a fault a front of them together is
-/// written.
+/// Writes all of the parts, one after the other. After a fault a prefix of their bytes is written.
 ///
 /// ```
 /// let mut sink = Sink::new(rt.alloc());
