@@ -1,5 +1,5 @@
 -- Lemmas on tests of each axis.
-use Rattle.std.proofs.Common.{◌≡◌, ℕ, suc, zero, ◌<◌, ◌+◌, inl, inr, Bool, false, ℤ, pos, List, length, set, arith, sym, ap, ◌∙◌}
+use Rattle.std.proofs.Common.{◌≡◌, ℕ, suc, zero, ◌<◌, ◌+◌, inl, inr, Bool, true, false, ◌&&◌, ℤ, pos, List, length, set, arith, refl, sym, ap, ◌∙◌}
 use Rattle.std.proofs.lemmas.Bool.{cases_eq}
 use Rattle.std.proofs.lemmas.List.{get_or-set_same, get_or-set_other}
 use Rattle.rt_check.specs.Conditions.{each_axis, coordinate}
@@ -15,6 +15,17 @@ each_axis-fails test (suc n) k within fails =
           let before : false ≡ each_axis test n = each_axis-fails test n k inside fails in
           grind (arith, before)
     ]
+
+pub and-swap : (a b c d : Bool) → ((a && b) && (c && d)) ≡ ((a && c) && (b && d))
+and-swap true true c d = refl
+and-swap true false true d = refl
+and-swap true false false d = refl
+and-swap false b c d = refl
+
+-- two tests on each axis are one
+pub each_axis-both : (p q : ℕ → Bool) (n : ℕ) → (each_axis p n && each_axis q n) ≡ each_axis (λ k. p k && q k) n
+each_axis-both p q zero = refl
+each_axis-both p q (suc n) = and-swap (each_axis p n) (p n) (each_axis q n) (q n) ∙ ap (λ t. t && (p n && q n)) (each_axis-both p q n)
 
 -- the coordinates below an axis are as wanted, and then that on the axis too
 pub coordinates-more : (xs : List ℤ) (wanted : ℕ → ℤ) (axis : ℕ) (z : ℤ) → axis < length xs → z ≡ wanted axis

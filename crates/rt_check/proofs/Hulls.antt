@@ -6,10 +6,12 @@ use Rattle.std.specs.List.{list_any, list_all, AllZip}
 use Rattle.std.specs.Ordering.{int_eq}
 use Rattle.std.specs.Option.{option_map_or}
 use Rattle.std.proofs.lemmas.Int.{ints}
-use Rattle.std.proofs.lemmas.Bool.{cases_eq}
+use Rattle.std.proofs.lemmas.Bool.{cases_eq, and_parts}
+use Rattle.std.proofs.Math.Bool.{and_assoc, or_assoc, and-true, or-false}
 use Rattle.std.proofs.lemmas.List.{take_more, length-map}
 use Rattle.std.proofs.lemmas.List.Quantifiers.{position-Some}
 use Rattle.std.proofs.lemmas.Slice.Zip.{AllZip-long}
+use Rattle.rt_check.proofs.Axes.{and-swap}
 use Rattle.rt_check.proofs.Known.{find-some}
 use Rattle.rt_check.specs.declared.node.NodeRow.{NodeRow}
 use Rattle.rt_check.specs.declared.node.RawCell.{RawCell}
@@ -38,49 +40,19 @@ low-equal b m p = grind (arith, ints)
 high-equal : (b m : ℤ) → int_le m b ≡ true → int_eq m b ≡ int_le b m
 high-equal b m p = grind (arith, ints)
 
-and-assoc : (a b c : Bool) → (a && (b && c)) ≡ ((a && b) && c)
-and-assoc true b c = refl
-and-assoc false b c = refl
-
-or-assoc : (a b c : Bool) → (a || (b || c)) ≡ ((a || b) || c)
-or-assoc true b c = refl
-or-assoc false b c = refl
-
-and-true : (a : Bool) → (a && true) ≡ a
-and-true true = refl
-and-true false = refl
-
-or-false : (a : Bool) → (a || false) ≡ a
-or-false true = refl
-or-false false = refl
-
-and-left : (a b : Bool) → (a && b) ≡ true → a ≡ true
-and-left true b e = refl
-and-left false b e = e
-
-and-right : (a b : Bool) → (a && b) ≡ true → b ≡ true
-and-right true b e = e
-and-right false b e = let none : ⊥ = cc in absurd none
-
-and-swap : (a b c d : Bool) → ((a && b) && (c && d)) ≡ ((a && c) && (b && d))
-and-swap true true c d = refl
-and-swap true false true d = refl
-and-swap true false false d = refl
-and-swap false b c d = refl
-
 module _ {X : Type 0} (f : X → ℤ) where
   -- a number is at most all exactly where it is at most the least
   least-low : (b m : ℤ) (xs : List X) → (int_le b m && list_all (λ x. int_le b (f x)) xs) ≡ int_le b (fold (λ m x. int_min m (f x)) m xs)
   least-low b m [] = and-true (int_le b m)
   least-low b m (x ∷ xs) =
-      and-assoc (int_le b m) (int_le b (f x)) (list_all (λ x. int_le b (f x)) xs)
+      sym (and_assoc (int_le b m) (int_le b (f x)) (list_all (λ x. int_le b (f x)) xs))
       ∙ ap (λ t. t && list_all (λ x. int_le b (f x)) xs) (min-low b m (f x))
       ∙ least-low b (int_min m (f x)) xs
 
   greatest-high : (b m : ℤ) (xs : List X) → (int_le m b && list_all (λ x. int_le (f x) b) xs) ≡ int_le (fold (λ m x. int_max m (f x)) m xs) b
   greatest-high b m [] = and-true (int_le m b)
   greatest-high b m (x ∷ xs) =
-      and-assoc (int_le m b) (int_le (f x) b) (list_all (λ x. int_le (f x) b) xs)
+      sym (and_assoc (int_le m b) (int_le (f x) b) (list_all (λ x. int_le (f x) b) xs))
       ∙ ap (λ t. t && list_all (λ x. int_le (f x) b) xs) (max-high b m (f x))
       ∙ greatest-high b (int_max m (f x)) xs
 
@@ -90,9 +62,9 @@ module _ {X : Type 0} (f : X → ℤ) where
   least-reached b m [] low = or-false (int_eq m b) ∙ low-equal b m low
   least-reached b m (x ∷ xs) low =
       let all = least-low b m (x ∷ xs) ∙ low in
-      let first : int_le b m ≡ true = and-left _ _ all in
-      let second : int_le b (f x) ≡ true = and-left _ _ (and-right _ _ all) in
-      or-assoc (int_eq m b) (int_eq (f x) b) (list_any (λ x. int_eq (f x) b) xs)
+      let first : int_le b m ≡ true = (and_parts _ _ all).0 in
+      let second : int_le b (f x) ≡ true = (and_parts _ _ (and_parts _ _ all).1).0 in
+      sym (or_assoc (int_eq m b) (int_eq (f x) b) (list_any (λ x. int_eq (f x) b) xs))
       ∙ ap (λ t. t || list_any (λ x. int_eq (f x) b) xs) (min-reached b m (f x) first second)
       ∙ least-reached b (int_min m (f x)) xs low
 
@@ -101,9 +73,9 @@ module _ {X : Type 0} (f : X → ℤ) where
   greatest-reached b m [] high = or-false (int_eq m b) ∙ high-equal b m high
   greatest-reached b m (x ∷ xs) high =
       let all = greatest-high b m (x ∷ xs) ∙ high in
-      let first : int_le m b ≡ true = and-left _ _ all in
-      let second : int_le (f x) b ≡ true = and-left _ _ (and-right _ _ all) in
-      or-assoc (int_eq m b) (int_eq (f x) b) (list_any (λ x. int_eq (f x) b) xs)
+      let first : int_le m b ≡ true = (and_parts _ _ all).0 in
+      let second : int_le (f x) b ≡ true = (and_parts _ _ (and_parts _ _ all).1).0 in
+      sym (or_assoc (int_eq m b) (int_eq (f x) b) (list_any (λ x. int_eq (f x) b) xs))
       ∙ ap (λ t. t || list_any (λ x. int_eq (f x) b) xs) (max-reached b m (f x) first second)
       ∙ greatest-reached b (int_max m (f x)) xs high
 
@@ -136,8 +108,8 @@ each_axis-at : (p : ℕ → Bool) (n k : ℕ) → k < n → each_axis p n ≡ tr
 each_axis-at p zero k within e = let none : ⊥ = omega arith in absurd none
 each_axis-at p (suc n) k within e =
     elim (cases_eq k n) [
-      | inl same ↦ ap p same ∙ and-right (each_axis p n) (p n) e
-      | inr other ↦ let inside : k < n = omega (arith, other) in each_axis-at p n k inside (and-left (each_axis p n) (p n) e)
+      | inl same ↦ ap p same ∙ (and_parts (each_axis p n) (p n) e).1
+      | inr other ↦ let inside : k < n = omega (arith, other) in each_axis-at p n k inside (and_parts (each_axis p n) (p n) e).0
     ]
 
 module _ {D : ℕ} (cell fit first : RawCell D) (others : List (RawCell D))
@@ -171,8 +143,8 @@ module _ {D : ℕ} (cell fit first : RawCell D) (others : List (RawCell D))
       let b = coordinate cell.lo k in
       let e = coordinate cell.hi k in
       let here = each_axis-at (λ k. int_le (coordinate cell.lo k) (coordinate fit.lo k) && int_le (coordinate fit.hi k) (coordinate cell.hi k)) D k within held in
-      let low = sym (ap (int_le b) (fits k within).0) ∙ and-left _ _ here in
-      let high = sym (ap (λ z. int_le z e) (fits k within).1) ∙ and-right _ _ here in
+      let low = sym (ap (int_le b) (fits k within).0) ∙ (and_parts _ _ here).0 in
+      let high = sym (ap (λ z. int_le z e) (fits k within).1) ∙ (and_parts _ _ here).1 in
       ap (λ t. t && list_any (λ x. int_eq (coordinate x.hi k) e) (first ∷ others))
       (least-reached (λ (x : RawCell D). coordinate x.lo k) b (coordinate first.lo k) others low ∙ ap (λ z. int_le z b) (sym (fits k within).0))
       ∙ ap (λ t. int_le (coordinate fit.lo k) b && t)

@@ -10,7 +10,7 @@ use Rattle.std.specs.Ordering.{int_eq}
 use Rattle.rt_check.specs.declared.node.RawCell.{RawCell}
 use Rattle.rt_check.specs.declared.node.NodeRow.{NodeRow}
 use Rattle.rt_check.specs.Conditions.{times_named, is_leaf, leaf_cells, inner_cells}
-use Rattle.rt_check.specs.Tally.{tallies, named_by_leaves, cells_naming}
+use Rattle.rt_check.specs.Tally.{tallies, are_named_by_leaves, cells_naming}
 use Rattle.rt_check.specs.declared.tally.Named.{Named}
 use Rattle.rt_check.specs.declared.tally.Named.TheVariants.{Nodes, Rows}
 use Rattle.rt_check.proofs.Known.{same_number}
@@ -109,7 +109,7 @@ module _ {D : ℕ} where
   tallies-at key (x ∷ xs) cells (suc i) d within = let inside : i < length xs = omega (arith, within) in tallies-at key xs cells i d inside
 
   -- one node more adds its cells, if it is of the wanted kind
-  pub cells_naming-more : (named : Named) (nodes : List (NodeRow D)) (i : ℕ) (d : NodeRow D) → i < length nodes → is_leaf (get_or nodes i d) ≡ named_by_leaves named
+  pub cells_naming-more : (named : Named) (nodes : List (NodeRow D)) (i : ℕ) (d : NodeRow D) → i < length nodes → is_leaf (get_or nodes i d) ≡ are_named_by_leaves named
       → cells_naming named (take (i + 1) nodes) ≡ cells_naming named (take i nodes) ++ (get_or nodes i d).cells
   cells_naming-more Rows nodes i d within e =
       ap leaf_cells (take_more nodes i d within) ∙ flat_map-append (λ n. cond (is_leaf n) n.cells []) (take i nodes) (get_or nodes i d ∷ [])
@@ -119,7 +119,7 @@ module _ {D : ℕ} where
       ∙ ap (λ l. inner_cells (take i nodes) ++ l) (append-nil _ ∙ ap (λ b. cond b [] (get_or nodes i d).cells) e)
 
   -- a node of the other kind adds none
-  pub cells_naming-same : (named : Named) (nodes : List (NodeRow D)) (i : ℕ) (d : NodeRow D) → i < length nodes → is_leaf (get_or nodes i d) ≡ not (named_by_leaves named)
+  pub cells_naming-same : (named : Named) (nodes : List (NodeRow D)) (i : ℕ) (d : NodeRow D) → i < length nodes → is_leaf (get_or nodes i d) ≡ not (are_named_by_leaves named)
       → cells_naming named (take (i + 1) nodes) ≡ cells_naming named (take i nodes)
   cells_naming-same Rows nodes i d within e =
       ap leaf_cells (take_more nodes i d within) ∙ flat_map-append (λ n. cond (is_leaf n) n.cells []) (take i nodes) (get_or nodes i d ∷ [])

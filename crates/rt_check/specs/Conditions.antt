@@ -34,7 +34,7 @@ each_axis test (suc n) = each_axis test n && test n
 abbrev pub coordinate : List ℤ → ℕ → ℤ
 coordinate list axis = slice_index_or list axis (pos 0)
 
--- the row entry of that id, where it is listed
+-- the row entry of that id, if it is listed
 abbrev pub entry_of : List RowEntry → ℤ → Option RowEntry
 entry_of rows id = find (λ r. int_eq id r.id) rows
 
@@ -43,7 +43,7 @@ module _ {D : ℕ} where
   abbrev pub is_leaf : NodeRow D → Bool
   is_leaf node = node.level == 0
 
-  -- the node of that number, where it is listed
+  -- the node of that number, if it is listed
   abbrev pub node_of : List (NodeRow D) → ℤ → Option (NodeRow D)
   node_of nodes number = find (λ n. int_eq number n.number) nodes
 
@@ -90,7 +90,7 @@ module _ {D : ℕ} where
       each_axis (λ axis. int_le (coordinate outer.lo axis) (coordinate inner.lo axis)
       && int_le (coordinate inner.hi axis) (coordinate outer.hi axis)) D
 
-  -- C5: where the cell names a listed node, that node's cells lie in the cell
+  -- C5: if the cell names a listed node, that node's cells lie in the cell
   abbrev pub holds_child : ShadowLists D → RawCell D → Bool
   holds_child s cell = option_map_or (λ child. list_all (λ x. lies_in x cell) child.cells) (node_of s.nodes cell.number) true
 
@@ -104,7 +104,7 @@ module _ {D : ℕ} where
   abbrev pub is_hull : RawCell D → List (RawCell D) → Bool
   is_hull cell cells = list_all (λ x. lies_in x cell) cells && is_reached cell cells
 
-  -- C6: where the cell names a listed node that has cells, the cell is their least lo and greatest hi
+  -- C6: if the cell names a listed node that has cells, the cell is their least lo and greatest hi
   abbrev pub fits_child : ShadowLists D → RawCell D → Bool
   fits_child s cell = option_map_or (λ child. (length child.cells == 0) || is_hull cell child.cells) (node_of s.nodes cell.number) true
 

@@ -26,7 +26,7 @@ module _ {D : ℕ} where
   abbrev pub AllFit : List (NodeRow D) → List (Option (RawCell D)) → Type 0
   AllFit nodes fits = AllZip (λ node fit. Fits node.cells fit) nodes fits
 
-  -- the cell that fits a node, where that is listed
+  -- the cell that fits a node, if that is listed
   abbrev pub FitsListed : Option (NodeRow D) → Option (RawCell D) → Type 0
   FitsListed None fit = fit ≡ None
   FitsListed (Some node) fit = Fits node.cells fit

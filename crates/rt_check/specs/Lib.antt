@@ -1,6 +1,6 @@
 pub mod Shadow
 pub mod ShadowInside
 pub mod Conditions
-pub mod CellConditions
+pub mod ProblemLists
 pub mod Tally
 pub mod Fits

@@ -5,8 +5,8 @@
 
 ghost use Rattle.std.specs.Prelude.{◌≡◌, ◌++◌, IfOk, OnOk};
 ghost use Rattle.rt_check.specs.Shadow.{numbers_of, ids_of};
-ghost use Rattle.rt_check.specs.Conditions.{has_place, is_filled, has_cell, inner_cells, leaf_cells, node_problems, cell_problems, cell_problems_of, row_problems, root_problems, problems_of};
-ghost use Rattle.rt_check.specs.CellConditions.{condition_of, meets_condition};
+ghost use Rattle.rt_check.specs.Conditions.{inner_cells, leaf_cells, root_problems, problems_of};
+ghost use Rattle.rt_check.specs.ProblemLists.{place_problems, problems_in, problems_under, fill_problems, entry_problems};
 ghost use Rattle.rt_check.specs.Fits.{AllFit};
 ghost use Rattle.rt_check.specs.Tally.{tallies};
 
@@ -71,8 +71,7 @@ fn list_cells_of<const D: usize>(
     node: &NodeRow<D>,
 ) -> Result<(), AllocError>
     requires { AllFit shadow.now.nodes fits.now }
-    ensures { OnOk result (problems.new.items ≡ problems.old.items
-        ++ cell_problems_of (condition_of condition) (meets_condition shadow.now condition) node.now) }
+    ensures { OnOk result (problems.new.items ≡ problems.old.items ++ problems_in shadow.now condition node.now) }
 {
     for (index, cell) in node.cells.as_slice().iter().enumerate() {
         if meets(shadow, fits, condition, node, cell) {
@@ -91,8 +90,7 @@ fn list_cells<const D: usize>(
     condition: CellCondition,
 ) -> Result<(), AllocError>
     requires { AllFit shadow.now.nodes fits.now }
-    ensures { OnOk result (problems.new.items ≡ problems.old.items
-        ++ cell_problems (condition_of condition) (meets_condition shadow.now condition) shadow.now.nodes) }
+    ensures { OnOk result (problems.new.items ≡ problems.old.items ++ problems_under shadow.now condition) }
 {
     for node in shadow.nodes() {
         list_cells_of(problems, shadow, fits, condition, node)?;
@@ -105,7 +103,7 @@ fn list_unfilled<const D: usize>(
     problems: &mut Vec<Problem>,
     shadow: &Shadow<D>,
 ) -> Result<(), AllocError>
-    ensures { OnOk result (problems.new.items ≡ problems.old.items ++ node_problems Condition.IsFilled (is_filled shadow.now) shadow.now.nodes) }
+    ensures { OnOk result (problems.new.items ≡ problems.old.items ++ fill_problems shadow.now) }
 {
     for node in shadow.nodes() {
         if is_filled(shadow, node) {
@@ -118,14 +116,14 @@ fn list_unfilled<const D: usize>(
 
 /// Lists the nodes that don't stand at their place.
 ///
-/// `named` is for each node how many cells of inner nodes name it, 2 standing for more.
+/// `named` tells for each node how many cells of inner nodes name it; 2 stands for more.
 fn list_misplaced<const D: usize>(
     problems: &mut Vec<Problem>,
     shadow: &Shadow<D>,
     named: &[u8],
 ) -> Result<(), AllocError>
     requires { named.now ≡ tallies (numbers_of shadow.now.nodes) (inner_cells shadow.now.nodes) }
-    ensures { OnOk result (problems.new.items ≡ problems.old.items ++ node_problems Condition.HasPlace (has_place shadow.now) shadow.now.nodes) }
+    ensures { OnOk result (problems.new.items ≡ problems.old.items ++ place_problems shadow.now) }
 {
     for (index, node) in shadow.nodes().iter().enumerate() {
         if has_place(shadow, node, named[index]) {
@@ -138,14 +136,14 @@ fn list_misplaced<const D: usize>(
 
 /// Lists the row entries that don't have exactly one cell.
 ///
-/// `named` is for each entry how many cells of leaves name it, 2 standing for more.
+/// `named` tells for each entry how many cells of leaves name it; 2 stands for more.
 fn list_rows<const D: usize>(
     problems: &mut Vec<Problem>,
     shadow: &Shadow<D>,
     named: &[u8],
 ) -> Result<(), AllocError>
     requires { named.now ≡ tallies (ids_of shadow.now.rows) (leaf_cells shadow.now.nodes) }
-    ensures { OnOk result (problems.new.items ≡ problems.old.items ++ row_problems Condition.HasCell (has_cell shadow.now) shadow.now.rows) }
+    ensures { OnOk result (problems.new.items ≡ problems.old.items ++ entry_problems shadow.now) }
 {
     for (index, row) in shadow.rows().iter().enumerate() {
         if named[index] == 1 {
@@ -157,7 +155,7 @@ fn list_rows<const D: usize>(
 }
 
 /// Lists all problems of a shadow, each once: by condition, and then in the order of its lists.
-/// The list is empty exactly where the shadow is sound.
+/// The list is empty exactly if the shadow is sound.
 ///
 /// ```
 /// let keys = RandomState::new(&rt)?;

@@ -3,9 +3,9 @@
 //! Each has the name that its definition has in `specs/Conditions.antt`. C9 compares a count, which `checker`
 //! does.
 
-ghost use Rattle.std.specs.Prelude.{◌≡◌, ◌<◌, ◌&&◌, min, int_le};
-ghost use Rattle.rt_check.specs.Conditions.{coordinate, has_root, is_root, is_below, has_place, names_child, is_ordered, lies_in, holds_child, fits_child, is_filled, has_entry, times_named, inner_cells};
-ghost use Rattle.rt_check.specs.CellConditions.{meets_condition};
+ghost use Rattle.std.specs.Prelude.{◌≡◌, ◌<◌, min, int_le};
+ghost use Rattle.rt_check.specs.Conditions.{each_axis, coordinate, has_root, is_root, is_below, has_place, names_child, is_ordered, lies_in, holds_child, fits_child, is_filled, has_entry, times_named, inner_cells};
+ghost use Rattle.rt_check.specs.ProblemLists.{meets_condition};
 ghost use Rattle.rt_check.specs.Fits.{AllFit};
 
 use crate::fits::fit_of;
@@ -29,7 +29,7 @@ pub(crate) enum CellCondition {
 }
 
 impl CellCondition {
-    ghost use Rattle.rt_check.specs.CellConditions.{condition_of};
+    ghost use Rattle.rt_check.specs.ProblemLists.{condition_of};
 
     /// The condition by its name among all.
     pub(crate) fn condition(self) -> Condition
@@ -45,43 +45,38 @@ impl CellCondition {
     }
 }
 
-/// Whether lo is at most hi on that axis.
-fn is_ordered_on<const D: usize>(cell: &RawCell<D>, axis: usize) -> bool
+/// Whether the first coordinate on that axis is at most the second.
+fn is_at_most_on<const D: usize>(low: &[i32; D], high: &[i32; D], axis: usize) -> bool
     requires { axis < D }
-    ensures { result ≡ int_le (coordinate cell.now.lo axis) (coordinate cell.now.hi axis) }
+    ensures { result ≡ int_le (coordinate low.now axis) (coordinate high.now axis) }
 {
-    cell.lo[axis] <= cell.hi[axis]
+    low[axis] <= high[axis]
 }
 
+/// Whether on each axis the first coordinate is at most the second.
+fn are_at_most<const D: usize>(low: &[i32; D], high: &[i32; D]) -> bool
+    ensures { result ≡ each_axis (λ axis. int_le (coordinate low.now axis) (coordinate high.now axis)) D }
+{
+    for axis in 0..D {
+        if !is_at_most_on(low, high, axis) {
+            return false;
+        }
+    }
+    true
+}
+
+/// C4: on each axis lo is at most hi.
 fn is_ordered<const D: usize>(cell: &RawCell<D>) -> bool
     ensures { result ≡ is_ordered cell.now }
 {
-    for axis in 0..D {
-        if !is_ordered_on(cell, axis) {
-            return false;
-        }
-    }
-    true
+    are_at_most(&cell.lo, &cell.hi)
 }
 
-/// Whether the inner cell's range lies within the outer one's on that axis.
-fn lies_in_on<const D: usize>(inner: &RawCell<D>, outer: &RawCell<D>, axis: usize) -> bool
-    requires { axis < D }
-    ensures { result ≡ (int_le (coordinate outer.now.lo axis) (coordinate inner.now.lo axis)
-        && int_le (coordinate inner.now.hi axis) (coordinate outer.now.hi axis)) }
-{
-    outer.lo[axis] <= inner.lo[axis] && inner.hi[axis] <= outer.hi[axis]
-}
-
+/// Whether on each axis the inner cell's range lies within the outer one's.
 fn lies_in<const D: usize>(inner: &RawCell<D>, outer: &RawCell<D>) -> bool
     ensures { result ≡ lies_in inner.now outer.now }
 {
-    for axis in 0..D {
-        if !lies_in_on(inner, outer, axis) {
-            return false;
-        }
-    }
-    true
+    are_at_most(&outer.lo, &inner.lo) && are_at_most(&inner.hi, &outer.hi)
 }
 
 /// C3: the cell names a listed node whose parent is this node.
@@ -136,7 +131,7 @@ fn has_entry<const D: usize>(shadow: &Shadow<D>, node: &NodeRow<D>, cell: &RawCe
 
 /// Whether a cell of a node meets the condition.
 ///
-/// `fits` is for each node of the shadow the cell that fits it.
+/// `fits` has for each node of the shadow the cell that fits it.
 pub(crate) fn meets<const D: usize>(
     shadow: &Shadow<D>,
     fits: &[Option<RawCell<D>>],
@@ -167,7 +162,7 @@ pub(crate) fn has_root<const D: usize>(shadow: &Shadow<D>) -> bool
     }
 }
 
-/// The root is the node with the root's number.
+/// Whether the node is the one with the root's number.
 fn is_root<const D: usize>(shadow: &Shadow<D>, node: &NodeRow<D>) -> bool
     ensures { result ≡ is_root shadow.now node.now }
 {
@@ -189,7 +184,7 @@ fn is_below<const D: usize>(shadow: &Shadow<D>, node: &NodeRow<D>) -> bool
 
 /// C2: the node is the root, or stands below its parent and is named once.
 ///
-/// `named` is how many cells of inner nodes name it, 2 standing for more.
+/// `named` is how many cells of inner nodes name it; 2 stands for more.
 pub(crate) fn has_place<const D: usize>(shadow: &Shadow<D>, node: &NodeRow<D>, named: u8) -> bool
     requires { named ≡ min 2 (times_named node.now.number (inner_cells shadow.now.nodes)) }
     ensures { result ≡ has_place shadow.now node.now }

@@ -1,6 +1,6 @@
 //! The cell that fits a node, the hull of its cells, found once for all of the cells that name the node.
 //!
-//! A cell holds all cells of a node exactly where it holds their hull, so C5 and C6 look at the hull alone
+//! A cell holds all cells of a node exactly if it holds their hull, so C5 and C6 look at the hull alone
 //! (`specs/Fits.antt`).
 
 ghost use Rattle.std.specs.Prelude.{◌≡◌, ◌<◌, ◌≤◌, IfOk};
@@ -36,7 +36,7 @@ fn greatest_hi<const D: usize>(first: &RawCell<D>, others: &[RawCell<D>], axis: 
     greatest
 }
 
-/// The hull of cells, where there are some; it has the number of the first.
+/// The hull of cells, with the number of the first; none if there are no cells.
 fn fitting_cell<const D: usize>(cells: &[RawCell<D>]) -> Option<RawCell<D>>
     ensures { Fits cells.now result }
 {
@@ -66,7 +66,7 @@ pub(crate) fn fitting_cells<const D: usize>(
     Ok(fits)
 }
 
-/// The cell that fits the node that a cell names, where that is listed and has cells.
+/// The cell that fits the node that a cell names, if that is listed and has cells.
 pub(crate) fn fit_of<'a, const D: usize>(
     shadow: &Shadow<D>,
     fits: &'a [Option<RawCell<D>>],

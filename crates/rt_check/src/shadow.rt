@@ -69,7 +69,7 @@ impl<const D: usize> Shadow<D> {
     ghost use Rattle.rt_check.specs.Shadow.{numbers_of, ids_of, with_cell};
     ghost use Rattle.rt_check.specs.Conditions.{node_of, entry_of};
 
-    /// Nothing is listed yet. Look-ups hash by `keys`, which are to be random where others choose the
+    /// Nothing is listed yet. Look-ups hash by `keys`, which are to be random if others choose the
     /// numbers and ids.
     pub fn new(alloc: Global, keys: RandomState, capacity: Capacity, root: i64) -> Shadow<D>
         requires some { 1 ≤ D }
@@ -153,7 +153,7 @@ impl<const D: usize> Shadow<D> {
         Ok(())
     }
 
-    /// Gives the last node one cell more; where no node is listed, nothing changes. After an
+    /// Gives the last node one cell more; if no node is listed, nothing changes. After an
     /// `AllocError` nothing has changed.
     pub fn add_cell(&mut self, cell: RawCell<D>) -> Result<(), AllocError>
         ensures ok { OnOk result (self.new ≡ with_cell self.old cell.entry) }
@@ -181,14 +181,14 @@ impl<const D: usize> Shadow<D> {
         &self.ids
     }
 
-    /// Where in the list of nodes the node of that number stands, counted from 0.
+    /// The place in the list of nodes of the node of that number, counted from 0.
     pub(crate) fn place_of(&self, number: i64) -> Option<usize>
         ensures { result ≡ position (int_eq number) (numbers_of self.now.nodes) }
     {
         self.numbers.get_index_of(&number)
     }
 
-    /// The node of that number, where it is listed.
+    /// The node of that number, if it is listed.
     pub fn node(&self, number: i64) -> Option<&NodeRow<D>>
         ensures { option_copied result ≡ node_of self.now.nodes number }
     {
@@ -198,7 +198,7 @@ impl<const D: usize> Shadow<D> {
         }
     }
 
-    /// The row entry of that id, where it is listed.
+    /// The row entry of that id, if it is listed.
     pub fn row(&self, id: i64) -> Option<&RowEntry>
         ensures { option_copied result ≡ entry_of self.now.rows id }
     {

@@ -6,7 +6,7 @@ ghost use Rattle.std.specs.Prelude.{◌≡◌, ◌∷◌, [], ◌++◌, List, le
 ghost use Rattle.std.specs.Ordering.{int_eq};
 ghost use Rattle.indexmap.specs.IndexSet.{IsUnique};
 ghost use Rattle.rt_check.specs.declared.node.RawCell.{RawCell as Cell};
-ghost use Rattle.rt_check.specs.Tally.{tallies, listed, cells_naming};
+ghost use Rattle.rt_check.specs.Tally.{tallies, tallies_of};
 
 use crate::node::RawCell;
 use crate::shadow::Shadow;
@@ -17,15 +17,17 @@ use std::hash::RandomState;
 /// What cells name: those of leaves name rows, and the others nodes.
 #[derive(Clone, Copy)]
 pub(crate) enum Named {
+    /// The nodes, by their numbers.
     Nodes,
+    /// The row entries, by their ids.
     Rows,
 }
 
 impl Named {
-    ghost use Rattle.rt_check.specs.Tally.{named_by_leaves};
+    ghost use Rattle.rt_check.specs.Tally.{are_named_by_leaves};
 
     fn are_named_by_leaves(self) -> bool
-        ensures { result ≡ named_by_leaves self }
+        ensures { result ≡ are_named_by_leaves self }
     {
         match self {
             Named::Nodes => false,
@@ -73,14 +75,13 @@ fn count_cells<const D: usize>(
     }
 }
 
-/// Counts for each of a shadow's nodes, or of its row entries, how many cells name it, 2 standing
-/// for more.
+/// Counts for each of a shadow's nodes, or of its row entries, how many cells name it; 2 stands for more.
 pub(crate) fn tally<const D: usize>(
     alloc: Global,
     shadow: &Shadow<D>,
     named: Named,
 ) -> Result<Vec<u8>, AllocError>
-    ensures { IfOk result (λ counts. counts.items ≡ tallies (listed named shadow.now) (cells_naming named shadow.now.nodes)) }
+    ensures { IfOk result (λ counts. counts.items ≡ tallies_of named shadow.now) }
 {
     let numbers = match named {
         Named::Nodes => shadow.numbers(),

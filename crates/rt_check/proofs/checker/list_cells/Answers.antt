@@ -3,7 +3,7 @@ use Rattle.std.specs.List.{flat_map}
 use Rattle.rt_check.specs.declared.problem.Problem.{Problem}
 use Rattle.rt_check.specs.declared.node.NodeRow.{NodeRow}
 use Rattle.rt_check.specs.Conditions.{cell_problems_of}
-use Rattle.rt_check.specs.CellConditions.{condition_of, meets_condition}
+use Rattle.rt_check.specs.ProblemLists.{condition_of, meets_condition}
 use Rattle.rt_check.proofs.Listing.{flat_map-adds}
 use Rattle.rt_check.proofs.checker.list_cells.Goals as goal
 

@@ -1,6 +1,6 @@
 use Rattle.std.proofs.Common.{◌≡◌, ◌++◌, drop}
 use Rattle.rt_check.specs.Conditions.{cell_problems}
-use Rattle.rt_check.specs.CellConditions.{condition_of, meets_condition}
+use Rattle.rt_check.specs.ProblemLists.{condition_of, meets_condition}
 use Rattle.rt_check.proofs.checker.list_cells.Given as goal
 
 -- what is listed, and what the rest will add, is the whole

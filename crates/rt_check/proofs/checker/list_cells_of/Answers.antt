@@ -2,7 +2,7 @@ use Rattle.std.proofs.Common.{◌≡◌, ℕ, ◌++◌, ◌∷◌, [], Bool, sym
 use Rattle.rt_check.specs.declared.problem.Problem.{Problem}
 use Rattle.rt_check.specs.declared.node.RawCell.{RawCell}
 use Rattle.rt_check.specs.Conditions.{failing, numbered}
-use Rattle.rt_check.specs.CellConditions.{condition_of, meets_condition}
+use Rattle.rt_check.specs.ProblemLists.{condition_of, meets_condition}
 use Rattle.rt_check.proofs.Listing.{numbered-passes, numbered-fails, numbered-ends}
 use Rattle.rt_check.proofs.checker.list_cells_of.Goals as goal
 
