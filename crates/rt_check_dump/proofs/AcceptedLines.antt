@@ -2,6 +2,7 @@
 use Rattle.std.proofs.Common.{◌≡◌, ℕ, suc, zero, ◌+◌, ◌*◌, ◌<◌, ℤ, List, [], ◌∷◌, Bool, true, false, ◌&&◌, cond, Option, Some, None, refl, sym, ◌∙◌, ap, zip, arith, codes, bytes_eq, option_map, option_and_then, flat_map}
 use Rattle.std.specs.Prelude.{nat_le}
 use Rattle.std.specs.Fmt.{decimal, signed_decimal}
+use Rattle.std.proofs.lemmas.Bool.{and_parts}
 use Rattle.rt_check.specs.declared.node.RawCell.{RawCell}
 use Rattle.rt_check.specs.declared.node.RowEntry.{RowEntry}
 use Rattle.rt_check_dump.specs.declared.lines.LineKind.{LineKind}
@@ -12,7 +13,7 @@ use Rattle.rt_check_dump.specs.declared.reading.Heading.{Heading}
 use Rattle.rt_check_dump.specs.Numbers.{is_number, number_of, positive_of, count_of, byte_of, coordinate_of, parent_of}
 use Rattle.rt_check_dump.specs.Lines.{are_numbers, is_plain, is_parent, is_node, is_cell, kind_of, node_head, row_entry, ranges_of, raw_cell, axes_of, capacity_of, header_of}
 use Rattle.rt_check_dump.specs.Dump.{line, parent_word, range_words, row_line, end_line, cell_line}
-use Rattle.rt_check_dump.proofs.AcceptedWords.{ended, both, passed, same_word, text-positive, text-coordinate, text-count, text-byte, text-parent}
+use Rattle.rt_check_dump.proofs.AcceptedWords.{ended, passed, same_word, text-positive, text-coordinate, text-count, text-byte, text-parent}
 use Rattle.rt_check_dump.proofs.Spelled.{text-number}
 
 -- the test of a kind among the tests of all of them
@@ -77,11 +78,11 @@ node-text (k ∷ a ∷ b ∷ []) h kind e = let no : ⊥ = cc in absurd no
 node-text (k ∷ a ∷ b ∷ p ∷ []) h kind e = let no : ⊥ = cc in absurd no
 node-text (k ∷ a ∷ b ∷ p ∷ c ∷ ws) h kind e =
     let parts = head-parts (positive_of a) (byte_of b) (parent_of p) (count_of c) h e in
-    let first = both (bytes_eq k (codes "node")) (is_number a && (is_number b && (is_parent p && (is_number c && are_numbers 0 ws)))) kind in
-    let second = both (is_number a) (is_number b && (is_parent p && (is_number c && are_numbers 0 ws))) first.1 in
-    let third = both (is_number b) (is_parent p && (is_number c && are_numbers 0 ws)) second.1 in
-    let fourth = both (is_parent p) (is_number c && are_numbers 0 ws) third.1 in
-    let fifth = both (is_number c) (are_numbers 0 ws) fourth.1 in
+    let first = and_parts (bytes_eq k (codes "node")) (is_number a && (is_number b && (is_parent p && (is_number c && are_numbers 0 ws)))) kind in
+    let second = and_parts (is_number a) (is_number b && (is_parent p && (is_number c && are_numbers 0 ws))) first.1 in
+    let third = and_parts (is_number b) (is_parent p && (is_number c && are_numbers 0 ws)) second.1 in
+    let fourth = and_parts (is_parent p) (is_number c && are_numbers 0 ws) third.1 in
+    let fifth = and_parts (is_number c) (are_numbers 0 ws) fourth.1 in
     ap (λ k. line k (a ∷ b ∷ p ∷ c ∷ ws)) (same_word k (codes "node") first.0)
     ∙ ap (λ a. line (codes "node") (a ∷ b ∷ p ∷ c ∷ ws)) (text-positive a h.number second.0 parts.0)
     ∙ ap (λ b. line (codes "node") (signed_decimal h.number ∷ b ∷ p ∷ c ∷ ws)) (text-byte b h.level third.0 parts.1)
@@ -103,9 +104,9 @@ row-text (k ∷ []) r kind e = let no : ⊥ = cc in absurd no
 row-text (k ∷ a ∷ []) r kind e = let no : ⊥ = cc in absurd no
 row-text (k ∷ a ∷ b ∷ ws) r kind e =
     let parts = row-parts (number_of a) (positive_of b) r e in
-    let first = both (bytes_eq k (codes "row")) (is_number a && (is_number b && are_numbers 0 ws)) kind in
-    let second = both (is_number a) (is_number b && are_numbers 0 ws) first.1 in
-    let third = both (is_number b) (are_numbers 0 ws) second.1 in
+    let first = and_parts (bytes_eq k (codes "row")) (is_number a && (is_number b && are_numbers 0 ws)) kind in
+    let second = and_parts (is_number a) (is_number b && are_numbers 0 ws) first.1 in
+    let third = and_parts (is_number b) (are_numbers 0 ws) second.1 in
     ap (λ k. line k (a ∷ b ∷ ws)) (same_word k (codes "row") first.0)
     ∙ ap (λ a. line (codes "row") (a ∷ b ∷ ws)) (text-number a r.id second.0 parts.0)
     ∙ ap (λ b. line (codes "row") (signed_decimal r.id ∷ b ∷ ws)) (text-positive b r.leaf third.0 parts.1)
@@ -115,7 +116,7 @@ row-text (k ∷ a ∷ b ∷ ws) r kind e =
 pub end-text : (ws : List (List ℕ)) → is_plain (codes "end") 0 ws ≡ true → ended ws ≡ end_line
 end-text [] kind = let no : ⊥ = cc in absurd no
 end-text (k ∷ ws) kind =
-    let first = both (bytes_eq k (codes "end")) (are_numbers 0 ws) kind in
+    let first = and_parts (bytes_eq k (codes "end")) (are_numbers 0 ws) kind in
     ap (λ k. line k ws) (same_word k (codes "end") first.0) ∙ ap (λ ws. line (codes "end") ws) (none ws first.1)
 
 pub range-parts : (lo hi : Option ℤ) (rest : Option (List ℤ × List ℤ)) (rs : List ℤ × List ℤ)
@@ -137,8 +138,8 @@ ranges-text (suc n) [] rs kind e = let no : ⊥ = cc in absurd no
 ranges-text (suc n) (a ∷ []) rs kind e = let no : ⊥ = cc in absurd no
 ranges-text (suc n) (a ∷ b ∷ ws) rs kind e =
     let two : 2 * suc n ≡ suc (suc (2 * n)) = omega arith in
-    let first = both (is_number a) (is_number b && are_numbers (2 * n) ws) (ap (λ k. are_numbers k (a ∷ b ∷ ws)) (sym two) ∙ kind) in
-    let second = both (is_number b) (are_numbers (2 * n) ws) first.1 in
+    let first = and_parts (is_number a) (is_number b && are_numbers (2 * n) ws) (ap (λ k. are_numbers k (a ∷ b ∷ ws)) (sym two) ∙ kind) in
+    let second = and_parts (is_number b) (are_numbers (2 * n) ws) first.1 in
     let parts = range-parts (coordinate_of a) (coordinate_of b) (ranges_of n ws) rs e in
     ap (λ a. a ∷ b ∷ ws) (text-coordinate a parts.0 first.0 parts.3)
     ∙ ap (λ b. signed_decimal parts.0 ∷ b ∷ ws) (text-coordinate b parts.1 second.0 parts.4)
@@ -166,8 +167,8 @@ cell-text D ws c some kind e =
     by_words (k ∷ []) kind e = let no : ⊥ = cc in absurd no
     by_words (k ∷ a ∷ ws) kind e =
         let parts = cell-parts D (number_of a) (ranges_of D ws) c e in
-        let first = both (bytes_eq k (codes "cell")) (is_number a && are_numbers (2 * D) ws) kind in
-        let second = both (is_number a) (are_numbers (2 * D) ws) first.1 in
+        let first = and_parts (bytes_eq k (codes "cell")) (is_number a && are_numbers (2 * D) ws) kind in
+        let second = and_parts (is_number a) (are_numbers (2 * D) ws) first.1 in
         ap (λ k. line k (a ∷ ws)) (same_word k (codes "cell") first.0)
         ∙ ap (λ a. line (codes "cell") (a ∷ ws)) (text-number a c.number second.0 parts.0)
         ∙ ap (λ ws. line (codes "cell") (signed_decimal c.number ∷ ws)) (ranges-text D ws (c.lo, c.hi) second.1 parts.1)
@@ -212,12 +213,12 @@ header-text (k ∷ a ∷ m ∷ r ∷ []) h kind e = let no : ⊥ = cc in absurd 
 header-text (k ∷ a ∷ m ∷ r ∷ n ∷ []) h kind e = let no : ⊥ = cc in absurd no
 header-text (k ∷ a ∷ m ∷ r ∷ n ∷ t ∷ ws) h kind e =
     let parts = heading-parts (axes_of a) (capacity_of m) (positive_of r) (count_of n) (count_of t) h e in
-    let first = both (bytes_eq k (codes "rtree")) (is_number a && (is_number m && (is_number r && (is_number n && (is_number t && are_numbers 0 ws))))) kind in
-    let second = both (is_number a) (is_number m && (is_number r && (is_number n && (is_number t && are_numbers 0 ws)))) first.1 in
-    let third = both (is_number m) (is_number r && (is_number n && (is_number t && are_numbers 0 ws))) second.1 in
-    let fourth = both (is_number r) (is_number n && (is_number t && are_numbers 0 ws)) third.1 in
-    let fifth = both (is_number n) (is_number t && are_numbers 0 ws) fourth.1 in
-    let sixth = both (is_number t) (are_numbers 0 ws) fifth.1 in
+    let first = and_parts (bytes_eq k (codes "rtree")) (is_number a && (is_number m && (is_number r && (is_number n && (is_number t && are_numbers 0 ws))))) kind in
+    let second = and_parts (is_number a) (is_number m && (is_number r && (is_number n && (is_number t && are_numbers 0 ws)))) first.1 in
+    let third = and_parts (is_number m) (is_number r && (is_number n && (is_number t && are_numbers 0 ws))) second.1 in
+    let fourth = and_parts (is_number r) (is_number n && (is_number t && are_numbers 0 ws)) third.1 in
+    let fifth = and_parts (is_number n) (is_number t && are_numbers 0 ws) fourth.1 in
+    let sixth = and_parts (is_number t) (are_numbers 0 ws) fifth.1 in
     let axes = passed (λ n. nat_le 1 n && nat_le n 3) (byte_of a) h.axes parts.0 in
     let capacity = passed (λ n. nat_le 5 n && nat_le n 51) (byte_of m) h.capacity parts.1 in (
       ap (λ k. line k (a ∷ m ∷ r ∷ n ∷ t ∷ ws)) (same_word k (codes "rtree") first.0)

@@ -5,6 +5,7 @@ use Rattle.std.specs.List.{list_any}
 use Rattle.std.specs.Ordering.{int_eq}
 use Rattle.std.specs.Fmt.{decimal, signed_decimal}
 use Rattle.std.proofs.lemmas.List.{nil_from_length}
+use Rattle.std.proofs.lemmas.Bool.{and_parts}
 use Rattle.rt_check.specs.declared.node.RawCell.{RawCell}
 use Rattle.rt_check.specs.declared.node.RowEntry.{RowEntry}
 use Rattle.rt_check_dump.specs.declared.lines.LineKind.{LineKind}
@@ -19,7 +20,7 @@ use Rattle.rt_check_dump.specs.Pieces.{pieces}
 use Rattle.rt_check_dump.specs.Lines.{words, kind_of, node_head, row_entry, raw_cell, is_plain, is_node, is_cell, header_of}
 use Rattle.rt_check_dump.specs.Reading.{due, with_head, after_head, after_cell, after_row, after_kind, after_spelling, after_line, at_line, is_nothing, is_end, read_rest, start, any_shadow, read_body, read_heading, read_kind, read_lines, read_text}
 use Rattle.rt_check_dump.specs.Dump.{line, end_line, shadow_text, any_text}
-use Rattle.rt_check_dump.proofs.AcceptedWords.{ended, ended-words, joined, joined-pieces, both}
+use Rattle.rt_check_dump.proofs.AcceptedWords.{ended, ended-words, joined, joined-pieces}
 use Rattle.rt_check_dump.proofs.AcceptedLines.{spelled, kind_spelled, node-text, row-text, end-text, cell-text, header-text}
 use Rattle.rt_check_dump.proofs.AcceptedSteps.{so_far, IsOpen, Due, due-counts, Adds, node-adds, cell-adds, row-adds, end-adds, Follows}
 use Rattle.rt_check_dump.specs.declared.fault.LineFault.{LineFault}
@@ -93,7 +94,7 @@ between before l after =
 
 pub nothing : (l : List ℕ) (ls : List (List ℕ)) → is_nothing (l ∷ ls) ≡ true → joined (l ∷ ls) ≡ []
 nothing l ls e =
-    let parts = both (length l == 0) (length ls == 0) e in
+    let parts = and_parts (length l == 0) (length ls == 0) e in
     let first : length l ≡ 0 = grind (arith, parts.0) in
     let others : length ls ≡ 0 = grind (arith, parts.1) in
     ap (λ ls. joined (l ∷ ls)) (nil_from_length ls others) ∙ nil_from_length l first
@@ -169,7 +170,7 @@ shadow-accepted D make h ls a some axes text e =
 axes-accepted : (h : Heading) (ls : List (List ℕ)) (a : AnyShadow) → (nat_le 1 h.axes && nat_le h.axes 3) ≡ true
     → read_body h ls ≡ Ok a → any_text a ≡ heading_line h ++ joined ls
 axes-accepted h ls a range e =
-    let parts = both (nat_le 1 h.axes) (nat_le h.axes 3) range in
+    let parts = and_parts (nat_le 1 h.axes) (nat_le h.axes 3) range in
     let by_two : (b : Bool) → (h.axes == 1) ≡ false → (h.axes == 2) ≡ b
     → cond b (any_shadow Two (read_rest ls (start 2 h) 2)) (any_shadow Three (read_rest ls (start 3 h) 2)) ≡ Ok a → any_text a ≡ heading_line h ++ joined ls = elim [
       | true ↦ λ one two e. shadow-accepted 2 Two h ls a (omega arith) (grind (arith, two)) (λ s. refl) e

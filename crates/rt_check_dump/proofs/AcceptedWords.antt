@@ -62,11 +62,6 @@ joined-pieces (b ∷ bs) =
     ] in
     by_case (b == 10) refl
 
--- both of two tests that hold together
-pub both : (a b : Bool) → (a && b) ≡ true → (a ≡ true) × (b ≡ true)
-both true b e = (refl, e)
-both false b e = let no : ⊥ = cc in absurd no
-
 kept : {X : Type 0} (b : Bool) (x z : X) → cond b (Some x) None ≡ Some z → Some x ≡ Some z
 kept true x z e = e
 kept false x z e = let no : ⊥ = cc in absurd no

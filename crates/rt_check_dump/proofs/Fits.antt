@@ -7,6 +7,7 @@ use Rattle.std.specs.Option.{IfSome}
 use Rattle.std.specs.Ordering.{int_eq}
 use Rattle.std.proofs.lemmas.List.{length_push}
 use Rattle.std.proofs.lemmas.List.Elements.{All-nil, All-cons, All-push, All-head}
+use Rattle.std.proofs.lemmas.Bool.{and_parts}
 use Rattle.rt_box.specs.Capacity.{IsCapacity}
 use Rattle.rt_check.specs.declared.node.NodeRow.{NodeRow}
 use Rattle.rt_check.specs.declared.node.RawCell.{RawCell}
@@ -21,7 +22,7 @@ use Rattle.rt_check_dump.specs.Numbers.{number_of, number_after, positive_of, co
 use Rattle.rt_check_dump.specs.Lines.{words, kind_of, node_head, row_entry, ranges_of, raw_cell, axes_of, capacity_of, header_of}
 use Rattle.rt_check_dump.specs.Reading.{due, empty_node, with_head, after_head, after_cell, after_row, after_kind, after_spelling, after_line, start}
 use Rattle.rt_check_dump.specs.InRange.{IsLong, IsInt, IsPositive, IsCellInRange, IsRowInRange, IsNodeInRange, IsNodeNumbered, IsInRange, IsNumbered}
-use Rattle.rt_check_dump.proofs.AcceptedWords.{both, passed, counted}
+use Rattle.rt_check_dump.proofs.AcceptedWords.{passed, counted}
 use Rattle.rt_check_dump.proofs.AcceptedLines.{head-parts, row-parts, range-parts, cell-parts, heading-parts, axes-range}
 use Rattle.rt_check_dump.proofs.AcceptedSteps.{Due, due-counts, with_added}
 use Rattle.rt_check_dump.proofs.Written.{with_last-end}
@@ -91,7 +92,7 @@ byte-small w n e = let is = tested (λ n. nat_lt n 256) (count_of w) n e in grin
 int-within : (z : ℤ) → (int_le (negsuc 2147483647) z && int_le z (pos 2147483647)) ≡ true → IsInt z
 int-within (pos n) e = let is : nat_le n 2147483647 ≡ true = e in let low : n ≤ 2147483647 = grind (arith, is) in omega (arith, low)
 int-within (negsuc n) e =
-    let is = both (int_le (negsuc 2147483647) (negsuc n)) (int_le (negsuc n) (pos 2147483647)) e in
+    let is = and_parts (int_le (negsuc 2147483647) (negsuc n)) (int_le (negsuc n) (pos 2147483647)) e in
     let some : nat_le n 2147483647 ≡ true = is.0 in
     let low : n ≤ 2147483647 = grind (arith, some) in
     omega (arith, low)
@@ -376,7 +377,7 @@ pub record IsHeading (h : Heading) : Type 0 where
   pub rows : h.rows < 2 ^ 63
 
 range-of : (least most n : ℕ) → (nat_le least n && nat_le n most) ≡ true → (least ≤ n) × (n ≤ most)
-range-of least most n e = let is = both (nat_le least n) (nat_le n most) e in (grind (arith, is.0), grind (arith, is.1))
+range-of least most n e = let is = and_parts (nat_le least n) (nat_le n most) e in (grind (arith, is.0), grind (arith, is.1))
 
 pub header-fits : (ws : List (List ℕ)) (h : Heading) → header_of ws ≡ Some h → IsHeading h
 header-fits [] h e = let no : ⊥ = cc in absurd no

@@ -4,6 +4,7 @@ use Rattle.std.specs.List.{All, filter, list_any, IsDistinct, AllByRecursion}
 use Rattle.std.specs.Ordering.{int_eq}
 use Rattle.std.proofs.lemmas.List.{length_push}
 use Rattle.std.proofs.lemmas.List.Elements.{All-nil, All-cons}
+use Rattle.std.proofs.lemmas.Bool.{or_parts}
 use Rattle.rt_check.proofs.Known.{same_number}
 use Rattle.rt_check_dump.specs.InRange.{IsLong, IsPositive}
 use Rattle.rt_check_dump.proofs.Written.{apart}
@@ -30,10 +31,6 @@ without-shorter x (y ∷ ys) e =
     ] in
     by_case (int_eq x y) e
 
-both-false : (a b : Bool) → (a || b) ≡ false → (a ≡ false) × (b ≡ false)
-both-false true b e = let no : ⊥ = cc in absurd no
-both-false false b e = (refl, e)
-
 -- another number that is lacking without x is lacking
 lacking : (z x : ℤ) (ys : List ℤ) → int_eq z x ≡ false → list_any (int_eq z) (without x ys) ≡ false → list_any (int_eq z) ys ≡ false
 lacking z x [] other e = refl
@@ -43,7 +40,7 @@ lacking z x (y ∷ ys) other e =
           let same : x ≡ y = same_number x y is in
           ap (λ y. int_eq z y || list_any (int_eq z) ys) (sym same) ∙ ap (λ b. b || list_any (int_eq z) ys) other ∙ lacking z x ys other h
       | false ↦ λ is h.
-          let parts = both-false (int_eq z y) (list_any (int_eq z) (without x ys)) h in
+          let parts = or_parts (int_eq z y) (list_any (int_eq z) (without x ys)) h in
           ap (λ b. b || list_any (int_eq z) ys) parts.0 ∙ lacking z x ys other parts.1
     ] in
     by_case (int_eq x y) refl e
@@ -71,7 +68,7 @@ pub distinct-push : (xs : List ℤ) (y : ℤ) → IsDistinct int_eq xs → list_
 unfolding IsDistinct
 distinct-push [] y distinct lack = (tt, tt)
 distinct-push (x ∷ xs) y distinct lack =
-    let parts = both-false (int_eq y x) (list_any (int_eq y) xs) lack in
+    let parts = or_parts (int_eq y x) (list_any (int_eq y) xs) lack in
     (push-each (λ z. int_eq x z ≡ false) xs y distinct.0 (apart x y parts.0), distinct-push xs y distinct.1 parts.1)
 
 -- a number from 1 on that fits its type

@@ -4,6 +4,7 @@ use Rattle.std.specs.Prelude.{nat_lt}
 use Rattle.std.specs.List.{list_any}
 use Rattle.std.specs.Ordering.{int_eq}
 use Rattle.std.specs.Fmt.{signed_decimal}
+use Rattle.std.proofs.lemmas.Bool.{and_parts}
 use Rattle.rt_check.specs.declared.node.NodeRow.{NodeRow}
 use Rattle.rt_check.specs.declared.node.RawCell.{RawCell}
 use Rattle.rt_check.specs.declared.node.RowEntry.{RowEntry}
@@ -17,7 +18,7 @@ use Rattle.rt_check_dump.specs.Numbers.{is_number, number_of, positive_of, count
 use Rattle.rt_check_dump.specs.Lines.{words, kind_of, are_numbers, is_parent, is_node, is_plain, node_head, row_entry, raw_cell}
 use Rattle.rt_check_dump.specs.Reading.{due, empty_node, with_head, after_head, after_cell, after_row, after_kind, after_spelling, after_line, at_line, is_nothing, is_end, read_rest}
 use Rattle.rt_check_dump.specs.Faults.{SaysNothing}
-use Rattle.rt_check_dump.proofs.AcceptedWords.{both, text-positive}
+use Rattle.rt_check_dump.proofs.AcceptedWords.{text-positive}
 use Rattle.rt_check_dump.proofs.Spelled.{text-number}
 use Rattle.rt_check_dump.proofs.AcceptedLines.{spelled, kind_spelled, head-parts, row-parts}
 use Rattle.rt_check_dump.proofs.AcceptedSteps.{with_last-next, with_added}
@@ -38,8 +39,8 @@ node-name (k ∷ a ∷ b ∷ []) h kind e = let no : ⊥ = cc in absurd no
 node-name (k ∷ a ∷ b ∷ p ∷ []) h kind e = let no : ⊥ = cc in absurd no
 node-name (k ∷ a ∷ b ∷ p ∷ c ∷ ws) h kind e =
     let parts = head-parts (positive_of a) (byte_of b) (parent_of p) (count_of c) h e in
-    let first = both (bytes_eq k (codes "node")) (is_number a && (is_number b && (is_parent p && are_numbers 1 (c ∷ ws)))) kind in
-    let second = both (is_number a) (is_number b && (is_parent p && are_numbers 1 (c ∷ ws))) first.1 in
+    let first = and_parts (bytes_eq k (codes "node")) (is_number a && (is_number b && (is_parent p && are_numbers 1 (c ∷ ws)))) kind in
+    let second = and_parts (is_number a) (is_number b && (is_parent p && are_numbers 1 (c ∷ ws))) first.1 in
     text-positive a h.number second.0 parts.0
 
 row-name : (ws : List (List ℕ)) (r : RowEntry) → is_plain (codes "row") 2 ws ≡ true → row_entry ws ≡ Some r → name_of ws ≡ signed_decimal r.id
@@ -48,8 +49,8 @@ row-name (k ∷ []) r kind e = let no : ⊥ = cc in absurd no
 row-name (k ∷ a ∷ []) r kind e = let no : ⊥ = cc in absurd no
 row-name (k ∷ a ∷ b ∷ ws) r kind e =
     let parts = row-parts (number_of a) (positive_of b) r e in
-    let first = both (bytes_eq k (codes "row")) (is_number a && (is_number b && are_numbers 0 ws)) kind in
-    let second = both (is_number a) (is_number b && are_numbers 0 ws) first.1 in
+    let first = and_parts (bytes_eq k (codes "row")) (is_number a && (is_number b && are_numbers 0 ws)) kind in
+    let second = and_parts (is_number a) (is_number b && are_numbers 0 ws) first.1 in
     text-number a r.id second.0 parts.0
 
 -- a number among others and one more

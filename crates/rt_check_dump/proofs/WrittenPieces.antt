@@ -10,10 +10,6 @@ use Rattle.rt_check_dump.specs.Lines.{words}
 abbrev pub lacks : ℕ → List ℕ → Bool
 lacks b bs = list_all (λ c. not (c == b)) bs
 
-both : (a b : Bool) → a ≡ true → b ≡ true → (a && b) ≡ true
-both true b p q = q
-both false b p q = let no : ⊥ = cc in absurd no
-
 pub lacks-append : (b : ℕ) (xs ys : List ℕ) → lacks b xs ≡ true → lacks b ys ≡ true → lacks b (xs ++ ys) ≡ true
 lacks-append b [] ys p q = q
 lacks-append b (x ∷ xs) ys p q =

@@ -7,6 +7,7 @@ use Rattle.rt_check.specs.declared.node.RawCell.{RawCell}
 use Rattle.rt_check.specs.declared.node.RowEntry.{RowEntry}
 use Rattle.rt_check_dump.specs.declared.dump.AnyShadow.{AnyShadow}
 use Rattle.rt_check_dump.specs.declared.dump.AnyShadow.TheVariants.{One, Two, Three}
+use Rattle.rt_check.specs.Conditions.{coordinate}
 use Rattle.rt_check.specs.Shadow.{ShadowLists}
 
 -- further words of a line, and its end
@@ -38,6 +39,10 @@ abbrev pub end_line : List ℕ
 end_line = line (codes "end") []
 
 module _ {D : ℕ} where
+  -- the range on an axis
+  abbrev pub range_on : RawCell D → ℕ → ℤ × ℤ
+  range_on cell axis = (coordinate cell.lo axis, coordinate cell.hi axis)
+
   abbrev pub cell_line : RawCell D → List ℕ
   cell_line cell = line (codes "cell") (signed_decimal cell.number ∷ flat_map range_words (zip cell.lo cell.hi))
 

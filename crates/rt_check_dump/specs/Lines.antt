@@ -35,12 +35,12 @@ abbrev pub is_node : List (List ℕ) → Bool
 is_node (k ∷ a ∷ b ∷ p ∷ ws) = bytes_eq k (codes "node") && (is_number a && (is_number b && (is_parent p && are_numbers 1 ws)))
 is_node ws = false
 
--- a cell's line, on that many axes where their number is known
+-- a cell's line, on this number of axes if it is known
 abbrev pub is_cell : Option ℕ → List (List ℕ) → Bool
 is_cell None ws = is_plain (codes "cell") 3 ws || (is_plain (codes "cell") 5 ws || is_plain (codes "cell") 7 ws)
 is_cell (Some axes) ws = is_plain (codes "cell") (1 + 2 * axes) ws
 
--- the kind of a line by its spelling, where the number of axes is known or not
+-- the kind of a line by its spelling, whether the number of axes is known or not
 abbrev pub kind_of : Option ℕ → List (List ℕ) → Option LineKind
 kind_of axes ws =
     if is_plain (codes "rtree") 5 ws then Some Header

@@ -27,7 +27,7 @@ abbrev pub number_after : ℕ → List ℕ → ℕ
 number_after n [] = n
 number_after n (d ∷ ds) = number_after (n * 10 + (d - 48)) ds
 
--- the number of a word, where it has 64 bits, signed
+-- the number of a word, if it has 64 bits, signed
 abbrev pub number_of : List ℕ → Option ℤ
 number_of [] = Some (pos 0)
 number_of (b ∷ bs) =

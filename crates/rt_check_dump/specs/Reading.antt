@@ -56,7 +56,7 @@ module _ {D : ℕ} where
       if list_any (int_eq r.id) (ids_of p.shadow.rows) then Err ListedTwice
       else Ok (record p { shadow = record p.shadow { rows = p.shadow.rows ++ r ∷ [] }; rows = p.rows - 1 })
 
-  -- a line of a kind where another may be due
+  -- a line of the second kind, when the first one is due
   abbrev pub after_kind : Progress D → List (List ℕ) → LineKind → LineKind → Result (Progress D) LineFault
   after_kind p ws Header kind = Err CountWrong
   after_kind p ws Node Node = after_head p (node_head ws)

@@ -3,12 +3,11 @@
 //! The contract of each call names the bytes that it writes, by `specs/Dump.antt`. Numbers are formatted on the
 //! stack, so writing takes no memory.
 
-ghost use Rattle.std.specs.Prelude.{◌<◌, ◌≡◌, ◌++◌, ◌∷◌, codes, length};
+ghost use Rattle.std.specs.Prelude.{◌<◌, ◌++◌, ◌∷◌, codes};
 ghost use Rattle.std.specs.List.{flat_map, zip};
 ghost use Rattle.std.specs.Fmt.{signed_decimal};
 ghost use Rattle.rt_bytes.specs.Devices.{WritesTo};
-ghost use Rattle.rt_check.specs.Conditions.{coordinate};
-ghost use Rattle.rt_check_dump.specs.Dump.{header_line, node_line, cell_line, row_line, node_text, shadow_text, range_text, range_words, line_rest, end_line, any_text};
+ghost use Rattle.rt_check_dump.specs.Dump.{header_line, node_line, cell_line, row_line, node_text, shadow_text, range_on, range_text, any_text};
 
 use itoa::Buffer;
 use rt_bytes::{ByteWriter, WriteFault, write_parts, write_whole};
@@ -31,7 +30,7 @@ fn write_range<const D: usize, W: ByteWriter>(
     axis: usize,
 ) -> Result<(), WriteFault>
     requires { axis < D }
-    ensures { WritesTo W.ByteWriter writer.old writer.new result (range_text (coordinate cell.now.lo axis, coordinate cell.now.hi axis)) }
+    ensures { WritesTo W.ByteWriter writer.old writer.new result (range_text (range_on cell.now axis)) }
 {
     let mut lo = Buffer::new();
     let mut hi = Buffer::new();
@@ -58,17 +57,6 @@ fn write_ranges<const D: usize, W: ByteWriter>(
     Ok(())
 }
 
-/// Writes what follows the number in a cell's line.
-fn write_cell_end<const D: usize, W: ByteWriter>(
-    writer: &mut W,
-    cell: &RawCell<D>,
-) -> Result<(), WriteFault>
-    ensures { WritesTo W.ByteWriter writer.old writer.new result (line_rest (flat_map range_words (zip cell.now.lo cell.now.hi))) }
-{
-    write_ranges(writer, cell)?;
-    write_whole(writer, b"\n")
-}
-
 /// Writes a cell's line up to its number.
 fn write_cell_start<const D: usize, W: ByteWriter>(
     writer: &mut W,
@@ -87,7 +75,8 @@ fn write_cell<const D: usize, W: ByteWriter>(
     ensures { WritesTo W.ByteWriter writer.old writer.new result (cell_line cell.now) }
 {
     write_cell_start(writer, cell)?;
-    write_cell_end(writer, cell)
+    write_ranges(writer, cell)?;
+    write_whole(writer, b"\n")
 }
 
 fn write_cells<const D: usize, W: ByteWriter>(
@@ -212,28 +201,6 @@ fn write_header<const D: usize, W: ByteWriter>(
     )
 }
 
-/// Writes the lines after those of the nodes.
-fn write_tail<const D: usize, W: ByteWriter>(
-    writer: &mut W,
-    shadow: &Shadow<D>,
-) -> Result<(), WriteFault>
-    ensures { WritesTo W.ByteWriter writer.old writer.new result (flat_map row_line shadow.now.rows ++ end_line) }
-{
-    write_rows(writer, shadow)?;
-    write_whole(writer, b"end\n")
-}
-
-/// Writes the lines after the header.
-fn write_body<const D: usize, W: ByteWriter>(
-    writer: &mut W,
-    shadow: &Shadow<D>,
-) -> Result<(), WriteFault>
-    ensures { WritesTo W.ByteWriter writer.old writer.new result (flat_map node_text shadow.now.nodes ++ (flat_map row_line shadow.now.rows ++ end_line)) }
-{
-    write_nodes(writer, shadow)?;
-    write_tail(writer, shadow)
-}
-
 fn write_shadow<const D: usize, W: ByteWriter>(
     writer: &mut W,
     shadow: &Shadow<D>,
@@ -241,11 +208,13 @@ fn write_shadow<const D: usize, W: ByteWriter>(
     ensures { WritesTo W.ByteWriter writer.old writer.new result (shadow_text shadow.now) }
 {
     write_header(writer, shadow)?;
-    write_body(writer, shadow)
+    write_nodes(writer, shadow)?;
+    write_rows(writer, shadow)?;
+    write_whole(writer, b"end\n")
 }
 
 /// Writes a shadow's text, a line each for the shadow, its nodes, their cells and the row entries. After a
-/// fault a front of it is written. Takes no memory.
+/// fault a prefix of it is written. Takes no memory.
 ///
 /// ```text
 /// rtree 1 5 1 1 1       axes, capacity, root, counts of nodes and rows

@@ -9,7 +9,7 @@ ghost use Rattle.rt_check_dump.specs.Codes.{code_of, fault_text};
 use std::fmt;
 use thiserror::Error;
 
-/// What is wrong with a line of a dump. Where several apply, the first of them in this order is
+/// What is wrong with a line of a dump. If several apply, the first of them in this order is
 /// answered.
 #[derive(Clone, Copy, PartialEq, Eq, Debug)]
 pub enum LineFault {

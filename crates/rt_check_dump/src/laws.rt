@@ -1,6 +1,6 @@
 //! What reading and writing dumps have to do with each other, as laws of the definitions that the contracts
-//! cite. Each function changes nothing, and only looks at the shadows for what their types say of them: its
-//! contract is the law.
+//! cite. Each function changes nothing: its contract is the law. It looks at the shadows only for what their types say
+//! of them.
 
 ghost use Rattle.std.specs.Prelude.{◌≡◌, ℕ, List, Ok};
 ghost use Rattle.rt_check_dump.specs.declared.dump.AnyShadow.{AnyShadow};
@@ -12,7 +12,7 @@ ghost use Rattle.rt_check_dump.specs.Faults.{DumpsAreRead, MisfitsAreFound, Faul
 use crate::dump::AnyShadow;
 use crate::looks::look_at;
 
-/// What is written of a shadow is read as that shadow, where the root, the nodes' numbers, the parents and
+/// What is written of a shadow is read as that shadow, if the root, the nodes' numbers, the parents and
 /// the leaves are at least 1.
 pub fn written_is_read(shadow: &AnyShadow)
     requires { IsAnyNumbered shadow.now }
@@ -36,20 +36,19 @@ pub fn read_is_written()
     ensures { (text : List ℕ) (shadow : AnyShadow) → read_text text ≡ Ok shadow → any_text shadow ≡ text }
 {}
 
-/// A text is read as a shadow exactly where it is that shadow's text, with numbers that fit their types and
+/// A text is read as a shadow exactly if it is that shadow's text, with numbers that fit their types and
 /// count from 1. So the premise of `written_is_read` holds of each shadow that was read.
 pub fn dumps_are_read()
     ensures { DumpsAreRead }
 {}
 
-/// A line is read as faulty, by any code but `Truncated`, exactly where it is a misfit: the lines before it begin
+/// A line is read as faulty, by any code but `Truncated`, exactly if it is a misfit: the lines before it begin
 /// some dump, and with it they begin none.
 pub fn misfits_are_found()
     ensures { MisfitsAreFound }
 {}
 
-/// A line is read with one of the five faults exactly where it has that fault, by the definition that each fault
-/// has of its own.
+/// A line is read with one of the five faults exactly if it has that fault, by the fault's own definition.
 pub fn faults_are_found()
     ensures { FaultsAreFound }
 {}

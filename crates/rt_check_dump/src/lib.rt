@@ -1,6 +1,6 @@
 //! Dumps: a tree seen from outside as text, and back.
 //!
-//! - `write_dump` writes a shadow's text, or after a fault a front of it.
+//! - `write_dump` writes a shadow's text, or after a fault a prefix of it.
 //! - `read_dump` reads any bytes: as a shadow, or with the first faulty line and its first code.
 //! - `laws`: what is written is read again, and what is read is written back byte for byte. The first
 //!   faulty line is the first with which a text fits no dump, each code has a definition of its own, and each

@@ -1,7 +1,7 @@
 //! The lines of a dump, by their spelling and by what they say.
 //!
 //! Spelling comes first, and `kind_of` takes numbers of any size. Then `node_head`, `raw_cell` and `row_entry`
-//! return `None` where a number is out of range (`specs/Lines.antt`).
+//! return `None` if a number is out of range (`specs/Lines.antt`).
 
 ghost use Rattle.std.specs.Prelude.{◌≡◌, ◌≤◌, codes, drop, IfSome, OnSome};
 ghost use Rattle.rt_check_dump.specs.Lines.{are_numbers, words, is_plain, is_parent, is_node, is_cell, kind_of, node_head, row_entry, first_range, ranges_of, raw_cell};
@@ -15,10 +15,15 @@ use rt_check::{RawCell, RowEntry};
 /// The five kinds of lines.
 #[derive(Clone, Copy, PartialEq, Eq)]
 pub(crate) enum LineKind {
+    /// The shadow's line, which is the first.
     Header,
+    /// A node's line.
     Node,
+    /// A cell's line.
     Cell,
+    /// A row entry's line.
     Row,
+    /// The last line.
     End,
 }
 
@@ -31,7 +36,7 @@ pub(crate) struct NodeHead {
     pub(crate) cells: u64,
 }
 
-/// Whether exactly that many words are left, all of them numbers.
+/// Whether exactly `count` words are left, all of them numbers.
 fn are_numbers(words: &mut Pieces<'_>, count: usize) -> bool
     ensures { result ≡ are_numbers count words.old }
 {
@@ -85,7 +90,7 @@ fn is_node(line: &[u8]) -> bool
         && are_numbers(&mut words, 1)
 }
 
-/// Whether the line is a cell's, on that many axes where their number is known.
+/// Whether the line is a cell's, on `axes` axes if their number is known.
 fn is_cell(line: &[u8], axes: Option<usize>) -> bool
     requires { IfSome axes (λ count. count ≤ 3) }
     ensures { result ≡ is_cell axes (words line.now) }
@@ -122,7 +127,7 @@ pub(crate) fn kind_of(line: &[u8], axes: Option<usize>) -> Option<LineKind>
     None
 }
 
-/// What a node's line says, where its numbers are in range.
+/// What a node's line says, if its numbers are in range.
 pub(crate) fn node_head(line: &[u8]) -> Option<NodeHead>
     ensures { result ≡ node_head (words line.now) }
 {
@@ -144,7 +149,7 @@ pub(crate) fn node_head(line: &[u8]) -> Option<NodeHead>
     })
 }
 
-/// What a row's line says, where its numbers are in range.
+/// What a row's line says, if its numbers are in range.
 pub(crate) fn row_entry(line: &[u8]) -> Option<RowEntry>
     ensures { result ≡ row_entry (words line.now) }
 {
@@ -190,7 +195,7 @@ fn ranges_of<const D: usize>(words: &mut Pieces<'_>) -> Option<([i32; D], [i32; 
     Some((lo, hi))
 }
 
-/// What a cell's line says, where its numbers are in range.
+/// What a cell's line says, if its numbers are in range.
 pub(crate) fn raw_cell<const D: usize>(line: &[u8]) -> Option<RawCell<D>>
     ensures { result ≡ raw_cell D (words line.now) }
 {

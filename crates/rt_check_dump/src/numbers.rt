@@ -49,7 +49,7 @@ pub(crate) fn is_number(word: &[u8]) -> bool
     }
 }
 
-/// The number that the digits write, where it is at most 2^63.
+/// The number that the digits write, if it is at most 2^63.
 fn magnitude(digits: &[u8]) -> Option<u64>
     ensures found { IfSome result (λ n. (n ≡ number_after 0 digits.now) × (n ≤ 2 ^ 63)) }
     ensures beyond { IfNone result (2 ^ 63 < number_after 0 digits.now) }
@@ -67,7 +67,7 @@ fn magnitude(digits: &[u8]) -> Option<u64>
     Some(number)
 }
 
-/// The number of a word that is one, where it has 64 bits.
+/// The number of a word that is one, if it has 64 bits.
 pub(crate) fn number_of(word: &[u8]) -> Option<i64>
     ensures { result ≡ number_of word.now }
 {

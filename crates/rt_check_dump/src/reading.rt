@@ -21,7 +21,9 @@ use std::hash::RandomState;
 /// Why a line isn't taken.
 #[derive(Clone, Copy)]
 pub(crate) enum StepFault {
+    /// The line has a fault.
     Line(LineFault),
+    /// No memory is left.
     Memory,
 }
 
@@ -122,7 +124,7 @@ fn take_row<const D: usize>(progress: &mut Progress<D>, line: &[u8]) -> Result<(
     Ok(())
 }
 
-/// Takes a line of that kind where another may be due.
+/// Takes a line of that kind, if it is due.
 fn take_kind<const D: usize>(
     progress: &mut Progress<D>,
     alloc: Global,
@@ -177,7 +179,7 @@ fn is_nothing(lines: &mut Pieces<'_>) -> bool
     }
 }
 
-/// The shadow, where the text has ended; else that line is one too many.
+/// The shadow, if the text has ended; else that line is one too many.
 fn read_end<const D: usize>(
     shadow: Shadow<D>,
     lines: &mut Pieces<'_>,
@@ -256,7 +258,7 @@ fn capacity_of(word: &[u8]) -> Option<Capacity>
     Capacity::new(byte_of(word)?)
 }
 
-/// What a header says, where its numbers are in range.
+/// What a header says, if its numbers are in range.
 fn header_of(line: &[u8]) -> Option<Heading>
     ensures { result ≡ header_of (words line.now) }
 {
@@ -347,7 +349,7 @@ fn read_first(
 
 /// Reads a dump: the shadow that the bytes are the text of, or the first faulty line. Memory is taken as
 /// lines come, and none for counts alone. Numbers and ids are looked up by `keys`, which are to be random
-/// where others choose the bytes.
+/// if others choose the bytes.
 ///
 /// ```text
 /// let bytes = b"rtree 1 5 1 1 1\nnode 1 0 - 1\ncell 7 0 2\nrow 7 1\nend\n";
