@@ -5,6 +5,7 @@ use Rattle.std.specs.declared.alloc.Global.{Global}
 use Rattle.std.specs.Io.KnownBytes.{Appends, Consumes, IsAtEnd}
 use Rattle.rt_bytes.specs.Bytes.{one_more, AppendsPrefix, WritesAll, WritesPrefix}
 use Rattle.rt_check_dump.specs.Reading.{read_text}
+use Rattle.rt_bytes.specs.declared.device.ByteReader.{Ghosts as ReaderMembers}
 use Rattle.rt_bytes.specs.declared.device.ByteWriter.{Ghosts as WriterMembers}
 use Rattle.rt_bytes.specs.declared.outcome.Status.{Status}
 use Rattle.rt_bytes.specs.declared.outcome.RunFault.{RunFault}
@@ -13,7 +14,7 @@ use Rattle.rt_bytes.specs.declared.outcome.Status.TheVariants.{Refused}
 use Rattle.rt_check_dump.specs.declared.fault.DumpFault.{DumpFault}
 use Rattle.rt_check_dump.specs.declared.fault.DumpFault.TheVariants.{At, Memory as NoMemory}
 use Rattle.rt_check_report.specs.Report.{fault_line, report_on, report_status}
-use Rattle.rt_bytes.specs.Devices.{Source, Devices, most_reads, Held}
+use Rattle.rt_bytes.specs.Devices.{Source, source_of, Devices, most_reads, Held}
 
 -- a read failed, or the last read was made
 pub record NoEnd (old new : Source) : Type 0 where
@@ -32,7 +33,7 @@ ReadsAll old new (Err Read) = NoEnd old new
 ReadsAll old new (Err Write) = ⊥
 ReadsAll old new (Err Memory) = new.failures ≡ old.failures
 
--- a dump's fault was written, or after a fault of the writer a front of its line; nothing for want of memory
+-- a dump's fault was written, or after a fault of the writer a prefix of its line; nothing for want of memory
 abbrev pub ReportsFault : {W : Type 0} → WriterMembers W → DumpFault → W → W → Result Status RunFault → Type 0
 ReportsFault w (At line fault) old new (Ok status) =
     WritesAll (w.written old) (w.written new) (w.faults old) (w.faults new) (fault_line line fault) × (status ≡ Refused)
@@ -41,7 +42,7 @@ ReportsFault w (At line fault) old new (Err Read) = ⊥
 ReportsFault w (At line fault) old new (Err Memory) = ⊥
 ReportsFault w NoMemory old new result = (result ≡ Err Memory) × (w.written new ≡ w.written old) × (w.faults new ≡ w.faults old)
 
--- the report on the bytes was written, or after a fault a front of it, or nothing for want of memory
+-- the report on the bytes was written, or after a fault a prefix of it, or nothing for want of memory
 abbrev pub Reports : {W : Type 0} → WriterMembers W → List ℕ → W → W → Result Status RunFault → Type 0
 Reports w bytes old new (Ok status) =
     WritesAll (w.written old) (w.written new) (w.faults old) (w.faults new) (report_on (read_text bytes)) × (status ≡ report_status (read_text bytes))
@@ -65,7 +66,7 @@ pub record FailsToReadDump (old new : Devices) : Type 0 where
   pub nothing_written : new.written ≡ old.written
   pub no_write_failed : new.faults ≡ old.faults
 
--- the reader held these bytes, and a front of the report on them was written
+-- the reader held these bytes, and a prefix of the report on them was written
 pub record FailsToReport (old new : Devices) : Type 0 where
   pub bytes : List ℕ
   pub held : Held old.left bytes
@@ -89,3 +90,7 @@ Checks old new (Err Memory) = FindsNoMemory old new
 abbrev pub items_or_fault : Result (Vec ℕ Global) RunFault → Result (List ℕ) RunFault
 items_or_fault (Ok bytes) = Ok bytes.items
 items_or_fault (Err fault) = Err fault
+
+-- the vector has all bytes of the reader
+abbrev pub GivesAll : {R : Type 0} → ReaderMembers R → R → R → Result (Vec ℕ Global) RunFault → Type 0
+GivesAll r old new result = ReadsAll (source_of r old) (source_of r new) (items_or_fault result)

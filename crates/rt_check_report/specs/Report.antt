@@ -53,6 +53,6 @@ IsAnySound (One s) = IsSound s
 IsAnySound (Two s) = IsSound s
 IsAnySound (Three s) = IsSound s
 
--- a dump is clean exactly where it is the text of a sound shadow
+-- a dump is clean exactly if it is the text of a sound shadow
 abbrev pub CleanIsSound : Type 0
 CleanIsSound = (bytes : List ℕ) → (report_status (read_text bytes) ≡ Clean) ↔ ((shadow : AnyShadow) × IsTextOf shadow bytes × IsAnySound shadow)

@@ -4,9 +4,9 @@
 //! `specs/CheckRun.antt` says what a run does to its reader and its writer.
 
 ghost use Rattle.std.specs.Prelude.{◌≡◌, ◌+◌, ◌^◌, ◌≤◌, IfOk, OnOk, Ok, Err, true};
-ghost use Rattle.rt_check_report.specs.CheckRun.{ReadsAll, ReportsFault, Reports, Checks, items_or_fault};
+ghost use Rattle.rt_check_report.specs.CheckRun.{GivesAll, ReportsFault, Reports, Checks};
 ghost use Rattle.rt_check_report.specs.Report.{all_problems, verdict_status};
-ghost use Rattle.rt_bytes.specs.Devices.{source_of, devices_of};
+ghost use Rattle.rt_bytes.specs.Devices.{devices_of};
 
 use crate::report::{write_bad_dump, write_verdict};
 use rt_bytes::{ByteReader, ByteWriter, MOST_READS, READ_SIZE, RunFault, Status};
@@ -17,7 +17,7 @@ use std::hash::RandomState;
 
 /// Reads all that there is.
 pub fn read_all<R: ByteReader>(alloc: Global, reader: &mut R) -> Result<Vec<u8>, RunFault>
-    ensures reads_all { ReadsAll (source_of R.ByteReader reader.old) (source_of R.ByteReader reader.new) (items_or_fault result) }
+    ensures reads_all { GivesAll R.ByteReader reader.old reader.new result }
     ensures reads { R.reads reader.new ≤ R.reads reader.old + 2 ^ 40 }
 {
     let mut bytes = Vec::new(alloc);
@@ -86,9 +86,9 @@ fn report<W: ByteWriter>(
     }
 }
 
-/// Checks a dump: reads it whole, and writes `ok` where it is the text of a sound tree, else a line for
+/// Checks a dump: reads it whole, and writes `ok` if it is the text of a sound tree, else a line for
 /// each problem, or for its first fault. It reads at most 2^40 times, and flushes the writer once, at
-/// the end. Numbers and ids are looked up by `keys`, which are to be random where others choose the
+/// the end. Numbers and ids are looked up by `keys`, which are to be random if others choose the
 /// bytes.
 ///
 /// ```text

@@ -3,7 +3,7 @@
 
 ghost use Rattle.rt_check_report.specs.Report.{CleanIsSound};
 
-/// The answer is `Clean` exactly where the bytes are the text of a shadow without a problem.
+/// The answer is `Clean` exactly if the bytes are the text of a shadow without a problem.
 pub fn clean_dumps_are_sound()
     ensures { CleanIsSound }
 {}

@@ -11,8 +11,8 @@ use rt_bytes::{ByteWriter, WriteFault, write_parts, write_whole};
 use rt_check::Problem;
 use rt_check_dump::LineFault;
 
-/// Writes the verdict on a tree: `ok` where it has no problem, else a line for each problem, as
-/// `C6 node 1 at 2`: its condition, node and position. After a fault a front of that is written.
+/// Writes the verdict on a tree: `ok` if it has no problem, else a line for each problem, as
+/// `C6 node 1 at 2`: its condition, node and position. After a fault a prefix of that is written.
 pub fn write_verdict<W: ByteWriter>(problems: &[Problem], writer: &mut W) -> Result<(), WriteFault>
     ensures { WritesTo W.ByteWriter writer.old writer.new result (verdict_lines problems.now) }
 {
@@ -48,7 +48,7 @@ fn write_problem<W: ByteWriter>(problem: &Problem, writer: &mut W) -> Result<(),
 }
 
 /// Writes the first fault of a dump: the number of its line, and what is wrong there. After a fault
-/// of the writer a front of that is written.
+/// of the writer a prefix of that is written.
 pub fn write_bad_dump<W: ByteWriter>(
     line: &u64,
     fault: LineFault,
