@@ -1,5 +1,10 @@
-//! Times the calls of the libraries below: `rt_bench choices` prints the nanoseconds that each choice of the
-//! R*-tree takes on full nodes in two dimensions. Without a word it does nothing.
+//! Times the calls of the libraries below, in nanoseconds.
+//!
+//! - `rt_bench choices` prints what each choice of the R*-tree takes, on full nodes in two dimensions and on those of a
+//!   tree that was built.
+//! - `rt_bench tree AXES ROWS` prints what each call on a tree takes, for rows that lie in several ways.
+//!
+//! With other words, or none, it does nothing.
 #![tactic(auto)]
 
 mod built;

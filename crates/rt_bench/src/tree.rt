@@ -160,7 +160,7 @@ pub(crate) struct Load {
     pub(crate) rows: u64,
 }
 
-/// The nanoseconds since the start, shared among so many calls.
+/// The nanoseconds since the start, shared among the calls.
 fn share<R: Clock>(rt: &R, start: &Instant, calls: u64) -> io::Result<u128> {
     Ok(start.elapsed(rt)?.as_nanos() / u128::from(calls.max(1)))
 }

@@ -44,7 +44,7 @@ const DUMP: &[u8] =
 struct Script<'a> {
     text: &'a [u8],
     prints: &'a [u8],
-    /// How many bytes are read where a piece that prints has ended, and how many are written then.
+    /// For each piece that prints, how many bytes are read when it has ended, and how many are written then.
     answers: &'a [(usize, usize)],
     capacity: u8,
 }

@@ -25,7 +25,7 @@ fn options_of(bail: bool) -> Result<Options, Fail> {
     })
 }
 
-/// The script is fed in parts of that many bytes.
+/// The script is fed in parts of `size` bytes.
 fn expect_same_in_parts(
     rt: &(impl Abort + AllocGlobal),
     keys: RandomState,
