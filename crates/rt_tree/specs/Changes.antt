@@ -11,8 +11,8 @@ use Rattle.rt_tree_choice.specs.Split.{IsBestCut, first_group, second_group}
 use Rattle.rt_tree_node.specs.declared.arena.Arena.{Arena}
 use Rattle.rt_tree_node.specs.declared.arena.Work.{Work}
 use Rattle.rt_tree_node.specs.Whole.{IsWhole}
-use Rattle.rt_tree_insert.specs.Awaiting.{AwaitsLeaf}
-use Rattle.rt_tree_insert.specs.Settling.{PlacesInTurn}
+use Rattle.rt_tree_place.specs.Awaiting.{AwaitsLeaf}
+use Rattle.rt_tree_place.specs.Settling.{PlacesInTurn}
 use Rattle.rt_tree_remove.specs.Removal.{RemovesInSteps}
 use Rattle.rt_tree_walk.specs.Outside.{outside}
 use Rattle.rt_tree_walk.specs.InOrder.{cells_of_number}

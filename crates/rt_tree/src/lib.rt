@@ -16,7 +16,7 @@
 //!   list that is at hand, and `count` says how many they are.
 //! - `nearest` lists the rows whose boxes are nearest to a point.
 //!
-//! Stands on `rt_tree_node`, `rt_tree_walk`, `rt_tree_nearest`, `rt_tree_insert` and `rt_tree_remove`, and on `rt_check` for
+//! Stands on `rt_tree_node`, `rt_tree_walk`, `rt_tree_nearest`, `rt_tree_place` and `rt_tree_remove`, and on `rt_check` for
 //! the tree from outside. Definitions: `specs/Lists.antt` (a tree from outside), `Rows.antt`, `Boxes.antt`, `Changes.antt`
 //! (insertion, removal and replacement), `Finding.antt`, `Way.antt`, and `specs/Nearest.antt` of `rt_tree_nearest`.
 #![tactic(auto)]

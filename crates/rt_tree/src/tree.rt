@@ -18,7 +18,7 @@ ghost use Rattle.rt_tree_nearest.specs.Nearest.{nearest_rows};
 use indexmap::IndexMap;
 use rt_box::{Capacity, Rect, Window};
 use rt_check::Shadow;
-use rt_tree_insert::{insert_row, levels_are_few, nodes_are_few};
+use rt_tree_place::{insert_row, levels_are_few, nodes_are_few};
 use rt_tree_nearest::nearest;
 use rt_tree_node::{Arena, Node, Work, add_node, leaves_facts};
 use rt_tree_remove::{find_row, remove_found, replace_found};

@@ -16,12 +16,18 @@ mod attach;
 mod descent;
 mod fit;
 mod grow;
+mod insert;
+mod laws;
 mod overflow;
 mod placing;
 mod reinsertion;
 mod rise;
 mod split;
+mod waiting;
 
 pub use descent::choose_node;
 pub use fit::{box_above, has_least_box, refit};
+pub use insert::{insert_row, push_row};
+pub use laws::{levels_are_few, nodes_are_few, room_is_enough, waiting_cells_are_few};
 pub use placing::place_last;
+pub use waiting::settle;

@@ -23,10 +23,10 @@ use Rattle.rt_tree_node.specs.Changes.{Changes}
 use Rattle.rt_tree_node.specs.declared.arena.Work.{Work}
 use Rattle.rt_tree_node.specs.Settles.{Settles}
 use Rattle.rt_tree_node.specs.Whole.{IsWhole, IsBranched, HasRoom, row_count}
-use Rattle.rt_tree_insert.specs.Awaiting.{Learns, AwaitsLeaf}
-use Rattle.rt_tree_insert.specs.Settling.{PlacesInTurn, CountsWork, PlacesRow}
-use Rattle.rt_tree_insert.proofs.Awaited.{waits-alone, whole-awaiting, rows-awaiting, waits-one}
-use Rattle.rt_tree_insert.proofs.Inserted.{inserts}
+use Rattle.rt_tree_place.specs.Awaiting.{Learns, AwaitsLeaf}
+use Rattle.rt_tree_place.specs.Settling.{PlacesInTurn, CountsWork, PlacesRow}
+use Rattle.rt_tree_place.proofs.Awaited.{waits-alone, whole-awaiting, rows-awaiting, waits-one}
+use Rattle.rt_tree_place.proofs.Inserted.{inserts}
 use Rattle.rt_tree_remove.specs.declared.location.Location.{Location}
 use Rattle.rt_tree_remove.specs.Steps.{Forgets, Takes, Condenses, IsLocationOf, MovesAlone, IsNamedAt, LiesInside, LiesInsideNode}
 use Rattle.rt_tree_remove.specs.Removal.{Removes}

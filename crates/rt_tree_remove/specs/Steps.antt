@@ -18,7 +18,7 @@ use Rattle.rt_tree_node.specs.Changes.{Changes}
 use Rattle.rt_tree_node.specs.Homes.{KeepsIds}
 use Rattle.rt_tree_node.specs.Path.{KeepsShape}
 use Rattle.rt_tree_place.specs.Steps.{HasLeastBox}
-use Rattle.rt_tree_insert.specs.Settling.{PlacesInTurn}
+use Rattle.rt_tree_place.specs.Settling.{PlacesInTurn}
 use Rattle.rt_tree_remove.specs.declared.location.Location.{Location}
 use Rattle.rt_tree_remove.specs.Above.{way_up}
 

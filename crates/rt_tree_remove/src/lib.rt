@@ -6,7 +6,7 @@
 //!   to spare, no other row moves.
 //! - `replace_found` gives the row there another box, by a removal and an insertion.
 //!
-//! Stands on `rt_tree_insert`, `rt_tree_place` and `rt_tree_node`. Definitions: `specs/Removal.antt` and `Replacement.antt`
+//! Stands on `rt_tree_place` and `rt_tree_node`. Definitions: `specs/Removal.antt` and `Replacement.antt`
 //! (what they come to), `Steps.antt`, `Above.antt`.
 #![tactic(auto)]
 

@@ -14,7 +14,7 @@ use crate::condense::lies_inside_leaf;
 use crate::location::Location;
 use crate::remove::remove_found;
 use rt_box::Rect;
-use rt_tree_insert::{insert_row, push_row, settle};
+use rt_tree_place::{insert_row, push_row, settle};
 use rt_tree_node::{Arena, leaves_facts, node_at, remove_cell};
 
 /// Whether the removal of the row leaves all else as it is. Most rows lie inside their leaf's box, and most leaves have a cell

@@ -8,7 +8,7 @@ ghost use Rattle.rt_tree_node.specs.Whole.{IsWhole, HasRoom, row_count};
 ghost use Rattle.rt_tree_node.specs.Settles.{Settles};
 ghost use Rattle.rt_tree_remove.specs.Steps.{Places};
 
-use rt_tree_insert::settle;
+use rt_tree_place::settle;
 use rt_tree_node::Arena;
 
 /// Places the waiting cells, each by itself, the last first.

@@ -13,8 +13,8 @@ use Rattle.rt_tree_node.specs.Places.{cells_at, count_rows}
 use Rattle.rt_tree_node.specs.Whole.{IsWhole, IsBranched}
 use Rattle.rt_tree_node.specs.Path.{LeadsTo}
 use Rattle.rt_tree_place.specs.Placing.{JoinsLeaf, HalvesRoot}
-use Rattle.rt_tree_insert.specs.Awaiting.{AwaitsLeaf}
-use Rattle.rt_tree_insert.specs.Settling.{PlacesInTurn}
+use Rattle.rt_tree_place.specs.Awaiting.{AwaitsLeaf}
+use Rattle.rt_tree_place.specs.Settling.{PlacesInTurn}
 
 module _ {S : Type 0} where
   -- the map has this id beside those that it had

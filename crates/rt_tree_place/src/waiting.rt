@@ -7,10 +7,10 @@ ghost use Rattle.std.specs.Prelude.{◌≡◌, ℕ, ◌+◌, ◌^◌, ◌<◌, �
 ghost use Rattle.rt_tree_node.specs.declared.cell.Cell.{Cell};
 ghost use Rattle.rt_tree_node.specs.Whole.{IsWhole, HasRoom, row_count};
 ghost use Rattle.rt_tree_node.specs.Settles.{Settles};
-ghost use Rattle.rt_tree_insert.specs.Settling.{PlacesInTurn, CountsWork, PlacesRow};
+ghost use Rattle.rt_tree_place.specs.Settling.{PlacesInTurn, CountsWork, PlacesRow};
 
+use crate::placing::place_last;
 use rt_tree_node::{Arena, Work};
-use rt_tree_place::place_last;
 
 /// Places the waiting cells, the last first, until the first `base` are left. No level is marked before, and the
 /// marks last until the end: a level gives up cells at most once.

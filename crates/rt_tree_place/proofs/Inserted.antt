@@ -8,10 +8,10 @@ use Rattle.rt_tree_node.specs.Places.{cells_at}
 use Rattle.rt_tree_node.specs.Whole.{IsBranched}
 use Rattle.rt_tree_node.specs.Settles.{Settles}
 use Rattle.rt_tree_place.specs.Placing.{JoinsLeaf, HalvesRoot}
-use Rattle.rt_tree_insert.specs.Awaiting.{AwaitsLeaf}
-use Rattle.rt_tree_insert.specs.Settling.{PlacesInTurn, CountsWork, PlacesRow}
-use Rattle.rt_tree_insert.specs.Insertion.{Inserts}
-use Rattle.rt_tree_insert.proofs.Awaited.{awaiting_arena, waits-alone, rows-spelled, gains-id}
+use Rattle.rt_tree_place.specs.Awaiting.{AwaitsLeaf}
+use Rattle.rt_tree_place.specs.Settling.{PlacesInTurn, CountsWork, PlacesRow}
+use Rattle.rt_tree_place.specs.Insertion.{Inserts}
+use Rattle.rt_tree_place.proofs.Awaited.{awaiting_arena, waits-alone, rows-spelled, gains-id}
 
 -- what comes of a row, by how many cells its leaf has and by the root's level before and after
 record Outcome (cells capacity level level1 splits reinsertions : ℕ) : Type 0 where

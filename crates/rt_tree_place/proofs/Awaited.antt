@@ -19,8 +19,8 @@ use Rattle.rt_tree_node.specs.Sound.{Names, IsLinked, IsFitted, HasHomes}
 use Rattle.rt_tree_node.specs.Whole.{IsWhole, HasRoom, row_count}
 use Rattle.rt_tree_node.proofs.Counts.{count-cons}
 use Rattle.rt_tree_node.proofs.Homes.{same-id, listed-one, listed-other}
-use Rattle.rt_tree_insert.specs.Awaiting.{Learns, AwaitsLeaf}
-use Rattle.rt_tree_insert.specs.Insertion.{GainsId}
+use Rattle.rt_tree_place.specs.Awaiting.{Learns, AwaitsLeaf}
+use Rattle.rt_tree_place.specs.Insertion.{GainsId}
 
 module _ {D : ℕ} where
   -- the row as it waits for a leaf

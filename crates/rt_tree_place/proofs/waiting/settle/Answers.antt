@@ -1,8 +1,8 @@
 use Rattle.std.proofs.Common.{◌+◌, ◌^◌, ◌≤◌, vec_len, vec_capacity, arith, rules}
 use Rattle.slab.specs.Slab.{HasRoomFor}
 use Rattle.rt_tree_node.specs.Whole.{IsWhole}
-use Rattle.rt_tree_insert.proofs.Turns.{progress-none, may-turn, measure-falls, progress-turn, rows-bounded, settles-end, counts-end, row-end}
-use Rattle.rt_tree_insert.proofs.waiting.settle.Goals as goal
+use Rattle.rt_tree_place.proofs.Turns.{progress-none, may-turn, measure-falls, progress-turn, rows-bounded, settles-end, counts-end, row-end}
+use Rattle.rt_tree_place.proofs.waiting.settle.Goals as goal
 
 pub loop-tree-init : goal.loop-tree-init
 loop-tree-init g c = progress-none c.args.tree.now c.args.base c.requires.whole c.requires.waits

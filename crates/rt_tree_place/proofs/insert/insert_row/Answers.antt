@@ -1,9 +1,9 @@
 use Rattle.std.proofs.Common.{◌+◌, ◌^◌, ◌<◌, ◌≤◌, vec_len, vec_capacity, arith, rules}
 use Rattle.rt_tree_node.specs.declared.cell.Cell.{Cell}
 use Rattle.rt_tree_node.specs.Whole.{IsWhole, HasRoom, row_count}
-use Rattle.rt_tree_insert.proofs.Awaited.{waits-alone, whole-awaiting, rows-awaiting, room-awaiting, waits-one}
-use Rattle.rt_tree_insert.proofs.Inserted.{inserts}
-use Rattle.rt_tree_insert.proofs.insert.insert_row.Goals as goal
+use Rattle.rt_tree_place.proofs.Awaited.{waits-alone, whole-awaiting, rows-awaiting, room-awaiting, waits-one}
+use Rattle.rt_tree_place.proofs.Inserted.{inserts}
+use Rattle.rt_tree_place.proofs.insert.insert_row.Goals as goal
 
 pub settle-requires : goal.settle-requires
 settle-requires g c =

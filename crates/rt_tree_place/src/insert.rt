@@ -7,8 +7,8 @@ ghost use Rattle.std.specs.Prelude.{◌≡◌, ◌+◌, ◌^◌, ◌<◌, ◌≤
 ghost use Rattle.std.specs.Ordering.{int_eq};
 ghost use Rattle.indexmap.specs.IndexMap.{get as leaf_of, spare};
 ghost use Rattle.rt_tree_node.specs.Whole.{IsWhole, IsBranched, HasRoom, row_count};
-ghost use Rattle.rt_tree_insert.specs.Awaiting.{Learns, AwaitsLeaf};
-ghost use Rattle.rt_tree_insert.specs.Insertion.{Inserts};
+ghost use Rattle.rt_tree_place.specs.Awaiting.{Learns, AwaitsLeaf};
+ghost use Rattle.rt_tree_place.specs.Insertion.{Inserts};
 
 use crate::waiting::settle;
 use indexmap::IndexMap;

@@ -15,8 +15,8 @@ use Rattle.rt_tree_node.specs.Homes.{KeepsIds}
 use Rattle.rt_tree_node.specs.Settles.{Settles}
 use Rattle.rt_tree_place.specs.Placing.{PlacesLast, TakesRow}
 use Rattle.rt_tree_place.specs.Rise.{InsertsAgain}
-use Rattle.rt_tree_insert.specs.Settling.{PlacesInTurn, CountsWork, PlacesRow}
-use Rattle.rt_tree_insert.proofs.Few.{few-levels, few-waiting, fewer-nodes_than_rows, room-for}
+use Rattle.rt_tree_place.specs.Settling.{PlacesInTurn, CountsWork, PlacesRow}
+use Rattle.rt_tree_place.proofs.Few.{few-levels, few-waiting, fewer-nodes_than_rows, room-for}
 
 share-few : (capacity : ℕ) → IsCapacity capacity → reinsertion_share capacity ≤ 15
 share-few capacity is = let high = is.1 in omega arith

@@ -12,8 +12,8 @@ use Rattle.rt_tree_node.specs.declared.cell.Waiting.{Waiting}
 use Rattle.rt_tree_node.specs.Node.{NodeCells}
 use Rattle.rt_tree_node.specs.Places.{level_of, cells_of, leaf_part, inner_part, leaf_cells_of, inner_cells_of, cells_at, level_at, waiting_rows, waiting_nodes, sum_over}
 use Rattle.rt_tree_node.specs.Whole.{IsWhole, HasRoom, row_count}
-use Rattle.rt_tree_insert.proofs.Sums.{sum-same, sum-added, sum-scaled, count-all, sum-each, sum-le, sum-le_but}
-use Rattle.rt_tree_insert.proofs.Named.{chosen_part, chosen, node_in, named-on_level, named-in_all}
+use Rattle.rt_tree_place.proofs.Sums.{sum-same, sum-added, sum-scaled, count-all, sum-each, sum-le, sum-le_but}
+use Rattle.rt_tree_place.proofs.Named.{chosen_part, chosen, node_in, named-on_level, named-in_all}
 
 pub least-two : (capacity : ℕ) → IsCapacity capacity → 2 ≤ least_fill capacity
 least-two capacity is = let low = is.0 in omega arith

@@ -14,7 +14,7 @@ use Rattle.rt_tree_node.specs.Sound.{IsLinked, NamesChild}
 use Rattle.rt_tree_node.proofs.Counts.{count-append}
 use Rattle.rt_tree_node.proofs.Places.{inner-at_inner, names_key, named-none, named-one, named-other}
 use Rattle.rt_tree_node.proofs.Links.{above-some, above-none, unnamed-elsewhere, unnamed-vacant, unnamed-by_waiting}
-use Rattle.rt_tree_insert.proofs.Sums.{count-flat, length-flat, sum-same, sum-none, sum-only, length-few, upto-list}
+use Rattle.rt_tree_place.proofs.Sums.{count-flat, length-flat, sum-same, sum-none, sum-only, length-few, upto-list}
 
 module _ {D : ℕ} where
   -- the cells that name nodes of levels that pass the test

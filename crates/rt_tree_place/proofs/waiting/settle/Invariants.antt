@@ -1,6 +1,6 @@
 use Rattle.std.proofs.Common.{◌+◌, ◌-◌, ◌*◌, vec_len}
-use Rattle.rt_tree_insert.proofs.Turns.{Progress}
-use Rattle.rt_tree_insert.proofs.waiting.settle.Given as goal
+use Rattle.rt_tree_place.proofs.Turns.{Progress}
+use Rattle.rt_tree_place.proofs.waiting.settle.Given as goal
 
 abbrev pub invariant-loop-tree : goal.invariant-loop-tree
 invariant-loop-tree g l = Progress l.initial.tree l.tree l.base l.marks l.work
