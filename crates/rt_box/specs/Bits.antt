@@ -22,6 +22,6 @@ AreLanes lanes = (s t u v : Bool) × (lanes ≡ mask s t u v)
 abbrev pub IsClear : List ℤ → Type 0
 IsClear lanes = lanes ≡ mask false false false false
 
--- each lane is set exactly where one of two neighbours was
+-- each lane is set exactly if one of two neighbours was
 abbrev pub Halves : List ℤ → List ℤ → List ℤ → Type 0
 Halves first second halves = (s t u v w x y z : Bool) → first ≡ mask s t u v → second ≡ mask w x y z → halves ≡ mask (s || t) (u || v) (w || x) (y || z)

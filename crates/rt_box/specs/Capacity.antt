@@ -6,6 +6,10 @@ use Rattle.std.specs.Prelude.{ℕ, ◌*◌, ◌/◌, ◌≤◌}
 abbrev pub IsCapacity : ℕ → Type 0
 IsCapacity n = (5 ≤ n) × (n ≤ 51)
 
+-- the most cells that are ever in a node: an overfull one has a cell more than the greatest capacity
+abbrev pub most_cells : ℕ
+most_cells = 52
+
 -- the least number of cells in a node that isn't the root: 40 in a hundred, rounded down
 -- (Beckmann, Kriegel, Schneider, Seeger 1990, section 4.2)
 abbrev pub least_fill : ℕ → ℕ

@@ -7,7 +7,7 @@ use Rattle.rt_box.specs.declared.interval.Interval.{Interval}
 abbrev pub interval : ℤ → ℤ → Interval
 interval lo hi = record { lo = lo; hi = hi }
 
--- the number is in the interval; none is where lo is above hi
+-- the number is in the interval; none is if lo is above hi
 abbrev pub Includes : Interval → ℤ → Type 0
 Includes i z = (i.lo ≤ℤ z) × (z ≤ℤ i.hi)
 
@@ -19,12 +19,12 @@ Covers outer inner = (outer.lo ≤ℤ inner.lo) × (inner.hi ≤ℤ outer.hi)
 abbrev pub FitsEnds : Interval → Type 0
 FitsEnds i = FitsSigned w32 i.lo × FitsSigned w32 i.hi
 
--- the number, or 0 where it is negative
+-- the number, or 0 if it is negative
 abbrev pub or_zero : ℤ → ℕ
 or_zero (pos n) = n
 or_zero (negsuc n) = 0
 
--- how long the interval is: hi less lo, or 0 where lo is above hi
+-- how long the interval is: hi less lo, or 0 if lo is above hi
 abbrev pub side : Interval → ℕ
 side i = or_zero (i.hi -ℤ i.lo)
 

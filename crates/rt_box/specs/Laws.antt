@@ -34,7 +34,7 @@ WindowAllowsWhatIsKept = (axes : ℕ) (start window : List Interval) (comparison
     (coordinate : ℕ) (z : ℤ) → coordinate < 2 * axes →
     (Allows window coordinate z ↔ (FitsSigned w32 z × All (KeepsAt coordinate z) comparisons))
 
--- a narrowed window admits a box exactly where all comparisons keep its coordinates
+-- a narrowed window admits a box exactly if all comparisons keep its coordinates
 abbrev pub WindowAdmitsWhatIsKept : Type 0
 WindowAdmitsWhatIsKept = (axes : ℕ) (start window b : List Interval) (comparisons : List Comparison) →
     IsUnlimited axes start → All (λ c. c.coordinate < 2 * axes) comparisons → NarrowsInTurn start comparisons window →

@@ -43,7 +43,7 @@ margin b = sum_by side b
 abbrev pub common_box : List Interval → List Interval → List Interval
 common_box a b = map (λ p. common_part p.0 p.1) (zip a b)
 
--- the area that two boxes have in common: 0 where on some axis they have no side in common
+-- the area that two boxes have in common: 0 if on some axis they have no side in common
 abbrev pub overlap : List Interval → List Interval → ℕ
 overlap a b = area (common_box a b)
 

@@ -61,7 +61,7 @@ NarrowsInTurn old [] new = old ≡ new
 NarrowsInTurn old (c ∷ cs) new =
     (next : List Interval) × Narrows old next c.coordinate c.op c.value × NarrowsInTurn next cs new
 
--- the comparison keeps the number, where it is one of that coordinate
+-- the comparison keeps the number, if it is one of that coordinate
 abbrev pub KeepsAt : ℕ → ℤ → Comparison → Type 0
 KeepsAt coordinate z c = c.coordinate ≡ coordinate → Keeps c.op z c.value
 

@@ -1,12 +1,15 @@
 //! The capacity of a tree's nodes, and the two numbers that follow from it.
 //!
 //! It is at most 51, as in SQLite's nodes. It is at least 5, so that neither number is 0 and a split leaves no
-//! cell alone (`specs/Capacity.antt`).
+//! cell alone (`specs/Capacity.antt`). An overfull node has a cell more, until it is split or gives cells up.
 
 ghost use Rattle.std.specs.Prelude.{◌≡◌, ◌↔◌, IsSome, IfSome};
 ghost use Rattle.rt_box.specs.Capacity.{IsCapacity, least_fill, reinsertion_share};
 
 use std::marker::Model;
+
+/// The most cells that are ever in a node: a cell more than the greatest capacity allows, in an overfull one.
+pub const MOST_CELLS: usize = 52;
 
 /// The greatest number of cells in a node of a tree, from 5 to 51.
 #[derive(Clone, Copy, Debug, PartialEq, Eq)]
@@ -29,7 +32,7 @@ impl Model for Capacity {
 }
 
 impl Capacity {
-    /// The capacity of `greatest` cells, or `None` where that is below 5 or above 51.
+    /// The capacity of `greatest` cells, or `None` if that is below 5 or above 51.
     pub fn new(greatest: u8) -> Option<Capacity>
         ensures valid { IsSome result ↔ IsCapacity greatest }
         ensures value { IfSome result (λ c. c ≡ greatest) }

@@ -9,7 +9,7 @@ ghost use Rattle.rt_box.specs.Operators.{Keeps};
 
 use crate::operator::Operator;
 
-/// The whole numbers from `lo` to `hi`, with both ends; none where `lo` is above `hi`.
+/// The whole numbers from `lo` to `hi`, with both ends; none if `lo` is above `hi`.
 #[derive(Clone, Copy, Debug, PartialEq, Eq)]
 pub struct Interval {
     /// The least number.
@@ -35,7 +35,7 @@ impl Interval {
         self.lo <= self.hi
     }
 
-    /// `hi` less `lo`, or 0 where `lo` is above `hi`.
+    /// `hi` less `lo`, or 0 if `lo` is above `hi`.
     pub(crate) fn length(self) -> u32
         ensures { result ≡ side self }
     {
@@ -46,7 +46,7 @@ impl Interval {
         }
     }
 
-    /// `hi` less `lo`, where `lo` isn't above `hi`: that takes fewer steps than `length`.
+    /// `hi` less `lo`, in fewer steps than `length`. The interval has a number.
     pub(crate) fn ordered_length(self) -> u32
         requires { self.lo ≤ℤ self.hi }
         ensures { result ≡ side self }
@@ -54,7 +54,7 @@ impl Interval {
         (i64::from(self.hi) - i64::from(self.lo)) as u32
     }
 
-    /// What both have in common; empty where they don't meet.
+    /// What both have in common; empty if they don't meet.
     pub(crate) fn common_part(self, other: Interval) -> Interval
         ensures { result ≡ common_part self other }
     {

@@ -29,13 +29,13 @@ pub fn admitted_may_be_held()
 {}
 
 /// A window that was narrowed by some comparisons allows a coordinate exactly the 32-bit numbers of which
-/// all comparisons of that coordinate hold, but for `<>`.
+/// all comparisons of that coordinate hold, except `<>`.
 pub fn window_allows_what_is_kept()
     ensures { WindowAllowsWhatIsKept }
 {}
 
 /// A window that was narrowed by some comparisons admits exactly the boxes of whose coordinates all
-/// of them hold, but for `<>`.
+/// of them hold, except `<>`.
 pub fn window_admits_what_is_kept()
     ensures { WindowAdmitsWhatIsKept }
 {}

@@ -3,10 +3,11 @@
 //! - `Rect` is a box with 32-bit coordinates. Its measures (area, margin, overlap, union, enlargement,
 //!   distance of centres) are those of the R*-tree, exact over whole numbers: nothing wraps, and each
 //!   states the bound that sums of it need.
-//! - `Window` holds what a search asks of each coordinate. It admits a box exactly where all of its
-//!   comparisons but `<>` hold, its `reach` exactly the boxes into which an admitted box fits, and its `core` those into
-//!   which only admitted boxes fit. The one `around` a box admits the boxes that hold it.
-//! - `Capacity` is the greatest number of cells in a node, with the two numbers that follow from it.
+//! - `Window` holds what a search asks of each coordinate. It admits a box exactly if all of its comparisons hold,
+//!   except `<>`, which it leaves out. Its `reach` admits the boxes into which an admitted box fits, and its `core` those
+//!   into which only admitted boxes fit. The window `around` a box admits the boxes that hold it.
+//! - `Capacity` is the greatest number of cells in a node, with the two numbers that follow from it. `MOST_CELLS` is the
+//!   most that an overfull node has.
 //! - `laws` states what searching and splitting rest on, over the definitions that the contracts cite.
 //!
 //! No call takes memory, and none refuses but the two constructors that are themselves the test.
@@ -22,7 +23,7 @@ mod operator;
 mod rect;
 mod window;
 
-pub use capacity::Capacity;
+pub use capacity::{Capacity, MOST_CELLS};
 pub use interval::Interval;
 pub use operator::Operator;
 pub use rect::Rect;

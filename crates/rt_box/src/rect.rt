@@ -61,7 +61,7 @@ impl<const D: usize> MadeWith<Rect<D>> for Rect<D> {
 }
 
 impl<const D: usize> Rect<D> {
-    /// The box from `lo` to `hi` on each axis, or `None` where some `lo` is above its `hi`.
+    /// The box from `lo` to `hi` on each axis, or `None` if some `lo` is above its `hi`.
     pub fn new(lo: [i32; D], hi: [i32; D]) -> Option<Rect<D>>
         requires some { 1 ≤ D }
         requires few { D ≤ 3 }
@@ -110,7 +110,7 @@ impl<const D: usize> Rect<D> {
         self.sides[axis]
     }
 
-    /// The interval on an axis, where it stands.
+    /// The interval on an axis, in place.
     #[inline]
     pub(crate) fn side(&self, axis: usize) -> &Interval
         requires { axis < D }
@@ -173,7 +173,7 @@ impl<const D: usize> Rect<D> {
         margin
     }
 
-    /// The area that both boxes have in common: 0 where they only touch, or do not meet.
+    /// The area that both boxes have in common: 0 if they only touch, or don't meet.
     #[inline]
     pub fn overlap(&self, other: &Rect<D>) -> u128
         ensures value { result ≡ overlap self.now other.now }
@@ -216,7 +216,7 @@ impl<const D: usize> Rect<D> {
         inside
     }
 
-    /// By how much the area grows where this box is widened to hold `other` too.
+    /// By how much the area grows if this box is widened to hold `other` too.
     #[inline]
     pub fn enlargement(&self, other: &Rect<D>) -> u128
         ensures value { result + area self.now ≡ area (union_box self.now other.now) }

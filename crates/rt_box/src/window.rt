@@ -47,7 +47,7 @@ impl Ends {
         15 - (before | behind).to_bitmask()
     }
 
-    /// What the ends of a side are where an interval that is admitted fits into it: the side begins no later than such
+    /// What the ends of a side are if an interval that is admitted fits into it: the side begins no later than such
     /// an interval may, and ends no sooner.
     fn reach(self) -> Ends
         ensures { Reaches self result }
@@ -70,7 +70,7 @@ impl Ends {
         }
     }
 
-    /// What the ends of a side are where it covers an interval: it begins no later, and ends no sooner.
+    /// What the ends of a side are if it covers an interval: it begins no later, and ends no sooner.
     fn around(inner: &Interval) -> Ends
         ensures { AreAround inner.now result }
     {
@@ -86,8 +86,8 @@ impl Ends {
         }
     }
 
-    /// What the ends of a side are where each interval that fits into it is admitted: each number of the side is allowed
-    /// both of its ends.
+    /// What the ends of a side are if each interval that fits into it is admitted: either end may be any number of the
+    /// side.
     fn core(self) -> Ends
         ensures { HasCore self result }
     {
@@ -300,7 +300,7 @@ impl<const D: usize> Window<D> {
         (at, bits)
     }
 
-    /// Which of the boxes are admitted, where they are too few to be tested together.
+    /// Which of the boxes are admitted, one by one: too few of them are left to be tested together.
     fn tell_each(&self, rects: &[Rect<D>]) -> u64
         requires { length rects.now ≤ 64 }
         ensures told { Tells (Admits self.now) rects.now result }
