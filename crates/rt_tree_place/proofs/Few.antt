@@ -8,9 +8,9 @@ use Rattle.std.proofs.lemmas.Option.{same_Some, none-some}
 use Rattle.slab.specs.Slab.{get, slab_len, HasRoomFor}
 use Rattle.rt_box.specs.Capacity.{IsCapacity, least_fill}
 use Rattle.rt_tree_node.specs.declared.arena.Arena.{Arena}
-use Rattle.rt_tree_node.specs.declared.cell.Waiting.{Waiting}
+use Rattle.rt_tree_node.specs.declared.cell.Pending.{Pending}
 use Rattle.rt_tree_node.specs.Node.{NodeCells}
-use Rattle.rt_tree_node.specs.Places.{level_of, cells_of, leaf_part, inner_part, leaf_cells_of, inner_cells_of, cells_at, level_at, waiting_rows, waiting_nodes, sum_over}
+use Rattle.rt_tree_node.specs.Places.{level_of, cells_of, leaf_part, inner_part, leaf_cells_of, inner_cells_of, cells_at, level_at, pending_rows, pending_nodes, sum_over}
 use Rattle.rt_tree_node.specs.Whole.{IsWhole, HasRoom, row_count}
 use Rattle.rt_tree_place.proofs.Sums.{sum-same, sum-added, sum-scaled, count-all, sum-each, sum-le, sum-le_but}
 use Rattle.rt_tree_place.proofs.Named.{chosen_part, chosen, node_in, named-on_level, named-in_all}
@@ -39,19 +39,19 @@ module _ {D : ℕ} where
       by (suc l) = omega arith
 
   -- what waits is a row or names a node
-  waiting-parted : (ws : List (Waiting D)) → length ws ≡ length (waiting_rows ws) + length (waiting_nodes ws)
-  waiting-parted [] = refl
-  waiting-parted (w ∷ ws) = by w.level refl (waiting-parted ws)
+  pending-parted : (ws : List (Pending D)) → length ws ≡ length (pending_rows ws) + length (pending_nodes ws)
+  pending-parted [] = refl
+  pending-parted (w ∷ ws) = by w.level refl (pending-parted ws)
     where
-      by : (l : ℕ) → w.level ≡ l → length ws ≡ length (waiting_rows ws) + length (waiting_nodes ws) →
-          length (w ∷ ws) ≡ length (waiting_rows (w ∷ ws)) + length (waiting_nodes (w ∷ ws))
+      by : (l : ℕ) → w.level ≡ l → length ws ≡ length (pending_rows ws) + length (pending_nodes ws) →
+          length (w ∷ ws) ≡ length (pending_rows (w ∷ ws)) + length (pending_nodes (w ∷ ws))
       by zero e rest =
-          let a = ap (λ i. length (leaf_part i (w.cell ∷ []) ++ waiting_rows ws)) e in
-          let b = ap (λ i. length (inner_part i (w.cell ∷ []) ++ waiting_nodes ws)) e in
+          let a = ap (λ i. length (leaf_part i (w.cell ∷ []) ++ pending_rows ws)) e in
+          let b = ap (λ i. length (inner_part i (w.cell ∷ []) ++ pending_nodes ws)) e in
           omega (arith, a, b, rest)
       by (suc l) e rest =
-          let a = ap (λ i. length (leaf_part i (w.cell ∷ []) ++ waiting_rows ws)) e in
-          let b = ap (λ i. length (inner_part i (w.cell ∷ []) ++ waiting_nodes ws)) e in
+          let a = ap (λ i. length (leaf_part i (w.cell ∷ []) ++ pending_rows ws)) e in
+          let b = ap (λ i. length (inner_part i (w.cell ∷ []) ++ pending_nodes ws)) e in
           omega (arith, a, b, rest)
 
   present : Option (NodeCells D) → ℕ
@@ -65,12 +65,12 @@ module _ {D : ℕ} where
     leaf_rows : ℕ
     leaf_rows = sum_over (λ s. length (leaf_cells_of s)) t.nodes
 
-    rows-are : row_count t ≡ leaf_rows + length (waiting_rows t.waiting.items)
+    rows-are : row_count t ≡ leaf_rows + length (pending_rows t.pending.items)
     unfolding leaf_rows
     rows-are = omega (
       arith,
       sum-same (λ s. count_by (λ c. true) (leaf_cells_of s)) (λ s. length (leaf_cells_of s)) (λ s. count-all (leaf_cells_of s)) t.nodes.slots,
-      count-all (waiting_rows t.waiting.items),
+      count-all (pending_rows t.pending.items),
     )
 
     least-at : (k l : ℕ) → level_at t.nodes k ≡ Some l → k ≢ t.root → least_fill t.capacity ≤ length (cells_at t.nodes k)
@@ -98,20 +98,20 @@ module _ {D : ℕ} where
         by (Some n) e = omega arith
 
     -- each node takes up one cell less than it has, at least
-    pub nodes-and_rows : (w : ℕ) → suc w ≡ least_fill t.capacity → w * slab_len t.nodes + length (cells_at t.nodes t.root) + vec_len t.waiting ≤ row_count t + w
+    pub nodes-and_rows : (w : ℕ) → suc w ≡ least_fill t.capacity → w * slab_len t.nodes + length (cells_at t.nodes t.root) + vec_len t.pending ≤ row_count t + w
     unfolding leaf_rows
     nodes-and_rows w is =
-        let named = named-in_all t.nodes t.root t.level t.waiting.items whole.linked in
+        let named = named-in_all t.nodes t.root t.level t.pending.items whole.linked in
         let cells = sum-added (λ s. length (inner_cells_of s)) (λ s. length (leaf_cells_of s)) (λ s. length (cells_of s)) parted t.nodes.slots in
-        omega (arith, named, cells, filled (suc w) is, rows-are, waiting-parted t.waiting.items, suc-mul w (slab_len t.nodes))
+        omega (arith, named, cells, filled (suc w) is, rows-are, pending-parted t.pending.items, suc-mul w (slab_len t.nodes))
 
     some-node : 1 ≤ slab_len t.nodes
-    some-node = omega (arith, named-in_all t.nodes t.root t.level t.waiting.items whole.linked)
+    some-node = omega (arith, named-in_all t.nodes t.root t.level t.pending.items whole.linked)
 
     pred-least : (w : ℕ) × (suc w ≡ least_fill t.capacity) × (1 ≤ w)
     pred-least = let low = least-two t.capacity whole.fitted.cap in (least_fill t.capacity - 1, omega arith, omega arith)
 
-    others-and_rows : (w : ℕ) → suc w ≡ least_fill t.capacity → w * (slab_len t.nodes - 1) + vec_len t.waiting ≤ row_count t
+    others-and_rows : (w : ℕ) → suc w ≡ least_fill t.capacity → w * (slab_len t.nodes - 1) + vec_len t.pending ≤ row_count t
     others-and_rows w is =
         let some = some-node in
         let n : suc (slab_len t.nodes - 1) ≡ slab_len t.nodes = omega arith in
@@ -125,8 +125,8 @@ module _ {D : ℕ} where
         let few : slab_len t.nodes - 1 ≤ row_count t / w.0 = le-div (slab_len t.nodes - 1) (row_count t) w.0 w.2 (omega (arith, mul_comm (slab_len t.nodes - 1) w.0, others-and_rows w.0 w.1)) in
         subst (λ k. slab_len t.nodes ≤ 1 + row_count t / k) is (omega (arith, few))
 
-    pub few-waiting : vec_len t.waiting ≤ row_count t
-    few-waiting = let w = pred-least in omega (arith, others-and_rows w.0 w.1)
+    pub few-pending : vec_len t.pending ≤ row_count t
+    few-pending = let w = pred-least in omega (arith, others-and_rows w.0 w.1)
 
     pub fewer-nodes_than_rows : slab_len t.nodes ≤ suc (row_count t)
     fewer-nodes_than_rows =
@@ -179,7 +179,7 @@ module _ {D : ℕ} where
           arith,
           sum-scaled m (node_in (is_level (suc l))) t.nodes.slots,
           sum-le (λ s. m * node_in (is_level (suc l)) s) (λ s. length (chosen (is_level l) s)) (omega arith) refl t.nodes.slots each,
-          named-on_level t.nodes t.root t.level t.waiting.items whole.linked l,
+          named-on_level t.nodes t.root t.level t.pending.items whole.linked l,
         )
       where
         each : (k : ℕ) → m * node_in (is_level (suc l)) (get t.nodes k) ≤ length (chosen (is_level l) (get t.nodes k))
@@ -204,7 +204,7 @@ module _ {D : ℕ} where
     level-top l top =
         let here : level_at t.nodes t.root ≡ Some (suc l) = whole.linked.root_level ∙ ap Some top in
         let each = sum-each (λ s. length (chosen (is_level l) s)) refl t.nodes.slots t.root in
-        omega (arith, each, at-top (get t.nodes t.root) here, whole.fitted.some t.root l here, named-on_level t.nodes t.root t.level t.waiting.items whole.linked l)
+        omega (arith, each, at-top (get t.nodes t.root) here, whole.fitted.some t.root l here, named-on_level t.nodes t.root t.level t.pending.items whole.linked l)
       where
         at-top : (s : Option (NodeCells D)) → level_of s ≡ Some (suc l) → length (chosen (is_level l) s) ≡ length (cells_of s)
         at-top None e = absurd (none-some (suc l) e)

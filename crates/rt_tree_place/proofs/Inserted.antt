@@ -7,11 +7,11 @@ use Rattle.rt_tree_node.specs.declared.cell.Cell.{Cell}
 use Rattle.rt_tree_node.specs.Places.{cells_at}
 use Rattle.rt_tree_node.specs.Whole.{IsBranched}
 use Rattle.rt_tree_node.specs.Settles.{Settles}
-use Rattle.rt_tree_place.specs.Placing.{JoinsLeaf, HalvesRoot}
-use Rattle.rt_tree_place.specs.Awaiting.{AwaitsLeaf}
-use Rattle.rt_tree_place.specs.Settling.{PlacesInTurn, CountsWork, PlacesRow}
+use Rattle.rt_tree_place.specs.Placement.{JoinsLeaf, HalvesRoot}
+use Rattle.rt_tree_place.specs.NewRow.{AwaitsLeaf}
+use Rattle.rt_tree_place.specs.Turns.{PlacesInTurn, CountsWork, PlacesRow}
 use Rattle.rt_tree_place.specs.Insertion.{Inserts}
-use Rattle.rt_tree_place.proofs.Awaited.{awaiting_arena, waits-alone, rows-spelled, gains-id}
+use Rattle.rt_tree_place.proofs.NewRow.{awaiting_arena, waits-alone, rows-spelled, gains-id}
 
 -- what comes of a row, by how many cells its leaf has and by the root's level before and after
 record Outcome (cells capacity level level1 splits reinsertions : ℕ) : Type 0 where
@@ -40,7 +40,7 @@ module _ (cells capacity level level1 splits reinsertions : ℕ) (o : Outcome ce
   ]
 
 module _ {D : ℕ} where
-  module _ (old mid new : Arena D) (c : Cell D) (work : Work) (awaits : AwaitsLeaf old mid c) (idle : old.waiting.items ≡ [])
+  module _ (old mid new : Arena D) (c : Cell D) (work : Work) (awaits : AwaitsLeaf old mid c) (idle : old.pending.items ≡ [])
       (settled : Settles mid new 0) (turned : (marks : ℕ) × PlacesInTurn mid 0 new marks work) (counted : CountsWork mid new 0 work) (placed : PlacesRow mid new c work) where
     start : Arena D
     start = awaiting_arena old mid c awaits idle
@@ -95,12 +95,12 @@ module _ {D : ℕ} where
         record {
           whole = settles.whole;
           branched = settles.branched branched;
-          none_waits = settles.waiting;
+          none_waits = settles.pending;
           rows = λ test. settles.rows test ∙ rows-spelled old mid c awaits idle test;
           ids = gains-id old.leaves mid.leaves new.leaves c.number awaits.leaf awaits.learns settles.ids;
           capacity = settles.capacity;
           room = settles.room;
-          waiting_room = let a = settles.waiting_room in let b = awaits.waiting_room in omega arith;
+          pending_room = let a = settles.pending_room in let b = awaits.pending_room in omega arith;
           awaiting = mid;
           awaits = awaits;
           marks = turned.0;

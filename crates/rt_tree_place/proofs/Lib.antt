@@ -27,5 +27,5 @@ pub mod Sums
 pub mod Named
 pub mod Few
 pub mod Turns
-pub mod Awaited
+pub mod NewRow
 pub mod Inserted

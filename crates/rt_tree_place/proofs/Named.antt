@@ -7,14 +7,15 @@ use Rattle.std.proofs.lemmas.List.{get_or_past}
 use Rattle.std.proofs.lemmas.List.Elements.{All-weaker}
 use Rattle.slab.specs.Slab.{Slab, get, slab_len}
 use Rattle.rt_tree_node.specs.declared.cell.Cell.{Cell}
-use Rattle.rt_tree_node.specs.declared.cell.Waiting.{Waiting}
+use Rattle.rt_tree_node.specs.declared.cell.Pending.{Pending}
 use Rattle.rt_tree_node.specs.Node.{NodeCells}
-use Rattle.rt_tree_node.specs.Places.{key_of, times_named, level_of, inner_part, inner_cells_of, level_at, parent_at, cells_above, waiting_nodes, sum_over}
+use Rattle.rt_tree_node.specs.Places.{key_of, times_named, level_of, inner_part, inner_cells_of, level_at, parent_at, cells_above, pending_nodes, sum_over}
 use Rattle.rt_tree_node.specs.Sound.{IsLinked, NamesChild}
 use Rattle.rt_tree_node.proofs.Counts.{count-append}
 use Rattle.rt_tree_node.proofs.Places.{inner-at_inner, names_key, named-none, named-one, named-other}
-use Rattle.rt_tree_node.proofs.Links.{above-some, above-none, unnamed-elsewhere, unnamed-vacant, unnamed-by_waiting}
-use Rattle.rt_tree_place.proofs.Sums.{count-flat, length-flat, sum-same, sum-none, sum-only, length-few, upto-list}
+use Rattle.rt_tree_node.proofs.Links.{above-some, above-none, unnamed-elsewhere, unnamed-vacant, unnamed-by_pending}
+use Rattle.rt_tree_node.proofs.Sums.{upto-list}
+use Rattle.rt_tree_place.proofs.Sums.{count-flat, length-flat, sum-same, sum-none, sum-only, length-few}
 
 module _ {D : ℕ} where
   -- the cells that name nodes of levels that pass the test
@@ -69,7 +70,7 @@ module _ {D : ℕ} where
         | inr no_level ↦ ap (λ b. times_named k (cond b n.cells [])) no_level
       ]
 
-  module _ (a : Slab (NodeCells D)) (root level : ℕ) (ws : List (Waiting D)) (linked : IsLinked a root level ws) where
+  module _ (a : Slab (NodeCells D)) (root level : ℕ) (ws : List (Pending D)) (linked : IsLinked a root level ws) where
     chosen_cells : (ℕ → Bool) → List (Cell D)
     chosen_cells test = flat_map (chosen test) a.slots
 
@@ -99,12 +100,12 @@ module _ {D : ℕ} where
     root-above : times_named root (cells_above a root) ≡ 0
     root-above = ap (times_named root) (above-none a root linked.root_parent)
 
-    above-once : (k l : ℕ) → level_at a k ≡ Some l → times_named k (cells_above a k) + times_named k (waiting_nodes ws) ≤ 1
+    above-once : (k l : ℕ) → level_at a k ≡ Some l → times_named k (cells_above a k) + times_named k (pending_nodes ws) ≤ 1
     above-once k l e = elim (cases_eq k root) [
       | inl same ↦
           let none = root-above in
           let waits = linked.root_waits_not in
-          subst (λ x. times_named x (cells_above a x) + times_named x (waiting_nodes ws) ≤ 1) (sym same) (omega arith)
+          subst (λ x. times_named x (cells_above a x) + times_named x (pending_nodes ws) ≤ 1) (sym same) (omega arith)
       | inr other ↦ omega (arith, linked.named k l e other)
     ]
 
@@ -147,14 +148,14 @@ module _ {D : ℕ} where
             ]
 
     -- each node but the root is named at most once in all
-    pub named-in_all : suc (sum_over (λ s. length (inner_cells_of s)) a + length (waiting_nodes ws)) ≤ slab_len a
+    pub named-in_all : suc (sum_over (λ s. length (inner_cells_of s)) a + length (pending_nodes ws)) ≤ slab_len a
     unfolding chosen_cells
     named-in_all =
         omega (
           arith,
           length-flat (chosen test) a.slots,
           same-length,
-          length-append (flat_map (chosen test) a.slots) (waiting_nodes ws),
+          length-append (flat_map (chosen test) a.slots) (pending_nodes ws),
           upto-list present a.slots None,
           length-few key_of (λ k. present (get a k)) (length a.slots) cells few (λ k h. ap present (vacant-past k h)),
         )
@@ -170,7 +171,7 @@ module _ {D : ℕ} where
         top = record { number = pos root; rect = [] }
 
         cells : List (Cell D)
-        cells = top ∷ (flat_map (chosen test) a.slots ++ waiting_nodes ws)
+        cells = top ∷ (flat_map (chosen test) a.slots ++ pending_nodes ws)
 
         same-length : sum_by (λ s. length (chosen test s)) a.slots ≡ sum_by (λ s. length (inner_cells_of s)) a.slots
         same-length = sum-same (λ s. length (chosen test s)) (λ s. length (inner_cells_of s)) all-chosen a.slots
@@ -178,22 +179,22 @@ module _ {D : ℕ} where
         few : (k : ℕ) → times_named k cells ≤ present (get a k)
         few k = by (get a k) refl
           where
-            parts : times_named k cells ≡ times_named k (top ∷ []) + (times_named k (flat_map (chosen test) a.slots) + times_named k (waiting_nodes ws))
+            parts : times_named k cells ≡ times_named k (top ∷ []) + (times_named k (flat_map (chosen test) a.slots) + times_named k (pending_nodes ws))
             parts = omega (
               arith,
-              count-append (names_key k) (top ∷ []) (flat_map (chosen test) a.slots ++ waiting_nodes ws),
-              count-append (names_key k) (flat_map (chosen test) a.slots) (waiting_nodes ws),
+              count-append (names_key k) (top ∷ []) (flat_map (chosen test) a.slots ++ pending_nodes ws),
+              count-append (names_key k) (flat_map (chosen test) a.slots) (pending_nodes ws),
             )
 
             by : (s : Option (NodeCells D)) → get a k ≡ s → times_named k cells ≤ present s
             by None e =
                 let other : root ≢ k = λ same. none-some level (sym (ap level_of e) ∙ ap (level_at a) (sym same) ∙ linked.root_level) in
-                let waits = unnamed-by_waiting a ws k (ap level_of e) linked.waiting_named in
+                let waits = unnamed-by_pending a ws k (ap level_of e) linked.pending_named in
                 omega (arith, parts, times-vacant test k e, waits, named-other k top other)
             by (Some n) e = elim (cases_eq root k) [
               | inl same ↦
                   let above : times_named k (cells_above a k) ≡ 0 = subst (λ x. times_named x (cells_above a x) ≡ 0) same root-above in
-                  let waits : times_named k (waiting_nodes ws) ≡ 0 = subst (λ x. times_named x (waiting_nodes ws) ≡ 0) same linked.root_waits_not in
+                  let waits : times_named k (pending_nodes ws) ≡ 0 = subst (λ x. times_named x (pending_nodes ws) ≡ 0) same linked.root_waits_not in
                   omega (arith, parts, times-above test k, above, waits, named-one k top same)
               | inr other ↦ omega (arith, parts, times-above test k, above-once k n.level (ap level_of e), named-other k top other)
             ]

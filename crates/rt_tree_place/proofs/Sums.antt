@@ -3,9 +3,9 @@ use Rattle.std.proofs.Common.{◌≡◌, ◌≢◌, ℕ, zero, suc, ◌+◌, ◌
 use Rattle.std.specs.List.{sum_by, count_by, flat_map}
 use Rattle.std.proofs.Math.Nat.{mul-add}
 use Rattle.std.proofs.lemmas.Bool.{cases_eq, cases_lt, lt-ltb, le-ltb}
-use Rattle.std.proofs.lemmas.List.{take_more, take_all}
 use Rattle.std.proofs.lemmas.List.Sums.{sum_by-cons, sum_by-append}
 use Rattle.rt_tree_node.proofs.Counts.{count-append, count-one_yes, count-one_no}
+use Rattle.rt_tree_node.proofs.Sums.{upto}
 
 module _ {X : Type 0} where
   pub sum-same : (f g : X → ℕ) → ((x : X) → f x ≡ g x) → (xs : List X) → sum_by f xs ≡ sum_by g xs
@@ -70,25 +70,6 @@ module _ {T : Type 0} (f g : Option T → ℕ) (f_nothing : f None ≡ 0) (g_not
   sum-le_but (x ∷ xs) (suc key) h =
       let here = h 0 (λ e. omega arith) in
       omega (arith, here, sum_by-cons f x xs, sum_by-cons g x xs, sum-le_but xs key (λ k ne. h (suc k) (λ e. ne (omega arith))))
-
--- the sum of the numbers of all keys below n
-pub upto : (ℕ → ℕ) → ℕ → ℕ
-upto f zero = 0
-upto f (suc n) = upto f n + f n
-
-module _ {X : Type 0} (m : X → ℕ) (xs : List X) (d : X) where
-  upto-taken : (n : ℕ) → n ≤ length xs → upto (λ k. m (get_or xs k d)) n ≡ sum_by m (take n xs)
-  unfolding upto
-  upto-taken zero h = refl
-  upto-taken (suc n) h =
-      let e : suc n ≡ n + 1 = omega arith in
-      let a = ap (λ i. sum_by m (take i xs)) e ∙ ap (sum_by m) (take_more xs n d (omega arith)) in
-      let b = sum_by-append m (take n xs) (get_or xs n d ∷ []) in
-      omega (arith, a, b, upto-taken n (omega arith))
-
-  -- the sum over the places of a list
-  pub upto-list : upto (λ k. m (get_or xs k d)) (length xs) ≡ sum_by m xs
-  upto-list = upto-taken (length xs) (omega arith) ∙ ap (sum_by m) (take_all (length xs) xs (omega arith))
 
 module _ {X : Type 0} (number : X → ℕ) where
   -- how many of the elements have a number

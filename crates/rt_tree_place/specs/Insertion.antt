@@ -12,9 +12,9 @@ use Rattle.rt_tree_node.specs.declared.cell.Cell.{Cell}
 use Rattle.rt_tree_node.specs.Places.{cells_at, count_rows}
 use Rattle.rt_tree_node.specs.Whole.{IsWhole, IsBranched}
 use Rattle.rt_tree_node.specs.Path.{LeadsTo}
-use Rattle.rt_tree_place.specs.Placing.{JoinsLeaf, HalvesRoot}
-use Rattle.rt_tree_place.specs.Awaiting.{AwaitsLeaf}
-use Rattle.rt_tree_place.specs.Settling.{PlacesInTurn}
+use Rattle.rt_tree_place.specs.Placement.{JoinsLeaf, HalvesRoot}
+use Rattle.rt_tree_place.specs.NewRow.{AwaitsLeaf}
+use Rattle.rt_tree_place.specs.Turns.{PlacesInTurn}
 
 module _ {S : Type 0} where
   -- the map has this id beside those that it had
@@ -25,20 +25,20 @@ module _ {S : Type 0} where
     pub room : spare old ≤ suc (spare new)
 
 module _ {D : ℕ} where
-  -- The row is in the tree, and so is each that was. Its leaf is the one that best children lead its box to: where
-  -- the leaf isn't full no other row moves, and a full root is halved. In these two cases and in no other nothing is
-  -- inserted again. The row waits at first, and all cells that wait are placed in turn.
+  -- The row is in the tree, and so is each that was. Its leaf is the one that best children lead its box to: if the leaf
+  -- isn't full, no other row moves, and a full root is halved. In these two cases and in no other nothing is inserted
+  -- again. The row is pending at first, and all pending cells are placed in turn.
   pub record Inserts (old new : Arena D) (id : ℤ) (rect : List Interval) (work : Work) : Type 0 where
     pub whole : IsWhole new
     pub branched : IsBranched new
-    pub none_waits : new.waiting.items ≡ []
+    pub none_waits : new.pending.items ≡ []
     pub rows : (test : Cell D → Bool) →
-        count_rows test new.nodes new.waiting.items
-        ≡ count_rows test old.nodes old.waiting.items + (if test record { number = id; rect = rect } then 1 else 0)
+        count_rows test new.nodes new.pending.items
+        ≡ count_rows test old.nodes old.pending.items + (if test record { number = id; rect = rect } then 1 else 0)
     pub ids : GainsId old.leaves new.leaves id
     pub capacity : new.capacity ≡ old.capacity
     pub room : new.nodes.capacity ≡ old.nodes.capacity
-    pub waiting_room : vec_capacity new.waiting ≡ vec_capacity old.waiting
+    pub pending_room : vec_capacity new.pending ≡ vec_capacity old.pending
     pub awaiting : Arena D
     pub awaits : AwaitsLeaf old awaiting record { number = id; rect = rect }
     pub marks : ℕ

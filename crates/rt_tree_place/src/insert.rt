@@ -1,19 +1,19 @@
 //! The insertion of a row.
 //!
-//! The row waits as a cell of level 0 and is placed like any other. Its id is in the map before that, so placing
-//! it takes no memory (`specs/Insertion.antt`).
+//! The row is pending as a cell of level 0, and is placed like any other. Its id is in the map before that, so placing it
+//! takes no memory (`specs/Insertion.antt`).
 
 ghost use Rattle.std.specs.Prelude.{◌≡◌, ◌+◌, ◌^◌, ◌<◌, ◌≤◌, [], ◌∷◌, ◌++◌, None, vec_len, vec_capacity};
 ghost use Rattle.std.specs.Ordering.{int_eq};
 ghost use Rattle.indexmap.specs.IndexMap.{get as leaf_of, spare};
-ghost use Rattle.rt_tree_node.specs.Whole.{IsWhole, IsBranched, HasRoom, row_count};
-ghost use Rattle.rt_tree_place.specs.Awaiting.{Learns, AwaitsLeaf};
+ghost use Rattle.rt_tree_node.specs.Whole.{IsWhole, IsBranched, HasRoom, row_count, most_rows_of_a_tree};
+ghost use Rattle.rt_tree_place.specs.NewRow.{pending_row, Learns, AwaitsLeaf};
 ghost use Rattle.rt_tree_place.specs.Insertion.{Inserts};
 
-use crate::waiting::settle;
+use crate::place::settle;
 use indexmap::IndexMap;
 use rt_box::Rect;
-use rt_tree_node::{Arena, Cell, Key, Waiting, Work};
+use rt_tree_node::{Arena, Cell, Key, Pending, Work};
 use std::hash::RandomState;
 
 /// Gives an id that isn't in the map a leaf.
@@ -26,43 +26,43 @@ fn learn(leaves: &mut IndexMap<i64, Key, RandomState>, id: &i64, leaf: Key)
     let _ = leaves.insert(*id, leaf);
 }
 
-/// Appends a row to the cells that wait. It takes no memory.
-pub fn push_row<const D: usize>(waiting: &mut Vec<Waiting<D>>, id: &i64, rect: &Rect<D>)
-    requires { vec_len waiting.old < vec_capacity waiting.old }
-    ensures items { waiting.new.items ≡ waiting.old.items ++ record { level = 0; cell = record { number = id.now; rect = rect.now } } ∷ [] }
-    ensures room { vec_capacity waiting.new ≡ vec_capacity waiting.old }
+/// Appends a row to the pending cells. It takes no memory.
+pub fn push_row<const D: usize>(cells: &mut Vec<Pending<D>>, id: &i64, rect: &Rect<D>)
+    requires { vec_len cells.old < vec_capacity cells.old }
+    ensures items { cells.new.items ≡ cells.old.items ++ pending_row record { number = id.now; rect = rect.now } ∷ [] }
+    ensures room { vec_capacity cells.new ≡ vec_capacity cells.old }
 {
     let cell = Cell {
         number: *id,
         rect: *rect,
     };
-    waiting.push_reserved(Waiting { level: 0, cell });
+    cells.push_reserved(Pending { level: 0, cell });
 }
 
-/// Lets a row wait for a leaf. Its id gets an entry already, of any leaf, so that placing the row takes no memory.
+/// Makes a row pending for a leaf. Its id gets an entry already, of any leaf, so that placing the row takes no memory.
 fn await_leaf<const D: usize>(tree: &mut Arena<D>, id: &i64, rect: &Rect<D>)
     requires absent { leaf_of int_eq tree.old.leaves id.now ≡ None }
     requires leaves_room { 1 ≤ spare tree.old.leaves }
-    requires waiting_room { vec_len tree.old.waiting < vec_capacity tree.old.waiting }
+    requires pending_room { vec_len tree.old.pending < vec_capacity tree.old.pending }
     ensures { AwaitsLeaf tree.old tree.new record { number = id.now; rect = rect.now } }
 {
     rect.facts();
     let leaf = tree.root;
     learn(&mut tree.leaves, id, leaf);
-    push_row(&mut tree.waiting, id, rect);
+    push_row(&mut tree.pending, id, rect);
 }
 
-/// Puts a row into the tree, which has no row with that id. It takes no memory: there is room for the nodes, the id
-/// and the cells that wait meanwhile.
+/// Puts a row into the tree, which has no row with that id. It takes no memory: there is room for the nodes, the id and
+/// the cells that are pending meanwhile.
 pub fn insert_row<const D: usize>(tree: &mut Arena<D>, id: &i64, rect: &Rect<D>) -> Work
     requires whole { IsWhole tree.old }
     requires branched { IsBranched tree.old }
-    requires idle { tree.old.waiting.items ≡ [] }
+    requires idle { tree.old.pending.items ≡ [] }
     requires absent { leaf_of int_eq tree.old.leaves id.now ≡ None }
-    requires rows { row_count tree.old < 2 ^ 20 }
+    requires rows { row_count tree.old < most_rows_of_a_tree }
     requires room { HasRoom tree.old (row_count tree.old + 1) }
     requires leaves_room { 1 ≤ spare tree.old.leaves }
-    requires waiting_room { 513 ≤ vec_capacity tree.old.waiting }
+    requires pending_room { 513 ≤ vec_capacity tree.old.pending }
     ensures { Inserts tree.old tree.new id.now rect.now result }
 {
     rect.facts();

@@ -1,6 +1,6 @@
 //! What holds of each whole tree. Each function does nothing: its contract is the law.
 //!
-//! Callers show by these laws that nodes, levels and waiting cells stay within the room that was made for them.
+//! Callers show by these laws that nodes, levels and pending cells stay within the room that was made for them.
 
 ghost use Rattle.std.specs.Prelude.{ℕ, ◌+◌, ◌-◌, ◌/◌, ◌^◌, ◌≤◌, vec_len};
 ghost use Rattle.slab.specs.Slab.{slab_len, HasRoomFor};
@@ -18,7 +18,7 @@ pub fn nodes_are_few<const D: usize>(tree: &Arena<D>)
     let _ = tree;
 }
 
-/// A tree of some levels above the leaves has as many rows as that power of the least number of cells in a node.
+/// A tree has at least as many rows as the least number of cells in a node to the power of its levels above the leaves.
 pub fn levels_are_few<const D: usize>(tree: &Arena<D>)
     requires { IsWhole tree.now }
     ensures powers { 1 ≤ tree.now.level → least_fill tree.now.capacity ^ tree.now.level ≤ row_count tree.now }
@@ -27,15 +27,15 @@ pub fn levels_are_few<const D: usize>(tree: &Arena<D>)
     let _ = tree;
 }
 
-/// No more cells wait than there are rows, in the tree or waiting.
-pub fn waiting_cells_are_few<const D: usize>(tree: &Arena<D>)
+/// No more cells are pending than there are rows, in the tree or pending.
+pub fn pending_cells_are_few<const D: usize>(tree: &Arena<D>)
     requires { IsWhole tree.now }
-    ensures { vec_len tree.now.waiting ≤ row_count tree.now }
+    ensures { vec_len tree.now.pending ≤ row_count tree.now }
 {
     let _ = tree;
 }
 
-/// Where there is room for the nodes of any tree with so many rows, there is room for 32 nodes more.
+/// If there is room for the nodes of any tree with that many rows, there is room for 32 nodes more.
 pub fn room_is_enough<const D: usize>(tree: &Arena<D>)
     requires whole { IsWhole tree.now }
     requires room { HasRoom tree.now (row_count tree.now) }
