@@ -1,9 +1,9 @@
 -- The shape of nodes, after each kind of change.
-use Rattle.std.proofs.Common.{◌≡◌, ◌≢◌, ◌⊎◌, ℕ, zero, suc, ◌+◌, ◌<◌, ◌≤◌, List, [], ◌∷◌, ◌++◌, length, get_or, Option, Some, None, arith, refl, ap, ◌∙◌, sym, subst, inl, inr}
+use Rattle.std.proofs.Common.{◌≡◌, ◌≢◌, ◌⊎◌, ℕ, suc, ◌≤◌, List, [], ◌∷◌, ◌++◌, length, Option, Some, refl, ap, ◌∙◌, sym, subst, inl, inr}
 use Rattle.std.specs.List.{All}
 use Rattle.std.proofs.lemmas.Option.{same_Some}
 use Rattle.std.proofs.lemmas.Bool.{cases_eq}
-use Rattle.std.proofs.lemmas.List.Elements.{All-nil, All-cons, All-append, All-map, All-push, All-weaker}
+use Rattle.std.proofs.lemmas.List.Elements.{All-nil, All-append, All-map, All-push, All-weaker}
 use Rattle.slab.specs.Slab.{Slab, get, Updates}
 use Rattle.rt_box.specs.Capacity.{least_fill}
 use Rattle.rt_box.specs.Rect.{IsBox}
@@ -11,7 +11,7 @@ use Rattle.rt_tree_choice.specs.Hull.{hull}
 use Rattle.rt_tree_node.specs.declared.cell.Cell.{Cell}
 use Rattle.rt_tree_node.specs.declared.cell.Pending.{Pending}
 use Rattle.rt_tree_node.specs.Node.{NodeCells}
-use Rattle.rt_tree_node.specs.Places.{key_of, cells_of, level_of, cells_at, level_at, hull_at, rects, pending_at}
+use Rattle.rt_tree_node.specs.Places.{key_of, cells_of, level_of, cells_at, level_at, rects, pending_at}
 use Rattle.rt_tree_node.specs.Sound.{IsFitted}
 use Rattle.rt_tree_node.specs.Open.{HasHull, IsFittedBut}
 use Rattle.rt_tree_node.proofs.Links.{same-at, All-without, All-at}

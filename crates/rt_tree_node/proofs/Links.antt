@@ -1,5 +1,5 @@
 -- How the nodes hang together, after each kind of change.
-use Rattle.std.proofs.Common.{◌≡◌, ◌≢◌, ◌⊎◌, ℕ, zero, suc, ◌+◌, ◌<◌, ◌≤◌, ℤ, pos, List, [], ◌∷◌, ◌++◌, length, get_or, set, map, cond, nat_eq, unsigned_abs, Option, Some, None, eq-eqb, arith, refl, ap, ◌∙◌, sym, subst, inl, inr}
+use Rattle.std.proofs.Common.{◌≡◌, ◌≢◌, ◌⊎◌, ℕ, zero, suc, ◌+◌, ◌<◌, ◌≤◌, ℤ, pos, List, [], ◌∷◌, ◌++◌, length, get_or, set, cond, nat_eq, unsigned_abs, Option, Some, None, eq-eqb, arith, refl, ap, ◌∙◌, sym, subst, inl, inr}
 use Rattle.std.specs.List.{All}
 use Rattle.std.specs.Option.{option_map_or}
 use Rattle.std.proofs.lemmas.Option.{same_Some, none-some}
@@ -13,7 +13,7 @@ use Rattle.rt_tree_node.specs.Node.{NodeCells}
 use Rattle.rt_tree_node.specs.Places.{key_of, times_named, cells_of, inner_part, inner_cells_of, level_of, parent_of, cells_at, inner_cells_at, level_at, parent_at, cells_above, pending_nodes, pending_at}
 use Rattle.rt_tree_node.specs.Sound.{Names, NamesChild, IsLinked}
 use Rattle.rt_tree_node.proofs.Counts.{count-some}
-use Rattle.rt_tree_node.proofs.Places.{inner-at_inner, inner-at_leaf, inner-all, count-inner_push, nodes-middle, nodes-joined, names_key, named-none, named-find, named-one, named-other}
+use Rattle.rt_tree_node.proofs.Places.{inner-at_inner, inner-all, count-inner_push, nodes-middle, nodes-joined, names_key, named-none, named-one, named-other}
 
 module _ {D : ℕ} {Y : Type 0} (F : Option (NodeCells D) → Y) (a b : Slab (NodeCells D)) (k : ℕ) where
   -- a reading that the change of a node leaves as it was

@@ -1,5 +1,5 @@
 -- Several pending cells at once: appended to a node, or in another order.
-use Rattle.std.proofs.Common.{◌≡◌, ◌≢◌, ◌⊎◌, ℕ, zero, suc, ◌+◌, ◌<◌, ◌≤◌, Bool, true, false, cond, ℤ, List, [], ◌∷◌, ◌++◌, length, get_or, map, Option, Some, None, count_by, IsSome, is_some, append_assoc, arith, refl, ap, ◌∙◌, sym, subst, inl, inr}
+use Rattle.std.proofs.Common.{◌≡◌, ◌≢◌, ◌⊎◌, ℕ, zero, suc, ◌+◌, ◌≤◌, Bool, true, cond, ℤ, List, [], ◌∷◌, ◌++◌, length, get_or, map, Option, Some, count_by, is_some, append_assoc, arith, refl, ap, ◌∙◌, sym, subst, inl, inr}
 use Rattle.std.specs.Ordering.{int_eq}
 use Rattle.std.specs.List.{All}
 use Rattle.std.specs.List.Sorted.{IsPermutation}
@@ -16,14 +16,13 @@ use Rattle.slab.proofs.SlabLemmas.{Updates-with_value}
 use Rattle.rt_tree_node.specs.declared.cell.Cell.{Cell}
 use Rattle.rt_tree_node.specs.declared.cell.Pending.{Pending}
 use Rattle.rt_tree_node.specs.Node.{NodeCells}
-use Rattle.rt_tree_node.specs.Places.{key_of, rects, times_named, times_listed, cells_of, parent_of, level_of, leaf_cells_of, inner_cells_of, cells_at, level_at, parent_at, cells_above, leaf_part, inner_part, pending_rows, pending_nodes, pending_at}
+use Rattle.rt_tree_node.specs.Places.{key_of, rects, times_named, times_listed, cells_of, parent_of, level_of, leaf_cells_of, inner_cells_of, cells_at, parent_at, cells_above, leaf_part, inner_part, pending_nodes, pending_at}
 use Rattle.rt_tree_node.specs.Sound.{Names, NamesChild, IsLinked, HasHomes}
 use Rattle.rt_tree_node.specs.Open.{HasHull, IsFittedBut}
-use Rattle.rt_tree_node.proofs.Counts.{count-cons}
 use Rattle.rt_tree_node.proofs.Places.{nodes-joined, rows-joined, names_key, has_id}
 use Rattle.rt_tree_node.proofs.Links.{appended, same-at, same-above, Names-same, NamesChild-same, All-left, All-right}
 use Rattle.rt_tree_node.proofs.Fitted.{fitted-appended}
-use Rattle.rt_tree_node.proofs.Homes.{homes-appended, homes-pending, homes-same, same-id, listed-other}
+use Rattle.rt_tree_node.proofs.Homes.{homes-appended, homes-pending, homes-same, same-id}
 
 abbrev moved_to : (ℤ → Option ℕ) → ℤ → ℕ → ℤ → Option ℕ
 moved_to h id leaf x = cond (int_eq x id) (Some leaf) (h x)

@@ -1,15 +1,13 @@
 -- What stands at the keys of a slab, in each of its readings.
-use Rattle.std.proofs.Common.{◌≡◌, ◌≢◌, ℕ, zero, suc, ◌+◌, ◌<◌, Bool, true, false, cond, ℤ, List, [], ◌∷◌, ◌++◌, length, map, Option, Some, None, count_by, nat_eq, eq-eqb, ne_eqb, eqb-true, arith, refl, ap, ◌∙◌, sym, inl, inr}
+use Rattle.std.proofs.Common.{◌≡◌, ◌≢◌, ℕ, zero, suc, ◌+◌, ◌<◌, Bool, ℤ, List, [], ◌∷◌, ◌++◌, Option, Some, None, count_by, nat_eq, eq-eqb, ne_eqb, eqb-true, arith, refl, ap, ◌∙◌}
 use Rattle.std.specs.Ordering.{int_eq}
-use Rattle.std.specs.List.{All, flat_map}
-use Rattle.std.specs.Option.{option_map_or}
+use Rattle.std.specs.List.{All}
 use Rattle.std.proofs.lemmas.Option.{same_Some, none-some}
-use Rattle.std.proofs.lemmas.Bool.{cases_eq}
 use Rattle.slab.specs.Slab.{Slab, get}
 use Rattle.rt_tree_node.specs.declared.cell.Cell.{Cell}
 use Rattle.rt_tree_node.specs.declared.cell.Pending.{Pending}
 use Rattle.rt_tree_node.specs.Node.{NodeCells}
-use Rattle.rt_tree_node.specs.Places.{key_of, times_named, times_listed, cells_of, leaf_part, inner_part, leaf_cells_of, inner_cells_of, level_of, parent_of, cells_at, leaf_cells_at, inner_cells_at, level_at, parent_at, cells_above, pending_rows, pending_nodes, pending_at}
+use Rattle.rt_tree_node.specs.Places.{key_of, times_named, cells_of, leaf_part, inner_part, leaf_cells_of, inner_cells_of, level_of, cells_at, leaf_cells_at, inner_cells_at, level_at, pending_rows, pending_nodes, pending_at}
 use Rattle.rt_tree_node.proofs.Counts.{count-zero, count-find, count-append, count-one_yes, count-one_no, count-middle, count-joined}
 
 module _ {D : ℕ} where

@@ -1,5 +1,5 @@
 -- What stands at the keys of a slab of nodes.
-use Rattle.std.specs.Prelude.{ℕ, zero, suc, ◌+◌, Bool, ℤ, List, [], ◌∷◌, ◌++◌, Option, None, Some, map, count_by, sum_by, nat_eq, unsigned_abs, pos, slice_index_or}
+use Rattle.std.specs.Prelude.{ℕ, zero, suc, ◌+◌, Bool, ℤ, List, [], ◌∷◌, Option, None, Some, map, count_by, sum_by, nat_eq, unsigned_abs, pos, slice_index_or}
 use Rattle.std.specs.Ordering.{int_eq}
 use Rattle.std.specs.Option.{option_map_or}
 use Rattle.std.specs.List.{flat_map}

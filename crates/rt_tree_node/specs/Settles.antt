@@ -1,5 +1,5 @@
 -- What the placing of pending cells comes to.
-use Rattle.std.specs.Prelude.{◌≡◌, ℕ, ◌≤◌, Bool, take, vec_capacity}
+use Rattle.std.specs.Prelude.{◌≡◌, ℕ, Bool, take, vec_capacity}
 use Rattle.rt_tree_node.specs.declared.arena.Arena.{Arena}
 use Rattle.rt_tree_node.specs.declared.cell.Cell.{Cell}
 use Rattle.rt_tree_node.specs.Places.{count_rows}

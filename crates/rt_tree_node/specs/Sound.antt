@@ -1,6 +1,6 @@
 -- A sound arena, node by node. `odd` may be a node that is out of shape for the time being: it may have too many
 -- cells or too few, and the cell that names it may have another box than the least one around its cells.
-use Rattle.std.specs.Prelude.{◌≡◌, ◌≢◌, ℕ, suc, ◌+◌, ◌≤◌, ◌<◌, ℤ, pos, List, [], ◌∷◌, length, Option, None, Some, IsSome, All}
+use Rattle.std.specs.Prelude.{◌≡◌, ◌≢◌, ℕ, suc, ◌+◌, ◌≤◌, ◌<◌, ℤ, pos, List, length, Option, None, Some, IsSome, All}
 use Rattle.slab.specs.Slab.{Slab}
 use Rattle.rt_box.specs.Capacity.{IsCapacity, least_fill}
 use Rattle.rt_box.specs.Rect.{IsBox}

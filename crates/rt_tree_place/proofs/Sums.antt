@@ -1,9 +1,9 @@
 -- Sums over lists, place by place, and how many of a list's elements there can be.
-use Rattle.std.proofs.Common.{◌≡◌, ◌≢◌, ℕ, zero, suc, ◌+◌, ◌*◌, ◌≤◌, Bool, true, List, [], ◌∷◌, length, get_or, take, Option, None, nat_eq, nat_lt, eq-eqb, ne_eqb, length-append, arith, refl, ap, sym, ◌∙◌, inl, inr}
+use Rattle.std.proofs.Common.{◌≡◌, ◌≢◌, ℕ, zero, suc, ◌+◌, ◌*◌, ◌≤◌, Bool, true, List, [], ◌∷◌, length, get_or, Option, None, nat_eq, nat_lt, eq-eqb, ne_eqb, length-append, arith, refl, ap, sym, ◌∙◌, inl, inr}
 use Rattle.std.specs.List.{sum_by, count_by, flat_map}
 use Rattle.std.proofs.Math.Nat.{mul-add}
 use Rattle.std.proofs.lemmas.Bool.{cases_eq, cases_lt, lt-ltb, le-ltb}
-use Rattle.std.proofs.lemmas.List.Sums.{sum_by-cons, sum_by-append}
+use Rattle.std.proofs.lemmas.List.Sums.{sum_by-cons}
 use Rattle.rt_tree_node.proofs.Counts.{count-append, count-one_yes, count-one_no}
 use Rattle.rt_tree_node.proofs.Sums.{upto}
 

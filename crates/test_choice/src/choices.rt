@@ -1,6 +1,6 @@
 //! The choices on small nodes, and the short cuts beside the costs in full.
 //!
-//! The last test draws nodes whose boxes are often flat or equal, where ties decide, and compares each choice with
+//! The last test draws nodes whose boxes are often flat or equal, so that ties decide, and compares each choice with
 //! the first cell of least cost.
 
 ghost use Rattle.std.specs.Prelude.{◌<◌, ◌≤◌, length};
@@ -91,7 +91,7 @@ fn next(seed: u64) -> u64 {
         .wrapping_add(1442695040888963407)
 }
 
-/// A number below the span, or now and then an end of the range; any number where the span is 0.
+/// A number below the span, or now and then an end of the range; any number if the span is 0.
 fn number(seed: u64, span: u8) -> i32 {
     let bits = (seed >> 32) as u32;
     if span == 0 {
@@ -105,7 +105,7 @@ fn number(seed: u64, span: u8) -> i32 {
     }
 }
 
-/// The ends of an interval; where the span is small, many are flat or equal.
+/// The ends of an interval; if the span is small, many are flat or equal.
 fn ends(seed: u64, span: u8) -> (i32, i32) {
     let first = number(seed, span);
     let second = number(next(seed), span);
