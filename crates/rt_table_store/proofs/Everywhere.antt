@@ -25,7 +25,7 @@ use Rattle.rt_tree_walk.proofs.Judging.{count-mapped}
 use Rattle.rt_tree.specs.Lists.{IsInShape, level_of_number}
 use Rattle.rt_tree.specs.Rows.{box_in}
 use Rattle.rt_tree.specs.Boxes.{HasBoxes}
-use Rattle.rt_tree.specs.Finding.{IsReachedIn}
+use Rattle.rt_tree.specs.Search.{IsReachedIn}
 use Rattle.rt_tree.proofs.Members.{find-one, contains-none, contains-cases}
 use Rattle.rt_table_store.specs.Trees.{Visits}
 use Rattle.rt_table_store.proofs.Order.{eq_same, eq_from}

@@ -7,7 +7,7 @@ use Rattle.rt_check.specs.Shadow.{ShadowLists}
 use Rattle.rt_tree_walk.specs.declared.searching.Row.{Row}
 use Rattle.rt_tree.specs.Lists.{IsInShape}
 use Rattle.rt_tree.specs.Rows.{rows_of}
-use Rattle.rt_tree.specs.Finding.{IsReachedIn}
+use Rattle.rt_tree.specs.Search.{IsReachedIn}
 use Rattle.rt_table_row.specs.Rows.{TableRow}
 
 module _ {D : ℕ} where

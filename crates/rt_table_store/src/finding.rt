@@ -8,7 +8,7 @@ ghost use Rattle.std.specs.Prelude.{◌≡◌, ◌≤◌, List, All, true, filte
 ghost use Rattle.std.specs.Option.{option_to_list};
 ghost use Rattle.rt_box.specs.declared.interval.Interval.{Interval};
 ghost use Rattle.rt_box.specs.Window.{IsUnlimited, Admits};
-ghost use Rattle.rt_tree.specs.Finding.{FindsIn};
+ghost use Rattle.rt_tree.specs.Search.{FindsIn};
 ghost use Rattle.rt_table_row.specs.Rows.{TableRow};
 ghost use Rattle.rt_table_row.specs.Filters.{admits};
 ghost use Rattle.rt_table_row.specs.Windows.{IsWindowAt};

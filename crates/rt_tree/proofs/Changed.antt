@@ -10,7 +10,7 @@ use Rattle.rt_box.specs.Capacity.{least_fill}
 use Rattle.rt_tree_node.specs.declared.arena.Arena.{Arena}
 use Rattle.rt_tree_node.specs.declared.arena.Work.{Work}
 use Rattle.rt_tree_node.specs.Whole.{HasRoom, row_count}
-use Rattle.rt_tree_insert.specs.Insertion.{Inserts}
+use Rattle.rt_tree_place.specs.Insertion.{Inserts}
 use Rattle.rt_tree_remove.specs.Removal.{Removes}
 use Rattle.rt_tree_walk.specs.declared.searching.Row.{Row}
 use Rattle.rt_tree_walk.specs.Search.{row_of}
@@ -58,12 +58,12 @@ module _ {D : ℕ} where
     rows-are = entries-long t.arena ∙ k.ids
 
     -- the cells of all nodes on the way up from a leaf may wait
-    pub way-waits : t.arena.level ≤ 20 → (least_fill t.arena.capacity - 1) * t.arena.level + 512 ≤ vec_capacity t.arena.waiting
+    pub way-waits : t.arena.level ≤ 20 → (least_fill t.arena.capacity - 1) * t.arena.level + 512 ≤ vec_capacity t.arena.pending
     way-waits low =
         let most = k.whole.fitted.cap.1 in
         let narrow : least_fill t.arena.capacity - 1 ≤ 19 = omega arith in
         let a = mul-le-mul_left (least_fill t.arena.capacity - 1) low in
-        omega (arith, a, narrow, k.waiting_room)
+        omega (arith, a, narrow, k.pending_room)
 
   module _ (t : Inside D) (k : IsKept t) (u : Arena D) (id : ℤ) (rect : List Interval) where
     module _ (work : Work) (i : Inserts t.arena u id rect work) where
@@ -81,7 +81,7 @@ module _ {D : ℕ} where
         rows = omega (arith, more-rows);
         room = same-room t.arena u (row_count u + n) i.capacity i.room (less-room t.arena (row_count t.arena + t.spare) (row_count u + n) k.room (omega (arith, more-rows)));
         leaves_room = omega (arith, i.ids.room, k.leaves_room);
-        waiting_room = omega (arith, i.waiting_room, k.waiting_room);
+        pending_room = omega (arith, i.pending_room, k.pending_room);
       }
 
       pub inserted-rows : GainsRow (outside t.arena) (outside u) id rect
@@ -109,7 +109,7 @@ module _ {D : ℕ} where
         rows = omega (arith, fewer-rows, k.rows);
         room = same-room t.arena u (row_count u + t.spare) r.capacity r.room (less-room t.arena (row_count t.arena + t.spare) (row_count u + t.spare) k.room (omega (arith, fewer-rows)));
         leaves_room = omega (arith, r.ids.room, k.leaves_room);
-        waiting_room = omega (arith, r.waiting_room, k.waiting_room);
+        pending_room = omega (arith, r.pending_room, k.pending_room);
       }
 
       pub removed-rows : LosesRow (outside t.arena) (outside u) id rect

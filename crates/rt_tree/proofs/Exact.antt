@@ -16,8 +16,8 @@ use Rattle.rt_tree_node.specs.declared.arena.Arena.{Arena}
 use Rattle.rt_tree_node.specs.declared.arena.Work.{Work}
 use Rattle.rt_tree_node.specs.declared.cell.Cell.{Cell}
 use Rattle.rt_tree_node.specs.Places.{key_of, rects, picked as picked_at, no_cell as no_cell_at, cells_at, level_at}
-use Rattle.rt_tree_place.specs.Placing.{JoinsLeaf as JoinsAt, HalvesRoot as HalvesAt}
-use Rattle.rt_tree_insert.specs.Insertion.{Inserts}
+use Rattle.rt_tree_place.specs.Placement.{JoinsLeaf as JoinsAt, HalvesRoot as HalvesAt}
+use Rattle.rt_tree_place.specs.Insertion.{Inserts}
 use Rattle.rt_tree_remove.specs.Removal.{Removes, LeavesLeaf as LeavesAt}
 use Rattle.rt_tree_remove.specs.Above.{way_up as way_above}
 use Rattle.rt_tree_walk.specs.Search.{times}

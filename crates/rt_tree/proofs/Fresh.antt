@@ -12,9 +12,9 @@ use Rattle.indexmap.specs.IndexMap.{get as leaf_of}
 use Rattle.rt_box.specs.Capacity.{IsCapacity, least_fill}
 use Rattle.rt_tree_node.specs.declared.arena.Arena.{Arena}
 use Rattle.rt_tree_node.specs.declared.cell.Cell.{Cell}
-use Rattle.rt_tree_node.specs.declared.cell.Waiting.{Waiting}
+use Rattle.rt_tree_node.specs.declared.cell.Pending.{Pending}
 use Rattle.rt_tree_node.specs.Node.{NodeCells}
-use Rattle.rt_tree_node.specs.Places.{cells_of, leaf_cells_of, level_of, parent_of, cells_at, leaf_cells_at, level_at, times_listed, waiting_rows}
+use Rattle.rt_tree_node.specs.Places.{cells_of, leaf_cells_of, level_of, parent_of, cells_at, leaf_cells_at, level_at, times_listed, pending_rows}
 use Rattle.rt_tree_node.specs.Sound.{IsLinked, IsFitted, HasHomes}
 use Rattle.rt_tree_node.specs.Whole.{row_count}
 use Rattle.rt_tree_node.proofs.Sums.{sum_over-updated}
@@ -28,8 +28,8 @@ module _ {D : ℕ} where
   abbrev leaf : NodeCells D
   leaf = record { level = 0; parent = None; cells = [] }
 
-  abbrev none_waiting : List (Waiting D)
-  none_waiting = []
+  abbrev none_pending : List (Pending D)
+  none_pending = []
 
   module _ (a b : Slab (NodeCells D)) (root : ℕ) (empty : a.slots ≡ []) (u : Updates a b root (Some leaf)) where
     vacant : (k : ℕ) → get a k ≡ None
@@ -56,7 +56,7 @@ module _ {D : ℕ} where
     low : (k l : ℕ) → level_at b k ≡ Some (suc l) → ⊥
     low k l e = let h = (lone k (suc l) e).1 in absurd (omega arith)
 
-    linked : IsLinked b root 0 none_waiting
+    linked : IsLinked b root 0 none_pending
     linked = record {
       root_level = ap level_of u.changed;
       root_parent = ap parent_of u.changed;
@@ -64,11 +64,11 @@ module _ {D : ℕ} where
       levels = λ k l e. omega (arith, (lone k l e).1);
       children = λ k l e. absurd (low k l e);
       named = λ k l e ne. absurd (ne (lone k l e).0);
-      waiting_levels = λ k d h. absurd (omega arith);
-      waiting_named = λ k d h. absurd (omega arith);
+      pending_levels = λ k d h. absurd (omega arith);
+      pending_named = λ k d h. absurd (omega arith);
     }
 
-    fitted : (capacity : ℕ) → IsCapacity capacity → IsFitted capacity b root none_waiting None
+    fitted : (capacity : ℕ) → IsCapacity capacity → IsFitted capacity b root none_pending None
     fitted capacity cap = record {
       cap = cap;
       some = λ k l e. absurd (low k l e);
@@ -76,30 +76,30 @@ module _ {D : ℕ} where
       most = λ k l e odd. omega (arith, ap length (no-cells k));
       boxes = λ k i d h. absurd (omega (arith, h, ap length (no-cells k)));
       hulls = λ k l e. absurd (low k l e);
-      waiting_boxes = λ k d h. absurd (omega arith);
-      waiting_hulls = λ k d h. absurd (omega arith);
+      pending_boxes = λ k d h. absurd (omega arith);
+      pending_hulls = λ k d h. absurd (omega arith);
     }
 
-    homes : (f : ℤ → Option ℕ) → ((id : ℤ) → f id ≡ None) → HasHomes f b none_waiting
+    homes : (f : ℤ → Option ℕ) → ((id : ℤ) → f id ≡ None) → HasHomes f b none_pending
     homes f nothing = record {
       home = λ k id some. absurd (omega (arith, some, ap (times_listed id) (no-rows k)));
       there = λ k id e. absurd (none-some k (sym (nothing id) ∙ e));
-      waiting = λ id some. absurd (omega (arith, some));
+      pending = λ id some. absurd (omega (arith, some));
     }
 
-    module _ (t : Arena D) (nodes : t.nodes ≡ b) (top : t.root ≡ root) (level : t.level ≡ 0) (idle : t.waiting.items ≡ []) (ids : t.leaves.entries ≡ []) where
+    module _ (t : Arena D) (nodes : t.nodes ≡ b) (top : t.root ≡ root) (level : t.level ≡ 0) (idle : t.pending.items ≡ []) (ids : t.leaves.entries ≡ []) where
       no-count : row_count t ≡ 0
       no-count =
           let measure : Option (NodeCells D) → ℕ = λ place. count_by (λ (c : Cell D). true) (leaf_cells_of place) in
           let step = sum_over-updated measure refl a b root (Some leaf) u in
           let start : sum_by measure a.slots ≡ 0 = ap (sum_by measure) empty in
           let here = ap (λ (x : Slab (NodeCells D)). sum_by measure x.slots) nodes in
-          let none = ap (λ ws. count_by (λ (c : Cell D). true) (waiting_rows ws)) idle in
+          let none = ap (λ ws. count_by (λ (c : Cell D). true) (pending_rows ws)) idle in
           omega (arith, step, start, here, none)
 
-      pub fresh-kept : 1 ≤ D → D ≤ 3 → IsCapacity t.capacity → 33 ≤ t.nodes.capacity → t.nodes.capacity ≤ 2 ^ 62 → 1024 ≤ vec_capacity t.waiting →
+      pub fresh-kept : 1 ≤ D → D ≤ 3 → IsCapacity t.capacity → 33 ≤ t.nodes.capacity → t.nodes.capacity ≤ 2 ^ 62 → 1024 ≤ vec_capacity t.pending →
           IsKept {D = D} record { arena = t; spare = 0 }
-      fresh-kept some few cap room keys waiting_room = record {
+      fresh-kept some few cap room keys pending_room = record {
         some = some;
         few = few;
         whole = record {
@@ -116,5 +116,5 @@ module _ {D : ℕ} where
           keys = keys;
         };
         leaves_room = omega arith;
-        waiting_room = waiting_room;
+        pending_room = pending_room;
       }

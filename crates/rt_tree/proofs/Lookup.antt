@@ -3,7 +3,7 @@ use Rattle.std.proofs.Common.{◌≡◌, ◌≢◌, ◌⊎◌, ℕ, ◌+◌, ◌
 use Rattle.std.specs.List.{count_by}
 use Rattle.std.specs.Option.{option_map}
 use Rattle.std.specs.Ordering.{int_eq}
-use Rattle.std.proofs.lemmas.Bool.{cases_Bool, cases_lt, and_from, true≢false}
+use Rattle.std.proofs.lemmas.Bool.{cases_Bool, cases_lt, and_from, and_parts, true≢false}
 use Rattle.std.proofs.lemmas.Bool.Decides.{Decides-int_eq}
 use Rattle.rt_box.specs.declared.interval.Interval.{Interval}
 use Rattle.rt_check.specs.Shadow.{ShadowLists}
@@ -19,10 +19,6 @@ same_box [] [] = true
 same_box [] (j ∷ b) = false
 same_box (i ∷ a) [] = false
 same_box (i ∷ a) (j ∷ b) = (int_eq i.lo j.lo && int_eq i.hi j.hi) && same_box a b
-
-both-true : (a b : Bool) → (a && b) ≡ true → (a ≡ true) × (b ≡ true)
-both-true true b e = (refl, e)
-both-true false b e = absurd (true≢false (sym e))
 
 equal-ids : (x y : ℤ) → x ≡ y → int_eq x y ≡ true
 equal-ids x y e = (Decides-int_eq x y).1 e
@@ -46,8 +42,8 @@ same-is [] [] e = refl
 same-is [] (j ∷ b) e = absurd (true≢false (sym e))
 same-is (i ∷ a) [] e = absurd (true≢false (sym e))
 same-is (i ∷ a) (j ∷ b) e =
-    let h = both-true (int_eq i.lo j.lo && int_eq i.hi j.hi) (same_box a b) e in
-    let ends = both-true (int_eq i.lo j.lo) (int_eq i.hi j.hi) h.0 in
+    let h = and_parts (int_eq i.lo j.lo && int_eq i.hi j.hi) (same_box a b) e in
+    let ends = and_parts (int_eq i.lo j.lo) (int_eq i.hi j.hi) h.0 in
     let lo = (Decides-int_eq i.lo j.lo).0 ends.0 in
     let hi = (Decides-int_eq i.hi j.hi).0 ends.1 in
     let with_lo : ℤ → Interval = λ z. record { lo = z; hi = i.hi } in
@@ -75,7 +71,7 @@ module _ {D : ℕ} where
     pub counted-box : (rect : List Interval) → 0 < count_by (is id rect) (rows_of s) → box_of s id ≡ Some rect
     counted-box rect some =
         let h = counted-contained (is id rect) (rows_of s) some in
-        let parts = both-true (int_eq id h.0.id) (same_box h.0.rect rect) h.2 in
+        let parts = and_parts (int_eq id h.0.id) (same_box h.0.rect rect) h.2 in
         ap (option_map (λ (r : Row D). r.rect)) (find-one (has id) (rows_of s) h.0 h.1 parts.0 (unique id)) ∙ ap Some (same-is h.0.rect rect parts.1)
 
     pub counted-none : count_by (has id) (rows_of s) ≡ 0 → box_of s id ≡ None
@@ -100,7 +96,7 @@ module _ {D : ℕ} where
   same-other a b unique_a unique_b id same = elim (box-cases a unique_a id) [
     | inl none ↦ counted-none b unique_b id (same (has id) (λ r h. sym ((Decides-int_eq id r.id).0 h)) ∙ none.1) ∙ sym none.0
     | inr some ↦
-        let count = same (is id some.0) (λ r h. sym ((Decides-int_eq id r.id).0 (both-true (int_eq id r.id) (same_box r.rect some.0) h).0)) in
+        let count = same (is id some.0) (λ r h. sym ((Decides-int_eq id r.id).0 (and_parts (int_eq id r.id) (same_box r.rect some.0) h).0)) in
         counted-box b unique_b id some.0 (omega (arith, count, some.2)) ∙ sym some.1
   ]
 

@@ -17,10 +17,11 @@ use Rattle.rt_tree_node.specs.Places.{key_of, cells_at, leaf_cells_of, leaf_cell
 use Rattle.rt_tree_node.specs.Sound.{NamesChild}
 use Rattle.rt_tree_node.specs.Whole.{IsBranched, row_count}
 use Rattle.rt_tree_node.proofs.Places.{leaf-at_leaf}
-use Rattle.rt_tree_insert.proofs.Sums.{count-all}
+use Rattle.rt_tree_place.proofs.Sums.{count-all}
 use Rattle.rt_tree_walk.specs.Search.{times}
 use Rattle.rt_tree_walk.specs.Preorder.{keys_in, tree_keys}
-use Rattle.rt_tree_walk.proofs.Totals.{sum-listed, upto-list}
+use Rattle.rt_tree_node.proofs.Sums.{upto-list}
+use Rattle.rt_tree_walk.proofs.Totals.{sum-listed}
 use Rattle.rt_tree_walk.proofs.Reaching.{All_contained, leaf-level}
 use Rattle.rt_tree_walk.proofs.Progress.{IsSettled}
 use Rattle.rt_tree_walk.proofs.Listed.{HasNode, listed-there, listed-once, contained-from_times}

@@ -2,7 +2,7 @@
 use Rattle.std.proofs.Common.{◌≡◌, ◌⊎◌, ℕ, zero, suc, ◌≤◌, Bool, true, false, cond, List, [], ◌∷◌, ◌++◌, map, Contains, Some, None, arith, refl, ap, sym, ◌∙◌, subst, inl, inr}
 use Rattle.std.specs.Prelude.{find}
 use Rattle.std.specs.List.{flat_map, count_by}
-use Rattle.std.proofs.lemmas.Bool.{cases_Bool}
+use Rattle.std.proofs.lemmas.Bool.{cases_Bool, true≢false}
 use Rattle.rt_tree_node.proofs.Counts.{count-cons, count-some}
 
 module _ {X : Type 0} where
@@ -42,13 +42,10 @@ module _ {X : Type 0} where
           absurd (omega (arith, here, more, one, count-cons test y ys))
     ]
     | inr e ↦ ap (λ b. cond b (Some y) (find test ys)) e ∙ elim (contains-cases y x ys h) [
-      | inl same ↦ absurd (both (test y) (ap test same ∙ holds) e)
+      | inl same ↦ absurd (true≢false (sym (ap test same ∙ holds) ∙ e))
       | inr later ↦ find-one test ys x later holds (omega (arith, one, count-cons test y ys))
     ]
   ]
-    where
-      both : (b : Bool) → b ≡ true → b ≡ false → ⊥
-      both b p q = let r : true ≡ false = sym p ∙ q in cc
 
   pub find-nothing : (test : X → Bool) (xs : List X) → count_by test xs ≡ 0 → find test xs ≡ None
   find-nothing test [] none = refl

@@ -5,7 +5,7 @@ use Rattle.indexmap.specs.IndexMap.{get as leaf_of, IsUnique}
 use Rattle.rt_box.specs.declared.interval.Interval.{Interval}
 use Rattle.rt_tree_node.specs.declared.arena.Arena.{Arena}
 use Rattle.rt_tree_node.specs.declared.arena.Work.{Work}
-use Rattle.rt_tree_insert.specs.Insertion.{Inserts}
+use Rattle.rt_tree_place.specs.Insertion.{Inserts}
 use Rattle.rt_tree_remove.specs.Removal.{Removes}
 use Rattle.rt_tree_walk.specs.Outside.{outside}
 use Rattle.rt_tree.specs.Changes.{IsReplacement}

@@ -12,9 +12,9 @@ use Rattle.rt_check.specs.Shadow.{ShadowLists}
 use Rattle.rt_box.specs.Capacity.{least_fill}
 use Rattle.rt_tree_node.specs.declared.arena.Arena.{Arena}
 use Rattle.rt_tree_node.specs.declared.cell.Cell.{Cell}
-use Rattle.rt_tree_node.specs.declared.cell.Waiting.{Waiting}
+use Rattle.rt_tree_node.specs.declared.cell.Pending.{Pending}
 use Rattle.rt_tree_node.specs.Node.{NodeCells}
-use Rattle.rt_tree_node.specs.Places.{key_of, cells_at, leaf_cells_of, waiting_rows}
+use Rattle.rt_tree_node.specs.Places.{key_of, cells_at, leaf_cells_of, pending_rows}
 use Rattle.rt_tree_node.specs.Sound.{IsLinked, IsFitted, HasHomes}
 use Rattle.rt_tree_node.specs.Whole.{IsWhole, HasRoom, row_count}
 use Rattle.rt_tree_walk.specs.Preorder.{keys_in, tree_keys, number_in}
@@ -26,7 +26,7 @@ module _ {D : ℕ} where
   abbrev slotted : Slab (NodeCells D) → List (Option (NodeCells D)) → Slab (NodeCells D)
   slotted b slots = record { slots = slots; vacant_key = b.vacant_key; capacity = b.capacity }
 
-  linked-same : (a b : Slab (NodeCells D)) (root level : ℕ) (ws : List (Waiting D)) → IsLinked a root level ws → IsLinked (slotted b a.slots) root level ws
+  linked-same : (a b : Slab (NodeCells D)) (root level : ℕ) (ws : List (Pending D)) → IsLinked a root level ws → IsLinked (slotted b a.slots) root level ws
   linked-same a b root level ws h = record {
     root_level = h.root_level;
     root_parent = h.root_parent;
@@ -36,11 +36,11 @@ module _ {D : ℕ} where
         let c = h.children k l e i d w in
         record { names = record { number_is = c.names.number_is; level_is = c.names.level_is }; parent_is = c.parent_is };
     named = h.named;
-    waiting_levels = h.waiting_levels;
-    waiting_named = λ i d w l e. let c = h.waiting_named i d w l e in record { number_is = c.number_is; level_is = c.level_is };
+    pending_levels = h.pending_levels;
+    pending_named = λ i d w l e. let c = h.pending_named i d w l e in record { number_is = c.number_is; level_is = c.level_is };
   }
 
-  fitted-same : (a b : Slab (NodeCells D)) (capacity root : ℕ) (ws : List (Waiting D)) (odd : Option ℕ) → IsFitted capacity a root ws odd → IsFitted capacity (slotted b a.slots) root ws odd
+  fitted-same : (a b : Slab (NodeCells D)) (capacity root : ℕ) (ws : List (Pending D)) (odd : Option ℕ) → IsFitted capacity a root ws odd → IsFitted capacity (slotted b a.slots) root ws odd
   fitted-same a b capacity root ws odd h = record {
     cap = h.cap;
     some = h.some;
@@ -48,19 +48,19 @@ module _ {D : ℕ} where
     most = h.most;
     boxes = h.boxes;
     hulls = h.hulls;
-    waiting_boxes = h.waiting_boxes;
-    waiting_hulls = h.waiting_hulls;
+    pending_boxes = h.pending_boxes;
+    pending_hulls = h.pending_hulls;
   }
 
-  homes-same : (f : ℤ → Option ℕ) (a b : Slab (NodeCells D)) (ws : List (Waiting D)) → HasHomes f a ws → HasHomes f (slotted b a.slots) ws
-  homes-same f a b ws h = record { home = h.home; there = h.there; waiting = h.waiting }
+  homes-same : (f : ℤ → Option ℕ) (a b : Slab (NodeCells D)) (ws : List (Pending D)) → HasHomes f a ws → HasHomes f (slotted b a.slots) ws
+  homes-same f a b ws h = record { home = h.home; there = h.there; pending = h.pending }
 
   keys-same : (a b : Slab (NodeCells D)) (l k : ℕ) → keys_in (slotted b a.slots) l k ≡ keys_in a l k
   keys-same a b zero k = refl
   keys-same a b (suc l) k = ap (λ (f : Cell D → List ℕ). k ∷ flat_map f (cells_at a k)) (fun_ext (λ c. keys-same a b l (key_of c)))
 
   module _ (t u : Arena D) (slots : u.nodes.slots ≡ t.nodes.slots) (entries : u.leaves.entries ≡ t.leaves.entries)
-      (waiting : u.waiting.items ≡ t.waiting.items) (waiting_room : vec_capacity u.waiting ≡ vec_capacity t.waiting) (root : u.root ≡ t.root) (level : u.level ≡ t.level) (capacity : u.capacity ≡ t.capacity) where
+      (pending : u.pending.items ≡ t.pending.items) (pending_room : vec_capacity u.pending ≡ vec_capacity t.pending) (root : u.root ≡ t.root) (level : u.level ≡ t.level) (capacity : u.capacity ≡ t.capacity) where
     leaves-same : leaf_of int_eq u.leaves ≡ leaf_of int_eq t.leaves
     leaves-same = fun_ext (λ id. ap (lookup (int_eq id)) entries)
 
@@ -70,12 +70,12 @@ module _ {D : ℕ} where
 
     whole-same : IsWhole t → IsWhole u
     whole-same h = record {
-      linked = with-slots (λ a. IsLinked a u.root u.level u.waiting.items) (rw (waiting, root, level) (linked-same t.nodes u.nodes t.root t.level t.waiting.items h.linked));
-      fitted = with-slots (λ a. IsFitted u.capacity a u.root u.waiting.items None)
-          (rw (waiting, root, capacity) (fitted-same t.nodes u.nodes t.capacity t.root t.waiting.items None h.fitted));
-      homes = with-slots (λ a. HasHomes (leaf_of int_eq u.leaves) a u.waiting.items)
-          (subst (λ (f : ℤ → Option ℕ). HasHomes f (slotted u.nodes t.nodes.slots) u.waiting.items) (sym leaves-same)
-          (rw waiting (homes-same (leaf_of int_eq t.leaves) t.nodes u.nodes t.waiting.items h.homes)));
+      linked = with-slots (λ a. IsLinked a u.root u.level u.pending.items) (rw (pending, root, level) (linked-same t.nodes u.nodes t.root t.level t.pending.items h.linked));
+      fitted = with-slots (λ a. IsFitted u.capacity a u.root u.pending.items None)
+          (rw (pending, root, capacity) (fitted-same t.nodes u.nodes t.capacity t.root t.pending.items None h.fitted));
+      homes = with-slots (λ a. HasHomes (leaf_of int_eq u.leaves) a u.pending.items)
+          (subst (λ (f : ℤ → Option ℕ). HasHomes f (slotted u.nodes t.nodes.slots) u.pending.items) (sym leaves-same)
+          (rw pending (homes-same (leaf_of int_eq t.leaves) t.nodes u.nodes t.pending.items h.homes)));
     }
 
     keys-are : tree_keys u ≡ tree_keys t
@@ -98,9 +98,9 @@ module _ {D : ℕ} where
 
     count-same : row_count u ≡ row_count t
     count-same =
-        let count : List (Option (NodeCells D)) → List (Waiting D) → ℕ = λ xs ws.
-        sum_by (λ place. count_by (λ (c : Cell D). true) (leaf_cells_of place)) xs + count_by (λ (c : Cell D). true) (waiting_rows ws) in
-        ap (λ xs. count xs u.waiting.items) slots ∙ ap (count t.nodes.slots) waiting
+        let count : List (Option (NodeCells D)) → List (Pending D) → ℕ = λ xs ws.
+        sum_by (λ place. count_by (λ (c : Cell D). true) (leaf_cells_of place)) xs + count_by (λ (c : Cell D). true) (pending_rows ws) in
+        ap (λ xs. count xs u.pending.items) slots ∙ ap (count t.nodes.slots) pending
 
     pub roomier-kept : (was : ℕ) → IsKept {D = D} record { arena = t; spare = was } → (n : ℕ) → HasRoom u (row_count t + n) → n ≤ spare u.leaves → IsKept {D = D} record { arena = u; spare = n }
     roomier-kept was k n room leaves_room = record {
@@ -108,12 +108,12 @@ module _ {D : ℕ} where
       few = k.few;
       whole = whole-same k.whole;
       branched = λ h. omega (arith, k.branched (omega (arith, h, level)), root-cells);
-      idle = waiting ∙ k.idle;
+      idle = pending ∙ k.idle;
       ids = omega (arith, ap length entries, k.ids, count-same);
       rows = omega (arith, k.rows, count-same);
       room = subst (λ m. HasRoom u (m + n)) (sym count-same) room;
       leaves_room = leaves_room;
-      waiting_room = omega (arith, k.waiting_room, waiting_room);
+      pending_room = omega (arith, k.pending_room, pending_room);
     }
       where
         root-cells : length (cells_at u.nodes u.root) ≡ length (cells_at t.nodes t.root)

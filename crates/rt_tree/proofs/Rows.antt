@@ -19,14 +19,15 @@ use Rattle.rt_check.specs.Conditions.{is_leaf, leaf_cells}
 use Rattle.rt_tree_node.specs.declared.arena.Arena.{Arena}
 use Rattle.rt_tree_node.specs.declared.cell.Cell.{Cell}
 use Rattle.rt_tree_node.specs.Node.{NodeCells}
-use Rattle.rt_tree_node.specs.Places.{times_listed, waiting_rows, leaf_cells_of, leaf_cells_at, cells_at, level_at, count_rows}
+use Rattle.rt_tree_node.specs.Places.{times_listed, pending_rows, leaf_cells_of, leaf_cells_at, cells_at, level_at, count_rows}
 use Rattle.rt_tree_node.proofs.Places.{leaf-at_leaf}
 use Rattle.rt_tree_walk.specs.declared.searching.Row.{Row}
 use Rattle.rt_tree_walk.specs.Search.{times, row_of}
 use Rattle.rt_tree_walk.specs.InOrder.{row_cell}
 use Rattle.rt_tree_walk.specs.Preorder.{tree_keys, number_in}
 use Rattle.rt_tree_walk.specs.Outside.{cell_row, outside}
-use Rattle.rt_tree_walk.proofs.Totals.{sum-listed, upto-list, times-one}
+use Rattle.rt_tree_node.proofs.Sums.{upto-list}
+use Rattle.rt_tree_walk.proofs.Totals.{sum-listed, times-one}
 use Rattle.rt_tree_walk.proofs.Reaching.{leaf-level, counted-contained}
 use Rattle.rt_tree_walk.proofs.Judging.{count-mapped}
 use Rattle.rt_tree_walk.proofs.Progress.{IsSettled}
@@ -46,11 +47,11 @@ module _ {D : ℕ} where
   row-back c = let with_box : List Interval → Row D = λ b. record { id = c.number; rect = b } in ap with_box (intervals-back c.rect)
 
   module _ (t : Arena D) (s : IsSettled t) where
-    pub rows-counted : (test : Row D → Bool) → count_by test (rows_of (outside t)) ≡ count_rows (λ c. test (row_of c)) t.nodes t.waiting.items
+    pub rows-counted : (test : Row D → Bool) → count_by test (rows_of (outside t)) ≡ count_rows (λ c. test (row_of c)) t.nodes t.pending.items
     rows-counted test =
         count-mapped test row_in (λ c. test (row_in c)) (leaf_cells (outside t).nodes) (λ i d h. refl)
         ∙ outside-rows t s (λ c. test (row_in c))
-        ∙ ap (λ (f : Cell D → Bool). count_rows f t.nodes t.waiting.items) (fun_ext (λ c. ap test (row-back c)))
+        ∙ ap (λ (f : Cell D → Bool). count_rows f t.nodes t.pending.items) (fun_ext (λ c. ap test (row-back c)))
 
     module _ (id : ℤ) where
       has : Row D → Bool
@@ -82,7 +83,7 @@ module _ {D : ℕ} where
         here : times_listed id (leaf_cells_at t.nodes k) ≡ 1
         here =
             let h = s.whole.homes.there k id leaf in
-            let w = ap (λ ws. times_listed id (leaf_cells_at t.nodes k) + times_listed id (waiting_rows ws)) s.none in
+            let w = ap (λ ws. times_listed id (leaf_cells_at t.nodes k) + times_listed id (pending_rows ws)) s.none in
             omega (arith, h, w)
 
         once : count_by has (rows_of (outside t)) ≡ 1

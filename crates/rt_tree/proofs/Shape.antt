@@ -19,7 +19,8 @@ use Rattle.rt_tree_node.specs.Places.{level_of}
 use Rattle.rt_tree_walk.specs.Search.{times}
 use Rattle.rt_tree_walk.specs.Preorder.{tree_keys, number_in}
 use Rattle.rt_tree_walk.specs.Outside.{row_entry, rising, inserted, outside}
-use Rattle.rt_tree_walk.proofs.Totals.{sum-listed, upto-list}
+use Rattle.rt_tree_node.proofs.Sums.{upto-list}
+use Rattle.rt_tree_walk.proofs.Totals.{sum-listed}
 use Rattle.rt_tree_walk.proofs.Reaching.{All_contained}
 use Rattle.rt_tree_walk.proofs.Progress.{IsSettled}
 use Rattle.rt_tree_walk.proofs.Listed.{HasNode, listed-there, listed-once, contained-from_times}

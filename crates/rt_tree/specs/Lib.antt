@@ -2,6 +2,6 @@ pub mod Lists
 pub mod Rows
 pub mod Boxes
 pub mod TreeInside
-pub mod Finding
+pub mod Search
 pub mod Way
 pub mod Changes

@@ -1,6 +1,7 @@
 -- A tree from outside.
-use Rattle.std.specs.Prelude.{ℕ, ℤ, Option, pos, [], ◌∷◌, None}
+use Rattle.std.specs.Prelude.{ℕ, ◌+◌, ◌-◌, ◌/◌, ℤ, Option, pos, [], ◌∷◌, None, length}
 use Rattle.std.specs.Option.{option_map, option_map_or}
+use Rattle.rt_box.specs.Capacity.{least_fill}
 use Rattle.rt_check.specs.Shadow.{ShadowLists}
 use Rattle.rt_check.specs.Conditions.{node_of, IsSound}
 use Rattle.rt_tree_walk.specs.InOrder.{IsPreorder, AreByRisingId}
@@ -11,13 +12,17 @@ pub record TreeLists (D : ℕ) : Type 0 where
   pub spare : ℕ
 
 module _ {D : ℕ} where
-  -- the level of the node of that number, where it is listed
+  -- the level of the node of that number, if it is listed
   abbrev pub level_of_number : ShadowLists D → ℤ → Option ℕ
   level_of_number s number = option_map (λ n. n.level) (node_of s.nodes number)
 
   -- the level of the root
   abbrev pub root_level : ShadowLists D → ℕ
   root_level s = option_map_or (λ n. n.level) (node_of s.nodes s.root) 0
+
+  -- the most nodes of a tree with that many rows: a node for each `least - 1` of them, and one more
+  abbrev pub most_nodes : ShadowLists D → ℕ
+  most_nodes s = 1 + length s.rows / (least_fill s.capacity - 1)
 
   -- no rows: the root is a leaf without cells
   abbrev pub empty_lists : ℕ → ShadowLists D

@@ -28,7 +28,7 @@ module _ {D : ℕ} where
   abbrev pub rows_of : ShadowLists D → List (Row D)
   rows_of s = map row_in (leaf_cells s.nodes)
 
-  -- the box of the row with that id, where there is one
+  -- the box of the row with that id, if there is one
   abbrev pub box_of : ShadowLists D → ℤ → Option (List Interval)
   box_of s id = option_map (λ r. r.rect) (find (λ r. int_eq id r.id) (rows_of s))
 

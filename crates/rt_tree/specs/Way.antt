@@ -23,7 +23,7 @@ module _ {D : ℕ} where
   abbrev pub cell_with : ℤ → List Interval → RawCell D
   cell_with id rect = record { number = id; lo = los rect; hi = his rect }
 
-  -- from the node of the number, best children lead a new box down so many levels to the leaf, through the nodes of
+  -- from the node of the number, best children lead a new box down by a number of levels to the leaf, through the nodes of
   -- the path: the number first, the leaf last (Beckmann, Kriegel, Schneider, Seeger 1990, section 4.1)
   abbrev pub LeadsTo : List (NodeRow D) → ℕ → ℤ → List Interval → ℤ → List ℤ → Type 0
   LeadsTo nodes zero number rect leaf path = (leaf ≡ number) × (path ≡ number ∷ [])
@@ -35,7 +35,7 @@ module _ {D : ℕ} where
   abbrev pub parent_of_number : List (NodeRow D) → ℤ → Option ℤ
   parent_of_number nodes number = option_map_or (λ n. n.parent) (node_of nodes number) None
 
-  -- the number of a node, of its parent, and so on, so many levels up
+  -- the number of a node, of its parent, and so on, by a number of levels up
   abbrev pub way_up : List (NodeRow D) → ℕ → ℤ → List ℤ
   way_up nodes zero number = number ∷ []
   way_up nodes (suc l) number = number ∷ option_map_or (way_up nodes l) (parent_of_number nodes number) []
@@ -54,7 +54,7 @@ module _ {D : ℕ} where
     pub rows : old.level ≡ 0 → new.cells ≡ old.cells
     pub cells : AllZip (KeepsCell path) old.cells new.cells
 
-  -- the node with other cells, where it has that number
+  -- the node with other cells, if it has that number
   abbrev pub with_cells : ℤ → (List (RawCell D) → List (RawCell D)) → NodeRow D → NodeRow D
   with_cells number change node = if int_eq number node.number then record node { cells = change node.cells } else node
 

@@ -4,25 +4,24 @@
 //! `Tree` is seen as lists, the way `rt_check` takes a tree from outside: its nodes in preorder, numbered from 1, with
 //! their cells, and an entry for each row.
 //!
-//! - `insert` and `remove` take no memory and don't fail: `reserve` made the room. Of each other row they say that it
-//!   stays, and where no node overflows or gets thin, that no other row moves. Each step is named: where best children
-//!   lead each cell that is placed, which cells an overfull node gives up, and by which cut one is split. `take` removes
-//!   a row that may be missing.
-//! - `replace` gives a row another box, by a removal and an insertion that look its id up once. Where the row has the box
+//! - `insert` and `remove` take no memory and don't fail: `reserve` made the room. Each other row stays, and if no node gets
+//!   overfull or underfull, no other row moves. Each step is named: where best children lead each cell that is placed, which
+//!   cells an overfull node gives up, and by which cut one is split. `take` removes a row that may be missing.
+//! - `replace` gives a row another box, by a removal and an insertion that look its id up once. If the row has the box
 //!   already, the tree stays.
 //! - `is_in_shape`, `has_boxes` and `is_small` hold of each tree, whatever was done to it: the checker finds no problem,
 //!   each cell has a box, and there are few nodes and few levels.
 //! - `search` lists the rows that a window admits, and counts the nodes that it went into; `search_into` appends them to a
-//!   list that is at hand, and `count` says how many they are.
+//!   list of the caller's, and `count` says how many they are.
 //! - `nearest` lists the rows whose boxes are nearest to a point.
 //!
-//! Stands on `rt_tree_node`, `rt_tree_walk`, `rt_tree_nearest`, `rt_tree_insert` and `rt_tree_remove`, and on `rt_check` for
+//! Stands on `rt_tree_node`, `rt_tree_walk`, `rt_tree_nearest`, `rt_tree_place` and `rt_tree_remove`, and on `rt_check` for
 //! the tree from outside. Definitions: `specs/Lists.antt` (a tree from outside), `Rows.antt`, `Boxes.antt`, `Changes.antt`
-//! (insertion, removal and replacement), `Finding.antt`, `Way.antt`, and `specs/Nearest.antt` of `rt_tree_nearest`.
+//! (insertion, removal and replacement), `Search.antt`, `Way.antt`, and `specs/Nearest.antt` of `rt_tree_nearest`.
 #![tactic(auto)]
 
 mod tree;
 
 pub use rt_tree_node::Work;
 pub use rt_tree_walk::{Found, Row};
-pub use tree::Tree;
+pub use tree::{MOST_ROWS_OF_A_TREE, Tree};

@@ -1,26 +1,27 @@
 //! A tree: an arena of nodes, and how many more rows it has room for.
 //!
-//! Rows come and go without taking memory: `reserve` makes room for the nodes of any tree with so many rows.
-//! Between two calls no cell waits and no node is out of shape (`IsKept` in `specs/TreeInside.antt`).
+//! Rows come and go without taking memory: `reserve` makes room for the nodes of any tree with that many rows. Between two
+//! calls no cell is pending and no node is out of shape (`IsKept` in `specs/TreeInside.antt`).
 
 ghost use Rattle.std.specs.Prelude.{◌≡◌, ◌≢◌, ◌<◌, ◌≤◌, ◌+◌, ◌-◌, ◌*◌, ◌/◌, ◌^◌, ℤ, max, length, is_some, Some, None, IsSome, IfSome, IfNone, IfOk, OnOk, OnErr};
 ghost use Rattle.std.specs.List.{list_any};
 ghost use Rattle.std.specs.Ordering.{int_eq};
 ghost use Rattle.rt_box.specs.Capacity.{least_fill};
-ghost use Rattle.rt_tree.specs.Lists.{root_level, empty_lists, IsInShape};
+ghost use Rattle.rt_tree_node.specs.Whole.{most_rows_of_a_tree};
+ghost use Rattle.rt_tree.specs.Lists.{root_level, most_nodes, empty_lists, IsInShape};
 ghost use Rattle.rt_tree.specs.Rows.{box_of, rows_of, GainsRow, LosesRow};
 ghost use Rattle.rt_tree.specs.Boxes.{HasBoxes};
-ghost use Rattle.rt_tree.specs.Changes.{IsInsertion, IsRemoval, IsReplacement};
-ghost use Rattle.rt_tree.specs.Finding.{FindsIn, FindsInAfter, CountsIn};
+ghost use Rattle.rt_tree.specs.Changes.{IsInsertion, IsRemoval, ReplacesOther};
+ghost use Rattle.rt_tree.specs.Search.{FindsIn, FindsInAfter, CountsIn};
 ghost use Rattle.rt_tree_walk.specs.Search.{StaysInFront};
 ghost use Rattle.rt_tree_nearest.specs.Nearest.{nearest_rows};
 
 use indexmap::IndexMap;
 use rt_box::{Capacity, Rect, Window};
 use rt_check::Shadow;
-use rt_tree_insert::{insert_row, levels_are_few, nodes_are_few};
 use rt_tree_nearest::nearest;
 use rt_tree_node::{Arena, Node, Work, add_node, leaves_facts};
+use rt_tree_place::{insert_row, levels_are_few, nodes_are_few};
 use rt_tree_remove::{find_row, remove_found, replace_found};
 use rt_tree_walk::{Found, Row, count, search, search_into, shadow_of};
 use slab::Slab;
@@ -47,10 +48,10 @@ const MANY_NODES: usize = 40_000;
 const MOST_ROOM: usize = 1 << 42;
 
 /// The most rows that a tree may have.
-const FULL: usize = 1 << 20;
+pub const MOST_ROWS_OF_A_TREE: usize = 1 << 20;
 
-/// The cells that may wait at once.
-const WAITING_ROOM: usize = 1024;
+/// The most cells that may be pending at once.
+const PENDING_ROOM: usize = 1024;
 
 /// A box.
 fn point<const D: usize>() -> Rect<D>
@@ -86,7 +87,7 @@ impl<const D: usize> Model for Tree<D> {
     ghost invariant = { IsKept };
 }
 
-/// The nodes that there is to be room for where there are so many rows: each but the root has `capacity.least()` cells.
+/// The nodes that there is to be room for if there are that many rows: each except the root has `capacity.least()` cells.
 fn nodes_for(capacity: Capacity, rows: usize) -> usize
     requires { rows ≤ 2 ^ 43 }
     ensures { rows + (least_fill capacity - 1) * 33 ≤ (least_fill capacity - 1) * result }
@@ -94,8 +95,8 @@ fn nodes_for(capacity: Capacity, rows: usize) -> usize
     rows / (capacity.least() - 1) + 1 + NODES_AHEAD
 }
 
-/// A copy of the nodes that has room for so many. What was there stays as it was, so nothing is to be put back where
-/// no memory is left.
+/// A copy of the nodes that has room for `room` nodes. What was there stays as it was, so nothing has to be put back if no
+/// memory is left.
 fn with_room<const D: usize>(
     nodes: &Slab<Node<D>>,
     room: usize,
@@ -112,7 +113,7 @@ fn with_room<const D: usize>(
     Ok(copy)
 }
 
-/// How many nodes to make room for, where so many are needed.
+/// How many nodes to make room for if `room` nodes are needed.
 fn likely_room(room: usize) -> usize
     ensures { room ≤ result }
 {
@@ -122,7 +123,7 @@ fn likely_room(room: usize) -> usize
     room
 }
 
-/// A copy of the nodes that has room for so many, and for more where there is memory for that.
+/// A copy of the nodes that has room for `room` nodes, and for more if there is memory for that.
 fn with_likely_room<const D: usize>(
     nodes: &Slab<Node<D>>,
     room: usize,
@@ -141,7 +142,7 @@ fn with_likely_room<const D: usize>(
     }
 }
 
-/// Makes room for so many nodes, where there is none yet.
+/// Makes room for `room` nodes, unless there is room already.
 fn make_room<const D: usize>(nodes: &mut Slab<Node<D>>, room: usize) -> Result<(), AllocError>
     requires { nodes.old.capacity ≤ 2 ^ 62 }
     ensures same { nodes.new.slots ≡ nodes.old.slots }
@@ -156,15 +157,15 @@ fn make_room<const D: usize>(nodes: &mut Slab<Node<D>>, room: usize) -> Result<(
     Ok(())
 }
 
-/// The further rows that a tree of so many makes room for where it is asked for `more`: as many as it has, so that many
-/// reservations of one row each copy a node a few times only, but no more than it may still get. A full tree is asked
-/// for more where rows are replaced; twice of that keeps copies few there.
+/// The further rows that a tree of `rows` rows makes room for if it is asked for `more`: as many as it has, so that many
+/// reservations of one row each copy a node only a few times, but no more than it may still get. A full tree is asked for
+/// more if rows are replaced; twice of that keeps copies few there.
 fn room_ahead(rows: usize, more: usize) -> usize
     requires { more ≤ 2 ^ 42 }
     ensures room { more ≤ result }
     ensures most { result ≤ max more rows }
 {
-    let free = FULL.saturating_sub(rows);
+    let free = MOST_ROWS_OF_A_TREE.saturating_sub(rows);
     let wanted = if free < 2 * more { 2 * more } else { free };
     let ahead = if rows < wanted { rows } else { wanted };
     if more < ahead { ahead } else { more }
@@ -172,11 +173,11 @@ fn room_ahead(rows: usize, more: usize) -> usize
 
 impl<const D: usize> Tree<D> {
     /// A tree without rows, whose nodes have at most `capacity` cells. Look-ups by id hash by `keys`, which are to be
-    /// random where others choose the ids.
+    /// random if others choose the ids.
     ///
     /// # Errors
     ///
-    /// `AllocError` where no memory is left.
+    /// `AllocError` if no memory is left.
     pub fn new(alloc: Global, keys: RandomState, capacity: Capacity) -> Result<Tree<D>, AllocError>
         requires some { 1 ≤ D }
         requires few { D ≤ 3 }
@@ -187,13 +188,13 @@ impl<const D: usize> Tree<D> {
         if nodes.capacity() > MOST_NODES {
             return Err(AllocError);
         }
-        let waiting = Vec::with_capacity(alloc, WAITING_ROOM)?;
+        let pending = Vec::with_capacity(alloc, PENDING_ROOM)?;
         let root = add_node(&mut nodes, Node::new(0, None, &point()));
         Ok(Tree {
             arena: Arena {
                 nodes,
                 leaves: IndexMap::with_hasher(alloc, keys),
-                waiting,
+                pending,
                 root,
                 level: 0,
                 capacity,
@@ -216,7 +217,7 @@ impl<const D: usize> Tree<D> {
         self.spare
     }
 
-    /// The number of levels of nodes: 1 where the root is a leaf.
+    /// The number of levels of nodes: 1 if the root is a leaf.
     pub fn depth(&self) -> usize
         ensures { result ≡ root_level self.now.lists + 1 }
     {
@@ -237,7 +238,7 @@ impl<const D: usize> Tree<D> {
         self.arena.leaves.contains_key(id)
     }
 
-    /// The box of the row with that id, or `None` where there is none.
+    /// The box of the row with that id, or `None` if there is none.
     pub fn get(&self, id: &i64) -> Option<Rect<D>>
         ensures { result ≡ box_of self.now.lists id.now }
     {
@@ -253,12 +254,15 @@ impl<const D: usize> Tree<D> {
         self.arena.leaves.keys().as_slice()
     }
 
+    // The walks over nodes are calls on the arena, which is hidden here. So `shadow`, `search`, `search_into`, `count` and
+    // `nearest` forward to them, and state the results of the tree from outside.
+
     /// The tree from outside: its nodes in preorder, numbered from 1, and its row entries by rising id. Look-ups in it
     /// hash by `keys`.
     ///
     /// # Errors
     ///
-    /// `AllocError` where no memory is left.
+    /// `AllocError` if no memory is left.
     pub fn shadow(&self, alloc: Global, keys: RandomState) -> Result<Shadow<D>, AllocError>
         ensures { IfOk result (λ shadow. shadow ≡ self.now.lists) }
     {
@@ -284,7 +288,7 @@ impl<const D: usize> Tree<D> {
     /// A law: a tree has at most one node for each `capacity.least() - 1` of its rows, and one more, and at most 20
     /// levels of nodes. The call does nothing.
     pub fn is_small(&self)
-        ensures nodes { length self.now.lists.nodes ≤ 1 + length self.now.lists.rows / (least_fill self.now.lists.capacity - 1) }
+        ensures nodes { length self.now.lists.nodes ≤ most_nodes self.now.lists }
         ensures levels { root_level self.now.lists < 20 }
     {
         nodes_are_few(&self.arena);
@@ -294,27 +298,27 @@ impl<const D: usize> Tree<D> {
     ///
     /// # Errors
     ///
-    /// `AllocError` where no memory is left for the rows found, or for the list of the nodes reached: 16 bytes a node.
+    /// `AllocError` if no memory is left for the rows found, or for the list of the nodes reached: 16 bytes a node.
     pub fn search(&self, alloc: Global, window: &Window<D>) -> Result<Found<D>, AllocError>
         ensures { IfOk result (λ found. FindsIn self.now.lists window.now found.rows.items found.visited) }
     {
         search(alloc, &self.arena, window)
     }
 
-    /// Appends the rows whose boxes the window admits, and answers the number of nodes that the search went into. A list
-    /// that is kept between searches asks for memory a few times only.
+    /// Appends the rows whose boxes the window admits, and returns the number of nodes that the search went into. A list
+    /// that is kept between searches asks for memory only a few times.
     ///
     /// # Errors
     ///
-    /// `AllocError` where no memory is left for the rows found, or for the list of the nodes reached: 16 bytes a node. Some
-    /// of the rows that were found may stand in the list then.
+    /// `AllocError` if no memory is left for the rows found, or for the list of the nodes reached: 16 bytes a node. Some of
+    /// the rows that were found may then stand in the list.
     pub fn search_into(
         &self,
         alloc: Global,
         window: &Window<D>,
         rows: &mut Vec<Row<D>>,
     ) -> Result<u64, AllocError>
-        ensures ok { IfOk result (λ visited. FindsInAfter self.now.lists window.now rows.old.items rows.new.items visited) }
+        ensures ok { IfOk result (λ nodes. FindsInAfter self.now.lists window.now rows.old.items rows.new.items nodes) }
         ensures err { OnErr result (StaysInFront rows.old.items rows.new.items) }
     {
         search_into(alloc, &self.arena, window, rows)
@@ -324,21 +328,21 @@ impl<const D: usize> Tree<D> {
     ///
     /// # Errors
     ///
-    /// `AllocError` where no memory is left for the list of the nodes reached: 16 bytes a node.
+    /// `AllocError` if no memory is left for the list of the nodes reached: 16 bytes a node.
     pub fn count(&self, alloc: Global, window: &Window<D>) -> Result<usize, AllocError>
         ensures { IfOk result (λ count. CountsIn self.now.lists window.now count) }
     {
         count(alloc, &self.arena, window)
     }
 
-    /// The `k` rows whose boxes are nearest to the point, by squared distance and then by id; all rows where there are fewer.
-    /// A point in a box, or on its edge, has the distance 0.
+    /// The `k` rows whose boxes are nearest to the point, by squared distance and then by id; all rows if there are fewer. A
+    /// point in a box, or on its edge, has the distance 0.
     ///
-    /// What is nearest is looked at first, so few nodes are gone into where `k` is small.
+    /// What is nearest is looked at first, so a search for few rows goes into few nodes.
     ///
     /// # Errors
     ///
-    /// `AllocError` where no memory is left for what is answered or seen.
+    /// `AllocError` if no memory is left for what is returned or seen.
     pub fn nearest(
         &self,
         alloc: Global,
@@ -350,13 +354,13 @@ impl<const D: usize> Tree<D> {
         nearest(alloc, &self.arena, point, k)
     }
 
-    /// Makes room for so many further rows. The room grows by as many rows as there are, but for those that a tree may not
-    /// get any more, so that many reservations of one row each copy a node a few times only.
+    /// Makes room for `more` further rows. The room grows by as many rows as there are, except those that a tree may not get
+    /// any more, so that many reservations of one row each copy a node only a few times.
     ///
     /// # Errors
     ///
-    /// `AllocError` where no memory is left, or more rows than 2^42 are asked for, which no machine holds; the tree is as
-    /// before then.
+    /// `AllocError` if no memory is left, or if more rows than 2^42 are asked for, which no machine holds; the tree is then
+    /// as before.
     pub fn reserve(&mut self, more: usize) -> Result<(), AllocError>
         ensures room { OnOk result (more ≤ self.new.spare) }
         ensures keeps { self.old.spare ≤ self.new.spare }
@@ -381,7 +385,7 @@ impl<const D: usize> Tree<D> {
     /// Puts a row into the tree. It takes no memory: each row uses up one of the rows that there is room for.
     pub fn insert(&mut self, id: &i64, rect: &Rect<D>) -> Work
         requires absent { box_of self.old.lists id.now ≡ None }
-        requires few { length self.old.lists.rows < 2 ^ 20 }
+        requires few { length self.old.lists.rows < most_rows_of_a_tree }
         requires spare { 1 ≤ self.old.spare }
         ensures rows { GainsRow self.old.lists self.new.lists id.now rect.now }
         ensures insertion { IsInsertion self.old.lists self.new.lists id.now rect.now result }
@@ -393,7 +397,7 @@ impl<const D: usize> Tree<D> {
         work
     }
 
-    /// Takes the row with the id out of the tree, and answers its box. Where there is none, the tree stays. It takes no memory.
+    /// Takes the row with the id out of the tree, and returns its box. If there is none, the tree stays. It takes no memory.
     pub fn take(&mut self, id: &i64) -> Option<Rect<D>>
         ensures none { IfNone result (box_of self.old.lists id.now ≡ None) }
         ensures same { IfNone result (self.new ≡ self.old) }
@@ -403,13 +407,13 @@ impl<const D: usize> Tree<D> {
         ensures capacity { self.new.lists.capacity ≡ self.old.lists.capacity }
     {
         let found = find_row(&self.arena, id)?;
-        // The waiting cells have room: there are few levels.
+        // The pending cells have room: there are few levels.
         levels_are_few(&self.arena);
         remove_found(&mut self.arena, id, &found);
         Some(found.rect)
     }
 
-    /// Takes the row with the id out of the tree, and answers its box. It takes no memory.
+    /// Takes the row with the id out of the tree, and returns its box. It takes no memory.
     pub fn remove(&mut self, id: &i64) -> Rect<D>
         requires { IsSome (box_of self.old.lists id.now) }
         ensures rows { LosesRow self.old.lists self.new.lists id.now result }
@@ -420,13 +424,13 @@ impl<const D: usize> Tree<D> {
         self.take(id).unwrap()
     }
 
-    /// Gives the row with the id another box: the row is removed and inserted again. Where it has that box already, the tree
+    /// Gives the row with the id another box: the row is removed and inserted again. If it has that box already, the tree
     /// stays. It takes no memory.
     pub fn replace(&mut self, id: &i64, rect: &Rect<D>)
         requires there { IsSome (box_of self.old.lists id.now) }
         requires spare { 1 ≤ self.old.spare }
         ensures same { box_of self.old.lists id.now ≡ Some rect.now → self.new.lists ≡ self.old.lists }
-        ensures other { box_of self.old.lists id.now ≢ Some rect.now → IsReplacement self.old.lists self.new.lists id.now rect.now }
+        ensures other { ReplacesOther self.old.lists self.new.lists id.now rect.now }
         ensures spare { self.old.spare ≤ self.new.spare + 1 }
         ensures capacity { self.new.lists.capacity ≡ self.old.lists.capacity }
     {
@@ -434,7 +438,7 @@ impl<const D: usize> Tree<D> {
         if location.rect == *rect {
             return;
         }
-        // The waiting cells have room: there are few levels.
+        // The pending cells have room: there are few levels.
         levels_are_few(&self.arena);
         replace_found(&mut self.arena, id, &location, rect);
         self.spare -= 1;

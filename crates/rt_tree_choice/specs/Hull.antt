@@ -16,7 +16,7 @@ abbrev pub hull : List (List Interval) → List Interval
 hull [] = []
 hull (b ∷ bs) = fold union_box b bs
 
--- at each place the hull of the boxes in the order up to that place, with it; or from that place on
+-- at each place the hull of the boxes in the order up to that place, that one included; or from that place on
 abbrev pub AreFronts : List (List Interval) → List ℕ → List (List Interval) → Type 0
 AreFronts boxes order hulls = (place : ℕ) (d : List Interval) → place < length order →
     slice_index_or hulls place d ≡ hull (boxes_at boxes (take (place + 1) order))

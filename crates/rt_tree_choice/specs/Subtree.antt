@@ -7,7 +7,7 @@ use Rattle.rt_box.specs.Rect.{area, overlap, union_box}
 use Rattle.rt_tree_choice.specs.Keys.{IsLeast}
 use Rattle.rt_tree_choice.specs.Hull.{box_at}
 
--- by how much the area of a box grows where it is widened to hold the new one
+-- by how much the area of a box grows if it is widened to hold the new one
 abbrev pub area_enlargement : List Interval → List Interval → ℕ
 area_enlargement box new = area (union_box box new) - area box
 
@@ -15,13 +15,13 @@ area_enlargement box new = area (union_box box new) - area box
 abbrev pub overlap_with_others : List (List Interval) → ℕ → List Interval → ℕ
 overlap_with_others boxes position box = sum_by (overlap box) (remove boxes position)
 
--- by how much the overlap of a cell grows where its box is widened to hold the new one
+-- by how much the overlap of a cell grows if its box is widened to hold the new one
 abbrev pub overlap_enlargement : List (List Interval) → List Interval → ℕ → ℕ
 overlap_enlargement boxes new position =
     overlap_with_others boxes position (union_box (box_at boxes position) new)
     - overlap_with_others boxes position (box_at boxes position)
 
--- what the cells are compared by: where the children are leaves, first the overlap enlargement; then the
+-- what the cells are compared by: if the children are leaves, first the overlap enlargement; then the
 -- area enlargement, and then the area. Of equal cells the one at the lowest position is taken (own)
 abbrev pub child_key : Bool → List (List Interval) → List Interval → ℕ → List ℕ
 child_key true boxes new position =

@@ -1,11 +1,12 @@
 //! The cell of least area among those that hold the new box.
 //!
-//! Where the new box has an area, or each cell has one, these cells alone don't grow, and mostly there is one. So the growth
-//! of all cells is computed only where there is none (`IsBestChild` in `specs/Subtree.antt`). Which cells hold the box can't
-//! be foreseen, so all are tested first, with no branch, and each bit that is set then leads to a cell.
+//! If the new box has an area, or each cell has one, these cells alone don't grow, and mostly there is one. So the growth
+//! of all cells is computed only if there is none (`IsBestChild` in `specs/Subtree.antt`). Which cells hold the box can't
+//! be foreseen. So all are tested first, with no branch; then each bit that is set leads to a cell.
 
 ghost use Rattle.std.specs.Prelude.{◌<◌, ◌≤◌, IsTrue, All, length, IfSome, false};
 ghost use Rattle.rt_box.specs.Bits.{Tells};
+ghost use Rattle.rt_box.specs.Capacity.{most_cells};
 ghost use Rattle.rt_box.specs.Rect.{IsBox, area, Holds};
 ghost use Rattle.rt_tree_choice.specs.Subtree.{IsBestChild};
 ghost use Rattle.rt_tree_choice.specs.Costs.{HoldersStay};
@@ -43,10 +44,10 @@ fn holders<const D: usize>(boxes: &[Rect<D>], new_box: &Rect<D>) -> u64
     Window::around(new_box).admitted(boxes)
 }
 
-/// The position of the cell whose area grows least, where some cell holds the new box, and so doesn't grow.
+/// The position of the cell whose area grows least, if some cell holds the new box, and so doesn't grow.
 #[inline(never)]
 pub(super) fn least_holder<const D: usize>(boxes: &[Rect<D>], new_box: &Rect<D>) -> Option<usize>
-    requires few { length boxes.now ≤ 52 }
+    requires few { length boxes.now ≤ most_cells }
     requires stay { HoldersStay boxes.now new_box.now }
     ensures { IfSome result (λ best. IsBestChild false boxes.now new_box.now best) }
 {

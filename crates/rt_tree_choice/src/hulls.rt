@@ -1,13 +1,13 @@
 //! The least box around some boxes, and around the groups that each cut makes of them.
 //!
-//! The groups of all cuts of an order take two passes, one from the front and one from the back
+//! The groups of all cuts of an order take two passes, one over its prefixes and one over its suffixes
 //! (`specs/Hull.antt`).
 
 ghost use Rattle.std.specs.Prelude.{◌≡◌, ◌<◌, ◌≤◌, length, All};
+ghost use Rattle.rt_box.specs.Capacity.{most_cells};
 ghost use Rattle.rt_tree_choice.specs.Hull.{hull, AreFronts, AreBacks};
 
-use super::MOST_CELLS;
-use rt_box::Rect;
+use rt_box::{MOST_CELLS, Rect};
 
 /// The least box that holds all of them.
 pub fn hull_of<const D: usize>(boxes: &[Rect<D>]) -> Rect<D>
@@ -21,13 +21,13 @@ pub fn hull_of<const D: usize>(boxes: &[Rect<D>]) -> Rect<D>
     hull
 }
 
-/// At each place the hull of the boxes in the order up to that place, with it.
+/// At each place the hull of the boxes in the order up to that place, that one included.
 pub(super) fn front_hulls<const D: usize>(
     boxes: &[Rect<D>],
     order: &[usize],
 ) -> [Rect<D>; MOST_CELLS]
     requires some { 0 < length order.now }
-    requires few { length order.now ≤ 52 }
+    requires few { length order.now ≤ most_cells }
     requires within { All (λ position. position < length boxes.now) order.now }
     ensures { AreFronts boxes.now order.now result }
 {
@@ -46,7 +46,7 @@ pub(super) fn back_hulls<const D: usize>(
     order: &[usize],
 ) -> [Rect<D>; MOST_CELLS]
     requires some { 0 < length order.now }
-    requires few { length order.now ≤ 52 }
+    requires few { length order.now ≤ most_cells }
     requires within { All (λ position. position < length boxes.now) order.now }
     ensures { AreBacks boxes.now order.now result }
 {

@@ -1,7 +1,7 @@
-//! The cell whose area grows least, where boxes have one axis or two.
+//! The cell whose area grows least, if boxes have one axis or two.
 //!
-//! Areas have 64 bits there, and no side of a box is negative. So a cell takes half the steps that its cost in full
-//! takes (`growths` in `specs/Costs.antt`).
+//! Areas have 64 bits then, and no side of a box is negative. So a cell takes half the steps of its cost in full
+//! (`growths` in `specs/Costs.antt`).
 
 ghost use Rattle.std.specs.Prelude.{◌≡◌, ◌^◌, ◌<◌, ◌≤◌, ◌≤ℤ◌, ◌↔◌, length, IsTrue, false};
 ghost use Rattle.rt_box.specs.Interval.{side};
@@ -12,7 +12,7 @@ ghost use Rattle.rt_tree_choice.specs.Costs.{growth_numbers, growths};
 
 use rt_box::{Interval, Rect};
 
-/// By how much a cell's area grows where it takes in the new box, and how large it was.
+/// By how much a cell's area grows if it takes in the new box, and how large it was.
 #[derive(Clone, Copy, Debug, PartialEq, Eq)]
 struct Growth {
     enlargement: u64,
@@ -43,7 +43,7 @@ fn area_of<const D: usize>(rect: &Rect<D>) -> u64
     first * length_of(rect.range(1))
 }
 
-/// How much the area of the cell at `position` grows, where it takes in the new box.
+/// How much the area of the cell at `position` grows if it takes in the new box.
 #[inline]
 fn growth_of<const D: usize>(boxes: &[Rect<D>], position: usize, new_box: &Rect<D>) -> Growth
     requires plane { D ≤ 2 }

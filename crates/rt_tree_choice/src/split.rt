@@ -1,19 +1,18 @@
 //! How the cells of an overfull node are cut into two groups.
 //!
-//! The axis is chosen first, by the sum of the margins over all of its cuts. Of its cuts the one whose boxes have
-//! the least area in common wins, and of those the one of least area in all (`specs/Split.antt`).
+//! The axis is chosen first, by the sum of the margins over all of its cuts. Of its cuts the one is taken whose boxes have
+//! the least area in common, and of those the one of least area in all (`specs/Split.antt`).
 
 ghost use Rattle.std.specs.Prelude.{◌≡◌, ◌+◌, ◌*◌, ◌^◌, ◌<◌, ◌≤◌, ◌↔◌, length, IsTrue};
-ghost use Rattle.rt_box.specs.Capacity.{least_fill};
+ghost use Rattle.rt_box.specs.Capacity.{least_fill, most_cells};
 ghost use Rattle.rt_box.specs.Rect.{area, margin, overlap};
 ghost use Rattle.rt_tree_choice.specs.Hull.{AreFronts, AreBacks};
 ghost use Rattle.rt_tree_choice.specs.Keys.{Less};
 ghost use Rattle.rt_tree_choice.specs.Split.{sorting, IsBestCut};
 ghost use Rattle.rt_tree_choice.specs.Judgements.{quality_numbers, AreQualityOf, IsBestParting, IsJudgedSorting, IsJudgedAxis};
 
-use super::MOST_CELLS;
 use super::hulls::{back_hulls, front_hulls};
-use super::sorting::sorted_positions;
+use super::sort::sorted_positions;
 use rt_box::{Capacity, Rect};
 
 /// How a node's cells are cut into two groups: sorted along an axis, by the lower ends of their boxes or by
@@ -70,7 +69,7 @@ fn quality_of<const D: usize>(front: &Rect<D>, back: &Rect<D>) -> Quality
     }
 }
 
-/// The best cut of sorted cells into groups of at least `least`, from the hulls of their fronts and backs.
+/// The best cut of sorted cells into groups of at least `least`, by the hulls around their prefixes and suffixes.
 fn best_parting<const D: usize>(
     fronts: &[Rect<D>],
     backs: &[Rect<D>],
@@ -79,7 +78,7 @@ fn best_parting<const D: usize>(
 ) -> Parting
     requires some { 0 < least }
     requires room { 2 * least ≤ cells }
-    requires few { cells ≤ 52 }
+    requires few { cells ≤ most_cells }
     requires fronts_long { cells ≤ length fronts.now }
     requires backs_long { cells ≤ length backs.now }
     ensures { IsBestParting fronts.now backs.now least cells result }

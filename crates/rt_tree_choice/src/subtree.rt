@@ -1,9 +1,10 @@
 //! The cell of a node that a new box goes into.
 //!
-//! Where the children are leaves, overlap counts first. The search begins with a likely cell and gives each other
-//! one up as soon as it costs more; the choice is that of the costs in full (`specs/Subtree.antt`).
+//! If the children are leaves, overlap counts first. The search begins with a likely cell and gives up each other one as
+//! soon as it costs more; the choice is that of the costs in full (`specs/Subtree.antt`).
 
 ghost use Rattle.std.specs.Prelude.{◌≡◌, ◌+◌, ◌*◌, ◌^◌, ◌<◌, ◌≤◌, ◌≢◌, ◌↔◌, length, sum_by, IsTrue, IfSome, MatchOption, true, false};
+ghost use Rattle.rt_box.specs.Capacity.{most_cells};
 ghost use Rattle.rt_box.specs.Rect.{area, overlap, union_box, Holds};
 ghost use Rattle.rt_tree_choice.specs.Hull.{box_at};
 ghost use Rattle.rt_tree_choice.specs.Keys.{Less};
@@ -35,10 +36,10 @@ fn is_less(cost: &Cost, other: &Cost) -> bool
     }
 }
 
-/// By how much the areas that a cell has in common with `others` grow in all, where its box is widened.
+/// By how much the areas that a cell has in common with `others` grow in all if its box is widened.
 fn common_growth<const D: usize>(others: &[Rect<D>], own: &Rect<D>, widened: &Rect<D>) -> u128
     requires wider { Holds widened.now own.now }
-    requires few { length others.now ≤ 52 }
+    requires few { length others.now ≤ most_cells }
     ensures value { result + sum_by (overlap own.now) others.now ≡ sum_by (overlap widened.now) others.now }
     ensures bound { result ≤ length others.now * 2 ^ 96 }
 {
@@ -53,10 +54,10 @@ fn common_growth<const D: usize>(others: &[Rect<D>], own: &Rect<D>, widened: &Re
     growth
 }
 
-/// By how much the overlap of the cell at `position` grows, where it takes in the new box.
+/// By how much the overlap of the cell at `position` grows if it takes in the new box.
 fn overlap_growth<const D: usize>(boxes: &[Rect<D>], position: usize, new_box: &Rect<D>) -> u128
     requires within { position < length boxes.now }
-    requires few { length boxes.now ≤ 52 }
+    requires few { length boxes.now ≤ most_cells }
     ensures { result ≡ overlap_enlargement boxes.now new_box.now position }
 {
     let own = &boxes[position];
@@ -67,7 +68,7 @@ fn overlap_growth<const D: usize>(boxes: &[Rect<D>], position: usize, new_box: &
         + common_growth(&boxes[position + 1..], own, &widened)
 }
 
-/// What it costs the cell at `position` to take in the new box.
+/// What it costs if the cell at `position` takes in the new box.
 fn cost_of<const D: usize>(
     boxes: &[Rect<D>],
     above_leaves: bool,
@@ -75,7 +76,7 @@ fn cost_of<const D: usize>(
     new_box: &Rect<D>,
 ) -> Cost
     requires within { position < length boxes.now }
-    requires few { length boxes.now ≤ 52 }
+    requires few { length boxes.now ≤ most_cells }
     ensures { numbers result ≡ costs above_leaves boxes.now new_box.now position }
 {
     Cost {
@@ -96,7 +97,7 @@ pub(super) fn least_cost<const D: usize>(
     new_box: &Rect<D>,
 ) -> usize
     requires some { 0 < length boxes.now }
-    requires few { length boxes.now ≤ 52 }
+    requires few { length boxes.now ≤ most_cells }
     ensures { IsBestChild above_leaves boxes.now new_box.now result }
 {
     let mut best = 0;
@@ -114,7 +115,7 @@ pub(super) fn least_cost<const D: usize>(
 /// The position of the cell whose area grows least.
 fn least_enlargement<const D: usize>(boxes: &[Rect<D>], new_box: &Rect<D>) -> usize
     requires some { 0 < length boxes.now }
-    requires few { length boxes.now ≤ 52 }
+    requires few { length boxes.now ≤ most_cells }
     ensures { IsBestChild false boxes.now new_box.now result }
 {
     // Mostly some cell holds the new box.
@@ -130,8 +131,8 @@ fn least_enlargement<const D: usize>(boxes: &[Rect<D>], new_box: &Rect<D>) -> us
     }
 }
 
-/// The growth as `common_growth` gives it, unless it is above the limit: no term is negative, so it is as soon
-/// as a part of the sum is.
+/// The growth as `common_growth` gives it, or `None` if it is above the limit. No term is negative, so the sum is above
+/// it as soon as a part is.
 fn common_growth_within<const D: usize>(
     others: &[Rect<D>],
     own: &Rect<D>,
@@ -158,8 +159,8 @@ fn common_growth_within<const D: usize>(
     Some(growth)
 }
 
-/// The growth as `overlap_growth` gives it, unless it is above the limit: the part of `near`, a cell close to the
-/// new box, often is alone.
+/// The growth as `overlap_growth` gives it, or `None` if it is above the limit. Often the part of `near`, a cell close to
+/// the new box, is above it alone.
 fn overlap_growth_within<const D: usize>(
     boxes: &[Rect<D>],
     position: usize,
@@ -187,12 +188,11 @@ fn overlap_growth_within<const D: usize>(
     Some(before + after)
 }
 
-/// The position of the cell whose overlap grows least. It begins with the cell whose area grows least, which is
-/// the answer where its overlap doesn't grow, and gives each other cell up as soon as its overlap grows more than
-/// that of the best so far.
+/// The position of the cell whose overlap grows least. The cell whose area grows least comes first, and is the answer if
+/// its overlap doesn't grow. Each other cell is given up as soon as its overlap grows more than that of the best so far.
 fn least_overlap_growth<const D: usize>(boxes: &[Rect<D>], new_box: &Rect<D>) -> usize
     requires some { 0 < length boxes.now }
-    requires few { length boxes.now ≤ 52 }
+    requires few { length boxes.now ≤ most_cells }
     ensures { IsBestChild true boxes.now new_box.now result }
 {
     let start = least_enlargement(boxes, new_box);
@@ -229,9 +229,9 @@ fn least_overlap_growth<const D: usize>(boxes: &[Rect<D>], new_box: &Rect<D>) ->
     best
 }
 
-/// The position of the cell that the new box goes into: where the children are leaves, the one whose overlap
-/// with the other cells grows least, and of those, or elsewhere, the one whose area grows least; of those the
-/// one of least area, and of those the first (Beckmann, Kriegel, Schneider, Seeger 1990, section 4.1).
+/// The position of the cell that the new box goes into. If the children are leaves, it is the one whose overlap with the
+/// other cells grows least, and of those, or elsewhere, the one whose area grows least; of those the one of least area,
+/// and of those the first (Beckmann, Kriegel, Schneider, Seeger 1990, section 4.1).
 ///
 /// ```
 /// // the flat cell needs the smaller area, but the tall one doesn't grow into its neighbour
@@ -247,7 +247,7 @@ pub fn choose_subtree<const D: usize>(
     new_box: &Rect<D>,
 ) -> usize
     requires some { 0 < length boxes.now }
-    requires few { length boxes.now ≤ 52 }
+    requires few { length boxes.now ≤ most_cells }
     ensures { IsBestChild above_leaves boxes.now new_box.now result }
 {
     if above_leaves {

@@ -23,7 +23,8 @@ use Rattle.rt_tree_node.proofs.Places.{leaf-at_leaf, leaf-at_inner}
 use Rattle.rt_tree_walk.specs.declared.searching.Row.{Row}
 use Rattle.rt_tree_walk.specs.Search.{times, row_of}
 use Rattle.rt_tree_walk.specs.Preorder.{keys_in, tree_keys}
-use Rattle.rt_tree_walk.proofs.Totals.{times-one, upto, sum-listed, sum-listed_le}
+use Rattle.rt_tree_node.proofs.Sums.{upto}
+use Rattle.rt_tree_walk.proofs.Totals.{times-one, sum-listed, sum-listed_le}
 use Rattle.rt_tree_walk.proofs.Judging.{count-mapped}
 use Rattle.rt_tree_walk.proofs.Reaching.{hull-contained}
 use Rattle.rt_tree_walk.proofs.Progress.{IsSettled}

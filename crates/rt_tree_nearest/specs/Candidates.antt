@@ -1,11 +1,14 @@
 -- What stands in the heap. No public clause cites this module.
-use Rattle.std.specs.Prelude.{◌≡◌, ℕ, ℤ, ◌==◌, List, [], ◌∷◌, ◌++◌, map, unsigned_abs, unwrap_or, if◌then◌else◌}
+use Rattle.std.specs.Prelude.{◌≡◌, ℕ, ℤ, ◌==◌, List, [], ◌∷◌, ◌++◌, map, unsigned_abs, unwrap_or, if◌then◌else◌, Vec}
 use Rattle.std.specs.declared.cmp.Ordering.{Ordering}
 use Rattle.std.specs.declared.cmp.Reverse.{Reverse}
 use Rattle.std.specs.Ordering.{ordering_then, nat_cmp, int_cmp, bool_cmp}
 use Rattle.std.specs.List.Sorted.{IsPermutation}
-use Rattle.std.specs.BinaryHeap.{KeepsHeap}
+use Rattle.std.specs.BinaryHeap.{KeepsHeap, heap_items}
+use Rattle.std.specs.declared.alloc.Global.{Global}
+use Rattle.std.specs.declared.collections.BinaryHeap.{BinaryHeap}
 use Rattle.slab.specs.Slab.{Slab}
+use Rattle.rt_tree_node.specs.declared.arena.Arena.{Arena}
 use Rattle.rt_tree_node.specs.declared.cell.Cell.{Cell}
 use Rattle.rt_tree_node.specs.Node.{NodeCells}
 use Rattle.rt_tree_node.specs.Places.{cells_at, level_at}
@@ -35,8 +38,18 @@ module _ {D : ℕ} where
   abbrev pub own_level : Slab (NodeCells D) → Candidate D → ℕ
   own_level a c = unwrap_or (level_at a (own_key c)) 0
 
+  -- the cells of the node come into the heap
+  abbrev pub QueuesCells : List ℤ → NodeCells D → List (Reverse (Candidate D)) → List (Reverse (Candidate D)) → Type 0
+  QueuesCells point n old new = IsPermutation (old ++ map (queued point n.level) n.cells) new
+
   -- a row comes last in the answer; a node's cells come into the heap
-  pub record Takes (a : Slab (NodeCells D)) (point : List ℤ) (c : Candidate D) (rows rows1 : List (Row D)) (heap heap1 : List (Reverse (Candidate D))) : Type 0 where
+  pub record Takes (a : Slab (NodeCells D)) (point : List ℤ) (c : Candidate D) (rows rows1 : List (Row D))
+      (heap heap1 : List (Reverse (Candidate D))) : Type 0 where
     pub row : rows1 ≡ rows ++ (if c.is_row then own_row c ∷ [] else [])
     pub cells : IsPermutation (heap ++ (if c.is_row then [] else map (queued point (own_level a c)) (cells_at a (own_key c)))) heap1
     pub order : KeepsHeap compare heap heap1
+
+  -- the same, of the lists that a search keeps
+  abbrev pub TakesFrom : Arena D → List ℤ → Candidate D → Vec (Row D) Global → Vec (Row D) Global →
+      BinaryHeap (Reverse (Candidate D)) Global → BinaryHeap (Reverse (Candidate D)) Global → Type 0
+  TakesFrom t point c rows rows1 heap heap1 = Takes t.nodes point c rows.items rows1.items (heap_items heap) (heap_items heap1)

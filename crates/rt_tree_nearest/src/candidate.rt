@@ -26,7 +26,7 @@ pub(crate) struct Candidate<const D: usize> {
 }
 
 impl<const D: usize> Candidate<D> {
-    /// A cell of a node, which is a row where the node is a leaf.
+    /// A cell of a node, which is a row if the node is a leaf.
     pub(crate) fn new(cell: &Cell<D>, level: u8, point: &[i32; D]) -> Candidate<D>
         ensures { result ≡ candidate_of point.now level cell.now }
     {

@@ -7,7 +7,7 @@ ghost use Rattle.rt_tree_nearest.specs.Nearest.{gap, squared_distance};
 
 use rt_box::{Interval, Rect};
 
-/// How far the point is outside the interval on an axis: 0 where it is within, ends included.
+/// How far the point is outside the interval on an axis: 0 if it is within, ends included.
 fn gap<const D: usize>(interval: Interval, point: &[i32; D], axis: usize) -> u32
     requires within { axis < D }
     requires ordered { interval.lo ≤ℤ interval.hi }
@@ -30,7 +30,7 @@ fn square(number: u32) -> u128
     u128::from(u64::from(number) * u64::from(number))
 }
 
-/// The squared distance from the point to the box: 0 where it is within.
+/// The squared distance from the point to the box: 0 if it is within.
 pub(crate) fn squared_distance<const D: usize>(rect: &Rect<D>, point: &[i32; D]) -> u128
     ensures { result ≡ squared_distance rect.now point.now }
 {

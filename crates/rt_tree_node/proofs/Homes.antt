@@ -9,9 +9,9 @@ use Rattle.std.proofs.lemmas.Bool.{cases_eq, cases_Bool, true≢false}
 use Rattle.std.proofs.lemmas.Bool.Decides.{Decides-int_eq}
 use Rattle.slab.specs.Slab.{Slab, get, Updates}
 use Rattle.rt_tree_node.specs.declared.cell.Cell.{Cell}
-use Rattle.rt_tree_node.specs.declared.cell.Waiting.{Waiting}
+use Rattle.rt_tree_node.specs.declared.cell.Pending.{Pending}
 use Rattle.rt_tree_node.specs.Node.{NodeCells}
-use Rattle.rt_tree_node.specs.Places.{times_listed, leaf_part, leaf_cells_of, leaf_cells_at, waiting_rows, waiting_at}
+use Rattle.rt_tree_node.specs.Places.{times_listed, leaf_part, leaf_cells_of, leaf_cells_at, pending_rows, pending_at}
 use Rattle.rt_tree_node.specs.Sound.{HasHomes}
 use Rattle.rt_tree_node.specs.Homes.{Moves}
 use Rattle.rt_tree_node.proofs.Counts.{count-one_yes, count-one_no}
@@ -39,25 +39,25 @@ module _ {D : ℕ} where
   listed-leaf_other id (suc l) c e = refl
 
   -- the leaves have the rows that they had
-  pub homes-same : (f : ℤ → Option ℕ) (a b : Slab (NodeCells D)) (ws : List (Waiting D)) →
+  pub homes-same : (f : ℤ → Option ℕ) (a b : Slab (NodeCells D)) (ws : List (Pending D)) →
       ((key : ℕ) (id : ℤ) → times_listed id (leaf_cells_at b key) ≡ times_listed id (leaf_cells_at a key)) → HasHomes f a ws → HasHomes f b ws
   homes-same f a b ws same homes = record {
     home = λ key id some. let e = same key id in homes.home key id (omega arith);
     there = λ key id is. let e = same key id in let old = homes.there key id is in omega arith;
-    waiting = homes.waiting;
+    pending = homes.pending;
   }
 
   -- the same where other cells wait, that aren't rows
-  pub homes-waiting : (f : ℤ → Option ℕ) (a : Slab (NodeCells D)) (ws vs : List (Waiting D)) →
-      ((id : ℤ) → times_listed id (waiting_rows vs) ≡ times_listed id (waiting_rows ws)) → HasHomes f a ws → HasHomes f a vs
-  homes-waiting f a ws vs same homes = record {
+  pub homes-pending : (f : ℤ → Option ℕ) (a : Slab (NodeCells D)) (ws vs : List (Pending D)) →
+      ((id : ℤ) → times_listed id (pending_rows vs) ≡ times_listed id (pending_rows ws)) → HasHomes f a ws → HasHomes f a vs
+  homes-pending f a ws vs same homes = record {
     home = homes.home;
     there = λ key id is. let e = same id in let old = homes.there key id is in omega arith;
-    waiting = λ id some. let e = same id in homes.waiting id (omega arith);
+    pending = λ id some. let e = same id in homes.pending id (omega arith);
   }
 
-  -- a waiting row is appended to a leaf, and its entry leads there
-  pub homes-appended : (f g : ℤ → Option ℕ) (a b : Slab (NodeCells D)) (xs : List (Waiting D)) (w : Waiting D) (ys : List (Waiting D)) (k : ℕ) (n : NodeCells D) →
+  -- a pending row is appended to a leaf, and its entry leads there
+  pub homes-appended : (f g : ℤ → Option ℕ) (a b : Slab (NodeCells D)) (xs : List (Pending D)) (w : Pending D) (ys : List (Pending D)) (k : ℕ) (n : NodeCells D) →
       HasHomes f a (xs ++ w ∷ ys) → get a k ≡ Some n → n.level ≡ 0 → w.level ≡ 0 →
       g w.cell.number ≡ Some k → ((id : ℤ) → id ≢ w.cell.number → g id ≡ f id) →
       Updates a b k (Some (record n { cells = n.cells ++ w.cell ∷ [] })) → HasHomes g b (xs ++ ys)
@@ -100,13 +100,13 @@ module _ {D : ℕ} where
             | inr other ↦ let e = ap (times_listed id) (ap leaf_cells_of (u.others key other)) in omega arith
           ]
     ];
-    waiting = λ id some. elim (same-id id w.cell.number) [
+    pending = λ id some. elim (same-id id w.cell.number) [
       | inl same ↦ ap is_some (ap g same ∙ here)
-      | inr differs ↦ ap is_some (others id differs) ∙ homes.waiting id (let step = waits id in omega arith)
+      | inr differs ↦ ap is_some (others id differs) ∙ homes.pending id (let step = waits id in omega arith)
     ];
   }
     where
-      waits : (id : ℤ) → times_listed id (waiting_rows (xs ++ w ∷ ys)) ≡ times_listed id (waiting_rows (xs ++ ys)) + times_listed id (leaf_part w.level (w.cell ∷ []))
+      waits : (id : ℤ) → times_listed id (pending_rows (xs ++ w ∷ ys)) ≡ times_listed id (pending_rows (xs ++ ys)) + times_listed id (leaf_part w.level (w.cell ∷ []))
       waits id = rows-middle (has_id id) xs w ys
 
       is-row : (id : ℤ) → times_listed id (leaf_part w.level (w.cell ∷ [])) ≡ times_listed id (w.cell ∷ [])
@@ -122,13 +122,13 @@ module _ {D : ℕ} where
 
       -- the row waits once, and lies in no leaf
       entry : (id : ℤ) → id ≡ w.cell.number → (y : ℕ) × (f id ≡ Some y)
-      entry id same = by (f id) refl (homes.waiting id (let step = waits id in let one = listed-one id w.cell same in let part = is-row id in omega arith))
+      entry id same = by (f id) refl (homes.pending id (let step = waits id in let one = listed-one id w.cell same in let part = is-row id in omega arith))
         where
           by : (o : Option ℕ) → f id ≡ o → IsSome o → (y : ℕ) × (f id ≡ Some y)
           by None e some = absurd (true≢false (sym some))
           by (Some y) e some = (y, e)
 
-      waits-once : (id : ℤ) → id ≡ w.cell.number → times_listed id (waiting_rows (xs ++ w ∷ ys)) ≡ 1
+      waits-once : (id : ℤ) → id ≡ w.cell.number → times_listed id (pending_rows (xs ++ w ∷ ys)) ≡ 1
       waits-once id same =
           let old = homes.there (entry id same).0 id (entry id same).1 in
           let step = waits id in let one = listed-one id w.cell same in let part = is-row id in omega arith
@@ -140,8 +140,8 @@ module _ {D : ℕ} where
       ]
 
   -- a node's cells are taken out, and wait
-  pub homes-cleared : (f : ℤ → Option ℕ) (a b : Slab (NodeCells D)) (ws : List (Waiting D)) (k : ℕ) (n : NodeCells D) →
-      HasHomes f a ws → get a k ≡ Some n → Updates a b k (Some (record n { cells = [] })) → HasHomes f b (ws ++ waiting_at n.level n.cells)
+  pub homes-cleared : (f : ℤ → Option ℕ) (a b : Slab (NodeCells D)) (ws : List (Pending D)) (k : ℕ) (n : NodeCells D) →
+      HasHomes f a ws → get a k ≡ Some n → Updates a b k (Some (record n { cells = [] })) → HasHomes f b (ws ++ pending_at n.level n.cells)
   homes-cleared f a b ws k n homes has u = record {
     home = λ key id some. elim (cases_eq key k) [
       | inl at ↦
@@ -165,12 +165,12 @@ module _ {D : ℕ} where
                 | inr some ↦ absurd (other (same_Some key k (sym is ∙ homes.home k id (omega arith))))
               ] in omega arith
         ];
-    waiting = λ id some.
+    pending = λ id some.
         let step = rows-joined (has_id id) ws n.level n.cells in
         let q = ap (times_listed id) (ap leaf_cells_of has) in
-        elim (cases_eq (times_listed id (waiting_rows ws)) 0) [
+        elim (cases_eq (times_listed id (pending_rows ws)) 0) [
           | inl none ↦ ap is_some (homes.home k id (omega arith))
-          | inr waited ↦ homes.waiting id (omega arith)
+          | inr waited ↦ homes.pending id (omega arith)
         ];
   }
     where

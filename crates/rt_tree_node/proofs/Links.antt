@@ -1,5 +1,5 @@
 -- How the nodes hang together, after each kind of change.
-use Rattle.std.proofs.Common.{◌≡◌, ◌≢◌, ◌⊎◌, ℕ, zero, suc, ◌+◌, ◌<◌, ◌≤◌, ℤ, pos, List, [], ◌∷◌, ◌++◌, length, get_or, set, map, cond, nat_eq, unsigned_abs, Option, Some, None, eq-eqb, arith, refl, ap, ◌∙◌, sym, subst, inl, inr}
+use Rattle.std.proofs.Common.{◌≡◌, ◌≢◌, ◌⊎◌, ℕ, zero, suc, ◌+◌, ◌<◌, ◌≤◌, ℤ, pos, List, [], ◌∷◌, ◌++◌, length, get_or, set, cond, nat_eq, unsigned_abs, Option, Some, None, eq-eqb, arith, refl, ap, ◌∙◌, sym, subst, inl, inr}
 use Rattle.std.specs.List.{All}
 use Rattle.std.specs.Option.{option_map_or}
 use Rattle.std.proofs.lemmas.Option.{same_Some, none-some}
@@ -8,12 +8,12 @@ use Rattle.std.proofs.lemmas.List.Elements.{All-nil, All-cons, All-head, All-tai
 use Rattle.std.proofs.lemmas.List.Sums.{sum_by-set}
 use Rattle.slab.specs.Slab.{Slab, get, Updates}
 use Rattle.rt_tree_node.specs.declared.cell.Cell.{Cell}
-use Rattle.rt_tree_node.specs.declared.cell.Waiting.{Waiting}
+use Rattle.rt_tree_node.specs.declared.cell.Pending.{Pending}
 use Rattle.rt_tree_node.specs.Node.{NodeCells}
-use Rattle.rt_tree_node.specs.Places.{key_of, times_named, cells_of, inner_part, inner_cells_of, level_of, parent_of, cells_at, inner_cells_at, level_at, parent_at, cells_above, waiting_nodes, waiting_at}
+use Rattle.rt_tree_node.specs.Places.{key_of, times_named, cells_of, inner_part, inner_cells_of, level_of, parent_of, cells_at, inner_cells_at, level_at, parent_at, cells_above, pending_nodes, pending_at}
 use Rattle.rt_tree_node.specs.Sound.{Names, NamesChild, IsLinked}
 use Rattle.rt_tree_node.proofs.Counts.{count-some}
-use Rattle.rt_tree_node.proofs.Places.{inner-at_inner, inner-at_leaf, inner-all, count-inner_push, nodes-middle, nodes-joined, names_key, named-none, named-find, named-one, named-other}
+use Rattle.rt_tree_node.proofs.Places.{inner-at_inner, inner-all, count-inner_push, nodes-middle, nodes-joined, names_key, named-none, named-one, named-other}
 
 module _ {D : ℕ} {Y : Type 0} (F : Option (NodeCells D) → Y) (a b : Slab (NodeCells D)) (k : ℕ) where
   -- a reading that the change of a node leaves as it was
@@ -76,11 +76,11 @@ module _ {D : ℕ} where
       by None f = above-none s x (e ∙ f) ∙ sym (above-none a x f)
       by (Some p) f = above-some s x p (e ∙ f) ∙ same p ∙ sym (above-some a x p f)
 
-  module _ (a : Slab (NodeCells D)) (root level : ℕ) (ws : List (Waiting D)) (linked : IsLinked a root level ws) where
+  module _ (a : Slab (NodeCells D)) (root level : ℕ) (ws : List (Pending D)) (linked : IsLinked a root level ws) where
     -- a node that waits isn't the root
-    pub waits-not_root : (j : ℕ) → 0 < times_named j (waiting_nodes ws) → j ≢ root
+    pub waits-not_root : (j : ℕ) → 0 < times_named j (pending_nodes ws) → j ≢ root
     waits-not_root j waits e = let none = linked.root_waits_not in
-        let some : 0 < times_named root (waiting_nodes ws) = subst (λ y. 0 < times_named y (waiting_nodes ws)) e waits in omega arith
+        let some : 0 < times_named root (pending_nodes ws) = subst (λ y. 0 < times_named y (pending_nodes ws)) e waits in omega arith
 
     -- what a node names has it as its parent
     pub parent-from_named : (x : ℕ) → All (λ c. parent_at a (key_of c) ≡ Some x) (inner_cells_at a x)
@@ -93,8 +93,8 @@ module _ {D : ℕ} where
         (All-weaker (λ c. parent_at a (key_of c) ≡ Some x) (λ c. key_of c ≢ j) (λ c is e. other (ap (parent_at a) (sym e) ∙ is)) (inner_cells_at a x) (parent-from_named x))
 
     -- a node that waits is named by none
-    pub unnamed-waiting : (x j l : ℕ) → level_at a j ≡ Some l → 0 < times_named j (waiting_nodes ws) → times_named j (inner_cells_at a x) ≡ 0
-    unnamed-waiting x j l has waits = named-none j (inner_cells_at a x) (λ k d within e.
+    pub unnamed-pending : (x j l : ℕ) → level_at a j ≡ Some l → 0 < times_named j (pending_nodes ws) → times_named j (inner_cells_at a x) ≡ 0
+    unnamed-pending x j l has waits = named-none j (inner_cells_at a x) (λ k d within e.
         let up = ap (parent_at a) (sym e) ∙ parent-from_named x k d within in
         let counted : 0 < times_named j (inner_cells_at a x) = count-some (names_key j) (inner_cells_at a x) k d within (eq-eqb _ _ e) in
         let here = ap (times_named j) (above-some a j x up) in
@@ -108,7 +108,7 @@ module _ {D : ℕ} where
 
     -- the parent of a node changes, which waits to be named
     pub reparented : (b : Slab (NodeCells D)) (j l : ℕ) (n : NodeCells D) (up : Option ℕ) → get a j ≡ Some n →
-        0 < times_named j (waiting_nodes ws) → Updates a b j (Some (record n { parent = up })) → IsLinked b root level ws
+        0 < times_named j (pending_nodes ws) → Updates a b j (Some (record n { parent = up })) → IsLinked b root level ws
     reparented b j l n up has waits u =
         let m = record n { parent = up } in
         let lv = same-at level_of a b j n m has u refl in
@@ -127,22 +127,22 @@ module _ {D : ℕ} where
               let c = get_or (cells_at a x) k d in
               let free : key_of c ≢ j = λ same.
               let inner = inner-at_inner a x i (sym (lv x) ∙ e) in
-              let none = unnamed-waiting x j n.level level_j waits in
+              let none = unnamed-pending x j n.level level_j waits in
               let counted : 0 < times_named j (cells_at a x) = count-some (names_key j) (cells_at a x) k d within (eq-eqb _ _ same) in
               let both = ap (times_named j) inner in omega arith in
               NamesChild-same a b i x c (lv (key_of c)) (pr (key_of c) free) is);
           named = λ x i e other. elim (cases_eq x j) [
             | inl same ↦
-                let none_above : times_named j (cells_above b j) ≡ 0 = unnamed-above a b ins j up (ap parent_of u.changed) (λ y. unnamed-waiting y j n.level level_j waits) in
+                let none_above : times_named j (cells_above b j) ≡ 0 = unnamed-above a b ins j up (ap parent_of u.changed) (λ y. unnamed-pending y j n.level level_j waits) in
                 let old = linked.named j n.level level_j not_root in
-                let old_above : times_named j (cells_above a j) ≡ 0 = unnamed-above a a (λ y. refl) j n.parent (ap parent_of has) (λ y. unnamed-waiting y j n.level level_j waits) in
-                subst (λ y. times_named y (cells_above b y) + times_named y (waiting_nodes ws) ≡ 1) (sym same) (omega arith)
+                let old_above : times_named j (cells_above a j) ≡ 0 = unnamed-above a a (λ y. refl) j n.parent (ap parent_of has) (λ y. unnamed-pending y j n.level level_j waits) in
+                subst (λ y. times_named y (cells_above b y) + times_named y (pending_nodes ws) ≡ 1) (sym same) (omega arith)
             | inr differs ↦
                 let above : cells_above b x ≡ cells_above a x = same-above a b ins x (pr x differs) in
-                ap (λ cells. times_named x cells + times_named x (waiting_nodes ws)) above ∙ linked.named x i (sym (lv x) ∙ e) other
+                ap (λ cells. times_named x cells + times_named x (pending_nodes ws)) above ∙ linked.named x i (sym (lv x) ∙ e) other
           ];
-          waiting_levels = linked.waiting_levels;
-          waiting_named = λ k d within i e. let is = linked.waiting_named k d within i e in
+          pending_levels = linked.pending_levels;
+          pending_named = λ k d within i e. let is = linked.pending_named k d within i e in
               Names-same a b i (get_or ws k d).cell (lv (key_of (get_or ws k d).cell)) is;
         }
 
@@ -158,8 +158,8 @@ module _ {D : ℕ} where
       by None f = above-none b x (e ∙ f) ∙ sym (above-none a x f)
       by (Some p) f = above-some b x p (e ∙ f) ∙ others p (λ same. not_up (f ∙ ap Some same)) ∙ sym (above-some a x p f)
 
-  -- a waiting cell is appended to a node, whose key is its child's parent
-  pub appended : (a b : Slab (NodeCells D)) (root level : ℕ) (xs : List (Waiting D)) (w : Waiting D) (ys : List (Waiting D)) (k : ℕ) (n : NodeCells D) →
+  -- a pending cell is appended to a node, whose key is its child's parent
+  pub appended : (a b : Slab (NodeCells D)) (root level : ℕ) (xs : List (Pending D)) (w : Pending D) (ys : List (Pending D)) (k : ℕ) (n : NodeCells D) →
       IsLinked a root level (xs ++ w ∷ ys) → get a k ≡ Some n → w.level ≡ n.level →
       ((l : ℕ) → n.level ≡ suc l → parent_at a (key_of w.cell) ≡ Some k) →
       Updates a b k (Some (record n { cells = n.cells ++ w.cell ∷ [] })) → IsLinked b root level (xs ++ ys)
@@ -186,7 +186,7 @@ module _ {D : ℕ} where
             elim (cases_eq x k) [
               | inl here ↦
                   let level_n : n.level ≡ suc i = same_Some n.level (suc i) (sym level_k ∙ ap (level_at a) (sym here) ∙ old 0) in
-                  let named : Names a i c = waits-named level_n linked.waiting_named in
+                  let named : Names a i c = waits-named level_n linked.pending_named in
                   let child_is : NamesChild b i k c = NamesChild-same a b i k c (lv (key_of c)) (pr (key_of c)) record { names = named; parent_is = child i level_n } in
                   subst (λ y. All (NamesChild b i y) (cells_at b y)) (sym here)
                   (subst (All (NamesChild b i k)) (sym (ap cells_of u.changed))
@@ -207,13 +207,13 @@ module _ {D : ℕ} where
                   let same = ap (times_named x) part in
                   let none = not-named x n.level refl apart.0 in omega arith
             ];
-        waiting_levels = All-middle (λ v. v.level ≤ level) linked.waiting_levels;
-        waiting_named = All-weaker (λ v. (l : ℕ) → v.level ≡ suc l → Names a l v.cell) (λ v. (l : ℕ) → v.level ≡ suc l → Names b l v.cell)
+        pending_levels = All-middle (λ v. v.level ≤ level) linked.pending_levels;
+        pending_named = All-weaker (λ v. (l : ℕ) → v.level ≡ suc l → Names a l v.cell) (λ v. (l : ℕ) → v.level ≡ suc l → Names b l v.cell)
             (λ v is l e. Names-same a b l v.cell (lv (key_of v.cell)) (is l e)) (xs ++ ys)
-            (All-middle (λ v. (l : ℕ) → v.level ≡ suc l → Names a l v.cell) linked.waiting_named);
+            (All-middle (λ v. (l : ℕ) → v.level ≡ suc l → Names a l v.cell) linked.pending_named);
       }
     where
-      All-middle : (P : Waiting D → Type 0) → All P (xs ++ w ∷ ys) → All P (xs ++ ys)
+      All-middle : (P : Pending D → Type 0) → All P (xs ++ w ∷ ys) → All P (xs ++ ys)
       All-middle P all = All-without P xs w ys all
 
       waits-named : {i : ℕ} → n.level ≡ suc i → All (λ v. (l : ℕ) → v.level ≡ suc l → Names a l v.cell) (xs ++ w ∷ ys) → Names a i w.cell
@@ -223,12 +223,12 @@ module _ {D : ℕ} where
       not-named x zero e apart = refl
       not-named x (suc l) e apart = named-other x w.cell (λ same. apart (ap (parent_at a) (sym same) ∙ child l e))
 
-  -- no waiting cell names a vacant key
-  pub unnamed-by_waiting : (a : Slab (NodeCells D)) (ws : List (Waiting D)) (x : ℕ) → level_at a x ≡ None →
-      All (λ v. (l : ℕ) → v.level ≡ suc l → Names a l v.cell) ws → times_named x (waiting_nodes ws) ≡ 0
-  unnamed-by_waiting a [] x none all = refl
-  unnamed-by_waiting a (w ∷ ws) x none all =
-      let rest = unnamed-by_waiting a ws x none (All-tail (λ v. (l : ℕ) → v.level ≡ suc l → Names a l v.cell) w ws all) in
+  -- no pending cell names a vacant key
+  pub unnamed-by_pending : (a : Slab (NodeCells D)) (ws : List (Pending D)) (x : ℕ) → level_at a x ≡ None →
+      All (λ v. (l : ℕ) → v.level ≡ suc l → Names a l v.cell) ws → times_named x (pending_nodes ws) ≡ 0
+  unnamed-by_pending a [] x none all = refl
+  unnamed-by_pending a (w ∷ ws) x none all =
+      let rest = unnamed-by_pending a ws x none (All-tail (λ v. (l : ℕ) → v.level ≡ suc l → Names a l v.cell) w ws all) in
       let here = here-none w.level refl in
       let step = nodes-middle (names_key x) [] w ws in
       omega arith
@@ -240,9 +240,9 @@ module _ {D : ℕ} where
           none-some l (sym none ∙ ap (level_at a) (sym same) ∙ is.level_is))
 
   -- a node's cells are taken out, and wait
-  pub cleared : (a b : Slab (NodeCells D)) (root level : ℕ) (ws : List (Waiting D)) (k : ℕ) (n : NodeCells D) →
+  pub cleared : (a b : Slab (NodeCells D)) (root level : ℕ) (ws : List (Pending D)) (k : ℕ) (n : NodeCells D) →
       IsLinked a root level ws → get a k ≡ Some n → Updates a b k (Some (record n { cells = [] })) →
-      IsLinked b root level (ws ++ waiting_at n.level n.cells)
+      IsLinked b root level (ws ++ pending_at n.level n.cells)
   cleared a b root level ws k n linked has u =
       let m = record n { cells = [] } in
       let lv = same-at level_of a b k n m has u refl in
@@ -282,11 +282,11 @@ module _ {D : ℕ} where
                   let free = ap (times_named x) (sym inner_a) in
                   let none = unnamed-elsewhere a root level ws linked k x apart.0 in omega arith
             ];
-        waiting_levels = All-append (λ v. v.level ≤ level) ws (waiting_at n.level n.cells) linked.waiting_levels
+        pending_levels = All-append (λ v. v.level ≤ level) ws (pending_at n.level n.cells) linked.pending_levels
             (All-map (λ v. v.level ≤ level) (λ c. record { level = n.level; cell = c }) n.cells (λ j d within. linked.levels k n.level level_k));
-        waiting_named = All-append (λ v. (l : ℕ) → v.level ≡ suc l → Names b l v.cell) ws (waiting_at n.level n.cells)
+        pending_named = All-append (λ v. (l : ℕ) → v.level ≡ suc l → Names b l v.cell) ws (pending_at n.level n.cells)
             (All-weaker (λ v. (l : ℕ) → v.level ≡ suc l → Names a l v.cell) (λ v. (l : ℕ) → v.level ≡ suc l → Names b l v.cell)
-            (λ v is l e. Names-same a b l v.cell (lv (key_of v.cell)) (is l e)) ws linked.waiting_named)
+            (λ v is l e. Names-same a b l v.cell (lv (key_of v.cell)) (is l e)) ws linked.pending_named)
             (All-map (λ v. (l : ℕ) → v.level ≡ suc l → Names b l v.cell) (λ c. record { level = n.level; cell = c }) n.cells
             (λ j d within l e.
             let is = subst (All (NamesChild a l k)) cells_k (linked.children k l (level_k ∙ ap Some e)) j d within in
@@ -298,7 +298,7 @@ module _ {D : ℕ} where
       no-cells (suc l) = refl
 
   -- a new node without cells waits for its place
-  pub created : (a b : Slab (NodeCells D)) (root level : ℕ) (ws : List (Waiting D)) (k l : ℕ) (up : Option ℕ) (c : Cell D) →
+  pub created : (a b : Slab (NodeCells D)) (root level : ℕ) (ws : List (Pending D)) (k l : ℕ) (up : Option ℕ) (c : Cell D) →
       IsLinked a root level ws → get a k ≡ None → suc l ≤ level → c.number ≡ pos k → key_of c ≡ k →
       Updates a b k (Some record { level = l; parent = up; cells = [] }) →
       IsLinked b root level (ws ++ record { level = suc l; cell = c } ∷ [])
@@ -337,7 +337,7 @@ module _ {D : ℕ} where
                   let one = named-one x c (key_is ∙ sym here) in
                   let above : times_named k (cells_above b k) ≡ 0 = unnamed-above a b ins k up (ap parent_of u.changed) (λ y. unnamed-vacant a root level ws linked y k vacant) in
                   let above_x : times_named x (cells_above b x) ≡ 0 = subst (λ y. times_named y (cells_above b y) ≡ 0) (sym here) above in
-                  let free : times_named x (waiting_nodes ws) ≡ 0 = subst (λ y. times_named y (waiting_nodes ws) ≡ 0) (sym here) (waits-none k vacant) in
+                  let free : times_named x (pending_nodes ws) ≡ 0 = subst (λ y. times_named y (pending_nodes ws) ≡ 0) (sym here) (waits-none k vacant) in
                   omega arith
               | inr differs ↦
                   let old = linked.named x i (sym (ap level_of (u.others x differs)) ∙ e) other in
@@ -345,12 +345,12 @@ module _ {D : ℕ} where
                   let none = named-other x c (λ same. differs (sym same ∙ key_is)) in
                   omega arith
             ];
-        waiting_levels = All-append (λ v. v.level ≤ level) ws (record { level = suc l; cell = c } ∷ []) linked.waiting_levels
+        pending_levels = All-append (λ v. v.level ≤ level) ws (record { level = suc l; cell = c } ∷ []) linked.pending_levels
             (All-cons (λ v. v.level ≤ level) record { level = suc l; cell = c } [] below (All-nil (λ v. v.level ≤ level)));
-        waiting_named = All-append (λ v. (i : ℕ) → v.level ≡ suc i → Names b i v.cell) ws (record { level = suc l; cell = c } ∷ [])
+        pending_named = All-append (λ v. (i : ℕ) → v.level ≡ suc i → Names b i v.cell) ws (record { level = suc l; cell = c } ∷ [])
             (All-weaker (λ v. (i : ℕ) → v.level ≡ suc i → Names a i v.cell) (λ v. (i : ℕ) → v.level ≡ suc i → Names b i v.cell)
             (λ v is i e. let named : Names a i v.cell = is i e in
-            Names-same a b i v.cell (ap level_of (u.others (key_of v.cell) (present-other (key_of v.cell) i named.level_is))) named) ws linked.waiting_named)
+            Names-same a b i v.cell (ap level_of (u.others (key_of v.cell) (present-other (key_of v.cell) i named.level_is))) named) ws linked.pending_named)
             (All-cons (λ v. (i : ℕ) → v.level ≡ suc i → Names b i v.cell) record { level = suc l; cell = c } []
             (λ i e. let same : l ≡ i = omega arith in subst (λ y. Names b y c) same new-names)
             (All-nil (λ v. (i : ℕ) → v.level ≡ suc i → Names b i v.cell)));
@@ -366,11 +366,11 @@ module _ {D : ℕ} where
       present-level : (x i : ℕ) → level_at a x ≡ Some i → level_at b x ≡ Some i
       present-level x i has = ap level_of (u.others x (present-other x i has)) ∙ has
 
-      waits-none : (x : ℕ) → get a x ≡ None → times_named x (waiting_nodes ws) ≡ 0
-      waits-none x none = unnamed-by_waiting a ws x (ap level_of none) linked.waiting_named
+      waits-none : (x : ℕ) → get a x ≡ None → times_named x (pending_nodes ws) ≡ 0
+      waits-none x none = unnamed-by_pending a ws x (ap level_of none) linked.pending_named
 
   -- a new node without cells is the root, and the old one waits for its place
-  pub crowned : (a b : Slab (NodeCells D)) (root level : ℕ) (ws : List (Waiting D)) (k : ℕ) (c : Cell D) →
+  pub crowned : (a b : Slab (NodeCells D)) (root level : ℕ) (ws : List (Pending D)) (k : ℕ) (c : Cell D) →
       IsLinked a root level ws → get a k ≡ None → c.number ≡ pos root → key_of c ≡ root →
       Updates a b k (Some record { level = suc level; parent = None; cells = [] }) →
       IsLinked b k (suc level) (ws ++ record { level = suc level; cell = c } ∷ [])
@@ -392,7 +392,7 @@ module _ {D : ℕ} where
         root_waits_not =
             let step = waits k in
             let other = named-other k c (λ e. differs_root (sym key_is ∙ e)) in
-            let none = unnamed-by_waiting a ws k (ap level_of vacant) linked.waiting_named in
+            let none = unnamed-by_pending a ws k (ap level_of vacant) linked.pending_named in
             omega arith;
         levels = λ x i e. elim (cases_eq x k) [
           | inl here ↦ let same : suc level ≡ i = same_Some (suc level) i (sym level_b ∙ ap (level_at b) (sym here) ∙ e) in omega arith
@@ -414,20 +414,20 @@ module _ {D : ℕ} where
               | inl here ↦
                   let one = named-one x c (key_is ∙ sym here) in
                   let above = ap (times_named x) (ap (cells_above a) here ∙ above-none a root linked.root_parent) in
-                  let free : times_named x (waiting_nodes ws) ≡ 0 = ap (λ y. times_named y (waiting_nodes ws)) here ∙ linked.root_waits_not in
+                  let free : times_named x (pending_nodes ws) ≡ 0 = ap (λ y. times_named y (pending_nodes ws)) here ∙ linked.root_waits_not in
                   omega arith
               | inr differs ↦
                   let old = linked.named x i has differs in
                   let none = named-other x c (λ same. differs (sym same ∙ key_is)) in
                   omega arith
             ];
-        waiting_levels = All-append (λ v. v.level ≤ suc level) ws (record { level = suc level; cell = c } ∷ [])
-            (All-weaker (λ v. v.level ≤ level) (λ v. v.level ≤ suc level) (λ v is. omega arith) ws linked.waiting_levels)
+        pending_levels = All-append (λ v. v.level ≤ suc level) ws (record { level = suc level; cell = c } ∷ [])
+            (All-weaker (λ v. v.level ≤ level) (λ v. v.level ≤ suc level) (λ v is. omega arith) ws linked.pending_levels)
             (All-cons (λ v. v.level ≤ suc level) record { level = suc level; cell = c } [] (omega arith) (All-nil (λ v. v.level ≤ suc level)));
-        waiting_named = All-append (λ v. (i : ℕ) → v.level ≡ suc i → Names b i v.cell) ws (record { level = suc level; cell = c } ∷ [])
+        pending_named = All-append (λ v. (i : ℕ) → v.level ≡ suc i → Names b i v.cell) ws (record { level = suc level; cell = c } ∷ [])
             (All-weaker (λ v. (i : ℕ) → v.level ≡ suc i → Names a i v.cell) (λ v. (i : ℕ) → v.level ≡ suc i → Names b i v.cell)
             (λ v is i e. let named : Names a i v.cell = is i e in
-            Names-same a b i v.cell (ap level_of (u.others (key_of v.cell) (present-other (key_of v.cell) i named.level_is))) named) ws linked.waiting_named)
+            Names-same a b i v.cell (ap level_of (u.others (key_of v.cell) (present-other (key_of v.cell) i named.level_is))) named) ws linked.pending_named)
             (All-cons (λ v. (i : ℕ) → v.level ≡ suc i → Names b i v.cell) record { level = suc level; cell = c } []
             (λ i e. let same : level ≡ i = omega arith in subst (λ y. Names b y c) same new-names)
             (All-nil (λ v. (i : ℕ) → v.level ≡ suc i → Names b i v.cell)));
@@ -437,7 +437,7 @@ module _ {D : ℕ} where
       present-other x i has e = none-some i (sym (ap level_of vacant) ∙ ap (level_at a) (sym e) ∙ has)
 
   -- a cell's box alone changes
-  pub boxes-changed : (a b : Slab (NodeCells D)) (root level : ℕ) (ws : List (Waiting D)) (k at : ℕ) (n : NodeCells D) (c : Cell D) →
+  pub boxes-changed : (a b : Slab (NodeCells D)) (root level : ℕ) (ws : List (Pending D)) (k at : ℕ) (n : NodeCells D) (c : Cell D) →
       IsLinked a root level ws → get a k ≡ Some n → at < length n.cells → c.number ≡ (get_or n.cells at c).number →
       Updates a b k (Some (record n { cells = set n.cells at c })) → IsLinked b root level ws
   boxes-changed a b root level ws k at n c linked has within same_number u =
@@ -467,11 +467,11 @@ module _ {D : ℕ} where
                   (All-set (NamesChild b i x) n.cells at c (by-number b i x (get_or n.cells at c) c (sym same_number) old) all_k))
               | inr other ↦ subst (All (NamesChild b i x)) (sym (ap cells_of (u.others x other))) all
             ];
-        named = λ x i e other. ap (λ t. t + times_named x (waiting_nodes ws)) (above-counts x (parent_at a x) refl (pr x) (counts x))
+        named = λ x i e other. ap (λ t. t + times_named x (pending_nodes ws)) (above-counts x (parent_at a x) refl (pr x) (counts x))
             ∙ linked.named x i (sym (lv x) ∙ e) other;
-        waiting_levels = linked.waiting_levels;
-        waiting_named = All-weaker (λ v. (l : ℕ) → v.level ≡ suc l → Names a l v.cell) (λ v. (l : ℕ) → v.level ≡ suc l → Names b l v.cell)
-            (λ v is l e. Names-same a b l v.cell (lv (key_of v.cell)) (is l e)) ws linked.waiting_named;
+        pending_levels = linked.pending_levels;
+        pending_named = All-weaker (λ v. (l : ℕ) → v.level ≡ suc l → Names a l v.cell) (λ v. (l : ℕ) → v.level ≡ suc l → Names b l v.cell)
+            (λ v is l e. Names-same a b l v.cell (lv (key_of v.cell)) (is l e)) ws linked.pending_named;
       }
     where
       set-counts : (x l : ℕ) → times_named x (inner_part l (set n.cells at c)) ≡ times_named x (inner_part l n.cells)

@@ -1,5 +1,5 @@
--- Several waiting cells at once: appended to a node, or in another order.
-use Rattle.std.proofs.Common.{◌≡◌, ◌≢◌, ◌⊎◌, ℕ, zero, suc, ◌+◌, ◌<◌, ◌≤◌, Bool, true, false, cond, ℤ, List, [], ◌∷◌, ◌++◌, length, get_or, map, Option, Some, None, count_by, IsSome, is_some, append_assoc, arith, refl, ap, ◌∙◌, sym, subst, inl, inr}
+-- Several pending cells at once: appended to a node, or in another order.
+use Rattle.std.proofs.Common.{◌≡◌, ◌≢◌, ◌⊎◌, ℕ, zero, suc, ◌+◌, ◌≤◌, Bool, true, cond, ℤ, List, [], ◌∷◌, ◌++◌, length, get_or, map, Option, Some, count_by, is_some, append_assoc, arith, refl, ap, ◌∙◌, sym, subst, inl, inr}
 use Rattle.std.specs.Ordering.{int_eq}
 use Rattle.std.specs.List.{All}
 use Rattle.std.specs.List.Sorted.{IsPermutation}
@@ -14,16 +14,15 @@ use Rattle.rt_tree_choice.specs.Hull.{hull}
 use Rattle.slab.specs.Slab.{Slab, get, Updates, with_value}
 use Rattle.slab.proofs.SlabLemmas.{Updates-with_value}
 use Rattle.rt_tree_node.specs.declared.cell.Cell.{Cell}
-use Rattle.rt_tree_node.specs.declared.cell.Waiting.{Waiting}
+use Rattle.rt_tree_node.specs.declared.cell.Pending.{Pending}
 use Rattle.rt_tree_node.specs.Node.{NodeCells}
-use Rattle.rt_tree_node.specs.Places.{key_of, rects, times_named, times_listed, cells_of, parent_of, level_of, leaf_cells_of, inner_cells_of, cells_at, level_at, parent_at, cells_above, leaf_part, inner_part, waiting_rows, waiting_nodes, waiting_at}
+use Rattle.rt_tree_node.specs.Places.{key_of, rects, times_named, times_listed, cells_of, parent_of, level_of, leaf_cells_of, inner_cells_of, cells_at, parent_at, cells_above, leaf_part, inner_part, pending_nodes, pending_at}
 use Rattle.rt_tree_node.specs.Sound.{Names, NamesChild, IsLinked, HasHomes}
 use Rattle.rt_tree_node.specs.Open.{HasHull, IsFittedBut}
-use Rattle.rt_tree_node.proofs.Counts.{count-cons}
 use Rattle.rt_tree_node.proofs.Places.{nodes-joined, rows-joined, names_key, has_id}
 use Rattle.rt_tree_node.proofs.Links.{appended, same-at, same-above, Names-same, NamesChild-same, All-left, All-right}
 use Rattle.rt_tree_node.proofs.Fitted.{fitted-appended}
-use Rattle.rt_tree_node.proofs.Homes.{homes-appended, homes-waiting, homes-same, same-id, listed-other}
+use Rattle.rt_tree_node.proofs.Homes.{homes-appended, homes-pending, homes-same, same-id}
 
 abbrev moved_to : (ℤ → Option ℕ) → ℤ → ℕ → ℤ → Option ℕ
 moved_to h id leaf x = cond (int_eq x id) (Some leaf) (h x)
@@ -66,7 +65,7 @@ module _ {D : ℕ} where
       same-at (λ s. s) a b k n (record n { cells = n.cells ++ [] }) has u (ap whole (append-nil n.cells)) x
 
   -- the same slab but for how it is laid out
-  pub linked-same : (p q : Slab (NodeCells D)) (r l : ℕ) (ws : List (Waiting D)) → ((x : ℕ) → get q x ≡ get p x) → IsLinked p r l ws → IsLinked q r l ws
+  pub linked-same : (p q : Slab (NodeCells D)) (r l : ℕ) (ws : List (Pending D)) → ((x : ℕ) → get q x ≡ get p x) → IsLinked p r l ws → IsLinked q r l ws
   linked-same p q r l ws same linked =
       let lv = λ (x : ℕ). ap level_of (same x) in
       let pr = λ (x : ℕ). ap parent_of (same x) in
@@ -78,14 +77,14 @@ module _ {D : ℕ} where
         children = λ x i e. subst (All (NamesChild q i x)) (sym (ap cells_of (same x)))
             (All-weaker (NamesChild p i x) (NamesChild q i x) (λ c is. NamesChild-same p q i x c (lv (key_of c)) (pr (key_of c)) is) (cells_at p x)
             (linked.children x i (sym (lv x) ∙ e)));
-        named = λ x i e other. ap (λ cells. times_named x cells + times_named x (waiting_nodes ws)) (same-above p q (λ y. ap inner_cells_of (same y)) x (pr x))
+        named = λ x i e other. ap (λ cells. times_named x cells + times_named x (pending_nodes ws)) (same-above p q (λ y. ap inner_cells_of (same y)) x (pr x))
             ∙ linked.named x i (sym (lv x) ∙ e) other;
-        waiting_levels = linked.waiting_levels;
-        waiting_named = All-weaker (λ v. (i : ℕ) → v.level ≡ suc i → Names p i v.cell) (λ v. (i : ℕ) → v.level ≡ suc i → Names q i v.cell)
-            (λ v is i e. Names-same p q i v.cell (lv (key_of v.cell)) (is i e)) ws linked.waiting_named;
+        pending_levels = linked.pending_levels;
+        pending_named = All-weaker (λ v. (i : ℕ) → v.level ≡ suc i → Names p i v.cell) (λ v. (i : ℕ) → v.level ≡ suc i → Names q i v.cell)
+            (λ v is i e. Names-same p q i v.cell (lv (key_of v.cell)) (is i e)) ws linked.pending_named;
       }
 
-  pub fitted-same : (E : ℕ → Type 0) (M : ℕ) (p q : Slab (NodeCells D)) (r : ℕ) (ws : List (Waiting D)) → ((x : ℕ) → get q x ≡ get p x) →
+  pub fitted-same : (E : ℕ → Type 0) (M : ℕ) (p q : Slab (NodeCells D)) (r : ℕ) (ws : List (Pending D)) → ((x : ℕ) → get q x ≡ get p x) →
       IsFittedBut E M p r ws → IsFittedBut E M q r ws
   fitted-same E M p q r ws same fitted =
       let lv = λ (x : ℕ). ap level_of (same x) in
@@ -98,18 +97,18 @@ module _ {D : ℕ} where
         most = λ x l e fine. subst (λ cells. length cells ≤ M) (sym (cs x)) (fitted.most x l (sym (lv x) ∙ e) fine);
         boxes = λ x. subst (All (λ c. IsBox D c.rect)) (sym (cs x)) (fitted.boxes x);
         hulls = λ x l e. subst (All (HasHull E q)) (sym (cs x)) (All-weaker (HasHull E p) (HasHull E q) moved (cells_at p x) (fitted.hulls x l (sym (lv x) ∙ e)));
-        waiting_boxes = fitted.waiting_boxes;
-        waiting_hulls = All-weaker (λ w. (l : ℕ) → w.level ≡ suc l → HasHull E p w.cell) (λ w. (l : ℕ) → w.level ≡ suc l → HasHull E q w.cell)
-            (λ w is l e. moved w.cell (is l e)) ws fitted.waiting_hulls;
+        pending_boxes = fitted.pending_boxes;
+        pending_hulls = All-weaker (λ w. (l : ℕ) → w.level ≡ suc l → HasHull E p w.cell) (λ w. (l : ℕ) → w.level ≡ suc l → HasHull E q w.cell)
+            (λ w is l e. moved w.cell (is l e)) ws fitted.pending_hulls;
       }
 
-  -- waiting cells in another order
-  All-reordered : (P : Waiting D → Type 0) (xs : List (Waiting D)) (l : ℕ) (cs ds : List (Cell D)) → IsPermutation cs ds →
-      All P (xs ++ waiting_at l cs) → All P (xs ++ waiting_at l ds)
+  -- pending cells in another order
+  All-reordered : (P : Pending D → Type 0) (xs : List (Pending D)) (l : ℕ) (cs ds : List (Cell D)) → IsPermutation cs ds →
+      All P (xs ++ pending_at l cs) → All P (xs ++ pending_at l ds)
   All-reordered P xs l cs ds moved all =
-      let at : Cell D → Waiting D = λ c. record { level = l; cell = c } in
-      All-append P xs (waiting_at l ds) (All-left P xs (waiting_at l cs) all)
-      (All-map P at ds (All-permutation (λ c. P (at c)) cs ds moved (All-unmapped P at cs (All-right P xs (waiting_at l cs) all))))
+      let at : Cell D → Pending D = λ c. record { level = l; cell = c } in
+      All-append P xs (pending_at l ds) (All-left P xs (pending_at l cs) all)
+      (All-map P at ds (All-permutation (λ c. P (at c)) cs ds moved (All-unmapped P at cs (All-right P xs (pending_at l cs) all))))
 
   count-inner_reordered : (test : Cell D → Bool) (l : ℕ) (cs ds : List (Cell D)) → IsPermutation cs ds → count_by test (inner_part l ds) ≡ count_by test (inner_part l cs)
   count-inner_reordered test zero cs ds moved = refl
@@ -119,12 +118,12 @@ module _ {D : ℕ} where
   count-leaf_reordered test zero cs ds moved = sum_by-IsPermutation (λ c. cond (test c) 1 0) cs ds moved
   count-leaf_reordered test (suc l) cs ds moved = refl
 
-  pub linked-reordered : (a : Slab (NodeCells D)) (root level : ℕ) (xs : List (Waiting D)) (l : ℕ) (cs ds : List (Cell D)) → IsPermutation cs ds →
-      IsLinked a root level (xs ++ waiting_at l cs) → IsLinked a root level (xs ++ waiting_at l ds)
+  pub linked-reordered : (a : Slab (NodeCells D)) (root level : ℕ) (xs : List (Pending D)) (l : ℕ) (cs ds : List (Cell D)) → IsPermutation cs ds →
+      IsLinked a root level (xs ++ pending_at l cs) → IsLinked a root level (xs ++ pending_at l ds)
   linked-reordered a root level xs l cs ds moved linked =
       let same = λ (x : ℕ). let p = nodes-joined (names_key x) xs l cs in let q = nodes-joined (names_key x) xs l ds in
       let r = count-inner_reordered (names_key x) l cs ds moved in
-      let e : times_named x (waiting_nodes (xs ++ waiting_at l ds)) ≡ times_named x (waiting_nodes (xs ++ waiting_at l cs)) = omega arith in e in
+      let e : times_named x (pending_nodes (xs ++ pending_at l ds)) ≡ times_named x (pending_nodes (xs ++ pending_at l cs)) = omega arith in e in
       record {
         root_level = linked.root_level;
         root_parent = linked.root_parent;
@@ -132,12 +131,12 @@ module _ {D : ℕ} where
         levels = linked.levels;
         children = linked.children;
         named = λ x i e other. ap (λ t. times_named x (cells_above a x) + t) (same x) ∙ linked.named x i e other;
-        waiting_levels = All-reordered (λ w. w.level ≤ level) xs l cs ds moved linked.waiting_levels;
-        waiting_named = All-reordered (λ w. (i : ℕ) → w.level ≡ suc i → Names a i w.cell) xs l cs ds moved linked.waiting_named;
+        pending_levels = All-reordered (λ w. w.level ≤ level) xs l cs ds moved linked.pending_levels;
+        pending_named = All-reordered (λ w. (i : ℕ) → w.level ≡ suc i → Names a i w.cell) xs l cs ds moved linked.pending_named;
       }
 
-  pub fitted-reordered : (E : ℕ → Type 0) (M : ℕ) (a : Slab (NodeCells D)) (root : ℕ) (xs : List (Waiting D)) (l : ℕ) (cs ds : List (Cell D)) → IsPermutation cs ds →
-      IsFittedBut E M a root (xs ++ waiting_at l cs) → IsFittedBut E M a root (xs ++ waiting_at l ds)
+  pub fitted-reordered : (E : ℕ → Type 0) (M : ℕ) (a : Slab (NodeCells D)) (root : ℕ) (xs : List (Pending D)) (l : ℕ) (cs ds : List (Cell D)) → IsPermutation cs ds →
+      IsFittedBut E M a root (xs ++ pending_at l cs) → IsFittedBut E M a root (xs ++ pending_at l ds)
   fitted-reordered E M a root xs l cs ds moved fitted = record {
     cap = fitted.cap;
     some = fitted.some;
@@ -145,17 +144,17 @@ module _ {D : ℕ} where
     most = fitted.most;
     boxes = fitted.boxes;
     hulls = fitted.hulls;
-    waiting_boxes = All-reordered (λ w. IsBox D w.cell.rect) xs l cs ds moved fitted.waiting_boxes;
-    waiting_hulls = All-reordered (λ w. (i : ℕ) → w.level ≡ suc i → HasHull E a w.cell) xs l cs ds moved fitted.waiting_hulls;
+    pending_boxes = All-reordered (λ w. IsBox D w.cell.rect) xs l cs ds moved fitted.pending_boxes;
+    pending_hulls = All-reordered (λ w. (i : ℕ) → w.level ≡ suc i → HasHull E a w.cell) xs l cs ds moved fitted.pending_hulls;
   }
 
-  pub homes-reordered : (f : ℤ → Option ℕ) (a : Slab (NodeCells D)) (xs : List (Waiting D)) (l : ℕ) (cs ds : List (Cell D)) → IsPermutation cs ds →
-      HasHomes f a (xs ++ waiting_at l cs) → HasHomes f a (xs ++ waiting_at l ds)
-  homes-reordered f a xs l cs ds moved homes = homes-waiting f a (xs ++ waiting_at l cs) (xs ++ waiting_at l ds)
+  pub homes-reordered : (f : ℤ → Option ℕ) (a : Slab (NodeCells D)) (xs : List (Pending D)) (l : ℕ) (cs ds : List (Cell D)) → IsPermutation cs ds →
+      HasHomes f a (xs ++ pending_at l cs) → HasHomes f a (xs ++ pending_at l ds)
+  homes-reordered f a xs l cs ds moved homes = homes-pending f a (xs ++ pending_at l cs) (xs ++ pending_at l ds)
       (λ id. let p = rows-joined (has_id id) xs l cs in let q = rows-joined (has_id id) xs l ds in let r = count-leaf_reordered (has_id id) l cs ds moved in omega arith) homes
 
-  pub linked-more : (a b : Slab (NodeCells D)) (root level : ℕ) (xs : List (Waiting D)) (cs : List (Cell D)) (ys : List (Waiting D)) (k : ℕ) (n : NodeCells D) →
-      IsLinked a root level (xs ++ (waiting_at n.level cs ++ ys)) → get a k ≡ Some n →
+  pub linked-more : (a b : Slab (NodeCells D)) (root level : ℕ) (xs : List (Pending D)) (cs : List (Cell D)) (ys : List (Pending D)) (k : ℕ) (n : NodeCells D) →
+      IsLinked a root level (xs ++ (pending_at n.level cs ++ ys)) → get a k ≡ Some n →
       ((l : ℕ) → n.level ≡ suc l → All (λ c. (key_of c ≢ k) × (parent_at a (key_of c) ≡ Some k)) cs) →
       Updates a b k (Some (record n { cells = n.cells ++ cs })) → IsLinked b root level (xs ++ ys)
   linked-more a b root level xs [] ys k n linked has child u = linked-same a b root level (xs ++ ys) (same-node a b k n has u) linked
@@ -164,7 +163,7 @@ module _ {D : ℕ} where
       let first = updates-first a k n c has in
       let pr = same-at parent_of a (with_more a k n c) k n m has first refl in
       linked-more (with_more a k n c) b root level xs cs ys k m
-      (appended a (with_more a k n c) root level xs record { level = n.level; cell = c } (waiting_at n.level cs ++ ys) k n linked has refl
+      (appended a (with_more a k n c) root level xs record { level = n.level; cell = c } (pending_at n.level cs ++ ys) k n linked has refl
       (λ l e. (All-head (λ q. (key_of q ≢ k) × (parent_at a (key_of q) ≡ Some k)) c cs (child l e)).1) first)
       first.changed
       (λ l e j d within.
@@ -172,20 +171,20 @@ module _ {D : ℕ} where
       (is.0, pr (key_of (get_or cs j d)) ∙ is.1))
       (updates-rest a b k n c cs has u)
 
-  pub fitted-more : (E : ℕ → Type 0) (M : ℕ) (a b : Slab (NodeCells D)) (root : ℕ) (xs : List (Waiting D)) (cs : List (Cell D)) (ys : List (Waiting D)) (k : ℕ) (n : NodeCells D) →
-      ((x : ℕ) → E x ⊎ (E x → ⊥)) → IsFittedBut E M a root (xs ++ (waiting_at n.level cs ++ ys)) → E k → get a k ≡ Some n →
+  pub fitted-more : (E : ℕ → Type 0) (M : ℕ) (a b : Slab (NodeCells D)) (root : ℕ) (xs : List (Pending D)) (cs : List (Cell D)) (ys : List (Pending D)) (k : ℕ) (n : NodeCells D) →
+      ((x : ℕ) → E x ⊎ (E x → ⊥)) → IsFittedBut E M a root (xs ++ (pending_at n.level cs ++ ys)) → E k → get a k ≡ Some n →
       Updates a b k (Some (record n { cells = n.cells ++ cs })) → IsFittedBut E M b root (xs ++ ys)
   fitted-more E M a b root xs [] ys k n decide fitted odd has u = fitted-same E M a b root (xs ++ ys) (same-node a b k n has u) fitted
   fitted-more E M a b root xs (c ∷ cs) ys k n decide fitted odd has u =
       let m = record n { cells = n.cells ++ c ∷ [] } in
       let first = updates-first a k n c has in
       fitted-more E M (with_more a k n c) b root xs cs ys k m decide
-      (fitted-appended E M a (with_more a k n c) root xs record { level = n.level; cell = c } (waiting_at n.level cs ++ ys) k n decide fitted odd has refl first)
+      (fitted-appended E M a (with_more a k n c) root xs record { level = n.level; cell = c } (pending_at n.level cs ++ ys) k n decide fitted odd has refl first)
       odd first.changed (updates-rest a b k n c cs has u)
 
   -- rows, whose entries lead to the leaf now
-  pub homes-more : (f g : ℤ → Option ℕ) (a b : Slab (NodeCells D)) (xs : List (Waiting D)) (cs : List (Cell D)) (ys : List (Waiting D)) (k : ℕ) (n : NodeCells D) →
-      HasHomes f a (xs ++ (waiting_at n.level cs ++ ys)) → get a k ≡ Some n → n.level ≡ 0 →
+  pub homes-more : (f g : ℤ → Option ℕ) (a b : Slab (NodeCells D)) (xs : List (Pending D)) (cs : List (Cell D)) (ys : List (Pending D)) (k : ℕ) (n : NodeCells D) →
+      HasHomes f a (xs ++ (pending_at n.level cs ++ ys)) → get a k ≡ Some n → n.level ≡ 0 →
       All (λ c. g c.number ≡ Some k) cs → ((id : ℤ) → All (λ c. id ≢ c.number) cs → g id ≡ f id) →
       Updates a b k (Some (record n { cells = n.cells ++ cs })) → HasHomes g b (xs ++ ys)
   homes-more f g a b xs [] ys k n homes has leaf here others u =
@@ -194,14 +193,14 @@ module _ {D : ℕ} where
       record {
         home = λ key id some. same id ∙ old.home key id some;
         there = λ key id is. old.there key id (sym (same id) ∙ is);
-        waiting = λ id some. ap is_some (same id) ∙ old.waiting id some;
+        pending = λ id some. ap is_some (same id) ∙ old.pending id some;
       }
   homes-more f g a b xs (c ∷ cs) ys k n homes has leaf here others u =
       let m = record n { cells = n.cells ++ c ∷ [] } in
       let first = updates-first a k n c has in
       let self : int_eq c.number c.number ≡ true = (Decides-int_eq c.number c.number).1 refl in
       homes-more (moved_to f c.number k) g (with_more a k n c) b xs cs ys k m
-      (homes-appended f (moved_to f c.number k) a (with_more a k n c) xs record { level = n.level; cell = c } (waiting_at n.level cs ++ ys) k n homes has leaf leaf
+      (homes-appended f (moved_to f c.number k) a (with_more a k n c) xs record { level = n.level; cell = c } (pending_at n.level cs ++ ys) k n homes has leaf leaf
       (ap (λ t. cond t (Some k) (f c.number)) self) (λ id differs. moved-other f c.number k id differs) first)
       first.changed leaf (All-tail (λ q. g q.number ≡ Some k) c cs here)
       (λ id apart. elim (same-id id c.number) [

@@ -1,15 +1,13 @@
 -- What stands at the keys of a slab, in each of its readings.
-use Rattle.std.proofs.Common.{◌≡◌, ◌≢◌, ℕ, zero, suc, ◌+◌, ◌<◌, Bool, true, false, cond, ℤ, List, [], ◌∷◌, ◌++◌, length, map, Option, Some, None, count_by, nat_eq, eq-eqb, ne_eqb, eqb-true, arith, refl, ap, ◌∙◌, sym, inl, inr}
+use Rattle.std.proofs.Common.{◌≡◌, ◌≢◌, ℕ, zero, suc, ◌+◌, ◌<◌, Bool, ℤ, List, [], ◌∷◌, ◌++◌, Option, Some, None, count_by, nat_eq, eq-eqb, ne_eqb, eqb-true, arith, refl, ap, ◌∙◌}
 use Rattle.std.specs.Ordering.{int_eq}
-use Rattle.std.specs.List.{All, flat_map}
-use Rattle.std.specs.Option.{option_map_or}
+use Rattle.std.specs.List.{All}
 use Rattle.std.proofs.lemmas.Option.{same_Some, none-some}
-use Rattle.std.proofs.lemmas.Bool.{cases_eq}
 use Rattle.slab.specs.Slab.{Slab, get}
 use Rattle.rt_tree_node.specs.declared.cell.Cell.{Cell}
-use Rattle.rt_tree_node.specs.declared.cell.Waiting.{Waiting}
+use Rattle.rt_tree_node.specs.declared.cell.Pending.{Pending}
 use Rattle.rt_tree_node.specs.Node.{NodeCells}
-use Rattle.rt_tree_node.specs.Places.{key_of, times_named, times_listed, cells_of, leaf_part, inner_part, leaf_cells_of, inner_cells_of, level_of, parent_of, cells_at, leaf_cells_at, inner_cells_at, level_at, parent_at, cells_above, waiting_rows, waiting_nodes, waiting_at}
+use Rattle.rt_tree_node.specs.Places.{key_of, times_named, cells_of, leaf_part, inner_part, leaf_cells_of, inner_cells_of, level_of, cells_at, leaf_cells_at, inner_cells_at, level_at, pending_rows, pending_nodes, pending_at}
 use Rattle.rt_tree_node.proofs.Counts.{count-zero, count-find, count-append, count-one_yes, count-one_no, count-middle, count-joined}
 
 module _ {D : ℕ} where
@@ -71,36 +69,36 @@ module _ {D : ℕ} where
       count_by test (inner_part l (xs ++ c ∷ [])) ≡ count_by test (inner_part l xs) + count_by test (inner_part l (c ∷ []))
   count-inner_push test l xs c = ap (count_by test) (inner_part-append l xs (c ∷ [])) ∙ count-append test (inner_part l xs) (inner_part l (c ∷ []))
 
-  -- one waiting cell taken out of the middle, or some added
-  pub rows-middle : (test : Cell D → Bool) (xs : List (Waiting D)) (w : Waiting D) (ys : List (Waiting D)) →
-      count_by test (waiting_rows (xs ++ w ∷ ys)) ≡ count_by test (waiting_rows (xs ++ ys)) + count_by test (leaf_part w.level (w.cell ∷ []))
+  -- one pending cell taken out of the middle, or some added
+  pub rows-middle : (test : Cell D → Bool) (xs : List (Pending D)) (w : Pending D) (ys : List (Pending D)) →
+      count_by test (pending_rows (xs ++ w ∷ ys)) ≡ count_by test (pending_rows (xs ++ ys)) + count_by test (leaf_part w.level (w.cell ∷ []))
   rows-middle test xs w ys = count-middle test (λ v. leaf_part v.level (v.cell ∷ [])) xs w ys
 
-  pub nodes-middle : (test : Cell D → Bool) (xs : List (Waiting D)) (w : Waiting D) (ys : List (Waiting D)) →
-      count_by test (waiting_nodes (xs ++ w ∷ ys)) ≡ count_by test (waiting_nodes (xs ++ ys)) + count_by test (inner_part w.level (w.cell ∷ []))
+  pub nodes-middle : (test : Cell D → Bool) (xs : List (Pending D)) (w : Pending D) (ys : List (Pending D)) →
+      count_by test (pending_nodes (xs ++ w ∷ ys)) ≡ count_by test (pending_nodes (xs ++ ys)) + count_by test (inner_part w.level (w.cell ∷ []))
   nodes-middle test xs w ys = count-middle test (λ v. inner_part v.level (v.cell ∷ [])) xs w ys
 
-  nodes-waiting_at : (l : ℕ) (cs : List (Cell D)) → waiting_nodes (waiting_at l cs) ≡ inner_part l cs
-  nodes-waiting_at zero [] = refl
-  nodes-waiting_at zero (c ∷ cs) = nodes-waiting_at zero cs
-  nodes-waiting_at (suc l) [] = refl
-  nodes-waiting_at (suc l) (c ∷ cs) = ap (λ xs. c ∷ xs) (nodes-waiting_at (suc l) cs)
+  nodes-pending_at : (l : ℕ) (cs : List (Cell D)) → pending_nodes (pending_at l cs) ≡ inner_part l cs
+  nodes-pending_at zero [] = refl
+  nodes-pending_at zero (c ∷ cs) = nodes-pending_at zero cs
+  nodes-pending_at (suc l) [] = refl
+  nodes-pending_at (suc l) (c ∷ cs) = ap (λ xs. c ∷ xs) (nodes-pending_at (suc l) cs)
 
-  rows-waiting_at : (l : ℕ) (cs : List (Cell D)) → waiting_rows (waiting_at l cs) ≡ leaf_part l cs
-  rows-waiting_at zero [] = refl
-  rows-waiting_at zero (c ∷ cs) = ap (λ xs. c ∷ xs) (rows-waiting_at zero cs)
-  rows-waiting_at (suc l) [] = refl
-  rows-waiting_at (suc l) (c ∷ cs) = rows-waiting_at (suc l) cs
+  rows-pending_at : (l : ℕ) (cs : List (Cell D)) → pending_rows (pending_at l cs) ≡ leaf_part l cs
+  rows-pending_at zero [] = refl
+  rows-pending_at zero (c ∷ cs) = ap (λ xs. c ∷ xs) (rows-pending_at zero cs)
+  rows-pending_at (suc l) [] = refl
+  rows-pending_at (suc l) (c ∷ cs) = rows-pending_at (suc l) cs
 
-  pub nodes-joined : (test : Cell D → Bool) (ws : List (Waiting D)) (l : ℕ) (cs : List (Cell D)) →
-      count_by test (waiting_nodes (ws ++ waiting_at l cs)) ≡ count_by test (waiting_nodes ws) + count_by test (inner_part l cs)
+  pub nodes-joined : (test : Cell D → Bool) (ws : List (Pending D)) (l : ℕ) (cs : List (Cell D)) →
+      count_by test (pending_nodes (ws ++ pending_at l cs)) ≡ count_by test (pending_nodes ws) + count_by test (inner_part l cs)
   nodes-joined test ws l cs =
-      count-joined test (λ v. inner_part v.level (v.cell ∷ [])) ws (waiting_at l cs) ∙ ap (λ xs. count_by test (waiting_nodes ws) + count_by test xs) (nodes-waiting_at l cs)
+      count-joined test (λ v. inner_part v.level (v.cell ∷ [])) ws (pending_at l cs) ∙ ap (λ xs. count_by test (pending_nodes ws) + count_by test xs) (nodes-pending_at l cs)
 
-  pub rows-joined : (test : Cell D → Bool) (ws : List (Waiting D)) (l : ℕ) (cs : List (Cell D)) →
-      count_by test (waiting_rows (ws ++ waiting_at l cs)) ≡ count_by test (waiting_rows ws) + count_by test (leaf_part l cs)
+  pub rows-joined : (test : Cell D → Bool) (ws : List (Pending D)) (l : ℕ) (cs : List (Cell D)) →
+      count_by test (pending_rows (ws ++ pending_at l cs)) ≡ count_by test (pending_rows ws) + count_by test (leaf_part l cs)
   rows-joined test ws l cs =
-      count-joined test (λ v. leaf_part v.level (v.cell ∷ [])) ws (waiting_at l cs) ∙ ap (λ xs. count_by test (waiting_rows ws) + count_by test xs) (rows-waiting_at l cs)
+      count-joined test (λ v. leaf_part v.level (v.cell ∷ [])) ws (pending_at l cs) ∙ ap (λ xs. count_by test (pending_rows ws) + count_by test xs) (rows-pending_at l cs)
 
   -- whether a cell names a key
   abbrev pub names_key : ℕ → Cell D → Bool

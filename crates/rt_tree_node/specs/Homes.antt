@@ -10,7 +10,7 @@ module _ {S : Type 0} where
     pub len : index_map_len new ≡ index_map_len old
     pub room : spare new ≡ spare old
 
-  -- the row lies in that leaf now, and each other one where it lay
+  -- the row lies in that leaf now, and each other row in the leaf that it lay in
   pub record Moves (old new : IndexMap ℤ ℕ S) (id : ℤ) (leaf : ℕ) : Type 0 where
     pub keeps : KeepsIds old new
     pub here : get int_eq new id ≡ Some leaf

@@ -9,16 +9,16 @@ use Rattle.rt_tree_node.specs.Node.{NodeCells}
 use Rattle.rt_tree_node.specs.Places.{key_of, rects, numbers, cells_at, leaf_cells_at, level_at, parent_at}
 
 module _ {D : ℕ} where
-  -- ChooseSubtree: from the node at the key, best children lead a new box down so many steps to a node of the target
-  -- level, through the nodes of the path: the key first, that node last
+  -- ChooseSubtree: from the node at the key, best children lead a new box down by a number of steps to a node of the
+  -- target level, through the nodes of the path: the key first, that node last
   abbrev pub LeadsTo : Slab (NodeCells D) → ℕ → ℕ → ℕ → List Interval → ℕ → List ℕ → Type 0
   LeadsTo a target zero key rect node path = (node ≡ key) × (path ≡ key ∷ [])
   LeadsTo a target (suc steps) key rect node path =
       (at : ℕ) × (c : Cell D) × (rest : List ℕ) × IsBestChild (nat_eq (target + steps) 0) (rects (cells_at a key)) rect at
       × (slice_get (cells_at a key) at ≡ Some c) × (path ≡ key ∷ rest) × LeadsTo a target steps (key_of c) rect node rest
 
-  -- the node has the level, the parent and the cells that it had, but for the boxes of cells that name a node of
-  -- the path
+  -- the node has the level, the parent and the cells that it had, except the boxes of cells that name a node of the
+  -- path
   pub record KeepsShape (old new : Slab (NodeCells D)) (path : List ℕ) (key : ℕ) : Type 0 where
     pub level : level_at new key ≡ level_at old key
     pub parent : parent_at new key ≡ parent_at old key

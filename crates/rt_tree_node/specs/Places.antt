@@ -1,5 +1,5 @@
 -- What stands at the keys of a slab of nodes.
-use Rattle.std.specs.Prelude.{ℕ, zero, suc, ◌+◌, Bool, ℤ, List, [], ◌∷◌, ◌++◌, Option, None, Some, map, count_by, sum_by, nat_eq, unsigned_abs, pos, slice_index_or}
+use Rattle.std.specs.Prelude.{ℕ, zero, suc, ◌+◌, Bool, ℤ, List, [], ◌∷◌, Option, None, Some, map, count_by, sum_by, nat_eq, unsigned_abs, pos, slice_index_or}
 use Rattle.std.specs.Ordering.{int_eq}
 use Rattle.std.specs.Option.{option_map_or}
 use Rattle.std.specs.List.{flat_map}
@@ -7,7 +7,7 @@ use Rattle.slab.specs.Slab.{Slab, get}
 use Rattle.rt_box.specs.declared.interval.Interval.{Interval}
 use Rattle.rt_tree_choice.specs.Hull.{hull}
 use Rattle.rt_tree_node.specs.declared.cell.Cell.{Cell}
-use Rattle.rt_tree_node.specs.declared.cell.Waiting.{Waiting}
+use Rattle.rt_tree_node.specs.declared.cell.Pending.{Pending}
 use Rattle.rt_tree_node.specs.Node.{NodeCells}
 
 module _ {D : ℕ} where
@@ -28,6 +28,10 @@ module _ {D : ℕ} where
   abbrev pub picked : List (Cell D) → List ℕ → List (Cell D)
   picked cells positions = map (λ p. slice_index_or cells p no_cell) positions
 
+  -- the number of the cell at a position; `d` is read past the end alone
+  abbrev pub number_in_cell : List (Cell D) → ℕ → Cell D → ℤ
+  number_in_cell cells at d = (slice_index_or cells at d).number
+
   -- how many of the cells name the node at the key
   abbrev pub times_named : ℕ → List (Cell D) → ℕ
   times_named key cells = count_by (λ c. nat_eq (key_of c) key) cells
@@ -36,12 +40,12 @@ module _ {D : ℕ} where
   abbrev pub times_listed : ℤ → List (Cell D) → ℕ
   times_listed id cells = count_by (λ c. int_eq id c.number) cells
 
-  -- the cells of a place: none where it is vacant
+  -- the cells of a place: none if it is vacant
   abbrev pub cells_of : Option (NodeCells D) → List (Cell D)
   cells_of None = []
   cells_of (Some n) = n.cells
 
-  -- the cells, where the node is a leaf, and where it isn't
+  -- the cells if the node is a leaf, and if it isn't
   abbrev pub leaf_part : ℕ → List (Cell D) → List (Cell D)
   leaf_part zero cells = cells
   leaf_part (suc l) cells = []
@@ -90,21 +94,21 @@ module _ {D : ℕ} where
   abbrev pub cells_above : Slab (NodeCells D) → ℕ → List (Cell D)
   cells_above a key = option_map_or (inner_cells_at a) (parent_at a key) []
 
-  -- cells as they wait for a node of a level
-  abbrev pub waiting_at : ℕ → List (Cell D) → List (Waiting D)
-  waiting_at l cells = map (λ c. record { level = l; cell = c }) cells
+  -- cells that are pending for a node of a level
+  abbrev pub pending_at : ℕ → List (Cell D) → List (Pending D)
+  pending_at l cells = map (λ c. record { level = l; cell = c }) cells
 
-  -- the cells that wait for a leaf, which are rows, and those that wait for another node
-  abbrev pub waiting_rows : List (Waiting D) → List (Cell D)
-  waiting_rows ws = flat_map (λ w. leaf_part w.level (w.cell ∷ [])) ws
+  -- the pending cells for a leaf, which are rows, and those for another node
+  abbrev pub pending_rows : List (Pending D) → List (Cell D)
+  pending_rows ws = flat_map (λ w. leaf_part w.level (w.cell ∷ [])) ws
 
-  abbrev pub waiting_nodes : List (Waiting D) → List (Cell D)
-  waiting_nodes ws = flat_map (λ w. inner_part w.level (w.cell ∷ [])) ws
+  abbrev pub pending_nodes : List (Pending D) → List (Cell D)
+  pending_nodes ws = flat_map (λ w. inner_part w.level (w.cell ∷ [])) ws
 
   -- a number for each place, summed over the slab
   abbrev pub sum_over : (Option (NodeCells D) → ℕ) → Slab (NodeCells D) → ℕ
   sum_over measure a = sum_by measure a.slots
 
-  -- how many rows pass the test, in the leaves and among the waiting cells
-  abbrev pub count_rows : (Cell D → Bool) → Slab (NodeCells D) → List (Waiting D) → ℕ
-  count_rows test a ws = sum_over (λ place. count_by test (leaf_cells_of place)) a + count_by test (waiting_rows ws)
+  -- how many rows pass the test, in the leaves and among the pending cells
+  abbrev pub count_rows : (Cell D → Bool) → Slab (NodeCells D) → List (Pending D) → ℕ
+  count_rows test a ws = sum_over (λ place. count_by test (leaf_cells_of place)) a + count_by test (pending_rows ws)

@@ -1,12 +1,14 @@
 //! Reading and writing one node of a slab.
 //!
-//! A call that writes changes the node at its key and no other (`Changes` in `specs/Changes.antt`).
+//! A call that writes changes the node at its key and no other (`Changes` in `specs/Changes.antt`): callers know the slab
+//! and a key, so each method of `Node` that writes has a call on the slab here.
 
 ghost use Rattle.std.specs.Prelude.{◌≡◌, ℕ, ◌+◌, ◌^◌, ◌<◌, ◌≤◌, All, None, Some, [], ◌∷◌, ◌++◌, length, slice_set, remove};
 ghost use Rattle.slab.specs.Slab.{get, ContainsKey, HasRoomFor, Updates, slab_len};
+ghost use Rattle.rt_box.specs.Capacity.{most_cells};
 ghost use Rattle.rt_box.specs.Rect.{IsBox};
 ghost use Rattle.rt_tree_node.specs.Places.{cells_at, hull_at, picked};
-ghost use Rattle.rt_tree_node.specs.Changes.{Changes};
+ghost use Rattle.rt_tree_node.specs.Changes.{Changes, with_more};
 
 use crate::cell::Cell;
 use crate::key::Key;
@@ -16,8 +18,7 @@ use rt_tree_choice::hull_of;
 use slab::Slab;
 use std::mem;
 
-/// A law: the keys of the nodes are below the slab's capacity, and its places can be counted in 64 bits. The call does
-/// nothing.
+/// A law: keys of nodes are below the slab's capacity, and 64 bits can count its places. The call does nothing.
 #[inline]
 pub fn slab_facts<const D: usize>(nodes: &Slab<Node<D>>)
     ensures keys { (key : ℕ) → ContainsKey nodes.now key → key < nodes.now.capacity }
@@ -26,7 +27,7 @@ pub fn slab_facts<const D: usize>(nodes: &Slab<Node<D>>)
     let _ = nodes.capacity();
 }
 
-/// Puts a node into a vacant place, and answers its key. It takes no memory.
+/// Puts a node into a vacant place, and returns its key. It takes no memory.
 #[inline]
 pub fn add_node<const D: usize>(nodes: &mut Slab<Node<D>>, node: Node<D>) -> Key
     requires { HasRoomFor nodes.old 1 }
@@ -71,7 +72,7 @@ pub fn set_parent<const D: usize>(nodes: &mut Slab<Node<D>>, key: Key, parent: O
 /// Appends a cell to the node.
 pub fn add_cell<const D: usize>(nodes: &mut Slab<Node<D>>, key: Key, cell: &Cell<D>)
     requires present { ContainsKey nodes.old key }
-    requires room { length (cells_at nodes.old key) < 52 }
+    requires room { length (cells_at nodes.old key) < most_cells }
     ensures { Changes (λ n. record n { cells = n.cells ++ cell.now ∷ [] }) nodes.old nodes.new key }
 {
     let node = &mut nodes[key.index()];
@@ -98,13 +99,13 @@ pub fn remove_cell<const D: usize>(nodes: &mut Slab<Node<D>>, key: Key, at: usiz
     node.remove(at);
 }
 
-/// Takes out all cells: answers the node as it was, and leaves one without cells in its place.
+/// Takes out all cells: returns the node as it was, and leaves one without cells in its place.
 pub fn take_cells<const D: usize>(nodes: &mut Slab<Node<D>>, key: Key) -> Node<D>
     requires present { ContainsKey nodes.old key }
     requires some { 1 ≤ length (cells_at nodes.old key) }
     ensures node { get nodes.old key ≡ Some result }
     ensures emptied { Changes (λ n. record n { cells = [] }) nodes.old nodes.new key }
-    ensures few { length result.cells ≤ 52 }
+    ensures few { length result.cells ≤ most_cells }
 {
     let node = &mut nodes[key.index()];
     node.facts();
@@ -121,8 +122,8 @@ pub fn add_cells<const D: usize>(
 )
     requires present { ContainsKey nodes.old key }
     requires within { All (λ p. p < length from.now.cells) positions.now }
-    requires room { length (cells_at nodes.old key) + length positions.now ≤ 52 }
-    ensures { Changes (λ n. record n { cells = n.cells ++ picked from.now.cells positions.now }) nodes.old nodes.new key }
+    requires room { length (cells_at nodes.old key) + length positions.now ≤ most_cells }
+    ensures { Changes (with_more (picked from.now.cells positions.now)) nodes.old nodes.new key }
 {
     let node = &mut nodes[key.index()];
     node.add_from(from, positions);

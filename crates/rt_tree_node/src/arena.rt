@@ -3,7 +3,7 @@
 //! The type has no invariant, since a node may be out of shape in the middle of a change. Contracts say what
 //! holds: `IsWhole` in `specs/Whole.antt` between two placements.
 
-use crate::cell::Waiting;
+use crate::cell::Pending;
 use crate::key::Key;
 use crate::node::Node;
 use indexmap::IndexMap;
@@ -19,11 +19,11 @@ pub struct Arena<const D: usize> {
     pub nodes: Slab<Node<D>>,
     /// The key of the leaf that each row lies in, by the row's id.
     pub leaves: IndexMap<i64, Key, RandomState>,
-    /// The cells that wait to be placed; the last is placed first.
-    pub waiting: Vec<Waiting<D>>,
+    /// The pending cells; the last is placed first.
+    pub pending: Vec<Pending<D>>,
     /// The key of the root.
     pub root: Key,
-    /// The level of the root, from 0 where it is a leaf.
+    /// The level of the root: 0 if it is a leaf.
     pub level: u8,
     /// The greatest number of cells in a node.
     pub capacity: Capacity,

@@ -1,4 +1,4 @@
-//! What stands in a node, and what waits to be placed.
+//! What stands in a node, and what is pending.
 //!
 //! The number of a cell is a row's id in a leaf, and a child's key above the leaves.
 
@@ -28,9 +28,9 @@ impl<const D: usize> Cell<D> {
     }
 }
 
-/// A cell that waits to be placed in a node of a level.
+/// A cell that is pending: it is to be placed in a node of a level.
 #[derive(Clone, Copy, Debug)]
-pub struct Waiting<const D: usize> {
+pub struct Pending<const D: usize> {
     /// The level of the node, from 0 at the leaves.
     pub level: u8,
     /// The cell.

@@ -1,7 +1,7 @@
 //! The map of leaves: from a row's id to the key of the leaf that the row lies in.
 //!
-//! Ids mostly count up from 0 or 1, as those of an INSERT without an id do. So a look-up first tries the places where such an
-//! id stands, and hashes an id only if it isn't there.
+//! Ids mostly count up from 0 or 1, as those of an INSERT without an id do. So a look-up first tries the places in which such
+//! an id stands, and hashes an id only if it isn't there.
 
 ghost use Rattle.std.specs.Prelude.{◌≡◌, ◌≢◌, ℕ, Some, IsSome, IfSome, IfNone, slice_get};
 ghost use Rattle.std.specs.Option.{option_map};
@@ -27,7 +27,7 @@ fn is_same_id(own: &i64, other: &i64) -> bool
     own == other
 }
 
-/// The leaf of the id, where it stands at this index of the map.
+/// The leaf of the id, if it stands at this index of the map.
 #[inline]
 fn leaf_at(leaves: &IndexMap<i64, Key, RandomState>, index: usize, id: &i64) -> Option<Key>
     ensures entry { IfSome result (λ leaf. slice_get leaves.now.entries index ≡ Some (id.now, leaf)) }
@@ -51,8 +51,8 @@ fn find_by_hash(leaves: &IndexMap<i64, Key, RandomState>, id: &i64) -> Option<(u
     Some((index, *leaf))
 }
 
-/// Finds the id: its index in the map, and its leaf. A row that has just come stands last. Where ids count up from 0, each
-/// stands at its own number, and where they do so from 1, one place before.
+/// Finds the id: its index in the map, and its leaf. A row that has just come stands last. If ids count up from 0, each
+/// stands at its own number, and if they do so from 1, one place before.
 #[inline]
 pub fn find_leaf(leaves: &IndexMap<i64, Key, RandomState>, id: &i64) -> Option<(usize, Key)>
     ensures entry { IfSome result (λ found. slice_get leaves.now.entries found.0 ≡ Some (id.now, found.1)) }

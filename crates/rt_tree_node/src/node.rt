@@ -1,21 +1,19 @@
 //! A node: its level, its parent's key, and its cells.
 //!
-//! Numbers and boxes stand in two arrays, so a search reads boxes alone. Contracts see one list of cells
+//! Numbers and boxes stand in two arrays, so that a search reads boxes alone. Contracts see one list of cells
 //! (`specs/NodeInside.antt`).
 
 ghost use Rattle.std.specs.Prelude.{◌≡◌, ◌≢◌, ℕ, pos, false, All, ◌+◌, ◌<◌, ◌≤◌, [], ◌∷◌, ◌++◌, map, length, slice_index_or, slice_set, remove};
+ghost use Rattle.rt_box.specs.Capacity.{most_cells};
 ghost use Rattle.rt_tree_node.specs.declared.cell.Cell.{Cell};
-ghost use Rattle.rt_tree_node.specs.Places.{picked};
+ghost use Rattle.rt_tree_node.specs.Places.{picked, number_in_cell};
 
 use crate::cell::Cell;
 use crate::key::Key;
 use arrayvec::ArrayVec;
-use rt_box::Rect;
+use rt_box::{MOST_CELLS, Rect};
 use std::alloc::AllocError;
 use std::marker::Model;
-
-/// One cell more than the greatest node holds.
-pub const MOST_CELLS: usize = 52;
 
 /// A node of a tree: its level, its parent's key, and its cells.
 #[derive(Drop)]
@@ -52,9 +50,11 @@ impl<const D: usize> Clone for Node<D> {
     }
 }
 
+// Two functions of their own, since a number behind a reference has its range, which proofs need, only once it is read.
+
 /// Appends the number of a cell.
 fn push_number(numbers: &mut ArrayVec<i64, MOST_CELLS>, number: &i64)
-    requires { length numbers.old.items < 52 }
+    requires { length numbers.old.items < most_cells }
     ensures { numbers.new.items ≡ numbers.old.items ++ number.now ∷ [] }
 {
     numbers.push(*number);
@@ -109,10 +109,10 @@ impl<const D: usize> Node<D> {
         }
     }
 
-    /// A law: it has 52 cells at most. The call does nothing.
+    /// A law: it has at most `MOST_CELLS` cells. The call does nothing.
     #[inline]
     pub fn facts(&self)
-        ensures { length self.now.cells ≤ 52 }
+        ensures { length self.now.cells ≤ most_cells }
     {
         let _ = self.len();
     }
@@ -137,7 +137,7 @@ impl<const D: usize> Node<D> {
     #[inline]
     pub fn len(&self) -> usize
         ensures value { result ≡ length self.now.cells }
-        ensures few { result ≤ 52 }
+        ensures few { result ≤ most_cells }
     {
         self.numbers.len()
     }
@@ -146,7 +146,7 @@ impl<const D: usize> Node<D> {
     #[inline]
     pub fn boxes(&self) -> &[Rect<D>]
         ensures value { result.now ≡ map (λ c. c.rect) self.now.cells }
-        ensures few { length self.now.cells ≤ 52 }
+        ensures few { length self.now.cells ≤ most_cells }
     {
         self.boxes.as_slice()
     }
@@ -155,7 +155,7 @@ impl<const D: usize> Node<D> {
     #[inline]
     pub fn numbers(&self) -> &[i64]
         ensures value { result.now ≡ map (λ c. c.number) self.now.cells }
-        ensures few { length self.now.cells ≤ 52 }
+        ensures few { length self.now.cells ≤ most_cells }
     {
         self.numbers.as_slice()
     }
@@ -178,7 +178,7 @@ impl<const D: usize> Node<D> {
 
     /// Appends a cell.
     pub fn add(&mut self, cell: &Cell<D>)
-        requires { length self.old.cells < 52 }
+        requires { length self.old.cells < most_cells }
         ensures { self.new ≡ record self.old { cells = self.old.cells ++ cell.now ∷ [] } }
     {
         push_number(&mut self.numbers, &cell.number);
@@ -214,7 +214,7 @@ impl<const D: usize> Node<D> {
     /// Appends the cells of another node at some positions, in the order of the positions.
     pub(crate) fn add_from(&mut self, from: &Node<D>, positions: &[usize])
         requires within { All (λ p. p < length from.now.cells) positions.now }
-        requires room { length self.old.cells + length positions.now ≤ 52 }
+        requires room { length self.old.cells + length positions.now ≤ most_cells }
         ensures { self.new ≡ record self.old { cells = self.old.cells ++ picked from.now.cells positions.now } }
     {
         for at in positions {
@@ -222,19 +222,19 @@ impl<const D: usize> Node<D> {
         }
     }
 
-    /// The position of the first cell with that number, or the number of cells where none has it.
+    /// The position of the first cell with that number, or the number of cells if none has it.
     pub fn position(&self, number: &i64) -> usize
         ensures within { result ≤ length self.now.cells }
-        ensures found { (d : Cell D) → result < length self.now.cells → (slice_index_or self.now.cells result d).number ≡ number.now }
-        ensures first { (k : ℕ) (d : Cell D) → k < result → (slice_index_or self.now.cells k d).number ≢ number.now }
+        ensures found { (d : Cell D) → result < length self.now.cells → number_in_cell self.now.cells result d ≡ number.now }
+        ensures first { (k : ℕ) (d : Cell D) → k < result → number_in_cell self.now.cells k d ≢ number.now }
     {
-        // Their count is read from the boxes, so that the line of memory that a caller mostly needs next is on its way.
+        // Their count is read from the boxes, so that the cache line that a caller mostly needs next is on its way.
         let numbers = counted(self.numbers(), self.boxes().len());
         position_in(numbers, number)
     }
 }
 
-/// All the numbers, where the caller knows from elsewhere how many they are.
+/// All the numbers, if the caller knows from elsewhere how many they are.
 #[inline]
 fn counted(numbers: &[i64], count: usize) -> &[i64]
     requires { count ≡ length numbers.now }
@@ -243,10 +243,10 @@ fn counted(numbers: &[i64], count: usize) -> &[i64]
     &numbers[..count]
 }
 
-/// So many numbers are compared at once.
+/// How many numbers are compared at once.
 const NUMBERS_TOGETHER: usize = 4;
 
-/// Whether one of the four numbers from one on is this one. Without a branch, so that all are compared at once.
+/// Whether one of the four numbers at `from` and after it is this one. It has no branch, so that all are compared at once.
 fn is_among_four(numbers: &[i64], number: &i64, from: usize) -> bool
     requires { from + 4 ≤ length numbers.now }
     ensures { result ≡ false → (k : ℕ) → k < 4 → slice_index_or numbers.now (from + k) (pos 0) ≢ number.now }
@@ -258,7 +258,7 @@ fn is_among_four(numbers: &[i64], number: &i64, from: usize) -> bool
     found
 }
 
-/// How many numbers, counted by fours, stand before the four among which the number is, or before those that are left.
+/// How many numbers can be skipped by fours, since the number isn't among them.
 fn skip_fours(numbers: &[i64], number: &i64) -> usize
     ensures within { result ≤ length numbers.now }
     ensures none { (k : ℕ) → k < result → slice_index_or numbers.now k (pos 0) ≢ number.now }
@@ -270,7 +270,7 @@ fn skip_fours(numbers: &[i64], number: &i64) -> usize
     skipped
 }
 
-/// The position of the first such number, or the length where it isn't there.
+/// The position of the first such number, or the length if it isn't there.
 fn position_in(numbers: &[i64], number: &i64) -> usize
     ensures within { result ≤ length numbers.now }
     ensures found { result < length numbers.now → slice_index_or numbers.now result (pos 0) ≡ number.now }

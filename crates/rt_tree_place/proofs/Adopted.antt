@@ -10,7 +10,7 @@ use Rattle.indexmap.specs.IndexMap.{IndexMap, get as leaf_of}
 use Rattle.slab.specs.Slab.{Slab, get}
 use Rattle.rt_tree_node.specs.declared.cell.Cell.{Cell}
 use Rattle.rt_tree_node.specs.Node.{NodeCells}
-use Rattle.rt_tree_node.specs.Places.{key_of, picked, no_cell, times_named, cells_of, level_of, parent_of, parent_at, waiting_nodes}
+use Rattle.rt_tree_node.specs.Places.{key_of, picked, no_cell, times_named, cells_of, level_of, parent_of, parent_at, pending_nodes}
 use Rattle.rt_tree_node.specs.Changes.{Puts}
 use Rattle.rt_tree_node.specs.Homes.{Moves}
 use Rattle.rt_tree_node.proofs.Links.{same-at, reparented, All-left, All-right}
@@ -78,8 +78,8 @@ module _ {D : ℕ} where
             let apart : x ≢ key_of c = λ e. last-of (λ q. key_of q ≢ x) cs c all (sym e) in
             u.others x apart ∙ so_far.others x (All-left (λ q. key_of q ≢ x) cs (c ∷ []) all);
         linked = λ root level ws linked waits.
-            reparented mid root level ws (so_far.linked root level ws linked (All-left (λ q. 0 < times_named (key_of q) (waiting_nodes ws)) cs (c ∷ []) waits))
-            b (key_of c) n.level n (Some key) has (last-of (λ q. 0 < times_named (key_of q) (waiting_nodes ws)) cs c waits) u;
+            reparented mid root level ws (so_far.linked root level ws linked (All-left (λ q. 0 < times_named (key_of q) (pending_nodes ws)) cs (c ∷ []) waits))
+            b (key_of c) n.level n (Some key) has (last-of (λ q. 0 < times_named (key_of q) (pending_nodes ws)) cs c waits) u;
         len = step.len ∙ so_far.len;
         room = step.room ∙ so_far.room;
       }

@@ -1,4 +1,4 @@
--- An arena after a waiting cell was appended to an odd node.
+-- An arena after a pending cell was appended to an odd node.
 use Rattle.std.proofs.Common.{◌≡◌, ◌≢◌, ◌⊎◌, ℕ, zero, suc, ◌+◌, ◌<◌, ◌≤◌, Bool, List, [], ◌∷◌, ◌++◌, Some, count_by, arith, refl, ap, ◌∙◌, sym, subst}
 use Rattle.std.specs.Ordering.{int_eq}
 use Rattle.std.proofs.lemmas.Option.{same_Some}
@@ -6,15 +6,15 @@ use Rattle.indexmap.specs.IndexMap.{get as leaf_of}
 use Rattle.slab.specs.Slab.{Slab, get, Updates}
 use Rattle.rt_tree_node.specs.declared.arena.Arena.{Arena}
 use Rattle.rt_tree_node.specs.declared.cell.Cell.{Cell}
-use Rattle.rt_tree_node.specs.declared.cell.Waiting.{Waiting}
+use Rattle.rt_tree_node.specs.declared.cell.Pending.{Pending}
 use Rattle.rt_tree_node.specs.Node.{NodeCells}
-use Rattle.rt_tree_node.specs.Places.{key_of, times_named, times_listed, leaf_part, inner_part, leaf_cells_of, level_of, parent_of, level_at, waiting_rows, waiting_nodes, count_rows}
+use Rattle.rt_tree_node.specs.Places.{key_of, times_named, times_listed, leaf_part, inner_part, leaf_cells_of, level_of, parent_of, level_at, pending_rows, pending_nodes, count_rows}
 use Rattle.rt_tree_node.specs.Sound.{Names, IsLinked, HasHomes}
 use Rattle.rt_tree_node.specs.Open.{IsFittedBut, IsOpen}
 use Rattle.rt_tree_node.proofs.Places.{nodes-middle, rows-middle, count-leaf_push, names_key, has_id, named-one}
 use Rattle.rt_tree_node.proofs.Links.{same-at, All-at, appended, reparented}
 use Rattle.rt_tree_node.proofs.Fitted.{fitted-appended, fitted-reparented}
-use Rattle.rt_tree_node.proofs.Homes.{homes-same, homes-waiting, homes-appended}
+use Rattle.rt_tree_node.proofs.Homes.{homes-same, homes-pending, homes-appended}
 use Rattle.rt_tree_node.proofs.Sums.{sum_over-updated}
 use Rattle.rt_tree_place.specs.Steps.{Attaches}
 use Rattle.rt_tree_place.proofs.WayDown.{node-from_level}
@@ -25,8 +25,8 @@ module _ {D : ℕ} where
   leaf-none (suc l) cells some = refl
 
   -- how a change of one node shows in the count of rows
-  pub rows-updated : (test : Cell D → Bool) (a b : Slab (NodeCells D)) (k : ℕ) (n m : NodeCells D) → get a k ≡ Some n → Updates a b k (Some m) → (ws vs : List (Waiting D)) →
-      count_by test (leaf_part n.level n.cells) + count_by test (waiting_rows ws) ≡ count_by test (leaf_part m.level m.cells) + count_by test (waiting_rows vs) →
+  pub rows-updated : (test : Cell D → Bool) (a b : Slab (NodeCells D)) (k : ℕ) (n m : NodeCells D) → get a k ≡ Some n → Updates a b k (Some m) → (ws vs : List (Pending D)) →
+      count_by test (leaf_part n.level n.cells) + count_by test (pending_rows ws) ≡ count_by test (leaf_part m.level m.cells) + count_by test (pending_rows vs) →
       count_rows test b vs ≡ count_rows test a ws
   rows-updated test a b k n m has u ws vs same =
       let step = sum_over-updated (λ place. count_by test (leaf_cells_of place)) refl a b k (Some m) u in
@@ -34,7 +34,7 @@ module _ {D : ℕ} where
       omega (arith, step, old, same)
 
   module _ (E : ℕ → Type 0) (decide : (x : ℕ) → E x ⊎ (E x → ⊥)) (old new : Arena D) (key : ℕ) (n : NodeCells D)
-      (xs : List (Waiting D)) (w : Waiting D) (ys : List (Waiting D)) (was : IsOpen E old (xs ++ w ∷ ys)) (odd : E key)
+      (xs : List (Pending D)) (w : Pending D) (ys : List (Pending D)) (was : IsOpen E old (xs ++ w ∷ ys)) (odd : E key)
       (has : get old.nodes key ≡ Some n) (at_level : w.level ≡ n.level) (at : Attaches old new key w) where
     attached-row : w.level ≡ 0 → IsOpen E new (xs ++ ys)
     attached-row row =
@@ -54,14 +54,14 @@ module _ {D : ℕ} where
     attached-child l inner =
         let parts = at.child (omega arith) in
         let mid = parts.1 in
-        let named : Names old.nodes l w.cell = All-at (λ v. (i : ℕ) → v.level ≡ suc i → Names old.nodes i v.cell) xs w ys was.linked.waiting_named l inner in
+        let named : Names old.nodes l w.cell = All-at (λ v. (i : ℕ) → v.level ≡ suc i → Names old.nodes i v.cell) xs w ys was.linked.pending_named l inner in
         let child = node-from_level old.nodes (key_of w.cell) l named.level_is in
         let m = child.0 in
         let first = (parts.2 m child.1).updates in
         let apart : key ≢ key_of w.cell = λ e. let same = same_Some n.level l (sym (ap level_of has) ∙ ap (level_at old.nodes) e ∙ named.level_is) in omega arith in
         let has_mid : get mid key ≡ Some n = first.others key apart ∙ has in
         let u = (parts.3 n has_mid).updates in
-        let waits : 0 < times_named (key_of w.cell) (waiting_nodes (xs ++ w ∷ ys)) =
+        let waits : 0 < times_named (key_of w.cell) (pending_nodes (xs ++ w ∷ ys)) =
         (let step = nodes-middle (names_key (key_of w.cell)) xs w ys in let one = named-one (key_of w.cell) w.cell refl in
         let part = ap (λ i. times_named (key_of w.cell) (inner_part i (w.cell ∷ []))) inner in omega arith) in
         let linked_mid : IsLinked mid old.root old.level (xs ++ w ∷ ys) =
@@ -76,7 +76,7 @@ module _ {D : ℕ} where
           fitted = subst (λ t. IsFittedBut E t.capacity new.nodes t.root (xs ++ ys)) (sym at.rest)
               (fitted-appended E old.capacity mid new.nodes old.root xs w ys key n decide fitted_mid odd has_mid at_level u);
           homes = subst (λ m. HasHomes (leaf_of int_eq m) new.nodes (xs ++ ys)) (sym parts.0)
-              (homes-waiting (leaf_of int_eq old.leaves) new.nodes (xs ++ w ∷ ys) (xs ++ ys)
+              (homes-pending (leaf_of int_eq old.leaves) new.nodes (xs ++ w ∷ ys) (xs ++ ys)
               (λ id. let step = rows-middle (has_id id) xs w ys in let none = ap (λ cs. times_listed id cs) (leaf-none w.level (w.cell ∷ []) (omega arith)) in omega arith)
               (homes-same (leaf_of int_eq old.leaves) old.nodes new.nodes (xs ++ w ∷ ys)
               (λ k id. ap (times_listed id) (leaf_new k ∙ leaf_mid k)) was.homes));
@@ -101,7 +101,7 @@ module _ {D : ℕ} where
     rows-child test l inner =
         let parts = at.child (omega arith) in
         let mid = parts.1 in
-        let named : Names old.nodes l w.cell = All-at (λ v. (i : ℕ) → v.level ≡ suc i → Names old.nodes i v.cell) xs w ys was.linked.waiting_named l inner in
+        let named : Names old.nodes l w.cell = All-at (λ v. (i : ℕ) → v.level ≡ suc i → Names old.nodes i v.cell) xs w ys was.linked.pending_named l inner in
         let child = node-from_level old.nodes (key_of w.cell) l named.level_is in
         let m = child.0 in
         let first = (parts.2 m child.1).updates in

@@ -3,15 +3,15 @@ use Rattle.std.proofs.Common.{◌≡◌, ◌⊎◌, ℕ, ◌≤◌, length, get_
 use Rattle.std.proofs.lemmas.Option.{none-some, same_Some}
 use Rattle.std.proofs.lemmas.Bool.{cases_eq}
 use Rattle.rt_tree_node.specs.declared.arena.Arena.{Arena}
-use Rattle.rt_tree_node.specs.Places.{key_of, times_named, cells_at, parent_at, waiting_nodes}
+use Rattle.rt_tree_node.specs.Places.{key_of, times_named, cells_at, parent_at, pending_nodes}
 use Rattle.rt_tree_node.specs.Open.{IsOpen}
 use Rattle.rt_tree_node.specs.Whole.{IsSound, IsWhole}
 use Rattle.rt_tree_place.proofs.Refitted.{waits-free}
 
 module _ {D : ℕ} where
-  pub closed : (E : ℕ → Type 0) → ((x : ℕ) → E x ⊎ (E x → ⊥)) → (t : Arena D) (key : ℕ) → IsOpen E t t.waiting.items →
+  pub closed : (E : ℕ → Type 0) → ((x : ℕ) → E x ⊎ (E x → ⊥)) → (t : Arena D) (key : ℕ) → IsOpen E t t.pending.items →
       ((x : ℕ) → E x → (x ≡ key) ⊎ ((x ≡ t.root) × (1 ≤ length (cells_at t.nodes x)) × (length (cells_at t.nodes x) ≤ t.capacity))) →
-      1 ≤ length (cells_at t.nodes key) → times_named key (waiting_nodes t.waiting.items) ≡ 0 → IsSound t (Some key)
+      1 ≤ length (cells_at t.nodes key) → times_named key (pending_nodes t.pending.items) ≡ 0 → IsSound t (Some key)
   closed E decide t key open_is odd some settled =
       let linked = open_is.linked in
       let fitted = open_is.fitted in
@@ -38,12 +38,12 @@ module _ {D : ℕ} where
                 | inl same ↦ other (ap Some (sym same))
                 | inr top ↦ none-some x (sym linked.root_parent ∙ ap (parent_at t.nodes) (sym top.0) ∙ (linked.children x l e j d within).parent_is)
               ]);
-          waiting_boxes = fitted.waiting_boxes;
-          waiting_hulls = λ j d within l e.
-              let w = get_or t.waiting.items j d in
-              fitted.waiting_hulls j d within l e (λ is. elim (odd (key_of w.cell) is) [
-                | inl same ↦ waits-free t.waiting.items key settled j d within l e same
-                | inr top ↦ waits-free t.waiting.items t.root linked.root_waits_not j d within l e top.0
+          pending_boxes = fitted.pending_boxes;
+          pending_hulls = λ j d within l e.
+              let w = get_or t.pending.items j d in
+              fitted.pending_hulls j d within l e (λ is. elim (odd (key_of w.cell) is) [
+                | inl same ↦ waits-free t.pending.items key settled j d within l e same
+                | inr top ↦ waits-free t.pending.items t.root linked.root_waits_not j d within l e top.0
               ]);
         };
         homes = open_is.homes;
@@ -67,8 +67,8 @@ module _ {D : ℕ} where
           boxes = fitted.boxes;
           hulls = λ k l here j x within odd. fitted.hulls k l here j x within (λ s.
               none-some k (sym linked.root_parent ∙ ap (parent_at t.nodes) (same_Some t.root _ s) ∙ (linked.children k l here j x within).parent_is));
-          waiting_boxes = fitted.waiting_boxes;
-          waiting_hulls = fitted.waiting_hulls;
+          pending_boxes = fitted.pending_boxes;
+          pending_hulls = fitted.pending_hulls;
         };
         homes = sound.homes;
       }

@@ -14,7 +14,7 @@ use Rattle.rt_tree_choice.specs.declared.split.Cut.{Cut}
 use Rattle.rt_tree_choice.specs.Split.{along, sorting, first_group, second_group}
 use Rattle.rt_tree_choice.proofs.Sorted.{sort-permutes}
 use Rattle.rt_tree_node.specs.declared.cell.Cell.{Cell}
-use Rattle.rt_tree_node.specs.declared.cell.Waiting.{Waiting}
+use Rattle.rt_tree_node.specs.declared.cell.Pending.{Pending}
 use Rattle.rt_tree_node.specs.Node.{NodeCells}
 use Rattle.rt_tree_node.specs.Places.{key_of, rects, picked, no_cell, cells_of, leaf_part, leaf_cells_of, level_of, cells_at, level_at, sum_over}
 use Rattle.rt_tree_node.specs.Open.{HasHull, IsFittedBut}
@@ -64,13 +64,13 @@ module _ {D : ℕ} where
       omega (arith, step, was, is)
 
   -- a new node without cells may be out of shape, and the cell that names it waits
-  pub fitted-created : (E F : ℕ → Type 0) (M : ℕ) (a b : Slab (NodeCells D)) (root : ℕ) (ws : List (Waiting D)) (k l : ℕ) (up : Option ℕ) (c : Cell D) →
+  pub fitted-created : (E F : ℕ → Type 0) (M : ℕ) (a b : Slab (NodeCells D)) (root : ℕ) (ws : List (Pending D)) (k l : ℕ) (up : Option ℕ) (c : Cell D) →
       ((x : ℕ) → F x ⊎ (F x → ⊥)) → ((x : ℕ) → E x → F x) → F k → IsFittedBut E M a root ws →
       Updates a b k (Some record { level = l; parent = up; cells = [] }) → key_of c ≡ k → IsBox D c.rect →
       IsFittedBut F M b root (ws ++ record { level = suc l; cell = c } ∷ [])
   fitted-created E F M a b root ws k l up c decide more odd fitted u key_is box =
       let wide = fitted-weaker E F more M a root ws fitted in
-      let w : Waiting D = record { level = suc l; cell = c } in
+      let w : Pending D = record { level = suc l; cell = c } in
       let apart = λ (x : ℕ) (fine : F x → ⊥) (e : x ≡ k). fine (subst F (sym e) odd) in
       fitted-moved F M a b root root ws (ws ++ w ∷ []) wide
       (λ x i fine e. sym (ap level_of (u.others x (apart x fine))) ∙ e)
@@ -84,19 +84,19 @@ module _ {D : ℕ} where
         | inl at ↦ subst (λ y. All (HasHull F a) (cells_at b y)) (sym at) (subst (All (HasHull F a)) (sym (ap cells_of u.changed)) (All-nil (HasHull F a)))
         | inr other ↦ subst (All (HasHull F a)) (sym (ap cells_of (u.others x other))) (wide.hulls x i (sym (ap level_of (u.others x other)) ∙ e))
       ])
-      (All-append (λ v. IsBox D v.cell.rect) ws (w ∷ []) wide.waiting_boxes (All-cons (λ v. IsBox D v.cell.rect) w [] box (All-nil (λ v. IsBox D v.cell.rect))))
-      (All-append (λ v. (i : ℕ) → v.level ≡ suc i → HasHull F a v.cell) ws (w ∷ []) wide.waiting_hulls
+      (All-append (λ v. IsBox D v.cell.rect) ws (w ∷ []) wide.pending_boxes (All-cons (λ v. IsBox D v.cell.rect) w [] box (All-nil (λ v. IsBox D v.cell.rect))))
+      (All-append (λ v. (i : ℕ) → v.level ≡ suc i → HasHull F a v.cell) ws (w ∷ []) wide.pending_hulls
       (All-cons (λ v. (i : ℕ) → v.level ≡ suc i → HasHull F a v.cell) w [] (λ i e fine. absurd (fine (subst F (sym key_is) odd)))
       (All-nil (λ v. (i : ℕ) → v.level ≡ suc i → HasHull F a v.cell))))
 
   -- levels and cells are the same everywhere
-  pub fitted-alike : (E : ℕ → Type 0) (M : ℕ) (a b : Slab (NodeCells D)) (root : ℕ) (ws : List (Waiting D)) → ((x : ℕ) → E x ⊎ (E x → ⊥)) →
+  pub fitted-alike : (E : ℕ → Type 0) (M : ℕ) (a b : Slab (NodeCells D)) (root : ℕ) (ws : List (Pending D)) → ((x : ℕ) → E x ⊎ (E x → ⊥)) →
       ((x : ℕ) → level_at b x ≡ level_at a x) → ((x : ℕ) → cells_at b x ≡ cells_at a x) → IsFittedBut E M a root ws → IsFittedBut E M b root ws
   fitted-alike E M a b root ws decide lv cs fitted =
       fitted-moved E M a b root root ws ws fitted (λ x l fine e. sym (lv x) ∙ e) (λ x fine. cs x) (λ x fine other. other) decide
       (λ x odd. subst (All (λ q. IsBox D q.rect)) (sym (cs x)) (fitted.boxes x))
       (λ x l odd e. subst (All (HasHull E a)) (sym (cs x)) (fitted.hulls x l (sym (lv x) ∙ e)))
-      fitted.waiting_boxes fitted.waiting_hulls
+      fitted.pending_boxes fitted.pending_hulls
 
   -- the cells of the two groups of a cut
   pub picked-groups : (cells : List (Cell D)) (cut : Cut) →

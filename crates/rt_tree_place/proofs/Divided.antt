@@ -13,16 +13,16 @@ use Rattle.rt_box.specs.Rect.{IsBox}
 use Rattle.rt_tree_choice.specs.Split.{first_group, second_group}
 use Rattle.rt_tree_node.specs.declared.arena.Arena.{Arena}
 use Rattle.rt_tree_node.specs.declared.cell.Cell.{Cell}
-use Rattle.rt_tree_node.specs.declared.cell.Waiting.{Waiting}
+use Rattle.rt_tree_node.specs.declared.cell.Pending.{Pending}
 use Rattle.rt_tree_node.specs.Node.{NodeCells}
-use Rattle.rt_tree_node.specs.Places.{key_of, rects, picked, times_named, times_listed, cells_of, inner_part, leaf_part, leaf_cells_of, level_of, parent_of, level_at, parent_at, cells_at, waiting_nodes, sum_over, count_rows, waiting_at}
+use Rattle.rt_tree_node.specs.Places.{key_of, rects, picked, times_named, times_listed, cells_of, inner_part, leaf_part, leaf_cells_of, level_of, parent_of, level_at, parent_at, cells_at, pending_nodes, sum_over, count_rows, pending_at}
 use Rattle.rt_tree_node.specs.Sound.{NamesChild, IsLinked, HasHomes}
 use Rattle.rt_tree_node.specs.Open.{IsFittedBut, IsOpen}
 use Rattle.rt_tree_node.specs.Homes.{KeepsIds}
 use Rattle.rt_tree_node.proofs.Counts.{count-some}
 use Rattle.rt_tree_node.proofs.Places.{nodes-joined, rows-joined, names_key, has_id}
 use Rattle.rt_tree_node.proofs.Links.{same-at, new-at, created, All-right}
-use Rattle.rt_tree_node.proofs.Homes.{homes-same, homes-waiting}
+use Rattle.rt_tree_node.proofs.Homes.{homes-same, homes-pending}
 use Rattle.rt_tree_node.proofs.Many.{linked-more, fitted-more, homes-more}
 use Rattle.rt_tree_place.specs.Steps.{Splits}
 use Rattle.rt_tree_place.proofs.Attached.{rows-updated}
@@ -42,7 +42,7 @@ decide-or E k decide x = elim (decide x) [
   ]
 ]
 
-module _ {D : ℕ} (E : ℕ → Type 0) (decide : (x : ℕ) → E x ⊎ (E x → ⊥)) (old new : Arena D) (key : ℕ) (n : NodeCells D) (sibling : ℕ) (ws : List (Waiting D))
+module _ {D : ℕ} (E : ℕ → Type 0) (decide : (x : ℕ) → E x ⊎ (E x → ⊥)) (old new : Arena D) (key : ℕ) (n : NodeCells D) (sibling : ℕ) (ws : List (Pending D))
     (was : IsOpen E old ws) (odd : E key) (has : get old.nodes key ≡ Some n) (below : suc n.level ≤ old.level) (done : Splits old new key n sibling)
     (c : Cell D) (number_is : c.number ≡ pos sibling) (box : IsBox D c.rect) where
   abbrev first : List (Cell D)
@@ -54,11 +54,11 @@ module _ {D : ℕ} (E : ℕ → Type 0) (decide : (x : ℕ) → E x ⊎ (E x →
   abbrev made_node : NodeCells D
   made_node = record { level = n.level; parent = n.parent; cells = [] }
 
-  abbrev arrival : Waiting D
+  abbrev arrival : Pending D
   arrival = record { level = suc n.level; cell = c }
 
-  abbrev mid_waiting : List (Waiting D)
-  mid_waiting = ws ++ waiting_at n.level second
+  abbrev mid_pending : List (Pending D)
+  mid_pending = ws ++ pending_at n.level second
 
   abbrev F : ℕ → Type 0
   F = or_key E sibling
@@ -69,8 +69,8 @@ module _ {D : ℕ} (E : ℕ → Type 0) (decide : (x : ℕ) → E x ⊎ (E x →
   key_is : key_of c ≡ sibling
   key_is = ap unsigned_abs number_is
 
-  joined : (mid_waiting ++ arrival ∷ []) ≡ ws ++ (waiting_at n.level second ++ arrival ∷ [])
-  joined = append_assoc ws (waiting_at n.level second) (arrival ∷ [])
+  joined : (mid_pending ++ arrival ∷ []) ≡ ws ++ (pending_at n.level second ++ arrival ∷ [])
+  joined = append_assoc ws (pending_at n.level second) (arrival ∷ [])
 
   -- the second group's cells name the node's children
   second-children : (l : ℕ) → n.level ≡ suc l → All (NamesChild old.nodes l key) second
@@ -84,10 +84,10 @@ module _ {D : ℕ} (E : ℕ → Type 0) (decide : (x : ℕ) → E x ⊎ (E x →
       All-weaker (NamesChild old.nodes l key) (λ q. key_of q ≢ sibling)
       (λ q is same. none-some l (sym (ap level_of done.vacant) ∙ lv sibling ∙ ap (level_at old.nodes) (sym same) ∙ is.names.level_is)) second (second-children l e)
 
-  second-waits : (l : ℕ) → n.level ≡ suc l → All (λ q. 0 < times_named (key_of q) (waiting_nodes (mid_waiting ++ arrival ∷ []))) second
+  second-waits : (l : ℕ) → n.level ≡ suc l → All (λ q. 0 < times_named (key_of q) (pending_nodes (mid_pending ++ arrival ∷ []))) second
   second-waits l e j d within =
       let x = key_of (get_or second j d) in
-      let p = nodes-joined (names_key x) mid_waiting (suc n.level) (c ∷ []) in
+      let p = nodes-joined (names_key x) mid_pending (suc n.level) (c ∷ []) in
       let q = nodes-joined (names_key x) ws n.level second in
       let part = ap (λ i. times_named x (inner_part i second)) e in
       let counted : 0 < times_named x second = count-some (names_key x) second j d within (eq-eqb _ _ refl) in
@@ -116,18 +116,18 @@ module _ {D : ℕ} (E : ℕ → Type 0) (decide : (x : ℕ) → E x ⊎ (E x →
   leaves-kept : new.leaves ≡ done.moved.leaves
   leaves-kept = ap (λ t. t.leaves) done.rest
 
-  kept_linked : IsLinked done.kept old.root old.level mid_waiting
+  kept_linked : IsLinked done.kept old.root old.level mid_pending
   kept_linked = regrouped-linked old.nodes done.kept old.root old.level ws key n first second parted has done.keeps.updates was.linked
 
-  made_linked : IsLinked done.made old.root old.level (mid_waiting ++ arrival ∷ [])
-  made_linked = created done.kept done.made old.root old.level mid_waiting sibling n.level n.parent c kept_linked done.vacant below number_is key_is done.makes
+  made_linked : IsLinked done.made old.root old.level (mid_pending ++ arrival ∷ [])
+  made_linked = created done.kept done.made old.root old.level mid_pending sibling n.level n.parent c kept_linked done.vacant below number_is key_is done.makes
 
-  moved_linked : IsLinked done.moved.nodes old.root old.level (mid_waiting ++ arrival ∷ [])
+  moved_linked : IsLinked done.moved.nodes old.root old.level (mid_pending ++ arrival ∷ [])
   moved_linked = by n.level refl
     where
-      by : (l : ℕ) → n.level ≡ l → IsLinked done.moved.nodes old.root old.level (mid_waiting ++ arrival ∷ [])
-      by zero e = subst (λ s. IsLinked s old.root old.level (mid_waiting ++ arrival ∷ [])) (sym ((done.takes.rows e).1)) made_linked
-      by (suc l) e = (done.takes.children (omega arith)).0.linked old.root old.level (mid_waiting ++ arrival ∷ []) made_linked (second-waits l e)
+      by : (l : ℕ) → n.level ≡ l → IsLinked done.moved.nodes old.root old.level (mid_pending ++ arrival ∷ [])
+      by zero e = subst (λ s. IsLinked s old.root old.level (mid_pending ++ arrival ∷ [])) (sym ((done.takes.rows e).1)) made_linked
+      by (suc l) e = (done.takes.children (omega arith)).0.linked old.root old.level (mid_pending ++ arrival ∷ []) made_linked (second-waits l e)
 
   new_linked : IsLinked new.nodes old.root old.level (ws ++ arrival ∷ [])
   new_linked = linked-more done.moved.nodes new.nodes old.root old.level ws second (arrival ∷ []) sibling made_node
@@ -139,23 +139,23 @@ module _ {D : ℕ} (E : ℕ → Type 0) (decide : (x : ℕ) → E x ⊎ (E x →
       fitted-more F old.capacity done.moved.nodes new.nodes old.root ws second (arrival ∷ []) sibling made_node (decide-or E sibling decide)
       (subst (IsFittedBut F old.capacity done.moved.nodes old.root) joined (by n.level refl)) (inr refl) has_moved given
     where
-      made_fitted : IsFittedBut F old.capacity done.made old.root (mid_waiting ++ arrival ∷ [])
-      made_fitted = fitted-created E F old.capacity done.kept done.made old.root mid_waiting sibling n.level n.parent c (decide-or E sibling decide) (λ x e. inl e) (inr refl)
+      made_fitted : IsFittedBut F old.capacity done.made old.root (mid_pending ++ arrival ∷ [])
+      made_fitted = fitted-created E F old.capacity done.kept done.made old.root mid_pending sibling n.level n.parent c (decide-or E sibling decide) (λ x e. inl e) (inr refl)
           (regrouped-fitted old.nodes done.kept old.root old.level ws key n first second parted has done.keeps.updates E old.capacity decide odd was.fitted)
           done.makes key_is box
 
-      by : (l : ℕ) → n.level ≡ l → IsFittedBut F old.capacity done.moved.nodes old.root (mid_waiting ++ arrival ∷ [])
-      by zero e = subst (λ s. IsFittedBut F old.capacity s old.root (mid_waiting ++ arrival ∷ [])) (sym ((done.takes.rows e).1)) made_fitted
+      by : (l : ℕ) → n.level ≡ l → IsFittedBut F old.capacity done.moved.nodes old.root (mid_pending ++ arrival ∷ [])
+      by zero e = subst (λ s. IsFittedBut F old.capacity s old.root (mid_pending ++ arrival ∷ [])) (sym ((done.takes.rows e).1)) made_fitted
       by (suc l) e =
           let adopts = (done.takes.children (omega arith)).0 in
-          fitted-alike F old.capacity done.made done.moved.nodes old.root (mid_waiting ++ arrival ∷ []) (decide-or E sibling decide) adopts.levels adopts.cells made_fitted
+          fitted-alike F old.capacity done.made done.moved.nodes old.root (mid_pending ++ arrival ∷ []) (decide-or E sibling decide) adopts.levels adopts.cells made_fitted
 
-  made_homes : HasHomes (leaf_of int_eq old.leaves) done.made (mid_waiting ++ arrival ∷ [])
+  made_homes : HasHomes (leaf_of int_eq old.leaves) done.made (mid_pending ++ arrival ∷ [])
   made_homes =
       let kept_homes = regrouped-homes old.nodes done.kept old.root old.level ws key n first second parted has done.keeps.updates (leaf_of int_eq old.leaves) was.homes in
-      homes-waiting (leaf_of int_eq old.leaves) done.made mid_waiting (mid_waiting ++ arrival ∷ [])
-      (λ id. let p = rows-joined (has_id id) mid_waiting (suc n.level) (c ∷ []) in omega arith)
-      (homes-same (leaf_of int_eq old.leaves) done.kept done.made mid_waiting
+      homes-pending (leaf_of int_eq old.leaves) done.made mid_pending (mid_pending ++ arrival ∷ [])
+      (λ id. let p = rows-joined (has_id id) mid_pending (suc n.level) (c ∷ []) in omega arith)
+      (homes-same (leaf_of int_eq old.leaves) done.kept done.made mid_pending
       (λ x id. ap (times_listed id) (new-at leaf_cells_of done.kept done.made sibling made_node done.vacant done.makes (no-leaf n.level) x)) kept_homes)
 
   new_homes : HasHomes (leaf_of int_eq new.leaves) new.nodes (ws ++ arrival ∷ [])
@@ -165,7 +165,7 @@ module _ {D : ℕ} (E : ℕ → Type 0) (decide : (x : ℕ) → E x ⊎ (E x →
       by zero e =
           let rows = done.takes.rows e in
           homes-more (leaf_of int_eq old.leaves) (leaf_of int_eq done.moved.leaves) done.moved.nodes new.nodes ws second (arrival ∷ []) sibling made_node
-          (subst (HasHomes (leaf_of int_eq old.leaves) done.moved.nodes) joined (subst (λ s. HasHomes (leaf_of int_eq old.leaves) s (mid_waiting ++ arrival ∷ [])) (sym rows.1) made_homes))
+          (subst (HasHomes (leaf_of int_eq old.leaves) done.moved.nodes) joined (subst (λ s. HasHomes (leaf_of int_eq old.leaves) s (mid_pending ++ arrival ∷ [])) (sym rows.1) made_homes))
           has_moved e rows.0.here rows.0.others given
       by (suc l) e =
           let children = done.takes.children (omega arith) in
@@ -174,13 +174,13 @@ module _ {D : ℕ} (E : ℕ → Type 0) (decide : (x : ℕ) → E x ⊎ (E x →
           (ap (λ i. leaf_part i second) e ∙ sym (ap (λ i. leaf_part {D = D} i []) e)) x
           ∙ leaves-alike done.made done.moved.nodes children.0.levels children.0.cells x in
           subst (λ m. HasHomes (leaf_of int_eq m) new.nodes (ws ++ arrival ∷ [])) (sym children.1)
-          (homes-waiting (leaf_of int_eq old.leaves) new.nodes (mid_waiting ++ arrival ∷ []) (ws ++ arrival ∷ [])
+          (homes-pending (leaf_of int_eq old.leaves) new.nodes (mid_pending ++ arrival ∷ []) (ws ++ arrival ∷ [])
           (λ id.
-          let p = rows-joined (has_id id) mid_waiting (suc n.level) (c ∷ []) in
+          let p = rows-joined (has_id id) mid_pending (suc n.level) (c ∷ []) in
           let q = rows-joined (has_id id) ws n.level second in
           let r = rows-joined (has_id id) ws (suc n.level) (c ∷ []) in
           let part = ap (λ i. times_listed id (leaf_part i second)) e in omega arith)
-          (homes-same (leaf_of int_eq old.leaves) done.made new.nodes (mid_waiting ++ arrival ∷ []) (λ x id. ap (times_listed id) (same x)) made_homes))
+          (homes-same (leaf_of int_eq old.leaves) done.made new.nodes (mid_pending ++ arrival ∷ []) (λ x id. ap (times_listed id) (same x)) made_homes))
 
   pub divided : IsOpen F new (ws ++ arrival ∷ [])
   divided = record {
@@ -205,7 +205,7 @@ module _ {D : ℕ} (E : ℕ → Type 0) (decide : (x : ℕ) → E x ⊎ (E x →
       let three = rows-moved test n.level refl in
       let joined_rows = rows-joined test ws n.level second in
       let empty = ap (count_by test) (no-leaf n.level) in
-      let four = rows-updated test done.moved.nodes new.nodes sibling made_node (record n { cells = [] ++ second }) has_moved given mid_waiting ws (omega arith) in
+      let four = rows-updated test done.moved.nodes new.nodes sibling made_node (record n { cells = [] ++ second }) has_moved given mid_pending ws (omega arith) in
       let last = rows-joined test ws (suc n.level) (c ∷ []) in
       omega (arith, one, two, three, four, last)
 
@@ -277,5 +277,5 @@ module _ {D : ℕ} (E : ℕ → Type 0) (decide : (x : ℕ) → E x ⊎ (E x →
       by zero e = ap (λ s. s.capacity) ((done.takes.rows e).1)
       by (suc l) e = (done.takes.children (omega arith)).0.room
 
-  pub waiting-kept : new.waiting ≡ old.waiting
-  waiting-kept = ap (λ t. t.waiting) done.rest ∙ ap (λ t. t.waiting) done.takes.rest
+  pub pending-kept : new.pending ≡ old.pending
+  pending-kept = ap (λ t. t.pending) done.rest ∙ ap (λ t. t.pending) done.takes.rest

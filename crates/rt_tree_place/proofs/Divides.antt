@@ -13,7 +13,7 @@ use Rattle.rt_box.specs.Rect.{IsBox}
 use Rattle.rt_tree_choice.specs.Split.{IsBestCut, sorting, first_group, second_group}
 use Rattle.rt_tree_node.specs.declared.arena.Arena.{Arena}
 use Rattle.rt_tree_node.specs.declared.cell.Cell.{Cell}
-use Rattle.rt_tree_node.specs.declared.cell.Waiting.{Waiting}
+use Rattle.rt_tree_node.specs.declared.cell.Pending.{Pending}
 use Rattle.rt_tree_node.specs.Node.{NodeCells}
 use Rattle.rt_tree_node.specs.Places.{key_of, rects, picked, no_cell, cells_of, level_of, parent_of, level_at, cells_at, hull_at, count_rows}
 use Rattle.rt_tree_node.specs.Sound.{NamesChild}
@@ -25,7 +25,7 @@ use Rattle.rt_tree_node.proofs.Links.{same-at}
 use Rattle.rt_tree_place.specs.Steps.{Splits, Attaches, IsPair, Divides}
 use Rattle.rt_tree_place.proofs.Attached.{attached, rows-attached}
 use Rattle.rt_tree_place.proofs.Groups.{sorting-long}
-use Rattle.rt_tree_place.proofs.Divided.{or_key, divided, rows-divided, not-new, levels-kept, cells-kept, parents-kept, cells-first, made-here, ids-kept, len-kept, room-kept, waiting-kept, root-kept, level-kept, capacity-kept}
+use Rattle.rt_tree_place.proofs.Divided.{or_key, divided, rows-divided, not-new, levels-kept, cells-kept, parents-kept, cells-first, made-here, ids-kept, len-kept, room-kept, pending-kept, root-kept, level-kept, capacity-kept}
 use Rattle.rt_tree_place.proofs.Arrived.{arrived}
 use Rattle.rt_tree_place.proofs.WayDown.{node-from_level, present}
 
@@ -103,37 +103,37 @@ module _ {D : ℕ} (old : Arena D) (key parent : ℕ) (pair : IsPair old key par
       key_is : key_of c ≡ sibling
       key_is = ap unsigned_abs number_is
 
-      split_open : IsOpen (or_key (either_key key parent) sibling) mid (old.waiting.items ++ record { level = suc n.level; cell = c } ∷ [])
-      split_open = divided (either_key key parent) (decide-either key parent) old mid key n sibling old.waiting.items pair.opened (inl refl) has below done c number_is box
+      split_open : IsOpen (or_key (either_key key parent) sibling) mid (old.pending.items ++ record { level = suc n.level; cell = c } ∷ [])
+      split_open = divided (either_key key parent) (decide-either key parent) old mid key n sibling old.pending.items pair.opened (inl refl) has below done c number_is box
 
       sibling_is : get mid.nodes sibling ≡ Some (record n { cells = picked n.cells (second_group (rects n.cells) done.cut) })
-      sibling_is = made-here (either_key key parent) (decide-either key parent) old mid key n sibling old.waiting.items pair.opened (inl refl) has below done c number_is box
+      sibling_is = made-here (either_key key parent) (decide-either key parent) old mid key n sibling old.pending.items pair.opened (inl refl) has below done c number_is box
 
       parent_apart : parent ≢ sibling
-      parent_apart = not-new (either_key key parent) (decide-either key parent) old mid key n sibling old.waiting.items pair.opened (inl refl) has below done c number_is box
+      parent_apart = not-new (either_key key parent) (decide-either key parent) old mid key n sibling old.pending.items pair.opened (inl refl) has below done c number_is box
           parent (suc n.level) high
 
       parent_level : level_at mid.nodes parent ≡ Some (suc n.level)
-      parent_level = levels-kept (either_key key parent) (decide-either key parent) old mid key n sibling old.waiting.items pair.opened (inl refl) has below done c number_is box
+      parent_level = levels-kept (either_key key parent) (decide-either key parent) old mid key n sibling old.pending.items pair.opened (inl refl) has below done c number_is box
           parent (suc n.level) high
 
       parent_cells : cells_at mid.nodes parent ≡ cells_at old.nodes parent
-      parent_cells = cells-kept (either_key key parent) (decide-either key parent) old mid key n sibling old.waiting.items pair.opened (inl refl) has below done c number_is box
+      parent_cells = cells-kept (either_key key parent) (decide-either key parent) old mid key n sibling old.pending.items pair.opened (inl refl) has below done c number_is box
           parent (suc n.level) high (λ e. apart (sym e))
 
-      pub in-shape : c.rect ≡ hull_at mid.nodes sibling → IsOpen (either_key key parent) mid (old.waiting.items ++ record { level = suc n.level; cell = c } ∷ [])
+      pub in-shape : c.rect ≡ hull_at mid.nodes sibling → IsOpen (either_key key parent) mid (old.pending.items ++ record { level = suc n.level; cell = c } ∷ [])
       in-shape rect_is =
           let cap = pair.opened.fitted.cap in
           let is = done.best.is_cut.second_filled in
           let is_first = done.best.is_cut.first_filled in
           let count = ap (λ s. length (cells_of s)) sibling_is in
           let long_2 = second-long in
-          let capacity_is : mid.capacity ≡ old.capacity = capacity-kept (either_key key parent) (decide-either key parent) old mid key n sibling old.waiting.items pair.opened (inl refl) has below done c number_is box in
+          let capacity_is : mid.capacity ≡ old.capacity = capacity-kept (either_key key parent) (decide-either key parent) old mid key n sibling old.pending.items pair.opened (inl refl) has below done c number_is box in
           record {
             linked = split_open.linked;
-            fitted = subst (λ m. IsFittedBut (either_key key parent) m mid.nodes mid.root (old.waiting.items ++ record { level = suc n.level; cell = c } ∷ [])) (sym capacity_is)
-                (arrived (either_key key parent) old.capacity mid.nodes mid.root mid.level old.waiting.items sibling n.level c split_open.linked
-                (subst (λ m. IsFittedBut (or_key (either_key key parent) sibling) m mid.nodes mid.root (old.waiting.items ++ record { level = suc n.level; cell = c } ∷ [])) capacity_is split_open.fitted)
+            fitted = subst (λ m. IsFittedBut (either_key key parent) m mid.nodes mid.root (old.pending.items ++ record { level = suc n.level; cell = c } ∷ [])) (sym capacity_is)
+                (arrived (either_key key parent) old.capacity mid.nodes mid.root mid.level old.pending.items sibling n.level c split_open.linked
+                (subst (λ m. IsFittedBut (or_key (either_key key parent) sibling) m mid.nodes mid.root (old.pending.items ++ record { level = suc n.level; cell = c } ∷ [])) capacity_is split_open.fitted)
                 key_is (ap level_of sibling_is) rect_is (omega (arith, cap, is, count, long_2)) (omega (arith, is, count, long_2)) (omega (arith, cap, is_first, count, long_2)));
             homes = split_open.homes;
           }
@@ -141,8 +141,8 @@ module _ {D : ℕ} (old : Arena D) (key parent : ℕ) (pair : IsPair old key par
       pub divides : c.rect ≡ hull_at mid.nodes sibling → Attaches mid new parent record { level = suc n.level; cell = c } → Divides old new key parent
       divides rect_is at =
           let E = either_key key parent in
-          let ws = old.waiting.items in
-          let w : Waiting D = record { level = suc n.level; cell = c } in
+          let ws = old.pending.items in
+          let w : Pending D = record { level = suc n.level; cell = c } in
           let above = node-from_level mid.nodes parent (suc n.level) parent_level in
           let m = above.0 in
           let s = record n { cells = picked n.cells (second_group (rects n.cells) done.cut) } in
@@ -153,9 +153,9 @@ module _ {D : ℕ} (old : Arena D) (key parent : ℕ) (pair : IsPair old key par
           let m_after = record m { cells = m.cells ++ c ∷ [] } in
           let second = parts.3 m has_parent in
           let opened = attached E (decide-either key parent) mid new parent m ws w [] (in-shape rect_is) (inr refl) above.1 (sym above.2) at in
-          let waiting_is : new.waiting ≡ old.waiting = ap (λ t. t.waiting) at.rest
-          ∙ waiting-kept E (decide-either key parent) old mid key n sibling ws pair.opened (inl refl) has below done c number_is box in
-          let items_are : ws ++ [] ≡ new.waiting.items = append-nil ws ∙ ap (λ v. v.items) (sym waiting_is) in
+          let pending_is : new.pending ≡ old.pending = ap (λ t. t.pending) at.rest
+          ∙ pending-kept E (decide-either key parent) old mid key n sibling ws pair.opened (inl refl) has below done c number_is box in
+          let items_are : ws ++ [] ≡ new.pending.items = append-nil ws ∙ ap (λ v. v.items) (sym pending_is) in
           let there : (x l : ℕ) → level_at old.nodes x ≡ Some l → x ≢ key_of c = λ x l e same.
           not-new E (decide-either key parent) old mid key n sibling ws pair.opened (inl refl) has below done c number_is box x l e (same ∙ key_is) in
           let key_level : level_at old.nodes key ≡ Some n.level = ap level_of has in
@@ -168,27 +168,29 @@ module _ {D : ℕ} (old : Arena D) (key parent : ℕ) (pair : IsPair old key par
           let filled_2 = done.best.is_cut.second_filled in
           let cap = pair.opened.fitted.cap in
           record {
-            opened = subst (IsOpen E new) items_are opened;
-            rows = λ test. ap (count_rows test new.nodes) (sym items_are)
-                ∙ rows-attached E (decide-either key parent) mid new parent m ws w [] (in-shape rect_is) (inr refl) above.1 (sym above.2) at test
-                ∙ rows-divided E (decide-either key parent) old mid key n sibling ws pair.opened (inl refl) has below done c number_is box test;
-            least = omega (arith, key_long, long_1, filled);
-            most = omega (arith, key_long, long_1, filled_2, cap);
+            trims = record {
+              opened = subst (IsOpen E new) items_are opened;
+              rows = λ test. ap (count_rows test new.nodes) (sym items_are)
+                  ∙ rows-attached E (decide-either key parent) mid new parent m ws w [] (in-shape rect_is) (inr refl) above.1 (sym above.2) at test
+                  ∙ rows-divided E (decide-either key parent) old mid key n sibling ws pair.opened (inl refl) has below done c number_is box test;
+              least = omega (arith, key_long, long_1, filled);
+              most = omega (arith, key_long, long_1, filled_2, cap);
+              levels = λ x l e. same-at level_of parts.1 new.nodes parent m m_after has_parent second.updates refl x ∙ ap level_of (first.updates.others x (there x l e))
+                  ∙ levels-kept E (decide-either key parent) old mid key n sibling ws pair.opened (inl refl) has below done c number_is box x l e;
+              parents = λ x l i e f upward. same-at parent_of parts.1 new.nodes parent m m_after has_parent second.updates refl x ∙ ap parent_of (first.updates.others x (there x l e))
+                  ∙ parents-kept E (decide-either key parent) old mid key n sibling ws pair.opened (inl refl) has below done c number_is box x l e
+                  (let same = same_Some n.level i (sym key_level ∙ f) in omega arith);
+              cells = λ x l e p q. ap cells_of (second.updates.others x q) ∙ ap cells_of (first.updates.others x (there x l e))
+                  ∙ cells-kept E (decide-either key parent) old mid key n sibling ws pair.opened (inl refl) has below done c number_is box x l e p;
+              ids = subst (KeepsIds old.leaves) (sym parts.0) (ids-kept E (decide-either key parent) old mid key n sibling ws pair.opened (inl refl) has below done c number_is box);
+              root = ap (λ t. t.root) at.rest ∙ root-kept E (decide-either key parent) old mid key n sibling ws pair.opened (inl refl) has below done c number_is box;
+              level = ap (λ t. t.level) at.rest ∙ level-kept E (decide-either key parent) old mid key n sibling ws pair.opened (inl refl) has below done c number_is box;
+              capacity = ap (λ t. t.capacity) at.rest ∙ capacity-kept E (decide-either key parent) old mid key n sibling ws pair.opened (inl refl) has below done c number_is box;
+              room = second.room ∙ first.room ∙ room-kept E (decide-either key parent) old mid key n sibling ws pair.opened (inl refl) has below done c number_is box;
+            };
             grown = omega (arith, ap (λ o. length (cells_of o)) second.updates.changed, length-append m.cells (c ∷ []), ap (λ o. length (cells_of o)) above.1, ap length parent_cells);
-            levels = λ x l e. same-at level_of parts.1 new.nodes parent m m_after has_parent second.updates refl x ∙ ap level_of (first.updates.others x (there x l e))
-                ∙ levels-kept E (decide-either key parent) old mid key n sibling ws pair.opened (inl refl) has below done c number_is box x l e;
-            parents = λ x l i e f upward. same-at parent_of parts.1 new.nodes parent m m_after has_parent second.updates refl x ∙ ap parent_of (first.updates.others x (there x l e))
-                ∙ parents-kept E (decide-either key parent) old mid key n sibling ws pair.opened (inl refl) has below done c number_is box x l e
-                (let same = same_Some n.level i (sym key_level ∙ f) in omega arith);
-            cells = λ x l e p q. ap cells_of (second.updates.others x q) ∙ ap cells_of (first.updates.others x (there x l e))
-                ∙ cells-kept E (decide-either key parent) old mid key n sibling ws pair.opened (inl refl) has below done c number_is box x l e p;
-            ids = subst (KeepsIds old.leaves) (sym parts.0) (ids-kept E (decide-either key parent) old mid key n sibling ws pair.opened (inl refl) has below done c number_is box);
-            waiting = waiting_is;
-            root = ap (λ t. t.root) at.rest ∙ root-kept E (decide-either key parent) old mid key n sibling ws pair.opened (inl refl) has below done c number_is box;
-            level = ap (λ t. t.level) at.rest ∙ level-kept E (decide-either key parent) old mid key n sibling ws pair.opened (inl refl) has below done c number_is box;
-            capacity = ap (λ t. t.capacity) at.rest ∙ capacity-kept E (decide-either key parent) old mid key n sibling ws pair.opened (inl refl) has below done c number_is box;
+            pending = pending_is;
             len = second.len ∙ first.len ∙ len-kept E (decide-either key parent) old mid key n sibling ws pair.opened (inl refl) has below done c number_is box;
-            room = second.room ∙ first.room ∙ room-kept E (decide-either key parent) old mid key n sibling ws pair.opened (inl refl) has below done c number_is box;
             cell = c;
             appended = ap cells_of second.updates.changed ∙ ap (λ cs. cs ++ c ∷ []) (sym (ap cells_of above.1) ∙ parent_cells);
             apart = λ e. cell_apart (sym e);

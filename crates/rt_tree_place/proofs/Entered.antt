@@ -8,7 +8,7 @@ use Rattle.indexmap.specs.IndexMap.{get as leaf_of}
 use Rattle.slab.specs.Slab.{get, ContainsKey, slab_len}
 use Rattle.rt_box.specs.Capacity.{least_fill}
 use Rattle.rt_tree_node.specs.declared.arena.Arena.{Arena}
-use Rattle.rt_tree_node.specs.declared.cell.Waiting.{Waiting}
+use Rattle.rt_tree_node.specs.declared.cell.Pending.{Pending}
 use Rattle.rt_tree_node.specs.Changes.{Puts}
 use Rattle.rt_tree_node.specs.Homes.{KeepsIds}
 use Rattle.rt_tree_node.specs.Node.{NodeCells}
@@ -20,7 +20,7 @@ use Rattle.rt_tree_node.proofs.Fitted.{fitted-weaker}
 use Rattle.rt_tree_node.proofs.Homes.{listed-one}
 use Rattle.rt_tree_node.proofs.Links.{same-at, All-at}
 use Rattle.rt_tree_node.proofs.Places.{inner-at_inner, rows-middle, has_id}
-use Rattle.rt_tree_place.specs.Rise.{IsAwaited, Enters}
+use Rattle.rt_tree_place.specs.Rise.{IsPending, Enters}
 use Rattle.rt_tree_place.specs.Steps.{IsPassable, Attaches, IsRising}
 use Rattle.rt_tree_place.specs.Way.{LeadsUp}
 use Rattle.rt_tree_place.proofs.Attached.{attached, rows-attached}
@@ -28,48 +28,48 @@ use Rattle.rt_tree_place.proofs.Closed.{closed}
 use Rattle.rt_tree_place.proofs.Way.{way-settled, way-kept}
 use Rattle.rt_tree_place.proofs.WayDown.{node-from_level, present}
 
-module _ {D : ℕ} (old : Arena D) (w : Waiting D) (was : IsAwaited old w) where
-  abbrev ws : List (Waiting D)
-  ws = old.waiting.items
+module _ {D : ℕ} (old : Arena D) (w : Pending D) (was : IsPending old w) where
+  abbrev ws : List (Pending D)
+  ws = old.pending.items
 
-  pub awaited-passable : IsPassable old.nodes old.root old.level
-  awaited-passable = record {
+  pub pending-passable : IsPassable old.nodes old.root old.level
+  pending-passable = record {
     root_level = was.linked.root_level;
     some = λ key l e. was.fitted.some key l e (λ x. x);
     children = was.linked.children;
   }
 
-  pub awaited-below : w.level ≤ old.level
-  awaited-below = All-at (λ v. v.level ≤ old.level) ws w [] was.linked.waiting_levels
+  pub pending-below : w.level ≤ old.level
+  pending-below = All-at (λ v. v.level ≤ old.level) ws w [] was.linked.pending_levels
 
   -- what the cell names is there: the row has an entry, the node a place, on the level below
-  pub awaited-row : w.level ≡ 0 → IsSome (leaf_of int_eq old.leaves w.cell.number)
-  awaited-row e =
+  pub pending-row : w.level ≡ 0 → IsSome (leaf_of int_eq old.leaves w.cell.number)
+  pending-row e =
       let step = rows-middle (has_id w.cell.number) ws w [] in
       let part = ap (λ l. times_listed w.cell.number (leaf_part l (w.cell ∷ []))) e in
       let one = listed-one w.cell.number w.cell refl in
-      was.homes.waiting w.cell.number (omega arith)
+      was.homes.pending w.cell.number (omega arith)
 
-  awaited-named : (l : ℕ) → w.level ≡ suc l → Names old.nodes l w.cell
-  awaited-named l e = All-at (λ v. (i : ℕ) → v.level ≡ suc i → Names old.nodes i v.cell) ws w [] was.linked.waiting_named l e
+  pending-named : (l : ℕ) → w.level ≡ suc l → Names old.nodes l w.cell
+  pending-named l e = All-at (λ v. (i : ℕ) → v.level ≡ suc i → Names old.nodes i v.cell) ws w [] was.linked.pending_named l e
 
-  pub awaited-child : 1 ≤ w.level → ContainsKey old.nodes (key_of w.cell)
-  awaited-child some = by w.level refl
+  pub pending-child : 1 ≤ w.level → ContainsKey old.nodes (key_of w.cell)
+  pending-child some = by w.level refl
     where
       by : (l : ℕ) → w.level ≡ l → ContainsKey old.nodes (key_of w.cell)
       by zero e = absurd (omega arith)
-      by (suc l) e = present old.nodes (key_of w.cell) l ((awaited-named l e).level_is)
+      by (suc l) e = present old.nodes (key_of w.cell) l ((pending-named l e).level_is)
 
   module _ (key : ℕ) (here : level_at old.nodes key ≡ Some w.level) where
-    pub awaited-apart : 1 ≤ w.level → key_of w.cell ≢ key
-    awaited-apart some same = by w.level refl
+    pub pending-apart : 1 ≤ w.level → key_of w.cell ≢ key
+    pending-apart some same = by w.level refl
       where
         by : (l : ℕ) → w.level ≡ l → ⊥
         by zero e = absurd (omega arith)
-        by (suc l) e = let differ = same_Some l w.level (sym ((awaited-named l e).level_is) ∙ ap (level_at old.nodes) same ∙ here) in absurd (omega arith)
+        by (suc l) e = let differ = same_Some l w.level (sym ((pending-named l e).level_is) ∙ ap (level_at old.nodes) same ∙ here) in absurd (omega arith)
 
-    pub awaited-room : length (cells_at old.nodes key) < 52
-    awaited-room = let most = was.fitted.most key w.level here (λ x. x) in let cap = was.fitted.cap in omega arith
+    pub pending-room : length (cells_at old.nodes key) < 52
+    pending-room = let most = was.fitted.most key w.level here (λ x. x) in let cap = was.fitted.cap in omega arith
 
     module _ (new : Arena D) (at : Attaches old new key w) (n : NodeCells D) (has : get old.nodes key ≡ Some n) where
       abbrev m : NodeCells D
@@ -81,8 +81,8 @@ module _ {D : ℕ} (old : Arena D) (w : Waiting D) (was : IsAwaited old w) where
       abbrev E : ℕ → Type 0
       E x = x ≡ key
 
-      waiting-is : new.waiting ≡ old.waiting
-      waiting-is = ap (λ a. a.waiting) at.rest
+      pending-is : new.pending ≡ old.pending
+      pending-is = ap (λ a. a.pending) at.rest
 
       root-is : new.root ≡ old.root
       root-is = ap (λ a. a.root) at.rest
@@ -90,8 +90,8 @@ module _ {D : ℕ} (old : Arena D) (w : Waiting D) (was : IsAwaited old w) where
       capacity-is : new.capacity ≡ old.capacity
       capacity-is = ap (λ a. a.capacity) at.rest
 
-      items-are : ws ++ [] ≡ new.waiting.items
-      items-are = append-nil ws ∙ ap (λ v. v.items) (sym waiting-is)
+      items-are : ws ++ [] ≡ new.pending.items
+      items-are = append-nil ws ∙ ap (λ v. v.items) (sym pending-is)
 
       was-odd : IsOpen E old (ws ++ w ∷ [])
       was-odd = record {
@@ -100,7 +100,7 @@ module _ {D : ℕ} (old : Arena D) (w : Waiting D) (was : IsAwaited old w) where
         homes = was.homes;
       }
 
-      new-open : IsOpen E new new.waiting.items
+      new-open : IsOpen E new new.pending.items
       new-open = subst (IsOpen E new) items-are (attached E (λ x. cases_eq x key) old new key n ws w [] was-odd refl has n-level at)
 
       -- levels stay, the cells of other nodes, and the parents of nodes that aren't lower
@@ -127,11 +127,11 @@ module _ {D : ℕ} (old : Arena D) (w : Waiting D) (was : IsAwaited old w) where
               )
           by (suc l) e =
               let parts = at.child (omega arith) in
-              let named = awaited-named l e in
+              let named = pending-named l e in
               let child = node-from_level old.nodes (key_of w.cell) l named.level_is in
               let c = child.0 in
               let first = parts.2 c child.1 in
-              let apart : key ≢ key_of w.cell = λ same. awaited-apart (omega arith) (sym same) in
+              let apart : key ≢ key_of w.cell = λ same. pending-apart (omega arith) (sym same) in
               let has_mid : get parts.1 key ≡ Some n = first.updates.others key apart ∙ has in
               let second = parts.3 n has_mid in
               let u = second.updates in
@@ -168,7 +168,7 @@ module _ {D : ℕ} (old : Arena D) (w : Waiting D) (was : IsAwaited old w) where
             let c = capacity-is in
             record {
               sound = closed E (λ x. cases_eq x key) new key new-open (λ x e. inl e) some
-                  (way-settled new.nodes new.root new.level new.waiting.items new-open.linked steps key w.level new-way (effect.0 key ∙ here));
+                  (way-settled new.nodes new.root new.level new.pending.items new-open.linked steps key w.level new-way (effect.0 key ∙ here));
               level = w.level;
               here = effect.0 key ∙ here;
               steps = steps;
@@ -192,7 +192,7 @@ module _ {D : ℕ} (old : Arena D) (w : Waiting D) (was : IsAwaited old w) where
           levels = effect.0;
           cells = effect.2 ∙ ap (λ s. cells_of s ++ w.cell ∷ []) (sym has);
           others = effect.1;
-          waiting = waiting-is;
+          pending = pending-is;
           root = root-is;
           height = ap (λ a. a.level) at.rest;
           capacity = capacity-is;

@@ -25,7 +25,7 @@ module _ {D : ℕ} (t : Arena D) (rising : IsRising t t.root) where
     ids = record { ids = refl; len = refl; room = refl };
     capacity = refl;
     room = refl;
-    waiting = refl;
+    pending = refl;
     placements = refl;
     reinsertions = refl;
     split = inl record { fits = fits; same = refl; work_same = refl };
@@ -100,7 +100,7 @@ module _ {D : ℕ} (t : Arena D) (rising : IsRising t t.root) where
           ids = subst (λ m. KeepsIds m new.leaves) raises.leaves lifts.keeps.ids;
           capacity = lifts.keeps.capacity ∙ raises.capacity;
           room = lifts.keeps.room ∙ raises.room;
-          waiting = done.waiting ∙ raises.waiting;
+          pending = done.pending ∙ raises.pending;
           placements = placements;
           reinsertions = reinsertions;
           split = inr record {

@@ -12,7 +12,7 @@ use Rattle.rt_tree_choice.specs.Hull.{hull}
 use Rattle.rt_tree_choice.proofs.Covering.{hull-push}
 use Rattle.rt_tree_node.specs.declared.arena.Arena.{Arena}
 use Rattle.rt_tree_node.specs.declared.cell.Cell.{Cell}
-use Rattle.rt_tree_node.specs.declared.cell.Waiting.{Waiting}
+use Rattle.rt_tree_node.specs.declared.cell.Pending.{Pending}
 use Rattle.rt_tree_node.specs.Places.{key_of, rects, no_cell, hull_at, cells_at, level_at}
 use Rattle.rt_tree_node.specs.Sound.{IsFitted}
 use Rattle.rt_tree_place.specs.Rise.{Enters}
@@ -31,7 +31,7 @@ union-held [] (y ∷ b) h = refl
 union-held (x ∷ a) [] h = absurd h
 union-held (x ∷ a) (y ∷ b) h = ap (λ i. i ∷ union_box a b) (cover-held x y h.0) ∙ ap (λ xs. x ∷ xs) (union-held a b h.1)
 
-module _ {D : ℕ} (old new : Arena D) (entry : Waiting D) (key : ℕ) (ws : List (Waiting D))
+module _ {D : ℕ} (old new : Arena D) (entry : Pending D) (key : ℕ) (ws : List (Pending D))
     (fitted : IsFitted old.capacity old.nodes old.root ws None) (went : Enters old new entry key) where
   abbrev rect : List Interval
   rect = entry.cell.rect

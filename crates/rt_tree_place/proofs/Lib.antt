@@ -23,3 +23,9 @@ pub mod Grown
 pub mod Entered
 pub mod Upward
 pub mod Placed
+pub mod Sums
+pub mod Named
+pub mod Few
+pub mod Turns
+pub mod NewRow
+pub mod Inserted

@@ -13,7 +13,7 @@ use Rattle.rt_tree_node.specs.declared.arena.Arena.{Arena}
 use Rattle.rt_tree_node.specs.declared.arena.Work.{Work}
 use Rattle.rt_tree_node.specs.declared.cell.Cell.{Cell}
 use Rattle.rt_tree_node.specs.Node.{NodeCells}
-use Rattle.rt_tree_node.specs.Places.{key_of, times_named, times_listed, numbers, cells_of, leaf_cells_of, level_of, parent_of, level_at, parent_at, cells_at, inner_cells_of, inner_cells_at, waiting_nodes}
+use Rattle.rt_tree_node.specs.Places.{key_of, times_named, times_listed, numbers, cells_of, leaf_cells_of, level_of, parent_of, level_at, parent_at, cells_at, inner_cells_of, inner_cells_at, pending_nodes}
 use Rattle.rt_tree_node.specs.Sound.{NamesChild, IsLinked}
 use Rattle.rt_tree_node.specs.Whole.{IsSound}
 use Rattle.rt_tree_node.specs.Path.{KeepsShape}
@@ -56,7 +56,7 @@ module _ {D : ℕ} (t : Arena D) (key parent : ℕ) (rising : IsRising t key) (u
   found = above-way rising.steps rising.way
 
   pub parent-level : level_at t.nodes parent ≡ Some (suc rising.level)
-  parent-level = level-above t.nodes t.root t.level t.waiting.items rising.sound.linked parent key rising.level rising.here found.2
+  parent-level = level-above t.nodes t.root t.level t.pending.items rising.sound.linked parent key rising.level rising.here found.2
 
   pub parent-named : 0 < times_named key (cells_at t.nodes parent)
   parent-named = let same = ap (times_named key) (inner-at_inner t.nodes parent rising.level parent-level) in let some = found.2 in omega arith
@@ -83,8 +83,8 @@ module _ {D : ℕ} (t : Arena D) (key parent : ℕ) (rising : IsRising t key) (u
   rising-pair = record {
     opened = record {
       linked = rising.sound.linked;
-      fitted = fitted-weaker (λ x. Some key ≡ Some x) (either_key key parent) (λ x e. inl (sym (same_Some key x e))) t.capacity t.nodes t.root t.waiting.items
-          (opened t.capacity t.nodes t.root t.waiting.items (Some key) rising.sound.fitted);
+      fitted = fitted-weaker (λ x. Some key ≡ Some x) (either_key key parent) (λ x e. inl (sym (same_Some key x e))) t.capacity t.nodes t.root t.pending.items
+          (opened t.capacity t.nodes t.root t.pending.items (Some key) rising.sound.fitted);
       homes = rising.sound.homes;
     };
     level = rising.level;
@@ -96,19 +96,19 @@ module _ {D : ℕ} (t : Arena D) (key parent : ℕ) (rising : IsRising t key) (u
 
   module _ (mid : Arena D) (r : Relieves t mid key parent) where
     pub mid-key_level : level_at mid.nodes key ≡ Some rising.level
-    mid-key_level = r.levels key rising.level rising.here
+    mid-key_level = r.trims.levels key rising.level rising.here
 
     pub mid-parent_level : level_at mid.nodes parent ≡ Some (suc rising.level)
-    mid-parent_level = r.levels parent (suc rising.level) parent-level
+    mid-parent_level = r.trims.levels parent (suc rising.level) parent-level
 
     mid-up : parent_at mid.nodes key ≡ Some parent
-    mid-up = r.parents key rising.level rising.level rising.here rising.here (omega arith) ∙ up
+    mid-up = r.trims.parents key rising.level rising.level rising.here rising.here (omega arith) ∙ up
 
     mid-not_root : key ≢ mid.root
-    mid-not_root e = key-not_root (e ∙ r.root)
+    mid-not_root e = key-not_root (e ∙ r.trims.root)
 
     pub mid-some : 1 ≤ length (cells_at mid.nodes key)
-    mid-some = let cap = rising.sound.fitted.cap in let least = r.least in omega arith
+    mid-some = let cap = rising.sound.fitted.cap in let least = r.trims.least in omega arith
 
     mid-named : 0 < times_named key (cells_at mid.nodes parent)
     mid-named = let named = parent-named in let more = r.names key in omega arith
@@ -116,11 +116,11 @@ module _ {D : ℕ} (t : Arena D) (key parent : ℕ) (rising : IsRising t key) (u
     pub mid-named_at : (at : ℕ) × IsNamedAt (cells_at mid.nodes parent) at key
     mid-named_at = named-at key (cells_at mid.nodes parent)
         (All-weaker (NamesChild mid.nodes rising.level parent) (λ c. c.number ≡ pos (key_of c)) (λ c is. is.names.number_is) (cells_at mid.nodes parent)
-        (r.opened.linked.children parent rising.level mid-parent_level)) mid-named
+        (r.trims.opened.linked.children parent rising.level mid-parent_level)) mid-named
 
-    mid-waits_not : times_named key (waiting_nodes mid.waiting.items) ≡ 0
+    mid-waits_not : times_named key (pending_nodes mid.pending.items) ≡ 0
     mid-waits_not =
-        let one = r.opened.linked.named key rising.level mid-key_level mid-not_root in
+        let one = r.trims.opened.linked.named key rising.level mid-key_level mid-not_root in
         let above = ap (times_named key) (above-some mid.nodes key parent mid-up ∙ inner-at_inner mid.nodes parent rising.level mid-parent_level) in
         let named = mid-named in
         omega arith
@@ -130,21 +130,21 @@ module _ {D : ℕ} (t : Arena D) (key parent : ℕ) (rising : IsRising t key) (u
     inner-kept x (suc i) z e high =
         let p : x ≢ key = λ same. let differ = same_Some (suc i) rising.level (sym e ∙ ap (level_at t.nodes) same ∙ rising.here) in absurd (omega arith) in
         let q : x ≢ parent = λ same. let differ = same_Some (suc i) (suc rising.level) (sym e ∙ ap (level_at t.nodes) same ∙ parent-level) in absurd (omega arith) in
-        ap (times_named z) (inner-at_inner mid.nodes x i (r.levels x (suc i) e) ∙ r.cells x (suc i) e p q ∙ sym (inner-at_inner t.nodes x i e))
+        ap (times_named z) (inner-at_inner mid.nodes x i (r.trims.levels x (suc i) e) ∙ r.trims.cells x (suc i) e p q ∙ sym (inner-at_inner t.nodes x i e))
 
     pub mid-once : times_named key (cells_at mid.nodes parent) ≤ 1
     mid-once =
-        let one = r.opened.linked.named key rising.level mid-key_level mid-not_root in
+        let one = r.trims.opened.linked.named key rising.level mid-key_level mid-not_root in
         let above = ap (times_named key) (above-some mid.nodes key parent mid-up ∙ inner-at_inner mid.nodes parent rising.level mid-parent_level) in
         omega arith
 
     mid-way : LeadsUp mid.nodes mid.root found.0 parent
-    mid-way = subst (λ y. LeadsUp mid.nodes y found.0 parent) (sym r.root)
-        (way-kept t.nodes t.root t.level t.waiting.items rising.sound.linked mid.nodes (suc rising.level) found.0 parent (suc rising.level) found.1 parent-level (omega arith)
-        (λ x i e high. r.parents x i rising.level e rising.here (omega arith)) inner-kept)
+    mid-way = subst (λ y. LeadsUp mid.nodes y found.0 parent) (sym r.trims.root)
+        (way-kept t.nodes t.root t.level t.pending.items rising.sound.linked mid.nodes (suc rising.level) found.0 parent (suc rising.level) found.1 parent-level (omega arith)
+        (λ x i e high. r.trims.parents x i rising.level e rising.here (omega arith)) inner-kept)
 
-    mid-parent_waits_not : times_named parent (waiting_nodes mid.waiting.items) ≡ 0
-    mid-parent_waits_not = way-settled mid.nodes mid.root mid.level mid.waiting.items r.opened.linked found.0 parent (suc rising.level) mid-way mid-parent_level
+    mid-parent_waits_not : times_named parent (pending_nodes mid.pending.items) ≡ 0
+    mid-parent_waits_not = way-settled mid.nodes mid.root mid.level mid.pending.items r.trims.opened.linked found.0 parent (suc rising.level) mid-way mid-parent_level
 
     mid-parent_some : 1 ≤ length (cells_at mid.nodes parent)
     mid-parent_some = let old = rising.sound.fitted.some parent rising.level parent-level in let kept = r.kept in omega arith
@@ -172,11 +172,11 @@ module _ {D : ℕ} (t : Arena D) (key parent : ℕ) (rising : IsRising t key) (u
       long : length (cells_at b parent) ≡ length (cells_at mid.nodes parent)
       long = ap (λ s. length (cells_of s)) u.changed ∙ length-set n.cells done.at done.cell ∙ ap (λ s. length (cells_of s)) (sym has)
 
-      pub refitted-linked : IsLinked b mid.root mid.level mid.waiting.items
-      refitted-linked = boxes-changed mid.nodes b mid.root mid.level mid.waiting.items parent done.at n done.cell r.opened.linked has done.within done.same_number u
+      pub refitted-linked : IsLinked b mid.root mid.level mid.pending.items
+      refitted-linked = boxes-changed mid.nodes b mid.root mid.level mid.pending.items parent done.at n done.cell r.trims.opened.linked has done.within done.same_number u
 
       refitted-way : LeadsUp b mid.root found.0 parent
-      refitted-way = way-kept mid.nodes mid.root mid.level mid.waiting.items r.opened.linked b (suc rising.level) found.0 parent (suc rising.level) mid-way mid-parent_level (omega arith)
+      refitted-way = way-kept mid.nodes mid.root mid.level mid.pending.items r.trims.opened.linked b (suc rising.level) found.0 parent (suc rising.level) mid-way mid-parent_level (omega arith)
           (λ x i e high. pr x)
           (λ x i z e high.
           let q : x ≢ parent = λ same. let differ = same_Some i (suc rising.level) (sym e ∙ ap (level_at mid.nodes) same ∙ mid-parent_level) in absurd (omega arith) in
@@ -185,11 +185,11 @@ module _ {D : ℕ} (t : Arena D) (key parent : ℕ) (rising : IsRising t key) (u
       refitted-sound : IsSound (record mid { nodes = b }) (Some parent)
       refitted-sound = record {
         linked = refitted-linked;
-        fitted = refitted-fitted mid.capacity mid.nodes b mid.root mid.level mid.waiting.items key parent rising.level n r.opened.linked r.opened.fitted has
-            mid-parent_level mid-key_level mid-up mid-not_root (subst (λ c. least_fill c ≤ length (cells_at mid.nodes key)) (sym r.capacity) r.least)
-            (subst (λ c. length (cells_at mid.nodes key) ≤ c) (sym r.capacity) r.most) mid-some mid-parent_waits_not mid-waits_not done
+        fitted = refitted-fitted mid.capacity mid.nodes b mid.root mid.level mid.pending.items key parent rising.level n r.trims.opened.linked r.trims.opened.fitted has
+            mid-parent_level mid-key_level mid-up mid-not_root (subst (λ c. least_fill c ≤ length (cells_at mid.nodes key)) (sym r.trims.capacity) r.trims.least)
+            (subst (λ c. length (cells_at mid.nodes key) ≤ c) (sym r.trims.capacity) r.trims.most) mid-some mid-parent_waits_not mid-waits_not done
             (subst (λ s. 1 ≤ length (cells_of s)) has mid-parent_some);
-        homes = homes-same (leaf_of int_eq mid.leaves) mid.nodes b mid.waiting.items (λ x id. ap (times_listed id) (leaves-same x)) r.opened.homes;
+        homes = homes-same (leaf_of int_eq mid.leaves) mid.nodes b mid.pending.items (λ x id. ap (times_listed id) (leaves-same x)) r.trims.opened.homes;
       }
 
       next : IsRising (record mid { nodes = b }) parent
@@ -201,24 +201,24 @@ module _ {D : ℕ} (t : Arena D) (key parent : ℕ) (rising : IsRising t key) (u
         way = refitted-way;
         some = let some = mid-parent_some in let same = long in omega arith;
         filled = λ away.
-            let least = rising.sound.fitted.least parent (suc rising.level) parent-level (λ e. away (e ∙ sym r.root)) (λ e. apart (same_Some key parent e)) in
+            let least = rising.sound.fitted.least parent (suc rising.level) parent-level (λ e. away (e ∙ sym r.trims.root)) (λ e. apart (same_Some key parent e)) in
             let same = long in
             let kept = r.kept in
-            subst (λ c. least_fill c ≤ length (cells_at b parent)) (sym r.capacity) (omega arith);
-        most = let few = parent-most in let same = long in let grown = r.grown in let c = r.capacity in omega arith;
+            subst (λ c. least_fill c ≤ length (cells_at b parent)) (sym r.trims.capacity) (omega arith);
+        most = let few = parent-most in let same = long in let grown = r.grown in let c = r.trims.capacity in omega arith;
       }
 
       top-kept : length (cells_at t.nodes t.root) ≤ length (cells_at b mid.root)
       top-kept = elim (cases_eq t.root parent) [
         | inl here ↦
             let was = ap (λ y. length (cells_at t.nodes y)) here in
-            let is = ap (λ y. length (cells_at b y)) (r.root ∙ here) in
+            let is = ap (λ y. length (cells_at b y)) (r.trims.root ∙ here) in
             let same = long in
             let kept = r.kept in
             omega arith
         | inr other ↦
-            let same = ap length (ap (cells_at b) r.root ∙ ap cells_of (u.others t.root other)
-            ∙ r.cells t.root t.level rising.sound.linked.root_level (λ e. key-not_root (sym e)) other) in
+            let same = ap length (ap (cells_at b) r.trims.root ∙ ap cells_of (u.others t.root other)
+            ∙ r.trims.cells t.root t.level rising.sound.linked.root_level (λ e. key-not_root (sym e)) other) in
             omega arith
       ]
 
@@ -228,13 +228,13 @@ module _ {D : ℕ} (t : Arena D) (key parent : ℕ) (rising : IsRising t key) (u
             let e = n-level in
             let none-m = ap (count_by test) (leaf-none n.level (set n.cells done.at done.cell) (omega arith)) in
             let none-n = ap (count_by test) (leaf-none n.level n.cells (omega arith)) in
-            rows-updated test mid.nodes b parent n m has u mid.waiting.items mid.waiting.items (omega arith) ∙ r.rows test;
-        ids = r.ids;
-        root = r.root;
-        level = r.level;
-        capacity = r.capacity;
-        room = done.nodes.room ∙ r.room;
-        waiting_room = r.waiting_room;
+            rows-updated test mid.nodes b parent n m has u mid.pending.items mid.pending.items (omega arith) ∙ r.trims.rows test;
+        ids = r.trims.ids;
+        root = r.trims.root;
+        level = r.trims.level;
+        capacity = r.trims.capacity;
+        room = done.nodes.room ∙ r.trims.room;
+        pending_room = r.pending_room;
         top = top-kept;
       }
 
@@ -254,7 +254,7 @@ module _ {D : ℕ} (t : Arena D) (key parent : ℕ) (rising : IsRising t key) (u
       treated marks marks1 work work1 either = elim either [
         | inl is ↦ inl record {
           fits = is.fits;
-          waiting = is.waiting;
+          pending = is.pending;
           leaves = is.leaves;
           len = done.nodes.len ∙ is.len;
           above = long ∙ is.above;
@@ -274,7 +274,7 @@ module _ {D : ℕ} (t : Arena D) (key parent : ℕ) (rising : IsRising t key) (u
                 (subst (λ xs. Parts t.capacity (cells_at t.nodes key) (cells_at mid.nodes key) xs) (sym (ap cells_of (u.others (key_of is.cell) is.apart))) is.parts);
             apart = is.apart;
             appended = numbers-same ∙ is.appended;
-            waiting = is.waiting;
+            pending = is.pending;
             len = done.nodes.len ∙ is.len;
             above = long ∙ is.above;
             marks_same = is.marks_same;
@@ -291,7 +291,7 @@ module _ {D : ℕ} (t : Arena D) (key parent : ℕ) (rising : IsRising t key) (u
             far = is.far;
             chosen = subst (λ xs. ReInserts t.capacity (cells_at t.nodes key) xs is.far) (sym key-same) is.chosen;
             share = is.share;
-            waiting = is.waiting;
+            pending = is.pending;
             beside = numbers-same ∙ is.beside;
             len = done.nodes.len ∙ is.len;
             above = long ∙ is.above;
@@ -330,6 +330,6 @@ module _ {D : ℕ} (t : Arena D) (key parent : ℕ) (rising : IsRising t key) (u
         up = λ l e. lv parent ∙ mid-parent_level ∙ ap (λ i. Some (suc i)) (same_Some rising.level l (sym rising.here ∙ e));
         keeps = keeps;
         treats = treated marks marks1 work work1 treats;
-        others = λ x l e p q. ap cells_of (u.others x q) ∙ r.cells x l e p q;
+        others = λ x l e p q. ap cells_of (u.others x q) ∙ r.trims.cells x l e p q;
         shape = λ fits path on k. subst (λ s. KeepsShape s.nodes b path k) (r.still fits) (refit-shape path on k);
       }

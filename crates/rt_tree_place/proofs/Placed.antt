@@ -11,26 +11,26 @@ use Rattle.rt_box.specs.Capacity.{reinsertion_share}
 use Rattle.rt_tree_choice.specs.Split.{IsBestCut, first_group, second_group}
 use Rattle.rt_tree_node.specs.declared.arena.Arena.{Arena}
 use Rattle.rt_tree_node.specs.declared.arena.Work.{Work}
-use Rattle.rt_tree_node.specs.declared.cell.Waiting.{Waiting}
+use Rattle.rt_tree_node.specs.declared.cell.Pending.{Pending}
 use Rattle.rt_tree_node.specs.Node.{NodeCells}
 use Rattle.rt_tree_node.specs.Path.{LeadsTo, KeepsShape}
-use Rattle.rt_tree_node.specs.Places.{picked, rects, numbers, cells_of, leaf_cells_of, level_of, parent_of, cells_at, level_at, parent_at, count_rows, waiting_at}
+use Rattle.rt_tree_node.specs.Places.{picked, rects, numbers, cells_of, leaf_cells_of, level_of, parent_of, cells_at, level_at, parent_at, count_rows, pending_at}
 use Rattle.rt_tree_node.specs.Whole.{IsWhole, IsBranched}
 use Rattle.rt_tree_node.specs.Open.{IsOpen}
 use Rattle.rt_tree_node.proofs.Links.{same-at}
 use Rattle.rt_tree_node.proofs.Places.{leaf-at_leaf}
-use Rattle.rt_tree_place.specs.Placing.{JoinsLeaf, HalvesRoot, TakesRow, PlacesLast}
-use Rattle.rt_tree_place.specs.Rise.{IsUpward, KeepsAllBut, StaysRoot, SplitsRoot, InsertsAgain, InsertsNone, Grows, Ascends, HasRisen, IsAwaited, Enters}
+use Rattle.rt_tree_place.specs.Placement.{JoinsLeaf, HalvesRoot, TakesRow, PlacesLast}
+use Rattle.rt_tree_place.specs.Rise.{IsUpward, KeepsAllBut, StaysRoot, SplitsRoot, InsertsAgain, InsertsNone, Grows, Ascends, HasRisen, IsPending, Enters}
 use Rattle.rt_tree_place.proofs.Shapes.{shape-then}
 use Rattle.rt_tree_place.proofs.Upward.{path-last, path-upward}
 use Rattle.rt_tree_place.proofs.WayDown.{node-from_level}
 
 module _ {D : ℕ} where
-  -- a tree whose last waiting cell was taken off the list
-  pub awaited-from : (old s : Arena D) (entry : Waiting D) → IsWhole old → old.waiting.items ≡ s.waiting.items ++ entry ∷ [] →
-      IsAwaited (record old { waiting = s.waiting }) entry
-  awaited-from old s entry whole was =
-      subst (IsOpen (λ x. ⊥) (record old { waiting = s.waiting })) was record {
+  -- a tree whose last pending cell was taken off the list
+  pub pending-from : (old s : Arena D) (entry : Pending D) → IsWhole old → old.pending.items ≡ s.pending.items ++ entry ∷ [] →
+      IsPending (record old { pending = s.pending }) entry
+  pending-from old s entry whole was =
+      subst (IsOpen (λ x. ⊥) (record old { pending = s.pending })) was record {
         linked = whole.linked;
         fitted = record {
           cap = whole.fitted.cap;
@@ -39,8 +39,8 @@ module _ {D : ℕ} where
           most = λ x l e fine. whole.fitted.most x l e (λ s. none-some x s);
           boxes = whole.fitted.boxes;
           hulls = λ x l e j d within fine. whole.fitted.hulls x l e j d within (λ s. none-some _ s);
-          waiting_boxes = whole.fitted.waiting_boxes;
-          waiting_hulls = λ j d within l e fine. whole.fitted.waiting_hulls j d within l e;
+          pending_boxes = whole.fitted.pending_boxes;
+          pending_hulls = λ j d within l e fine. whole.fitted.pending_hulls j d within l e;
         };
         homes = whole.homes;
       }
@@ -54,18 +54,18 @@ module _ {D : ℕ} where
     boxes = λ at d off. ap (λ o. get_or (cells_of o) at d) e;
   }
 
-module _ {D : ℕ} (old s0 s t u : Arena D) (entry : Waiting D) (key marks marks1 : ℕ) (work work1 work2 work3 : Work)
-    (whole : IsWhole old) (was : old.waiting.items ≡ s0.waiting.items ++ entry ∷ []) (room : vec_capacity s0.waiting ≡ vec_capacity old.waiting)
-    (enters : Enters (record old { waiting = s0.waiting }) s entry key) (rises : HasRisen s t key t.root marks marks1 work work1) (ascends : Ascends s t key marks marks1) (grows : Grows t u work1 work2)
+module _ {D : ℕ} (old s0 s t u : Arena D) (entry : Pending D) (key marks marks1 : ℕ) (work work1 work2 work3 : Work)
+    (whole : IsWhole old) (was : old.pending.items ≡ s0.pending.items ++ entry ∷ []) (room : vec_capacity s0.pending ≡ vec_capacity old.pending)
+    (enters : Enters (record old { pending = s0.pending }) s entry key) (rises : HasRisen s t key t.root marks marks1 work work1) (ascends : Ascends s t key marks marks1) (grows : Grows t u work1 work2)
     (placements : work3.placements ≡ suc work2.placements) (splits : work3.splits ≡ work2.splits) (reinsertions : work3.reinsertions ≡ work2.reinsertions) where
   grown : length (cells_at s.nodes key) ≡ suc (length (cells_at old.nodes key))
   grown = ap length enters.cells ∙ length-append (cells_at old.nodes key) (entry.cell ∷ []) ∙ omega arith
 
-  abbrev left : List (Waiting D)
-  left = s0.waiting.items
+  abbrev left : List (Pending D)
+  left = s0.pending.items
 
-  s-items : s.waiting.items ≡ left
-  s-items = ap (λ v. v.items) enters.waiting
+  s-items : s.pending.items ≡ left
+  s-items = ap (λ v. v.items) enters.pending
 
   waits : InsertsAgain old u left marks marks1 work work3 ⊎ InsertsNone u left marks marks1 work work3
   waits = elim rises.waits [
@@ -80,12 +80,12 @@ module _ {D : ℕ} (old s0 s t u : Arena D) (entry : Waiting D) (key marks marks
           inner = omega arith;
           far = is.far;
           share = is.share ∙ ap reinsertion_share enters.capacity;
-          waiting = ap (λ v. v.items) grows.waiting ∙ is.waiting ∙ ap (λ ws. ws ++ waiting_at is.level is.far) s-items;
+          pending = ap (λ v. v.items) grows.pending ∙ is.pending ∙ ap (λ ws. ws ++ pending_at is.level is.far) s-items;
           counted = reinsertions ∙ grows.reinsertions ∙ is.counted;
         }
     | inr is ↦ inr record {
       marked = is.marked;
-      waiting = ap (λ v. v.items) grows.waiting ∙ is.waiting ∙ s-items;
+      pending = ap (λ v. v.items) grows.pending ∙ is.pending ∙ s-items;
       counted = reinsertions ∙ grows.reinsertions ∙ is.counted;
     }
   ]
@@ -267,7 +267,7 @@ module _ {D : ℕ} (old s0 s t u : Arena D) (entry : Waiting D) (key marks marks
     left = left;
     entry = entry;
     was = was;
-    without = record old { waiting = s0.waiting };
+    without = record old { pending = s0.pending };
     without_is = refl;
     left_waits = refl;
     inserts = record {
@@ -289,10 +289,10 @@ module _ {D : ℕ} (old s0 s t u : Arena D) (entry : Waiting D) (key marks marks
     };
     capacity = grows.capacity ∙ rises.keeps.capacity ∙ enters.capacity;
     room = grows.room ∙ rises.keeps.room ∙ enters.room;
-    waiting_room =
-        let a = ap (λ v. vec_capacity v) enters.waiting in
-        let b = rises.keeps.waiting_room in
-        let c = ap (λ v. vec_capacity v) grows.waiting in
+    pending_room =
+        let a = ap (λ v. vec_capacity v) enters.pending in
+        let b = rises.keeps.pending_room in
+        let c = ap (λ v. vec_capacity v) grows.pending in
         omega (arith, a, b, c, room);
     branched = ends.3;
     height = ends.0;

@@ -14,7 +14,7 @@ use Rattle.rt_tree_choice.specs.Sorting.{sort_by}
 use Rattle.rt_tree_choice.specs.Reinsertion.{by_distance, farthest_positions}
 use Rattle.rt_tree_choice.proofs.Sorted.{sort-permutes, length-sort}
 use Rattle.rt_tree_node.specs.declared.cell.Cell.{Cell}
-use Rattle.rt_tree_node.specs.Places.{picked, rects, no_cell, waiting_at}
+use Rattle.rt_tree_node.specs.Places.{picked, rects, no_cell, pending_at}
 use Rattle.rt_tree_place.specs.Rules.{IsRisingList, ReInserts}
 use Rattle.rt_tree_node.proofs.Counts.{count-append, count-zero}
 
@@ -72,7 +72,7 @@ module _ {D : ℕ} where
   -- one more of the cells that wait
   pub waits-more : (cells : List (Cell D)) (positions : List ℕ) (l k : ℕ) (c : Cell D) → k < length positions → All (λ p. p < length cells) positions →
       c ≡ get_or cells (get_or positions (length positions - 1 - k) 0) c →
-      waiting_at l (picked cells (take (k + 1) (reverse positions))) ≡ waiting_at l (picked cells (take k (reverse positions))) ++ record { level = l; cell = c } ∷ []
+      pending_at l (picked cells (take (k + 1) (reverse positions))) ≡ pending_at l (picked cells (take k (reverse positions))) ++ record { level = l; cell = c } ∷ []
   waits-more cells positions l k c within all read =
       let f : ℕ → Cell D = λ p. get_or cells p no_cell in
       let last = get_or positions (length positions - 1 - k) 0 in
@@ -81,7 +81,7 @@ module _ {D : ℕ} where
       map_more f (reverse positions) k 0 (omega (arith, length-reverse positions))
       ∙ ap (λ p. picked cells (take k (reverse positions)) ++ f p ∷ []) (get_or-reverse positions k 0 within)
       ∙ ap (λ q. picked cells (take k (reverse positions)) ++ q ∷ []) (sym (get_or_read cells last c in_cells read no_cell)) in
-      ap (waiting_at l) step ∙ map_push (λ q. record { level = l; cell = q }) (picked cells (take k (reverse positions))) c
+      ap (pending_at l) step ∙ map_push (λ q. record { level = l; cell = q }) (picked cells (take k (reverse positions))) c
 
   pub picked-all : (cells : List (Cell D)) → picked cells (range_with_len 0 (length cells)) ≡ cells
   picked-all cells = sym (fill_by_all (λ p. get_or cells p no_cell) cells (length cells) no_cell refl (λ k below. refl))

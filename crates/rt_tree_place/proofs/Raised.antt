@@ -12,15 +12,15 @@ use Rattle.rt_box.specs.Capacity.{least_fill}
 use Rattle.rt_box.specs.Rect.{IsBox}
 use Rattle.rt_tree_node.specs.declared.arena.Arena.{Arena}
 use Rattle.rt_tree_node.specs.declared.cell.Cell.{Cell}
-use Rattle.rt_tree_node.specs.declared.cell.Waiting.{Waiting}
+use Rattle.rt_tree_node.specs.declared.cell.Pending.{Pending}
 use Rattle.rt_tree_node.specs.Node.{NodeCells}
-use Rattle.rt_tree_node.specs.Places.{key_of, times_named, times_listed, cells_of, leaf_cells_of, level_of, parent_of, cells_at, level_at, parent_at, inner_cells_at, waiting_nodes, count_rows}
+use Rattle.rt_tree_node.specs.Places.{key_of, times_named, times_listed, cells_of, leaf_cells_of, level_of, parent_of, cells_at, level_at, parent_at, inner_cells_at, pending_nodes, count_rows}
 use Rattle.rt_tree_node.specs.Changes.{Puts}
 use Rattle.rt_tree_node.specs.Open.{HasHull, IsFittedBut, IsOpen}
 use Rattle.rt_tree_node.proofs.Places.{inner-at_inner, rows-joined, has_id, named-one}
 use Rattle.rt_tree_node.proofs.Links.{new-at, above-some, crowned}
 use Rattle.rt_tree_node.proofs.Fitted.{fitted-weaker, fitted-moved, opened}
-use Rattle.rt_tree_node.proofs.Homes.{homes-same, homes-waiting}
+use Rattle.rt_tree_node.proofs.Homes.{homes-same, homes-pending}
 use Rattle.rt_tree_place.specs.Rise.{Raises}
 use Rattle.rt_tree_place.specs.Steps.{Attaches, IsRising}
 use Rattle.rt_tree_place.proofs.Attached.{attached, rows-attached}
@@ -34,10 +34,10 @@ module _ {D : ℕ} (t : Arena D) (rising : IsRising t t.root) (b : Slab (NodeCel
   abbrev E : ℕ → Type 0
   E = either_key t.root k
 
-  abbrev ws : List (Waiting D)
-  ws = t.waiting.items
+  abbrev ws : List (Pending D)
+  ws = t.pending.items
 
-  abbrev w : Waiting D
+  abbrev w : Pending D
   w = record { level = suc t.level; cell = c }
 
   abbrev mid : Arena D
@@ -69,8 +69,8 @@ module _ {D : ℕ} (t : Arena D) (rising : IsRising t t.root) (b : Slab (NodeCel
         | inl at ↦ subst (λ y. All (HasHull E t.nodes) (cells_at b y)) (sym at) (subst (All (HasHull E t.nodes)) (sym (ap cells_of u.changed)) (All-nil (HasHull E t.nodes)))
         | inr differs ↦ subst (All (HasHull E t.nodes)) (sym (ap cells_of (u.others x differs))) (wide.hulls x i (sym (ap level_of (u.others x differs)) ∙ e))
       ])
-      (All-append (λ v. IsBox D v.cell.rect) ws (w ∷ []) wide.waiting_boxes (All-cons (λ v. IsBox D v.cell.rect) w [] box (All-nil (λ v. IsBox D v.cell.rect))))
-      (All-append (λ v. (i : ℕ) → v.level ≡ suc i → HasHull E t.nodes v.cell) ws (w ∷ []) wide.waiting_hulls
+      (All-append (λ v. IsBox D v.cell.rect) ws (w ∷ []) wide.pending_boxes (All-cons (λ v. IsBox D v.cell.rect) w [] box (All-nil (λ v. IsBox D v.cell.rect))))
+      (All-append (λ v. (i : ℕ) → v.level ≡ suc i → HasHull E t.nodes v.cell) ws (w ∷ []) wide.pending_hulls
       (All-cons (λ v. (i : ℕ) → v.level ≡ suc i → HasHull E t.nodes v.cell) w [] (λ i e fine. absurd (fine (inl key_is)))
       (All-nil (λ v. (i : ℕ) → v.level ≡ suc i → HasHull E t.nodes v.cell))))
 
@@ -81,7 +81,7 @@ module _ {D : ℕ} (t : Arena D) (rising : IsRising t t.root) (b : Slab (NodeCel
   mid-open = record {
     linked = crowned t.nodes b t.root t.level ws k c rising.sound.linked vacant number_is key_is u;
     fitted = fitted-mid;
-    homes = homes-waiting (leaf_of int_eq t.leaves) b ws (ws ++ w ∷ [])
+    homes = homes-pending (leaf_of int_eq t.leaves) b ws (ws ++ w ∷ [])
         (λ id. let step = rows-joined (has_id id) ws (suc t.level) (c ∷ []) in omega arith)
         (homes-same (leaf_of int_eq t.leaves) t.nodes b ws (λ x id. ap (times_listed id) (leaves-same x)) rising.sound.homes);
   }
@@ -117,16 +117,16 @@ module _ {D : ℕ} (t : Arena D) (rising : IsRising t t.root) (b : Slab (NodeCel
     root-is : new.root ≡ k
     root-is = ap (λ a. a.root) at.rest
 
-    waiting-is : new.waiting ≡ t.waiting
-    waiting-is = ap (λ a. a.waiting) at.rest
+    pending-is : new.pending ≡ t.pending
+    pending-is = ap (λ a. a.pending) at.rest
 
     capacity-is : new.capacity ≡ t.capacity
     capacity-is = ap (λ a. a.capacity) at.rest
 
-    items-are : ws ++ [] ≡ new.waiting.items
-    items-are = append-nil ws ∙ ap (λ v. v.items) (sym waiting-is)
+    items-are : ws ++ [] ≡ new.pending.items
+    items-are = append-nil ws ∙ ap (λ v. v.items) (sym pending-is)
 
-    new-open : IsOpen E new new.waiting.items
+    new-open : IsOpen E new new.pending.items
     new-open = subst (IsOpen E new) items-are (attached E (decide-either t.root k) mid new k empty ws w [] mid-open (inr refl) u.changed refl at)
 
     root-level : level_at new.nodes t.root ≡ Some t.level
@@ -147,7 +147,7 @@ module _ {D : ℕ} (t : Arena D) (rising : IsRising t t.root) (b : Slab (NodeCel
     root-named : times_named t.root (inner_cells_at new.nodes k) ≡ 1
     root-named = ap (times_named t.root) (inner-at_inner new.nodes k t.level top-level ∙ top-cells) ∙ named-one t.root c key_is
 
-    root-waits_not : times_named t.root (waiting_nodes new.waiting.items) ≡ 0
+    root-waits_not : times_named t.root (pending_nodes new.pending.items) ≡ 0
     root-waits_not =
         let one = new-open.linked.named t.root t.level root-level (λ e. root-apart (e ∙ root-is)) in
         let above = ap (times_named t.root) (above-some new.nodes t.root k root-up) in
@@ -196,7 +196,7 @@ module _ {D : ℕ} (t : Arena D) (rising : IsRising t t.root) (b : Slab (NodeCel
       rows = λ test. ap (count_rows test new.nodes) (sym items-are)
           ∙ rows-attached E (decide-either t.root k) mid new k empty ws w [] mid-open (inr refl) u.changed refl at test ∙ mid-rows test;
       level = ap (λ a. a.level) at.rest;
-      waiting = waiting-is;
+      pending = pending-is;
       leaves = (at.child (omega arith)).0;
       capacity = capacity-is;
       len = second.len ∙ first.len ∙ len;

@@ -10,9 +10,9 @@ use Rattle.rt_box.specs.Capacity.{least_fill}
 use Rattle.rt_box.specs.Rect.{IsBox}
 use Rattle.rt_tree_choice.specs.Hull.{hull}
 use Rattle.rt_tree_node.specs.declared.cell.Cell.{Cell}
-use Rattle.rt_tree_node.specs.declared.cell.Waiting.{Waiting}
+use Rattle.rt_tree_node.specs.declared.cell.Pending.{Pending}
 use Rattle.rt_tree_node.specs.Node.{NodeCells}
-use Rattle.rt_tree_node.specs.Places.{key_of, rects, times_named, cells_of, level_of, inner_part, cells_at, level_at, parent_at, hull_at, waiting_nodes}
+use Rattle.rt_tree_node.specs.Places.{key_of, rects, times_named, cells_of, level_of, inner_part, cells_at, level_at, parent_at, hull_at, pending_nodes}
 use Rattle.rt_tree_node.specs.Sound.{IsLinked, IsFitted}
 use Rattle.rt_tree_node.specs.Open.{IsFittedBut}
 use Rattle.rt_tree_node.proofs.Counts.{count-some, count-cons}
@@ -41,8 +41,8 @@ module _ {D : ℕ} where
     | inr (inr above) ↦ let twice = named-twice key cs j i d above in_i f e in absurd (omega arith)
   ]
 
-  -- what no waiting cell names is none of theirs
-  pub waits-free : (ws : List (Waiting D)) (x : ℕ) → times_named x (waiting_nodes ws) ≡ 0 → (j : ℕ) (d : Waiting D) → j < length ws →
+  -- what no pending cell names is none of theirs
+  pub waits-free : (ws : List (Pending D)) (x : ℕ) → times_named x (pending_nodes ws) ≡ 0 → (j : ℕ) (d : Pending D) → j < length ws →
       (i : ℕ) → (get_or ws j d).level ≡ suc i → key_of (get_or ws j d).cell ≡ x → ⊥
   waits-free [] x none j d within i e same = absurd (omega arith)
   waits-free (w ∷ ws) x none zero d within i e same =
@@ -54,12 +54,12 @@ module _ {D : ℕ} where
       let step = nodes-middle (names_key x) [] w ws in
       waits-free ws x (omega arith) j d (omega arith) i e same
 
-  module _ (M : ℕ) (a b : Slab (NodeCells D)) (root level : ℕ) (ws : List (Waiting D)) (key parent l : ℕ) (n : NodeCells D)
+  module _ (M : ℕ) (a b : Slab (NodeCells D)) (root level : ℕ) (ws : List (Pending D)) (key parent l : ℕ) (n : NodeCells D)
       (linked : IsLinked a root level ws) (fitted : IsFittedBut (λ x. (x ≡ key) ⊎ (x ≡ parent)) M a root ws)
       (has : get a parent ≡ Some n) (parent_level : level_at a parent ≡ Some (suc l)) (key_level : level_at a key ≡ Some l)
       (up : parent_at a key ≡ Some parent) (not_root : key ≢ root)
       (key_least : least_fill M ≤ length (cells_at a key)) (key_most : length (cells_at a key) ≤ M) (key_some : 1 ≤ length (cells_at a key))
-      (parent_waits_not : times_named parent (waiting_nodes ws) ≡ 0) (key_waits_not : times_named key (waiting_nodes ws) ≡ 0)
+      (parent_waits_not : times_named parent (pending_nodes ws) ≡ 0) (key_waits_not : times_named key (pending_nodes ws) ≡ 0)
       (done : Refits a b key parent n) where
     u : Updates a b parent (Some (record n { cells = set n.cells done.at done.cell }))
     u = done.nodes.updates
@@ -140,10 +140,10 @@ module _ {D : ℕ} where
                     let p : key_of c ≢ key = λ same. q (same_Some x parent (sym (linked.children x i (sym (lv x) ∙ e) j d within).parent_is ∙ ap (parent_at a) same ∙ up)) in
                     old j d within (no-odd (key_of c) p away) ∙ hull_same (key_of c) away)
               ];
-          waiting_boxes = fitted.waiting_boxes;
-          waiting_hulls = λ j d within i e.
+          pending_boxes = fitted.pending_boxes;
+          pending_hulls = λ j d within i e.
               let w = get_or ws j d in
               let p : key_of w.cell ≢ key = λ same. waits-free ws key key_waits_not j d within i e same in
               let q : key_of w.cell ≢ parent = λ same. waits-free ws parent parent_waits_not j d within i e same in
-              fitted.waiting_hulls j d within i e (no-odd (key_of w.cell) p q) ∙ hull_same (key_of w.cell) q;
+              fitted.pending_hulls j d within i e (no-odd (key_of w.cell) p q) ∙ hull_same (key_of w.cell) q;
         }

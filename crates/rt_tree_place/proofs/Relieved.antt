@@ -21,21 +21,10 @@ use Rattle.rt_tree_place.proofs.GivenUp.{given-up, rows-given_up, filled-after}
 module _ {D : ℕ} (old new : Arena D) (key parent : ℕ) (pair : IsPair old key parent) where
   pub relieved-divided : length (cells_at old.nodes key) ≡ old.capacity + 1 → Divides old new key parent → Relieves old new key parent
   relieved-divided full done = record {
-    opened = done.opened;
-    rows = done.rows;
-    least = done.least;
-    most = done.most;
+    trims = done.trims;
     kept = omega (arith, done.grown);
     grown = omega (arith, done.grown);
-    levels = done.levels;
-    parents = done.parents;
-    cells = done.cells;
-    ids = done.ids;
-    root = done.root;
-    level = done.level;
-    capacity = done.capacity;
-    room = done.room;
-    waiting_room = let same = ap (λ w. vec_capacity w) done.waiting in omega arith;
+    pending_room = let same = ap (λ w. vec_capacity w) done.pending in omega arith;
     names = λ z.
         let same = ap (times_named z) done.appended in
         omega (arith, same, count-append (names_key z) (cells_at old.nodes parent) (done.cell ∷ []));
@@ -51,21 +40,23 @@ module _ {D : ℕ} (old new : Arena D) (key parent : ℕ) (pair : IsPair old key
       let apart : parent ≢ key = λ e. let same = same_Some pair.level (suc pair.level) (sym pair.key_level ∙ ap (level_at old.nodes) (sym e) ∙ pair.parent_level) in omega arith in
       let above = ap (λ s. length (cells_of s)) (u.others parent apart) in
       record {
-        opened = given-up E (decide-either key parent) old new key n pair.opened (inl refl) has done;
-        rows = rows-given_up E (decide-either key parent) old new key n pair.opened (inl refl) has done;
-        least = filled.0;
-        most = filled.1;
+        trims = record {
+          opened = given-up E (decide-either key parent) old new key n pair.opened (inl refl) has done;
+          rows = rows-given_up E (decide-either key parent) old new key n pair.opened (inl refl) has done;
+          least = filled.0;
+          most = filled.1;
+          levels = λ x l e. same-at level_of old.nodes new.nodes key n m has u refl x ∙ e;
+          parents = λ x l i e f upward. same-at parent_of old.nodes new.nodes key n m has u refl x;
+          cells = λ x l e p q. ap cells_of (u.others x p);
+          ids = subst (KeepsIds old.leaves) (sym (ap (λ t. t.leaves) done.rest)) record { ids = refl; len = refl; room = refl };
+          root = ap (λ t. t.root) done.rest;
+          level = ap (λ t. t.level) done.rest;
+          capacity = ap (λ t. t.capacity) done.rest;
+          room = done.nodes.room;
+        };
         kept = omega (arith, above);
         grown = omega (arith, above);
-        levels = λ x l e. same-at level_of old.nodes new.nodes key n m has u refl x ∙ e;
-        parents = λ x l i e f upward. same-at parent_of old.nodes new.nodes key n m has u refl x;
-        cells = λ x l e p q. ap cells_of (u.others x p);
-        ids = subst (KeepsIds old.leaves) (sym (ap (λ t. t.leaves) done.rest)) record { ids = refl; len = refl; room = refl };
-        root = ap (λ t. t.root) done.rest;
-        level = ap (λ t. t.level) done.rest;
-        capacity = ap (λ t. t.capacity) done.rest;
-        room = done.nodes.room;
-        waiting_room = done.waiting_room;
+        pending_room = done.pending_room;
         names = λ z. let same = ap (λ s. times_named z (cells_of s)) (u.others parent apart) in omega (arith, same);
         still = λ fits. absurd (omega (arith, full, fits));
       }
@@ -74,21 +65,23 @@ module _ {D : ℕ} (old : Arena D) (key parent : ℕ) (pair : IsPair old key par
   -- a node that isn't overfull
   pub relieved-not : least_fill old.capacity ≤ length (cells_at old.nodes key) → length (cells_at old.nodes key) ≤ old.capacity → Relieves old old key parent
   relieved-not least most = record {
-    opened = pair.opened;
-    rows = λ test. refl;
-    least = least;
-    most = most;
+    trims = record {
+      opened = pair.opened;
+      rows = λ test. refl;
+      least = least;
+      most = most;
+      levels = λ x l e. e;
+      parents = λ x l i e f upward. refl;
+      cells = λ x l e p q. refl;
+      ids = record { ids = refl; len = refl; room = refl };
+      root = refl;
+      level = refl;
+      capacity = refl;
+      room = refl;
+    };
     kept = omega arith;
     grown = omega arith;
-    levels = λ x l e. e;
-    parents = λ x l i e f upward. refl;
-    cells = λ x l e p q. refl;
-    ids = record { ids = refl; len = refl; room = refl };
-    root = refl;
-    level = refl;
-    capacity = refl;
-    room = refl;
-    waiting_room = omega arith;
+    pending_room = omega arith;
     names = λ z. omega arith;
     still = λ fits. refl;
   }
@@ -96,7 +89,7 @@ module _ {D : ℕ} (old : Arena D) (key parent : ℕ) (pair : IsPair old key par
   pub treats-not : (marks : ℕ) (work : Work) → length (cells_at old.nodes key) ≤ old.capacity → Treats old old key parent marks marks work work
   treats-not marks work fits = inl record {
     fits = fits;
-    waiting = refl;
+    pending = refl;
     leaves = refl;
     len = refl;
     above = refl;
@@ -118,7 +111,7 @@ module _ {D : ℕ} (old : Arena D) (key parent : ℕ) (pair : IsPair old key par
     parts = done.parts;
     apart = done.apart;
     appended = ap numbers done.appended ∙ map-append (λ c. c.number) (cells_at old.nodes parent) (done.cell ∷ []);
-    waiting = done.waiting;
+    pending = done.pending;
     len = done.len;
     above = done.grown;
     marks_same = refl;
@@ -142,7 +135,7 @@ module _ {D : ℕ} (old : Arena D) (key parent : ℕ) (pair : IsPair old key par
         chosen = subst (λ s. ReInserts old.capacity (cells_of s) (cells_at new.nodes key) done.far) (sym has)
             (subst (λ s. ReInserts old.capacity n.cells (cells_of s) done.far) (sym done.nodes.updates.changed) done.chosen);
         share = reinserts-share old.capacity n.cells done.near done.far done.chosen (omega (arith, pair.opened.fitted.cap, ap (λ s. length (cells_of s)) has, full));
-        waiting = done.waiting;
+        pending = done.pending;
         beside = ap (λ s. numbers (cells_of s)) (done.nodes.updates.others parent apart);
         len = done.nodes.len;
         above = ap (λ s. length (cells_of s)) (done.nodes.updates.others parent apart);

@@ -61,8 +61,8 @@ module _ {D : ℕ} (t : Arena D) (key parent level : ℕ) (sound : IsSound t (So
             | inl same ↦ hull-here x i e j d within same ∙ ap (hull_at t.nodes) (sym same)
             | inr other ↦ fitted.hulls x i e j d within (λ s. other (sym (same_Some key _ s)))
           ];
-          waiting_boxes = fitted.waiting_boxes;
-          waiting_hulls = fitted.waiting_hulls;
+          pending_boxes = fitted.pending_boxes;
+          pending_hulls = fitted.pending_hulls;
         };
         homes = sound.homes;
       }
@@ -81,8 +81,8 @@ whole-but t key whole =
         most = λ x l e odd. fitted.most x l e (none x);
         boxes = fitted.boxes;
         hulls = λ x i e j d within odd. fitted.hulls x i e j d within (none _);
-        waiting_boxes = fitted.waiting_boxes;
-        waiting_hulls = fitted.waiting_hulls;
+        pending_boxes = fitted.pending_boxes;
+        pending_hulls = fitted.pending_hulls;
       };
       homes = whole.homes;
     }

@@ -5,7 +5,7 @@ use Rattle.slab.specs.Slab.{slab_len}
 use Rattle.rt_box.specs.Capacity.{reinsertion_share}
 use Rattle.rt_tree_node.specs.declared.arena.Arena.{Arena}
 use Rattle.rt_tree_node.specs.declared.arena.Work.{Work}
-use Rattle.rt_tree_node.specs.Places.{parent_at, cells_at, waiting_at}
+use Rattle.rt_tree_node.specs.Places.{parent_at, cells_at, pending_at}
 use Rattle.rt_tree_place.specs.Rise.{IsUpward, KeepsAllBut, StartsAt, HasStepped, InsertsAgain, InsertsNone, HasRisen}
 use Rattle.rt_tree_place.specs.Steps.{IsRising, KeepsRows, Lifts}
 use Rattle.rt_tree_place.specs.Way.{LeadsUp}
@@ -21,7 +21,7 @@ module _ {D : ℕ} where
     level = refl;
     capacity = refl;
     room = refl;
-    waiting_room = omega arith;
+    pending_room = omega arith;
     top = omega arith;
   }
 
@@ -33,7 +33,7 @@ module _ {D : ℕ} where
     level = q.level ∙ p.level;
     capacity = q.capacity ∙ p.capacity;
     room = q.room ∙ p.room;
-    waiting_room = omega (arith, p.waiting_room, q.waiting_room);
+    pending_room = omega (arith, p.pending_room, q.pending_room);
     top = omega (arith, p.top, q.top);
   }
 
@@ -41,7 +41,7 @@ module _ {D : ℕ} where
   risen-start t from marks work rising = record {
     rising = rising;
     keeps = keeps-none t;
-    waits = inr record { marked = refl; waiting = refl; counted = refl };
+    waits = inr record { marked = refl; pending = refl; counted = refl };
     placements = refl;
     splits = omega arith;
     few = omega arith;
@@ -63,10 +63,10 @@ module _ {D : ℕ} where
     above-fits same = let few = parent-most t key parent rising up in let c = step.keeps.capacity in omega arith
 
     abbrev Waits : Type 0
-    Waits = (InsertsAgain s u s.waiting.items marks marks2 work work2 × (length (cells_at u.nodes parent) ≤ u.capacity)) ⊎ InsertsNone u s.waiting.items marks marks2 work work2
+    Waits = (InsertsAgain s u s.pending.items marks marks2 work work2 × (length (cells_at u.nodes parent) ≤ u.capacity)) ⊎ InsertsNone u s.pending.items marks marks2 work work2
 
     -- cells wait already: the node isn't overfull then
-    waits-again : InsertsAgain s t s.waiting.items marks marks1 work work1 → length (cells_at t.nodes key) ≤ t.capacity → Waits
+    waits-again : InsertsAgain s t s.pending.items marks marks1 work work1 → length (cells_at t.nodes key) ≤ t.capacity → Waits
     waits-again is fits = elim step.treats [
       | inl lets ↦ inl (
         record {
@@ -76,7 +76,7 @@ module _ {D : ℕ} where
           inner = let inner = is.inner in let l = step.keeps.level in omega arith;
           far = is.far;
           share = is.share;
-          waiting = ap (λ w. w.items) lets.waiting ∙ is.waiting;
+          pending = ap (λ w. w.items) lets.pending ∙ is.pending;
           counted = lets.reinsertions ∙ is.counted;
         },
         above-fits lets.above,
@@ -87,17 +87,17 @@ module _ {D : ℕ} where
       ]
     ]
 
-    waits-none : InsertsNone t s.waiting.items marks marks1 work work1 → Waits
+    waits-none : InsertsNone t s.pending.items marks marks1 work work1 → Waits
     waits-none is = elim step.treats [
       | inl lets ↦ inr record {
         marked = lets.marks_same ∙ is.marked;
-        waiting = ap (λ w. w.items) lets.waiting ∙ is.waiting;
+        pending = ap (λ w. w.items) lets.pending ∙ is.pending;
         counted = lets.reinsertions ∙ is.counted;
       }
       | inr others ↦ elim others [
         | inl splits ↦ inr record {
           marked = splits.marks_same ∙ is.marked;
-          waiting = ap (λ w. w.items) splits.waiting ∙ is.waiting;
+          pending = ap (λ w. w.items) splits.pending ∙ is.pending;
           counted = splits.reinsertions ∙ is.counted;
         }
         | inr gives ↦
@@ -112,7 +112,7 @@ module _ {D : ℕ} where
                 inner = omega arith;
                 far = gives.far;
                 share = gives.share ∙ ap reinsertion_share so_far.keeps.capacity;
-                waiting = gives.waiting ∙ ap (λ ws. ws ++ waiting_at gives.level gives.far) is.waiting;
+                pending = gives.pending ∙ ap (λ ws. ws ++ pending_at gives.level gives.far) is.pending;
                 counted = gives.reinsertions ∙ ap suc is.counted;
               },
               above-fits gives.above,
@@ -225,11 +225,11 @@ module _ {D : ℕ} where
       let len = so_far.len in
       (omega arith, omega arith, omega arith)
 
-  pub waiting-room_left : (s t : Arena D) (from key marks marks1 : ℕ) (work work1 : Work) → HasRisen s t from key marks marks1 work work1 →
-      length s.waiting.items + 15 ≤ vec_capacity s.waiting → t.capacity < length (cells_at t.nodes key) → length t.waiting.items + 15 ≤ vec_capacity t.waiting
-  waiting-room_left s t from key marks marks1 work work1 so_far room full = elim so_far.waits [
+  pub pending-room_left : (s t : Arena D) (from key marks marks1 : ℕ) (work work1 : Work) → HasRisen s t from key marks marks1 work work1 →
+      length s.pending.items + 15 ≤ vec_capacity s.pending → t.capacity < length (cells_at t.nodes key) → length t.pending.items + 15 ≤ vec_capacity t.pending
+  pending-room_left s t from key marks marks1 work work1 so_far room full = elim so_far.waits [
     | inl both ↦ absurd (omega (arith, both.1, full))
-    | inr none ↦ omega (arith, ap length none.waiting, room, so_far.keeps.waiting_room)
+    | inr none ↦ omega (arith, ap length none.pending, room, so_far.keeps.pending_room)
   ]
 
   pub reinsertions-few : (s t : Arena D) (from key marks marks1 : ℕ) (work work1 : Work) → HasRisen s t from key marks marks1 work work1 → work1.reinsertions ≤ suc work.reinsertions

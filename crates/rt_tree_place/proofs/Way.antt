@@ -5,19 +5,19 @@ use Rattle.std.proofs.lemmas.Option.{none-some, same_Some}
 use Rattle.std.proofs.lemmas.List.Elements.{All-weaker}
 use Rattle.slab.specs.Slab.{Slab}
 use Rattle.rt_tree_node.specs.declared.cell.Cell.{Cell}
-use Rattle.rt_tree_node.specs.declared.cell.Waiting.{Waiting}
+use Rattle.rt_tree_node.specs.declared.cell.Pending.{Pending}
 use Rattle.rt_tree_node.specs.Node.{NodeCells}
-use Rattle.rt_tree_node.specs.Places.{key_of, times_named, cells_at, inner_cells_at, level_at, parent_at, waiting_nodes}
+use Rattle.rt_tree_node.specs.Places.{key_of, times_named, cells_at, inner_cells_at, level_at, parent_at, pending_nodes}
 use Rattle.rt_tree_node.specs.Sound.{NamesChild, IsLinked}
 use Rattle.rt_tree_node.proofs.Counts.{count-some}
 use Rattle.rt_tree_node.proofs.Places.{inner-all, inner-at_inner, named-find, names_key}
 use Rattle.rt_tree_node.proofs.Links.{above-some}
 use Rattle.rt_tree_place.specs.Way.{LeadsUp}
 
-module _ {D : ℕ} (a : Slab (NodeCells D)) (root level : ℕ) (ws : List (Waiting D)) (linked : IsLinked a root level ws) where
+module _ {D : ℕ} (a : Slab (NodeCells D)) (root level : ℕ) (ws : List (Pending D)) (linked : IsLinked a root level ws) where
   -- a node on the way waits for nothing
-  pub way-settled : (n key l : ℕ) → LeadsUp a root n key → level_at a key ≡ Some l → times_named key (waiting_nodes ws) ≡ 0
-  way-settled zero key l way e = subst (λ k. times_named k (waiting_nodes ws) ≡ 0) (sym way) linked.root_waits_not
+  pub way-settled : (n key l : ℕ) → LeadsUp a root n key → level_at a key ≡ Some l → times_named key (pending_nodes ws) ≡ 0
+  way-settled zero key l way e = subst (λ k. times_named k (pending_nodes ws) ≡ 0) (sym way) linked.root_waits_not
   way-settled (suc n) key l way e =
       let not_root : key ≢ root = λ same. none-some way.0 (sym linked.root_parent ∙ ap (parent_at a) (sym same) ∙ way.1) in
       let one = linked.named key l e not_root in

@@ -5,9 +5,9 @@ use Rattle.rt_box.specs.Capacity.{reinsertion_share}
 use Rattle.rt_tree_node.specs.declared.arena.Arena.{Arena}
 use Rattle.rt_tree_node.specs.declared.arena.Work.{Work}
 use Rattle.rt_tree_node.specs.declared.cell.Cell.{Cell}
-use Rattle.rt_tree_node.specs.declared.cell.Waiting.{Waiting}
+use Rattle.rt_tree_node.specs.declared.cell.Pending.{Pending}
 use Rattle.rt_tree_node.specs.Node.{NodeCells}
-use Rattle.rt_tree_node.specs.Places.{key_of, cells_at, level_at, parent_at, count_rows, waiting_at}
+use Rattle.rt_tree_node.specs.Places.{key_of, cells_at, level_at, parent_at, count_rows, pending_at}
 use Rattle.rt_tree_node.specs.Path.{LeadsTo, KeepsShape}
 use Rattle.rt_tree_node.specs.Changes.{Changes}
 use Rattle.rt_tree_node.specs.Open.{IsOpen}
@@ -37,7 +37,7 @@ module _ {D : ℕ} where
     pub marks_is : marks1 ≡ marks
     pub work_is : work1 ≡ work
 
-  -- a step was made, and more, maybe: at the first the node gave up cells, where it was overfull and no level marked
+  -- a step was made, and more, maybe: at the first the node gave up cells if it was overfull and no level marked
   pub record HasStepped (old : Arena D) (from level marks : ℕ) (work work1 : Work) : Type 0 where
     pub higher : 1 ≤ level
     pub again : old.capacity < length (cells_at old.nodes from) → marks ≡ 0 → work1.reinsertions ≡ suc work.reinsertions
@@ -48,36 +48,36 @@ module _ {D : ℕ} where
     step : {t u : Arena D} {key parent marks1 marks2 : ℕ} {work1 work2 : Work} → ClimbsTo old from marks t key marks1 →
         Lifts t u key parent marks1 marks2 work1 work2 → ClimbsTo old from marks u parent marks2
 
-  -- the steps up end at the root, or where nothing is left to be done
+  -- the steps up end at the root, or when nothing is left to be done
   pub record Ascends (old new : Arena D) (from marks marks1 : ℕ) : Type 0 where
     pub last : ℕ
     pub steps : ClimbsTo old from marks new last marks1
     pub ends : (last ≡ new.root) ⊎ ((parent : ℕ) × (parent_at new.nodes last ≡ Some parent) × Rests new last parent)
 
-  -- Levels below `marks` are marked. A node of a level that wasn't gave up cells, which wait beside those that are
-  -- left, and the level is marked now.
-  pub record InsertsAgain (old new : Arena D) (left : List (Waiting D)) (marks marks1 : ℕ) (work work1 : Work) : Type 0 where
+  -- Levels below `marks` are marked. A node of a level that wasn't gave up cells, which are pending beside those that
+  -- are left, and the level is marked now.
+  pub record InsertsAgain (old new : Arena D) (left : List (Pending D)) (marks marks1 : ℕ) (work work1 : Work) : Type 0 where
     pub level : ℕ
     pub unmarked : marks ≤ level
     pub marked : marks1 ≡ suc level
     pub inner : level < new.level
     pub far : List (Cell D)
     pub share : length far ≡ reinsertion_share old.capacity
-    pub waiting : new.waiting.items ≡ left ++ waiting_at level far
+    pub pending : new.pending.items ≡ left ++ pending_at level far
     pub counted : work1.reinsertions ≡ suc work.reinsertions
 
   -- no node gave up cells
-  pub record InsertsNone (new : Arena D) (left : List (Waiting D)) (marks marks1 : ℕ) (work work1 : Work) : Type 0 where
+  pub record InsertsNone (new : Arena D) (left : List (Pending D)) (marks marks1 : ℕ) (work work1 : Work) : Type 0 where
     pub marked : marks1 ≡ marks
-    pub waiting : new.waiting.items ≡ left
+    pub pending : new.pending.items ≡ left
     pub counted : work1.reinsertions ≡ work.reinsertions
 
   -- steps up have come to the node at the key; one node at most gave up cells, and from there on none is overfull
   pub record HasRisen (old new : Arena D) (from key marks marks1 : ℕ) (work work1 : Work) : Type 0 where
     pub rising : IsRising new key
     pub keeps : KeepsRows old new
-    pub waits : (InsertsAgain old new old.waiting.items marks marks1 work work1 × (length (cells_at new.nodes key) ≤ new.capacity))
-        ⊎ InsertsNone new old.waiting.items marks marks1 work work1
+    pub waits : (InsertsAgain old new old.pending.items marks marks1 work work1 × (length (cells_at new.nodes key) ≤ new.capacity))
+        ⊎ InsertsNone new old.pending.items marks marks1 work work1
     pub placements : work1.placements ≡ work.placements
     pub splits : work.splits ≤ work1.splits
     pub few : work1.splits ≤ work.splits + rising.level
@@ -95,9 +95,9 @@ module _ {D : ℕ} where
     pub names : cell.number ≡ pos old.root
     pub cells : cells_at new.nodes old.root ≡ cells_at old.nodes old.root
     pub others : (x l : ℕ) → level_at old.nodes x ≡ Some l → x ≢ old.root → (level_at new.nodes x ≡ Some l) × (cells_at new.nodes x ≡ cells_at old.nodes x)
-    pub rows : (test : Cell D → Bool) → count_rows test new.nodes new.waiting.items ≡ count_rows test old.nodes old.waiting.items
+    pub rows : (test : Cell D → Bool) → count_rows test new.nodes new.pending.items ≡ count_rows test old.nodes old.pending.items
     pub level : new.level ≡ suc old.level
-    pub waiting : new.waiting ≡ old.waiting
+    pub pending : new.pending ≡ old.pending
     pub leaves : new.leaves ≡ old.leaves
     pub capacity : new.capacity ≡ old.capacity
     pub len : slab_len new.nodes ≡ slab_len old.nodes + 1
@@ -122,35 +122,35 @@ module _ {D : ℕ} where
     pub len : slab_len new.nodes ≡ slab_len old.nodes + 2
     pub splits : work1.splits ≡ suc work.splits
 
-  -- no node is out of shape any more: the root, which alone might be, was split where it was overfull
+  -- no node is out of shape any more: the root, which alone might be, was split if it was overfull
   pub record Grows (old new : Arena D) (work work1 : Work) : Type 0 where
     pub whole : IsWhole new
-    pub rows : (test : Cell D → Bool) → count_rows test new.nodes new.waiting.items ≡ count_rows test old.nodes old.waiting.items
+    pub rows : (test : Cell D → Bool) → count_rows test new.nodes new.pending.items ≡ count_rows test old.nodes old.pending.items
     pub ids : KeepsIds old.leaves new.leaves
     pub capacity : new.capacity ≡ old.capacity
     pub room : new.nodes.capacity ≡ old.nodes.capacity
-    pub waiting : new.waiting ≡ old.waiting
+    pub pending : new.pending ≡ old.pending
     pub placements : work1.placements ≡ work.placements
     pub reinsertions : work1.reinsertions ≡ work.reinsertions
     pub split : StaysRoot old new work work1 ⊎ SplitsRoot old new work work1
 
-  -- a tree that is sound, with a cell on its way besides those that wait
-  abbrev pub IsAwaited : Arena D → Waiting D → Type 0
-  IsAwaited t entry = IsOpen (λ x. ⊥) t (t.waiting.items ++ entry ∷ [])
+  -- a tree that is sound, with a cell on its way besides the pending ones
+  abbrev pub IsPending : Arena D → Pending D → Type 0
+  IsPending t entry = IsOpen (λ x. ⊥) t (t.pending.items ++ entry ∷ [])
 
   -- the cell is the last of the node of its level that best children lead its box to, from the root down
-  pub record Enters (old new : Arena D) (entry : Waiting D) (key : ℕ) : Type 0 where
+  pub record Enters (old new : Arena D) (entry : Pending D) (key : ℕ) : Type 0 where
     pub rising : IsRising new key
     pub level : level_at old.nodes key ≡ Some entry.level
     pub path : List ℕ
     pub leads : LeadsTo old.nodes entry.level (old.level - entry.level) old.root entry.cell.rect key path
     pub rows : (test : Cell D → Bool) →
-        count_rows test new.nodes new.waiting.items ≡ count_rows test old.nodes (old.waiting.items ++ entry ∷ [])
+        count_rows test new.nodes new.pending.items ≡ count_rows test old.nodes (old.pending.items ++ entry ∷ [])
     pub ids : KeepsIds old.leaves new.leaves
     pub levels : (x : ℕ) → level_at new.nodes x ≡ level_at old.nodes x
     pub cells : cells_at new.nodes key ≡ cells_at old.nodes key ++ entry.cell ∷ []
     pub others : (x : ℕ) → x ≢ key → cells_at new.nodes x ≡ cells_at old.nodes x
-    pub waiting : new.waiting ≡ old.waiting
+    pub pending : new.pending ≡ old.pending
     pub root : new.root ≡ old.root
     pub height : new.level ≡ old.level
     pub capacity : new.capacity ≡ old.capacity

@@ -1,8 +1,8 @@
 -- What the parts of a placement do.
-use Rattle.std.specs.Prelude.{◌≡◌, ◌≢◌, ◌⊎◌, ℕ, suc, ◌+◌, ◌≤◌, Bool, List, [], ◌∷◌, ◌++◌, Some, None, length, slice_get, slice_set, slice_index_or, All, Contains, vec_capacity, IsSome, ℤ, pos, ◌<◌}
+use Rattle.std.specs.Prelude.{◌≡◌, ◌≢◌, ◌⊎◌, ℕ, suc, ◌+◌, ◌≤◌, Bool, List, [], ◌∷◌, ◌++◌, Some, None, length, slice_get, slice_set, slice_index_or, All, Contains, vec_len, vec_capacity, IsSome, ℤ, pos, ◌<◌}
 use Rattle.rt_box.specs.Rect.{IsBox, Holds}
 use Rattle.rt_box.specs.Capacity.{least_fill, reinsertion_share}
-use Rattle.slab.specs.Slab.{Slab, get, slab_len, Updates}
+use Rattle.slab.specs.Slab.{Slab, get, slab_len, ContainsKey, Updates}
 use Rattle.rt_tree_choice.specs.declared.split.Cut.{Cut}
 use Rattle.rt_tree_choice.specs.Split.{IsBestCut, first_group, second_group}
 use Rattle.indexmap.specs.IndexMap.{IndexMap, get as leaf_of}
@@ -12,9 +12,9 @@ use Rattle.rt_tree_choice.specs.Subtree.{IsBestChild}
 use Rattle.rt_tree_node.specs.declared.arena.Arena.{Arena}
 use Rattle.rt_tree_node.specs.declared.arena.Work.{Work}
 use Rattle.rt_tree_node.specs.declared.cell.Cell.{Cell}
-use Rattle.rt_tree_node.specs.declared.cell.Waiting.{Waiting}
+use Rattle.rt_tree_node.specs.declared.cell.Pending.{Pending}
 use Rattle.rt_tree_node.specs.Node.{NodeCells}
-use Rattle.rt_tree_node.specs.Places.{key_of, picked, times_named, waiting_nodes, rects, numbers, no_cell, hull_at, cells_at, level_at, parent_at, count_rows, waiting_at}
+use Rattle.rt_tree_node.specs.Places.{key_of, picked, times_named, pending_nodes, rects, numbers, no_cell, hull_at, cells_at, level_at, parent_at, count_rows, pending_at}
 use Rattle.rt_tree_node.specs.Sound.{NamesChild, IsLinked}
 use Rattle.rt_tree_node.specs.Changes.{Puts, Changes}
 use Rattle.rt_tree_node.specs.Homes.{Moves, KeepsIds}
@@ -34,10 +34,11 @@ module _ {D : ℕ} where
   -- the node that the best cell for the box names
   abbrev pub IsBestAt : Slab (NodeCells D) → ℕ → Bool → List Interval → ℕ → Type 0
   IsBestAt a key above_leaves rect child =
-      (at : ℕ) × (c : Cell D) × IsBestChild above_leaves (rects (cells_at a key)) rect at × (slice_get (cells_at a key) at ≡ Some c) × (key_of c ≡ child)
+      (at : ℕ) × (c : Cell D) × IsBestChild above_leaves (rects (cells_at a key)) rect at
+      × (slice_get (cells_at a key) at ≡ Some c) × (key_of c ≡ child)
 
   -- the cell is the node's last now; a row's entry leads there, a child's parent is that node
-  pub record Attaches (old new : Arena D) (key : ℕ) (w : Waiting D) : Type 0 where
+  pub record Attaches (old new : Arena D) (key : ℕ) (w : Pending D) : Type 0 where
     pub rest : new ≡ record old { nodes = new.nodes; leaves = new.leaves }
     pub row : w.level ≡ 0 → Moves old.leaves new.leaves w.cell.number key
         × Changes (λ n. record n { cells = n.cells ++ w.cell ∷ [] }) old.nodes new.nodes key
@@ -45,15 +46,26 @@ module _ {D : ℕ} where
         × (mid : Slab (NodeCells D)) × Changes (λ n. record n { parent = Some key }) old.nodes mid (key_of w.cell)
         × Changes (λ n. record n { cells = n.cells ++ w.cell ∷ [] }) mid new.nodes key
 
-  -- the overfull node keeps the near ones of its cells, and the far ones wait
+  -- there is room among the pending cells for those that the node gives up if it is overfull
+  abbrev pub HasRoomToGiveUp : Arena D → ℕ → Type 0
+  HasRoomToGiveUp t key = t.capacity < length (cells_at t.nodes key) → vec_len t.pending + 15 ≤ vec_capacity t.pending
+
+  -- the cells name nodes, and those of the node name others than itself
+  abbrev pub ArePresent : Slab (NodeCells D) → List (Cell D) → Type 0
+  ArePresent a cells = All (λ c. ContainsKey a (key_of c)) cells
+
+  abbrev pub NameOthers : Slab (NodeCells D) → ℕ → Type 0
+  NameOthers a key = All (λ c. ContainsKey a (key_of c) × (key_of c ≢ key)) (cells_at a key)
+
+  -- the overfull node keeps the near ones of its cells, and the far ones are pending
   pub record GivesUp (old new : Arena D) (key : ℕ) (n : NodeCells D) : Type 0 where
     pub near : List (Cell D)
     pub far : List (Cell D)
     pub chosen : ReInserts old.capacity n.cells near far
     pub nodes : Puts old.nodes new.nodes key (record n { cells = near })
-    pub waiting : new.waiting.items ≡ old.waiting.items ++ waiting_at n.level far
-    pub waiting_room : vec_capacity new.waiting ≡ vec_capacity old.waiting
-    pub rest : new ≡ record old { nodes = new.nodes; waiting = new.waiting }
+    pub pending : new.pending.items ≡ old.pending.items ++ pending_at n.level far
+    pub pending_room : vec_capacity new.pending ≡ vec_capacity old.pending
+    pub rest : new ≡ record old { nodes = new.nodes; pending = new.pending }
 
   -- the cell at the position names the node at the key
   abbrev pub IsNamedAt : List (Cell D) → ℕ → ℕ → Type 0
@@ -66,7 +78,17 @@ module _ {D : ℕ} where
     pub names : (d : Cell D) → key_of (slice_index_or (cells_at a parent) at d) ≡ key
     pub rect : (d : Cell D) → (slice_index_or (cells_at a parent) at d).rect ≡ hull_at a key
 
-  -- where the parent's cell that names the node holds the box, it has the least box around the node's cells
+  -- the parent's cell that names the node has this box
+  abbrev pub IsBoxAbove : Slab (NodeCells D) → ℕ → ℕ → List Interval → Type 0
+  IsBoxAbove a key parent rect =
+      (at : ℕ) × IsNamedAt (cells_at a parent) at key × (rect ≡ (slice_index_or (cells_at a parent) at no_cell).rect)
+
+  -- the parent's cell that names the node holds the box
+  abbrev pub IsHeldAbove : Slab (NodeCells D) → ℕ → ℕ → List Interval → Type 0
+  IsHeldAbove a key parent rect =
+      (at : ℕ) × IsNamedAt (cells_at a parent) at key × Holds (slice_index_or (cells_at a parent) at no_cell).rect rect
+
+  -- if the parent's cell that names the node holds the box, it has the least box around the node's cells
   abbrev pub HasLeastWhereHeld : Slab (NodeCells D) → ℕ → List Interval → Type 0
   HasLeastWhereHeld a key rect = (parent at : ℕ) → parent_at a key ≡ Some parent → IsNamedAt (cells_at a parent) at key →
       Holds (slice_index_or (cells_at a parent) at no_cell).rect rect → HasLeastBox a key parent
@@ -83,19 +105,23 @@ module _ {D : ℕ} where
     pub nodes : Puts old new parent (record n { cells = slice_set n.cells at cell })
 
   -- the nodes that the cells name have that parent now; levels and cells are the same everywhere, and every other
-  -- node is the same. Where these nodes waited, all hang together as before
+  -- node is the same. If these nodes were pending, all hang together as before
   pub record Adopts (old new : Slab (NodeCells D)) (key : ℕ) (cs : List (Cell D)) : Type 0 where
     pub parents : All (λ c. parent_at new (key_of c) ≡ Some key) cs
     pub levels : (x : ℕ) → level_at new x ≡ level_at old x
     pub cells : (x : ℕ) → cells_at new x ≡ cells_at old x
     pub others : (x : ℕ) → All (λ c. key_of c ≢ x) cs → get new x ≡ get old x
-    pub linked : (root level : ℕ) (ws : List (Waiting D)) → IsLinked old root level ws →
-        All (λ c. 0 < times_named (key_of c) (waiting_nodes ws)) cs → IsLinked new root level ws
+    pub linked : (root level : ℕ) (ws : List (Pending D)) → IsLinked old root level ws →
+        All (λ c. 0 < times_named (key_of c) (pending_nodes ws)) cs → IsLinked new root level ws
     pub len : slab_len new ≡ slab_len old
     pub room : new.capacity ≡ old.capacity
 
 module _ {D : ℕ} {S : Type 0} where
-  -- the rows of the cells lie in that leaf now, and each other one where it lay
+  -- the map has the ids of the cells
+  abbrev pub AreKnown : IndexMap ℤ ℕ S → List (Cell D) → Type 0
+  AreKnown leaves cells = All (λ c. IsSome (leaf_of int_eq leaves c.number)) cells
+
+  -- the rows of the cells lie in that leaf now, and each other row in the leaf that it lay in
   pub record Rehouses (old new : IndexMap ℤ ℕ S) (leaf : ℕ) (cs : List (Cell D)) : Type 0 where
     pub keeps : KeepsIds old new
     pub here : All (λ c. leaf_of int_eq new c.number ≡ Some leaf) cs
@@ -128,60 +154,55 @@ module _ {D : ℕ} where
 
   -- a node and its parent, which alone may be out of shape
   pub record IsPair (t : Arena D) (key parent : ℕ) : Type 0 where
-    pub opened : IsOpen (λ x. (x ≡ key) ⊎ (x ≡ parent)) t t.waiting.items
+    pub opened : IsOpen (λ x. (x ≡ key) ⊎ (x ≡ parent)) t t.pending.items
     pub level : ℕ
     pub key_level : level_at t.nodes key ≡ Some level
     pub parent_level : level_at t.nodes parent ≡ Some (suc level)
     pub up : parent_at t.nodes key ≡ Some parent
     pub few : length (cells_at t.nodes parent) ≤ t.capacity
 
-  -- the node was split, and the new node's cell is the last of the parent's; the rows, and what lies above or
-  -- beside, are as before
-  pub record Divides (old new : Arena D) (key parent : ℕ) : Type 0 where
-    pub opened : IsOpen (λ x. (x ≡ key) ⊎ (x ≡ parent)) new new.waiting.items
-    pub rows : (test : Cell D → Bool) → count_rows test new.nodes new.waiting.items ≡ count_rows test old.nodes old.waiting.items
+  -- the node has neither too many cells nor too few, and only the node and its parent may be out of shape; the rows, and
+  -- what lies above or beside, are as before
+  pub record Trims (old new : Arena D) (key parent : ℕ) : Type 0 where
+    pub opened : IsOpen (λ x. (x ≡ key) ⊎ (x ≡ parent)) new new.pending.items
+    pub rows : (test : Cell D → Bool) →
+        count_rows test new.nodes new.pending.items ≡ count_rows test old.nodes old.pending.items
     pub least : least_fill old.capacity ≤ length (cells_at new.nodes key)
     pub most : length (cells_at new.nodes key) ≤ old.capacity
-    pub grown : length (cells_at new.nodes parent) ≡ suc (length (cells_at old.nodes parent))
     pub levels : (x l : ℕ) → level_at old.nodes x ≡ Some l → level_at new.nodes x ≡ Some l
-    pub parents : (x l i : ℕ) → level_at old.nodes x ≡ Some l → level_at old.nodes key ≡ Some i → i ≤ l → parent_at new.nodes x ≡ parent_at old.nodes x
+    pub parents : (x l i : ℕ) → level_at old.nodes x ≡ Some l → level_at old.nodes key ≡ Some i → i ≤ l →
+        parent_at new.nodes x ≡ parent_at old.nodes x
     pub cells : (x l : ℕ) → level_at old.nodes x ≡ Some l → x ≢ key → x ≢ parent → cells_at new.nodes x ≡ cells_at old.nodes x
     pub ids : KeepsIds old.leaves new.leaves
-    pub waiting : new.waiting ≡ old.waiting
     pub root : new.root ≡ old.root
     pub level : new.level ≡ old.level
     pub capacity : new.capacity ≡ old.capacity
-    pub len : slab_len new.nodes ≡ slab_len old.nodes + 1
     pub room : new.nodes.capacity ≡ old.nodes.capacity
+
+  -- the node was split, and the new node's cell is the last of the parent's
+  pub record Divides (old new : Arena D) (key parent : ℕ) : Type 0 where
+    pub trims : Trims old new key parent
+    pub grown : length (cells_at new.nodes parent) ≡ suc (length (cells_at old.nodes parent))
+    pub pending : new.pending ≡ old.pending
+    pub len : slab_len new.nodes ≡ slab_len old.nodes + 1
     pub cell : Cell D
     pub appended : cells_at new.nodes parent ≡ cells_at old.nodes parent ++ cell ∷ []
     pub apart : key_of cell ≢ parent
     pub parts : Parts old.capacity (cells_at old.nodes key) (cells_at new.nodes key) (cells_at new.nodes (key_of cell))
 
-  -- the node has no longer too many cells, nor has it too few; the parent has at most one cell more
+  -- the node has no longer too many cells; the parent has at most one cell more
   pub record Relieves (old new : Arena D) (key parent : ℕ) : Type 0 where
-    pub opened : IsOpen (λ x. (x ≡ key) ⊎ (x ≡ parent)) new new.waiting.items
-    pub rows : (test : Cell D → Bool) → count_rows test new.nodes new.waiting.items ≡ count_rows test old.nodes old.waiting.items
-    pub least : least_fill old.capacity ≤ length (cells_at new.nodes key)
-    pub most : length (cells_at new.nodes key) ≤ old.capacity
+    pub trims : Trims old new key parent
     pub kept : length (cells_at old.nodes parent) ≤ length (cells_at new.nodes parent)
     pub grown : length (cells_at new.nodes parent) ≤ suc (length (cells_at old.nodes parent))
-    pub levels : (x l : ℕ) → level_at old.nodes x ≡ Some l → level_at new.nodes x ≡ Some l
-    pub parents : (x l i : ℕ) → level_at old.nodes x ≡ Some l → level_at old.nodes key ≡ Some i → i ≤ l → parent_at new.nodes x ≡ parent_at old.nodes x
-    pub cells : (x l : ℕ) → level_at old.nodes x ≡ Some l → x ≢ key → x ≢ parent → cells_at new.nodes x ≡ cells_at old.nodes x
-    pub ids : KeepsIds old.leaves new.leaves
-    pub root : new.root ≡ old.root
-    pub level : new.level ≡ old.level
-    pub capacity : new.capacity ≡ old.capacity
-    pub room : new.nodes.capacity ≡ old.nodes.capacity
-    pub waiting_room : vec_capacity new.waiting ≡ vec_capacity old.waiting
+    pub pending_room : vec_capacity new.pending ≡ vec_capacity old.pending
     pub names : (z : ℕ) → times_named z (cells_at old.nodes parent) ≤ times_named z (cells_at new.nodes parent)
     pub still : length (cells_at old.nodes key) ≤ old.capacity → new ≡ old
 
-  -- the node isn't overfull, and neither node nor cell came or went
+  -- the node isn't overfull, and no node and no cell came or went
   pub record LetsBe (old new : Arena D) (key parent marks marks1 : ℕ) (work work1 : Work) : Type 0 where
     pub fits : length (cells_at old.nodes key) ≤ old.capacity
-    pub waiting : new.waiting ≡ old.waiting
+    pub pending : new.pending ≡ old.pending
     pub leaves : new.leaves ≡ old.leaves
     pub len : slab_len new.nodes ≡ slab_len old.nodes
     pub above : length (cells_at new.nodes parent) ≡ length (cells_at old.nodes parent)
@@ -200,7 +221,7 @@ module _ {D : ℕ} where
     pub parts : Parts old.capacity (cells_at old.nodes key) (cells_at new.nodes key) (cells_at new.nodes (key_of cell))
     pub apart : key_of cell ≢ parent
     pub appended : numbers (cells_at new.nodes parent) ≡ numbers (cells_at old.nodes parent) ++ cell.number ∷ []
-    pub waiting : new.waiting ≡ old.waiting
+    pub pending : new.pending ≡ old.pending
     pub len : slab_len new.nodes ≡ slab_len old.nodes + 1
     pub above : length (cells_at new.nodes parent) ≡ suc (length (cells_at old.nodes parent))
     pub marks_same : marks1 ≡ marks
@@ -218,7 +239,7 @@ module _ {D : ℕ} where
     pub far : List (Cell D)
     pub chosen : ReInserts old.capacity (cells_at old.nodes key) (cells_at new.nodes key) far
     pub share : length far ≡ reinsertion_share old.capacity
-    pub waiting : new.waiting.items ≡ old.waiting.items ++ waiting_at level far
+    pub pending : new.pending.items ≡ old.pending.items ++ pending_at level far
     pub beside : numbers (cells_at new.nodes parent) ≡ numbers (cells_at old.nodes parent)
     pub len : slab_len new.nodes ≡ slab_len old.nodes
     pub above : length (cells_at new.nodes parent) ≡ length (cells_at old.nodes parent)
@@ -232,7 +253,7 @@ module _ {D : ℕ} where
       LetsBe old new key parent marks marks1 work work1 ⊎ SplitsMarked old new key parent marks marks1 work work1
       ⊎ GivesUnmarked old new key parent marks marks1 work work1
 
-  -- sound but for the node at the key, which may have one cell too many, and whose cell above it may have another box
+  -- sound, except that the node at the key may have one cell too many, and that the cell above it may have another box
   -- than the least one; parents lead up from it to the root
   pub record IsRising (t : Arena D) (key : ℕ) : Type 0 where
     pub sound : IsSound t (Some key)
@@ -249,19 +270,19 @@ module _ {D : ℕ} where
     pub fits : length (cells_at t.nodes key) ≤ t.capacity
     pub box : HasLeastBox t.nodes key parent
 
-  -- the rows stay, in the tree or among what waits, and the root, which has no fewer cells than before
+  -- the rows stay, in the tree or pending, and the root, which has no fewer cells than before
   pub record KeepsRows (old new : Arena D) : Type 0 where
-    pub rows : (test : Cell D → Bool) → count_rows test new.nodes new.waiting.items ≡ count_rows test old.nodes old.waiting.items
+    pub rows : (test : Cell D → Bool) → count_rows test new.nodes new.pending.items ≡ count_rows test old.nodes old.pending.items
     pub ids : KeepsIds old.leaves new.leaves
     pub root : new.root ≡ old.root
     pub level : new.level ≡ old.level
     pub capacity : new.capacity ≡ old.capacity
     pub room : new.nodes.capacity ≡ old.nodes.capacity
-    pub waiting_room : vec_capacity new.waiting ≡ vec_capacity old.waiting
+    pub pending_room : vec_capacity new.pending ≡ vec_capacity old.pending
     pub top : length (cells_at old.nodes old.root) ≤ length (cells_at new.nodes new.root)
 
   -- a step up: the parent alone may be out of shape now. The cell that names the node has the least box, and the cells
-  -- of other nodes are the same; where the node wasn't overfull, only that box changed
+  -- of other nodes are the same; if the node wasn't overfull, only that box changed
   pub record Lifts (old new : Arena D) (key parent marks marks1 : ℕ) (work work1 : Work) : Type 0 where
     pub next : IsRising new parent
     pub parent_is : parent_at old.nodes key ≡ Some parent

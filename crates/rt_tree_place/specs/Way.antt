@@ -5,7 +5,7 @@ use Rattle.rt_tree_node.specs.Node.{NodeCells}
 use Rattle.rt_tree_node.specs.Places.{times_named, inner_cells_at, parent_at}
 
 module _ {D : ℕ} where
-  -- so many steps up, each to the parent, which names the node, lead from the key to the root
+  -- a number of steps up, each to the parent, which names the node, lead from the key to the root
   abbrev pub LeadsUp : Slab (NodeCells D) → ℕ → ℕ → ℕ → Type 0
   LeadsUp a root zero key = key ≡ root
   LeadsUp a root (suc n) key =

@@ -1,6 +1,6 @@
 //! The way down, from the root to a node of a level.
 //!
-//! Each step takes the best child for the box, and overlap counts only where the children are leaves (`LeadsTo` in
+//! Each step takes the best child for the box, and overlap counts only if the children are leaves (`LeadsTo` in
 //! `specs/Path.antt` of `rt_tree_node`).
 
 ghost use Rattle.std.specs.Prelude.{◌≡◌, ℕ, ◌-◌, ◌≤◌, List, Some, length};

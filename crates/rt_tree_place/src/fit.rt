@@ -7,7 +7,7 @@ ghost use Rattle.rt_box.specs.Rect.{Holds};
 ghost use Rattle.slab.specs.Slab.{get, ContainsKey};
 ghost use Rattle.rt_tree_node.specs.Node.{NodeCells};
 ghost use Rattle.rt_tree_node.specs.Places.{times_named, cells_at, no_cell};
-ghost use Rattle.rt_tree_place.specs.Steps.{IsNamedAt, HasLeastBox, Refits};
+ghost use Rattle.rt_tree_place.specs.Steps.{IsNamedAt, IsBoxAbove, IsHeldAbove, HasLeastBox, Refits};
 
 use rt_box::Rect;
 use rt_tree_node::{Cell, Key, Node, hull_at, node_at, number_of, set_cell, slab_facts};
@@ -68,7 +68,7 @@ pub fn box_above<const D: usize>(nodes: &Slab<Node<D>>, key: Key, parent: Key) -
     requires present { ContainsKey nodes.now key }
     requires above { ContainsKey nodes.now parent }
     requires named { (at : ℕ) × IsNamedAt (cells_at nodes.now parent) at key }
-    ensures { (at : ℕ) × IsNamedAt (cells_at nodes.now parent) at key × (result ≡ (slice_index_or (cells_at nodes.now parent) at no_cell).rect) }
+    ensures { IsBoxAbove nodes.now key parent result }
 {
     slab_facts(nodes);
     let node = node_at(nodes, parent);
@@ -89,7 +89,7 @@ pub(crate) fn is_held<const D: usize>(
     requires present { ContainsKey nodes.now key }
     requires above { ContainsKey nodes.now parent }
     requires named { (at : ℕ) × IsNamedAt (cells_at nodes.now parent) at key }
-    ensures { result ≡ true → (at : ℕ) × IsNamedAt (cells_at nodes.now parent) at key × Holds (slice_index_or (cells_at nodes.now parent) at no_cell).rect rect.now }
+    ensures { result ≡ true → IsHeldAbove nodes.now key parent rect.now }
 {
     box_above(nodes, key, parent).contains(rect)
 }

@@ -12,7 +12,7 @@ ghost use Rattle.rt_tree_place.specs.Rise.{Raises, Grows};
 use crate::attach::attach;
 use crate::fit::{cell_for, refit};
 use crate::split::divide;
-use rt_tree_node::{Arena, Node, Waiting, Work, add_node, hull_at, node_at, slab_facts};
+use rt_tree_node::{Arena, Node, Pending, Work, add_node, hull_at, node_at, slab_facts};
 
 /// Makes a new root with one cell, which names the old one.
 fn raise<const D: usize>(tree: &mut Arena<D>)
@@ -31,7 +31,7 @@ fn raise<const D: usize>(tree: &mut Arena<D>)
     let root = add_node(&mut tree.nodes, Node::new(level, None, &hull));
     tree.root = root;
     tree.level = level;
-    attach(tree, root, &Waiting { level, cell });
+    attach(tree, root, &Pending { level, cell });
 }
 
 /// The overflow of the root: it is split, and the nodes of the two groups become the children of a new root (Beckmann,

@@ -7,15 +7,15 @@ ghost use Rattle.std.specs.Prelude.{◌≡◌, ◌+◌, ◌^◌, ◌<◌, ◌≤
 ghost use Rattle.slab.specs.Slab.{HasRoomFor};
 ghost use Rattle.rt_box.specs.Capacity.{least_fill};
 ghost use Rattle.rt_tree_node.specs.Places.{cells_at};
-ghost use Rattle.rt_tree_place.specs.Steps.{IsPair, Relieves, Treats};
+ghost use Rattle.rt_tree_place.specs.Steps.{HasRoomToGiveUp, IsPair, Relieves, Treats};
 
 use crate::reinsertion::reinsert;
 use crate::split::divide;
 use rt_tree_node::{Arena, Key, Work, node_at};
 
-/// OverflowTreatment of a node below the root, where it is overfull: cells leave it to be inserted again where no node
-/// of its level has given up cells yet, which is marked then, and else it is split (Beckmann, Kriegel, Schneider,
-/// Seeger 1990, section 4.3). The levels below `marks` are the marked ones.
+/// OverflowTreatment of a node below the root, if it is overfull: cells leave it to be inserted again if no node of its
+/// level has given up cells yet, and the level is marked; else the node is split (Beckmann, Kriegel, Schneider, Seeger
+/// 1990, section 4.3). The levels below `marks` are the marked ones.
 pub(crate) fn relieve<const D: usize>(
     tree: &mut Arena<D>,
     key: Key,
@@ -30,7 +30,7 @@ pub(crate) fn relieve<const D: usize>(
     requires room { HasRoomFor tree.old.nodes 1 }
     requires keys { tree.old.nodes.capacity ≤ 2 ^ 62 }
     requires height { tree.old.level ≤ 30 }
-    requires waiting_room { tree.old.capacity < length (cells_at tree.old.nodes key) → vec_len tree.old.waiting + 15 ≤ vec_capacity tree.old.waiting }
+    requires pending_room { HasRoomToGiveUp tree.old key }
     requires splits { work.old.splits + 1 < 2 ^ 32 }
     requires reinsertions { work.old.reinsertions + 1 < 2 ^ 32 }
     ensures relieves { Relieves tree.old tree.new key parent }

@@ -1,12 +1,12 @@
 //! The way up from a node that a cell was placed in.
 //!
-//! Only the node at hand may be out of shape (`IsRising` in `specs/Steps.antt`). The way up stops early where that
-//! node isn't overfull and the cell above it has the least box already.
+//! Only the node at hand may be out of shape (`IsRising` in `specs/Steps.antt`). The way up stops early if that node isn't
+//! overfull and the cell above it has the least box already.
 
 ghost use Rattle.std.specs.Prelude.{◌≡◌, ℕ, ◌+◌, ◌^◌, ◌<◌, ◌≤◌, Some, true, length, vec_len, vec_capacity};
 ghost use Rattle.slab.specs.Slab.{HasRoomFor};
 ghost use Rattle.rt_tree_node.specs.Places.{cells_at, parent_at};
-ghost use Rattle.rt_tree_place.specs.Steps.{IsRising, HasLeastWhereHeld, Rests, Lifts};
+ghost use Rattle.rt_tree_place.specs.Steps.{HasRoomToGiveUp, IsRising, HasLeastWhereHeld, Rests, Lifts};
 ghost use Rattle.rt_tree_place.specs.Rise.{Ascends, HasRisen};
 
 use crate::fit::{has_least_box, is_held, refit};
@@ -14,8 +14,7 @@ use crate::overflow::relieve;
 use rt_box::Rect;
 use rt_tree_node::{Arena, Key, Work, node_at};
 
-/// One step up: the node is relieved of the cells that it has too many, and the parent's cell gets the least box around
-/// those that are left.
+/// One step up: the node is relieved if it is overfull, and the parent's cell gets the least box around the cells left.
 fn lift<const D: usize>(tree: &mut Arena<D>, key: Key, parent: Key, marks: &mut u8, work: &mut Work)
     requires few { D ≤ 3 }
     requires rising { IsRising tree.old key }
@@ -23,7 +22,7 @@ fn lift<const D: usize>(tree: &mut Arena<D>, key: Key, parent: Key, marks: &mut 
     requires room { HasRoomFor tree.old.nodes 1 }
     requires keys { tree.old.nodes.capacity ≤ 2 ^ 62 }
     requires height { tree.old.level ≤ 30 }
-    requires waiting_room { tree.old.capacity < length (cells_at tree.old.nodes key) → vec_len tree.old.waiting + 15 ≤ vec_capacity tree.old.waiting }
+    requires pending_room { HasRoomToGiveUp tree.old key }
     requires splits { work.old.splits + 1 < 2 ^ 32 }
     requires reinsertions { work.old.reinsertions + 1 < 2 ^ 32 }
     ensures { Lifts tree.old tree.new key parent marks.old marks.new work.old work.new }
@@ -65,7 +64,7 @@ fn is_settled<const D: usize>(tree: &Arena<D>, key: Key, rect: &Rect<D>) -> bool
     }
 }
 
-/// The steps up from a node that a cell with this box was placed in, to the root, which may have one cell too many then.
+/// The steps up from a node that a cell with this box was placed in, to the root, which may then have one cell too many.
 pub(crate) fn rise<const D: usize>(
     tree: &mut Arena<D>,
     from: Key,
@@ -78,7 +77,7 @@ pub(crate) fn rise<const D: usize>(
     requires room { HasRoomFor tree.old.nodes 30 }
     requires keys { tree.old.nodes.capacity ≤ 2 ^ 62 }
     requires height { tree.old.level ≤ 30 }
-    requires waiting_room { vec_len tree.old.waiting + 15 ≤ vec_capacity tree.old.waiting }
+    requires pending_room { vec_len tree.old.pending + 15 ≤ vec_capacity tree.old.pending }
     requires splits { work.old.splits ≤ 2 ^ 31 }
     requires reinsertions { work.old.reinsertions ≤ 2 ^ 31 }
     requires held { HasLeastWhereHeld tree.old.nodes from rect.now }

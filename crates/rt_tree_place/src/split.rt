@@ -3,20 +3,18 @@
 //! The first group stays. The second one moves, so the entries of its rows, or the parents of its children, change
 //! too (`Splits` in `specs/Steps.antt`).
 
-ghost use Rattle.std.specs.Prelude.{◌≡◌, ◌≢◌, ℕ, suc, ◌+◌, ◌^◌, ◌<◌, ◌≤◌, All, Some, IsSome, length, take, drop};
-ghost use Rattle.std.specs.Ordering.{int_eq};
-ghost use Rattle.indexmap.specs.IndexMap.{get as leaf_of};
+ghost use Rattle.std.specs.Prelude.{◌≡◌, ℕ, suc, ◌+◌, ◌^◌, ◌<◌, ◌≤◌, All, Some, length, take, drop};
 ghost use Rattle.slab.specs.Slab.{get, ContainsKey, HasRoomFor};
 ghost use Rattle.rt_tree_node.specs.Node.{NodeCells};
-ghost use Rattle.rt_tree_node.specs.Places.{key_of as key_in, cells_at, level_at, picked};
-ghost use Rattle.rt_tree_place.specs.Steps.{Adopts, Rehouses, TakesOver, Splits, IsPair, Divides};
+ghost use Rattle.rt_tree_node.specs.Places.{cells_at, level_at, picked};
+ghost use Rattle.rt_tree_place.specs.Steps.{AreKnown, ArePresent, NameOthers, Adopts, Rehouses, TakesOver, Splits, IsPair, Divides};
 
 use crate::attach::attach;
 use crate::fit::cell_for;
 use indexmap::IndexMap;
 use rt_tree_choice::{choose_split, sorted_positions};
 use rt_tree_node::{
-    Arena, Key, Node, Waiting, add_cells, add_node, hull_at, node_at, set_leaf, set_parent,
+    Arena, Key, Node, Pending, add_cells, add_node, hull_at, node_at, set_leaf, set_parent,
     take_cells,
 };
 use slab::Slab;
@@ -31,7 +29,7 @@ fn rehouse<const D: usize>(
 )
     requires few { D ≤ 3 }
     requires within { All (λ p. p < length from.now.cells) positions.now }
-    requires known { All (λ c. IsSome (leaf_of int_eq leaves.old c.number)) (picked from.now.cells positions.now) }
+    requires known { AreKnown leaves.old (picked from.now.cells positions.now) }
     ensures { Rehouses leaves.old leaves.new leaf (picked from.now.cells positions.now) }
 {
     for at in positions {
@@ -44,7 +42,7 @@ fn rehouse<const D: usize>(
 fn adopt<const D: usize>(nodes: &mut Slab<Node<D>>, key: Key, from: &Node<D>, positions: &[usize])
     requires few { D ≤ 3 }
     requires within { All (λ p. p < length from.now.cells) positions.now }
-    requires present { All (λ c. ContainsKey nodes.old (key_in c)) (picked from.now.cells positions.now) }
+    requires present { ArePresent nodes.old (picked from.now.cells positions.now) }
     ensures { Adopts nodes.old nodes.new key (picked from.now.cells positions.now) }
 {
     for at in positions {
@@ -57,8 +55,8 @@ fn adopt<const D: usize>(nodes: &mut Slab<Node<D>>, key: Key, from: &Node<D>, po
 fn take_over<const D: usize>(tree: &mut Arena<D>, key: Key, from: &Node<D>, positions: &[usize])
     requires few { D ≤ 3 }
     requires within { All (λ p. p < length from.now.cells) positions.now }
-    requires known { from.now.level ≡ 0 → All (λ c. IsSome (leaf_of int_eq tree.old.leaves c.number)) (picked from.now.cells positions.now) }
-    requires present { 1 ≤ from.now.level → All (λ c. ContainsKey tree.old.nodes (key_in c)) (picked from.now.cells positions.now) }
+    requires known { from.now.level ≡ 0 → AreKnown tree.old.leaves (picked from.now.cells positions.now) }
+    requires present { 1 ≤ from.now.level → ArePresent tree.old.nodes (picked from.now.cells positions.now) }
     ensures { TakesOver tree.old tree.new key from.now.level (picked from.now.cells positions.now) }
 {
     if from.level() == 0 {
@@ -77,15 +75,15 @@ fn groups(order: &[usize], first: usize) -> (&[usize], &[usize])
     order.split_at(first)
 }
 
-/// Split: the cells of an overfull node are cut into two groups; the first stays, and the second goes to a new node,
-/// whose key is the answer (Beckmann, Kriegel, Schneider, Seeger 1990, section 4.2).
+/// Split: the cells of an overfull node are cut into two groups. The first stays, and the second goes to a new node, whose
+/// key is returned (Beckmann, Kriegel, Schneider, Seeger 1990, section 4.2).
 pub(crate) fn split<const D: usize>(tree: &mut Arena<D>, key: Key) -> Key
     requires few { D ≤ 3 }
     requires present { ContainsKey tree.old.nodes key }
     requires full { length (cells_at tree.old.nodes key) ≡ tree.old.capacity + 1 }
     requires room { HasRoomFor tree.old.nodes 1 }
-    requires known { level_at tree.old.nodes key ≡ Some 0 → All (λ c. IsSome (leaf_of int_eq tree.old.leaves c.number)) (cells_at tree.old.nodes key) }
-    requires children { (l : ℕ) → level_at tree.old.nodes key ≡ Some (suc l) → All (λ c. ContainsKey tree.old.nodes (key_in c) × (key_in c ≢ key)) (cells_at tree.old.nodes key) }
+    requires known { level_at tree.old.nodes key ≡ Some 0 → AreKnown tree.old.leaves (cells_at tree.old.nodes key) }
+    requires children { (l : ℕ) → level_at tree.old.nodes key ≡ Some (suc l) → NameOthers tree.old.nodes key }
     ensures { (n : NodeCells D) → get tree.old.nodes key ≡ Some n → Splits tree.old tree.new key n result }
 {
     tree.capacity.facts();
@@ -117,5 +115,5 @@ pub(crate) fn divide<const D: usize>(tree: &mut Arena<D>, key: Key, parent: Key)
     let hull = hull_at(&tree.nodes, sibling);
     let cell = cell_for(sibling, &hull);
     let level = node_at(&tree.nodes, parent).level();
-    attach(tree, parent, &Waiting { level, cell });
+    attach(tree, parent, &Pending { level, cell });
 }

@@ -13,9 +13,9 @@ use Rattle.indexmap.specs.IndexMap.{get as leaf_of}
 use Rattle.rt_box.specs.Capacity.{least_fill}
 use Rattle.rt_tree_node.specs.declared.arena.Arena.{Arena}
 use Rattle.rt_tree_node.specs.declared.cell.Cell.{Cell}
-use Rattle.rt_tree_node.specs.declared.cell.Waiting.{Waiting}
+use Rattle.rt_tree_node.specs.declared.cell.Pending.{Pending}
 use Rattle.rt_tree_node.specs.Node.{NodeCells}
-use Rattle.rt_tree_node.specs.Places.{key_of, numbers, times_named, cells_of, level_of, cells_at, level_at, parent_at, count_rows, waiting_at}
+use Rattle.rt_tree_node.specs.Places.{key_of, numbers, times_named, cells_of, level_of, cells_at, level_at, parent_at, count_rows, pending_at}
 use Rattle.rt_tree_node.specs.Path.{KeepsShape}
 use Rattle.rt_tree_node.specs.Sound.{IsLinked, IsFitted, HasHomes}
 use Rattle.rt_tree_remove.specs.Steps.{Dissolves, IsSoundBut, Climbs}
@@ -36,21 +36,21 @@ module _ {D : ℕ} where
   key-there a key l e = ap is_some (node-there a key l e).1
 
 module _ {D : ℕ} (t : Arena D) (key parent : ℕ) (but : IsSoundBut t key) (up : parent_at t.nodes key ≡ Some parent) where
-  linked : IsLinked t.nodes t.root t.level t.waiting.items
+  linked : IsLinked t.nodes t.root t.level t.pending.items
   linked = but.sound.linked
 
-  fitted : IsFitted t.capacity t.nodes t.root t.waiting.items (Some key)
+  fitted : IsFitted t.capacity t.nodes t.root t.pending.items (Some key)
   fitted = but.sound.fitted
 
   pub key-not_root : key ≢ t.root
   key-not_root e = none-some parent (sym linked.root_parent ∙ ap (parent_at t.nodes) (sym e) ∙ up)
 
-  low : All (λ w. w.level ≤ but.level) t.waiting.items
+  low : All (λ w. w.level ≤ but.level) t.pending.items
   low = λ k d within. let lower = but.below k d within in omega arith
 
   found : (p : ℕ) × (parent_at t.nodes key ≡ Some p) × (level_at t.nodes p ≡ Some (suc but.level)) × (times_named key (cells_at t.nodes p) ≡ 1)
-  found = parent-named t.nodes t.root t.level t.waiting.items linked key but.level but.here key-not_root
-      (unnamed-below t.nodes key but.level t.waiting.items but.here low linked.waiting_named)
+  found = parent-named t.nodes t.root t.level t.pending.items linked key but.level but.here key-not_root
+      (unnamed-below t.nodes key but.level t.pending.items but.here low linked.pending_named)
 
   is-parent : found.0 ≡ parent
   is-parent = same_Some _ _ (sym found.1 ∙ up)
@@ -74,8 +74,8 @@ module _ {D : ℕ} (t : Arena D) (key parent : ℕ) (but : IsSoundBut t key) (up
   more-few = mul-suc (least_fill t.capacity - 1) but.level
 
   -- what waits and one thin node more find room
-  pub waits-fit : (cells : List (Cell D)) → length cells < least_fill t.capacity → (least_fill t.capacity - 1) * t.level ≤ vec_capacity t.waiting →
-      length t.waiting.items + length cells ≤ vec_capacity t.waiting
+  pub waits-fit : (cells : List (Cell D)) → length cells < least_fill t.capacity → (least_fill t.capacity - 1) * t.level ≤ vec_capacity t.pending →
+      length t.pending.items + length cells ≤ vec_capacity t.pending
   waits-fit cells thin room =
       let few = but.few in
       let more = more-few in
@@ -91,19 +91,19 @@ module _ {D : ℕ} (t : Arena D) (key parent : ℕ) (but : IsSoundBut t key) (up
     has = (node-there t.nodes parent (suc but.level) parent-level).1
 
     same-levels : (k : ℕ) → level_at b k ≡ level_at t.nodes k
-    same-levels = refitted-levels t.nodes b t.root t.level t.waiting.items key parent at but.level p linked but.here up has parent-level named-above low r
+    same-levels = refitted-levels t.nodes b t.root t.level t.pending.items key parent at but.level p linked but.here up has parent-level named-above low r
 
     same-parents : (k : ℕ) → parent_at b k ≡ parent_at t.nodes k
-    same-parents = refitted-parents t.nodes b t.root t.level t.waiting.items key parent at but.level p linked but.here up has parent-level named-above low r
+    same-parents = refitted-parents t.nodes b t.root t.level t.pending.items key parent at but.level p linked but.here up has parent-level named-above low r
 
     same-others : (k : ℕ) → k ≢ parent → cells_at b k ≡ cells_at t.nodes k
-    same-others = refitted-others t.nodes b t.root t.level t.waiting.items key parent at but.level p linked but.here up has parent-level named-above low r
+    same-others = refitted-others t.nodes b t.root t.level t.pending.items key parent at but.level p linked but.here up has parent-level named-above low r
 
     new-cells : cells_at b parent ≡ set (cells_at t.nodes parent) at r.cell
-    new-cells = refitted-cells t.nodes b t.root t.level t.waiting.items key parent at but.level p linked but.here up has parent-level named-above low r
+    new-cells = refitted-cells t.nodes b t.root t.level t.pending.items key parent at but.level p linked but.here up has parent-level named-above low r
 
     same-long : (k : ℕ) → length (cells_at b k) ≡ length (cells_at t.nodes k)
-    same-long = refitted-long t.nodes b t.root t.level t.waiting.items key parent at but.level p linked but.here up has parent-level named-above low r
+    same-long = refitted-long t.nodes b t.root t.level t.pending.items key parent at but.level p linked but.here up has parent-level named-above low r
 
     same-numbers : numbers (set (cells_at t.nodes parent) at r.cell) ≡ numbers (cells_at t.nodes parent)
     same-numbers =
@@ -115,7 +115,7 @@ module _ {D : ℕ} (t : Arena D) (key parent : ℕ) (but : IsSoundBut t key) (up
     keeps-shape path on k = record {
       level = same-levels k;
       parent = same-parents k;
-      rows = refitted-leaves t.nodes b t.root t.level t.waiting.items key parent at but.level p linked but.here up has parent-level named-above low r k;
+      rows = refitted-leaves t.nodes b t.root t.level t.pending.items key parent at but.level p linked but.here up has parent-level named-above low r k;
       numbers_same = elim (cases_eq k parent) [
         | inl e ↦ ap (λ y. numbers (cells_at b y)) e ∙ ap numbers new-cells ∙ same-numbers ∙ ap (λ y. numbers (cells_at t.nodes y)) (sym e)
         | inr other ↦ ap numbers (same-others k other)
@@ -135,10 +135,10 @@ module _ {D : ℕ} (t : Arena D) (key parent : ℕ) (but : IsSoundBut t key) (up
       next = record {
         axes = but.axes;
         sound = record {
-          linked = refitted-linked t.nodes b t.root t.level t.waiting.items key parent at but.level p linked but.here up has parent-level named-above low r;
-          fitted = refitted-fitted t.nodes b t.root t.level t.waiting.items key parent at but.level p linked but.here up has parent-level named-above low r
+          linked = refitted-linked t.nodes b t.root t.level t.pending.items key parent at but.level p linked but.here up has parent-level named-above low r;
+          fitted = refitted-fitted t.nodes b t.root t.level t.pending.items key parent at but.level p linked but.here up has parent-level named-above low r
               t.capacity fitted (λ away. enough) but.most;
-          homes = refitted-homes t.nodes b t.root t.level t.waiting.items key parent at but.level p linked but.here up has parent-level named-above low r
+          homes = refitted-homes t.nodes b t.root t.level t.pending.items key parent at but.level p linked but.here up has parent-level named-above low r
               (leaf_of int_eq t.leaves) but.sound.homes;
         };
         level = suc but.level;
@@ -151,32 +151,32 @@ module _ {D : ℕ} (t : Arena D) (key parent : ℕ) (but : IsSoundBut t key) (up
       };
       up = λ l e. same-levels parent ∙ parent-level ∙ ap (λ i. Some (suc i)) (same_Some _ _ (sym but.here ∙ e));
       keeps = record {
-        rows = refitted-rows t.nodes b t.root t.level t.waiting.items key parent at but.level p linked but.here up has parent-level named-above low r;
+        rows = refitted-rows t.nodes b t.root t.level t.pending.items key parent at but.level p linked but.here up has parent-level named-above low r;
         leaves = refl;
         root = refl;
         level = refl;
         capacity = refl;
         room = (r.change p has).room;
-        waiting_room = refl;
+        pending_room = refl;
       };
       parent_is = up;
       condenses = inl record {
         filled = enough;
-        waiting = refl;
+        pending = refl;
         shape = keeps-shape;
         full = λ away. let least = parent-least away in let long = same-long parent in omega arith;
       };
     }
 
   pub climb-dissolve : (u : Arena D) (at : ℕ) (n : NodeCells D) → get t.nodes key ≡ Some n → Dissolves t.nodes u.nodes key parent at →
-      length n.cells < least_fill t.capacity → u.waiting.items ≡ t.waiting.items ++ waiting_at n.level n.cells → vec_capacity u.waiting ≡ vec_capacity t.waiting →
-      Climbs t (record t { nodes = u.nodes; waiting = u.waiting }) key parent
+      length n.cells < least_fill t.capacity → u.pending.items ≡ t.pending.items ++ pending_at n.level n.cells → vec_capacity u.pending ≡ vec_capacity t.pending →
+      Climbs t (record t { nodes = u.nodes; pending = u.pending }) key parent
   climb-dissolve u at n has d thin items room =
       let level_is : but.level ≡ n.level = same_Some _ _ (sym but.here ∙ ap level_of has) in
       let up_level : level_at t.nodes parent ≡ Some (suc n.level) = parent-level ∙ ap (λ i. Some (suc i)) level_is in
-      let lower : All (λ w. w.level ≤ n.level) t.waiting.items = λ k x within. let l = but.below k x within in omega arith in
-      let ws = t.waiting.items in
-      let new = t.waiting.items ++ waiting_at n.level n.cells in
+      let lower : All (λ w. w.level ≤ n.level) t.pending.items = λ k x within. let l = but.below k x within in omega arith in
+      let ws = t.pending.items in
+      let new = t.pending.items ++ pending_at n.level n.cells in
       let own : cells_at t.nodes key ≡ n.cells = ap cells_of has in
       let stays : parent ≢ key = λ e. key-not_parent (sym e) in
       record {
@@ -191,15 +191,15 @@ module _ {D : ℕ} (t : Arena D) (key parent : ℕ) (but : IsSoundBut t key) (up
           };
           level = suc but.level;
           here = d.levels parent stays ∙ parent-level;
-          below = subst (All (λ w. w.level < suc but.level)) (sym items) (All-append (λ w. w.level < suc but.level) ws (waiting_at n.level n.cells)
+          below = subst (All (λ w. w.level < suc but.level)) (sym items) (All-append (λ w. w.level < suc but.level) ws (pending_at n.level n.cells)
               (λ k x within. let l = but.below k x within in omega arith)
               (All-map (λ w. w.level < suc but.level) (λ c. record { level = n.level; cell = c }) n.cells (λ k x within. omega arith)));
           few =
               let few = but.few in
               let more = more-few in
               let long = ap length items in
-              let sum = length-append ws (waiting_at n.level n.cells) in
-              let same = length-map n.cells (λ (c : Cell D). let w : Waiting D = record { level = n.level; cell = c } in w) in
+              let sum = length-append ws (pending_at n.level n.cells) in
+              let same = length-map n.cells (λ (c : Cell D). let w : Pending D = record { level = n.level; cell = c } in w) in
               omega arith;
           nearly = λ away. let least = parent-least away in let fewer = length-remove (cells_at t.nodes parent) at d.place.within in let long = ap length d.shorter in omega arith;
           most = let most = parent-most in let fewer = length-remove (cells_at t.nodes parent) at d.place.within in let long = ap length d.shorter in omega arith;
@@ -213,7 +213,7 @@ module _ {D : ℕ} (t : Arena D) (key parent : ℕ) (but : IsSoundBut t key) (up
           level = refl;
           capacity = refl;
           room = d.room;
-          waiting_room = room;
+          pending_room = room;
         };
         parent_is = up;
         condenses = inr record {
@@ -222,6 +222,6 @@ module _ {D : ℕ} (t : Arena D) (key parent : ℕ) (but : IsSoundBut t key) (up
           here = ap level_of has;
           at = at;
           dissolves = d;
-          orphans = items ∙ ap (λ cs. ws ++ waiting_at n.level cs) (sym own);
+          orphans = items ∙ ap (λ cs. ws ++ pending_at n.level cs) (sym own);
         };
       }

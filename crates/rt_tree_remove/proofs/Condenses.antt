@@ -15,6 +15,7 @@ use Rattle.rt_tree_node.specs.Places.{key_of, numbers, cells_at, level_at, paren
 use Rattle.rt_tree_node.specs.Path.{KeepsShape}
 use Rattle.rt_tree_node.specs.Whole.{IsWhole}
 use Rattle.rt_tree_place.proofs.Rested.{rested-whole}
+use Rattle.rt_tree_place.proofs.Shapes.{shape-none, shape-then}
 use Rattle.rt_tree_remove.specs.Above.{way_up}
 use Rattle.rt_tree_remove.specs.Steps.{IsSoundBut, KeepsHomes, Adjusts, Climbs, IsCondensed, Spares, CondensesTo, IsClimbing, Condenses}
 use Rattle.rt_tree_remove.proofs.Climbs.{parent-level}
@@ -22,7 +23,7 @@ use Rattle.rt_tree_remove.proofs.Dissolved.{unnamed-below, parent-named}
 
 module _ {D : ℕ} where
   pub KeepsHomes-none : (t : Arena D) → KeepsHomes t t
-  KeepsHomes-none t = record { rows = λ test. refl; leaves = refl; root = refl; level = refl; capacity = refl; room = refl; waiting_room = refl }
+  KeepsHomes-none t = record { rows = λ test. refl; leaves = refl; root = refl; level = refl; capacity = refl; room = refl; pending_room = refl }
 
   pub KeepsHomes-then : (s t u : Arena D) → KeepsHomes s t → KeepsHomes t u → KeepsHomes s u
   KeepsHomes-then s t u p q = record {
@@ -32,27 +33,7 @@ module _ {D : ℕ} where
     level = q.level ∙ p.level;
     capacity = q.capacity ∙ p.capacity;
     room = q.room ∙ p.room;
-    waiting_room = q.waiting_room ∙ p.waiting_room;
-  }
-
-  pub KeepsShape-none : (a : Slab (NodeCells D)) (path : List ℕ) (k : ℕ) → KeepsShape a a path k
-  KeepsShape-none a path k = record { level = refl; parent = refl; rows = refl; numbers_same = refl; boxes = λ j x off. refl }
-
-  key-same : (cs bs : List (Cell D)) (j : ℕ) (x : Cell D) → numbers bs ≡ numbers cs → key_of (get_or bs j x) ≡ key_of (get_or cs j x)
-  key-same [] [] j x e = refl
-  key-same [] (b ∷ bs) j x e = let long = ap length e in absurd (omega arith)
-  key-same (c ∷ cs) [] j x e = let long = ap length e in absurd (omega arith)
-  key-same (c ∷ cs) (b ∷ bs) zero x e = ap unsigned_abs (ap (λ ns. get_or ns 0 (pos 0)) e)
-  key-same (c ∷ cs) (b ∷ bs) (suc j) x e = key-same cs bs j x (ap (drop 1) e)
-
-  pub KeepsShape-then : (a b c : Slab (NodeCells D)) (path : List ℕ) (k : ℕ) → KeepsShape a b path k → KeepsShape b c path k → KeepsShape a c path k
-  KeepsShape-then a b c path k p q = record {
-    level = q.level ∙ p.level;
-    parent = q.parent ∙ p.parent;
-    rows = q.rows ∙ p.rows;
-    numbers_same = q.numbers_same ∙ p.numbers_same;
-    boxes = λ j x off.
-        q.boxes j x (λ on. off (subst (Contains path) (key-same (cells_at a k) (cells_at b k) j x p.numbers_same) on)) ∙ p.boxes j x off;
+    pending_room = q.pending_room ∙ p.pending_room;
   }
 
   pub way_up-first : (a : Slab (NodeCells D)) (levels key : ℕ) → Contains (way_up a levels key) key
@@ -71,9 +52,9 @@ module _ {D : ℕ} where
     | inl e ↦ e
     | inr away ↦
         let linked = but.sound.linked in
-        let low : All (λ w. w.level ≤ but.level) t.waiting.items = λ k d within. let lower = but.below k d within in omega arith in
-        let found = parent-named t.nodes t.root t.level t.waiting.items linked key but.level but.here away
-        (unnamed-below t.nodes key but.level t.waiting.items but.here low linked.waiting_named) in
+        let low : All (λ w. w.level ≤ but.level) t.pending.items = λ k d within. let lower = but.below k d within in omega arith in
+        let found = parent-named t.nodes t.root t.level t.pending.items linked key but.level but.here away
+        (unnamed-below t.nodes key but.level t.pending.items but.here low linked.pending_named) in
         absurd (none-some found.0 (sym none ∙ found.1))
   ]
 
@@ -95,8 +76,8 @@ module _ {D : ℕ} where
           boxes = fitted.boxes;
           hulls = λ k l here j x within odd. fitted.hulls k l here j x within (λ s.
               none-some k (sym linked.root_parent ∙ ap (parent_at t.nodes) (sym e ∙ same_Some key _ s) ∙ (linked.children k l here j x within).parent_is));
-          waiting_boxes = fitted.waiting_boxes;
-          waiting_hulls = fitted.waiting_hulls;
+          pending_boxes = fitted.pending_boxes;
+          pending_hulls = fitted.pending_hulls;
         };
         homes = but.sound.homes;
       }
@@ -107,8 +88,8 @@ module _ {D : ℕ} where
     keeps = KeepsHomes-none t;
     steps = CondensesTo.none;
     exact = λ roomy. record {
-      waiting = refl;
-      shape = KeepsShape-none t.nodes (way_up t.nodes t.level leaf);
+      pending = refl;
+      shape = shape-none t.nodes (way_up t.nodes t.level leaf);
       full = roomy;
       levels = t.level;
       level = 0;
@@ -134,8 +115,8 @@ module _ {D : ℕ} where
       let height = so_far.height in
       let fewer : so_far.levels ≡ suc (so_far.levels - 1) = omega arith in
       record {
-        waiting = exact.waiting ∙ so_far.waiting;
-        shape = λ k. KeepsShape-then s.nodes t.nodes u.nodes (way_up s.nodes s.level leaf) k (so_far.shape k) (exact.shape (way_up s.nodes s.level leaf) on k);
+        pending = exact.pending ∙ so_far.pending;
+        shape = λ k. shape-then s.nodes t.nodes u.nodes (way_up s.nodes s.level leaf) k (so_far.shape k) (exact.shape (way_up s.nodes s.level leaf) on k);
         full = exact.full;
         levels = so_far.levels - 1;
         level = suc so_far.level;
@@ -164,11 +145,11 @@ module _ {D : ℕ} where
       record {
         whole = whole-at_root t key but at_root;
         keeps = so_far.keeps;
-        few = subst (λ l. length t.waiting.items ≤ (least_fill t.capacity - 1) * l) level_is but.few;
+        few = subst (λ l. length t.pending.items ≤ (least_fill t.capacity - 1) * l) level_is but.few;
         last = key;
         steps = so_far.steps;
         ends = inl at_root;
-        waiting = λ roomy. (so_far.exact roomy).waiting;
+        pending = λ roomy. (so_far.exact roomy).pending;
         shape = λ roomy. (so_far.exact roomy).shape;
       }
 
@@ -187,6 +168,6 @@ module _ {D : ℕ} where
         last = key;
         steps = so_far.steps;
         ends = inr (parent, up, condensed);
-        waiting = λ roomy. (so_far.exact roomy).waiting;
+        pending = λ roomy. (so_far.exact roomy).pending;
         shape = λ roomy. (so_far.exact roomy).shape;
       }

@@ -8,14 +8,14 @@ use Rattle.std.proofs.lemmas.List.Elements.{All-nil, All-head, All-tail, All-app
 use Rattle.std.proofs.lemmas.List.Sums.{sum_by-remove}
 use Rattle.slab.specs.Slab.{Slab, get}
 use Rattle.rt_tree_node.specs.declared.cell.Cell.{Cell}
-use Rattle.rt_tree_node.specs.declared.cell.Waiting.{Waiting}
+use Rattle.rt_tree_node.specs.declared.cell.Pending.{Pending}
 use Rattle.rt_tree_node.specs.Node.{NodeCells}
-use Rattle.rt_tree_node.specs.Places.{key_of, times_named, cells_of, inner_part, leaf_part, inner_cells_of, leaf_cells_of, level_of, cells_at, inner_cells_at, leaf_cells_at, level_at, parent_at, cells_above, waiting_nodes, waiting_rows, times_listed, hull_at, rects, count_rows, waiting_at}
+use Rattle.rt_tree_node.specs.Places.{key_of, times_named, cells_of, inner_part, leaf_part, inner_cells_of, leaf_cells_of, level_of, cells_at, inner_cells_at, leaf_cells_at, level_at, parent_at, cells_above, pending_nodes, pending_rows, times_listed, hull_at, rects, count_rows, pending_at}
 use Rattle.rt_tree_node.specs.Sound.{Names, NamesChild, IsLinked, IsFitted, HasHomes}
 use Rattle.rt_box.specs.Rect.{IsBox}
 use Rattle.rt_tree_choice.specs.Hull.{hull}
 use Rattle.std.proofs.lemmas.List.Edits.{length-remove}
-use Rattle.rt_tree_remove.proofs.Sums.{sums-but}
+use Rattle.rt_tree_node.proofs.Sums.{sums-but}
 use Rattle.rt_tree_node.proofs.Counts.{count-some}
 use Rattle.rt_tree_node.proofs.Places.{inner-at_inner, leaf-at_inner, has_id, inner-all, nodes-joined, nodes-middle, rows-joined, names_key, named-find, named-other}
 use Rattle.rt_tree_node.proofs.Links.{above-some, above-none, Names-same, NamesChild-same, unnamed-elsewhere}
@@ -68,11 +68,11 @@ module _ {D : ℕ} where
       omega arith
 
   -- cells that wait for nodes no higher don't name the node
-  pub unnamed-below : (a : Slab (NodeCells D)) (key l : ℕ) (ws : List (Waiting D)) → level_at a key ≡ Some l →
-      All (λ w. w.level ≤ l) ws → All (λ w. (i : ℕ) → w.level ≡ suc i → Names a i w.cell) ws → times_named key (waiting_nodes ws) ≡ 0
+  pub unnamed-below : (a : Slab (NodeCells D)) (key l : ℕ) (ws : List (Pending D)) → level_at a key ≡ Some l →
+      All (λ w. w.level ≤ l) ws → All (λ w. (i : ℕ) → w.level ≡ suc i → Names a i w.cell) ws → times_named key (pending_nodes ws) ≡ 0
   unnamed-below a key l [] here low named = refl
   unnamed-below a key l (w ∷ ws) here low named =
-      let N : Waiting D → Type 0 = λ v. (i : ℕ) → v.level ≡ suc i → Names a i v.cell in
+      let N : Pending D → Type 0 = λ v. (i : ℕ) → v.level ≡ suc i → Names a i v.cell in
       let rest = unnamed-below a key l ws here (All-tail (λ v. v.level ≤ l) w ws low) (All-tail N w ws named) in
       let first = by w.level refl (All-head (λ v. v.level ≤ l) w ws low) (All-head N w ws named) in
       let step = nodes-middle (names_key key) [] w ws in
@@ -83,9 +83,9 @@ module _ {D : ℕ} where
       by (suc i) e at_most is = named-other key w.cell (λ same.
           let level = same_Some i l (sym ((is i e).level_is) ∙ ap (level_at a) same ∙ here) in omega arith)
 
-  module _ (a : Slab (NodeCells D)) (root level : ℕ) (ws : List (Waiting D)) (linked : IsLinked a root level ws) where
+  module _ (a : Slab (NodeCells D)) (root level : ℕ) (ws : List (Pending D)) (linked : IsLinked a root level ws) where
     -- a node that isn't the root and doesn't wait has a parent on the next level, which names it once
-    pub parent-named : (key l : ℕ) → level_at a key ≡ Some l → key ≢ root → times_named key (waiting_nodes ws) ≡ 0 →
+    pub parent-named : (key l : ℕ) → level_at a key ≡ Some l → key ≢ root → times_named key (pending_nodes ws) ≡ 0 →
         (p : ℕ) × (parent_at a key ≡ Some p) × (level_at a p ≡ Some (suc l)) × (times_named key (cells_at a p) ≡ 1)
     parent-named key l here not_root waits_not = by (parent_at a key) refl
       where
@@ -104,7 +104,7 @@ module _ {D : ℕ} where
             let up : level_at a p ≡ Some (suc l) = found.2.1 ∙ ap (λ i. Some (suc i)) i_is in
             (p, e, up, sym (ap (times_named key) (inner-at_inner a p l up)) ∙ counted)
 
-module _ {D : ℕ} (a b : Slab (NodeCells D)) (root level : ℕ) (ws : List (Waiting D)) (key parent at : ℕ) (n : NodeCells D)
+module _ {D : ℕ} (a b : Slab (NodeCells D)) (root level : ℕ) (ws : List (Pending D)) (key parent at : ℕ) (n : NodeCells D)
     (linked : IsLinked a root level ws) (has : get a key ≡ Some n) (up : parent_at a key ≡ Some parent)
     (up_level : level_at a parent ≡ Some (suc n.level)) (once : times_named key (cells_at a parent) ≡ 1)
     (low : All (λ w. w.level ≤ n.level) ws) (d : Dissolves a b key parent at) where
@@ -117,8 +117,8 @@ module _ {D : ℕ} (a b : Slab (NodeCells D)) (root level : ℕ) (ws : List (Wai
   not_parent : key ≢ parent
   not_parent e = let same = same_Some _ _ (sym level_key ∙ ap (level_at a) e ∙ up_level) in omega arith
 
-  waits_not : times_named key (waiting_nodes ws) ≡ 0
-  waits_not = unnamed-below a key n.level ws level_key low linked.waiting_named
+  waits_not : times_named key (pending_nodes ws) ≡ 0
+  waits_not = unnamed-below a key n.level ws level_key low linked.pending_named
 
   -- a node that is there is not the one that left
   pub there-other : (k l : ℕ) → level_at b k ≡ Some l → k ≢ key
@@ -175,7 +175,7 @@ module _ {D : ℕ} (a b : Slab (NodeCells D)) (root level : ℕ) (ws : List (Wai
             let none = unnamed-elsewhere a root level ws linked key x (λ f. other (same_Some _ _ (sym e ∙ f))) in omega arith
       ]
 
-  waits : (x : ℕ) → times_named x (waiting_nodes (ws ++ waiting_at n.level n.cells)) ≡ times_named x (waiting_nodes ws) + times_named x (inner_cells_at a key)
+  waits : (x : ℕ) → times_named x (pending_nodes (ws ++ pending_at n.level n.cells)) ≡ times_named x (pending_nodes ws) + times_named x (inner_cells_at a key)
   waits x =
       let e = ap (times_named x) (ap inner_cells_of has) in
       let step = nodes-joined (names_key x) ws n.level n.cells in omega arith
@@ -183,7 +183,7 @@ module _ {D : ℕ} (a b : Slab (NodeCells D)) (root level : ℕ) (ws : List (Wai
   own-children : (l : ℕ) → n.level ≡ suc l → All (NamesChild a l key) n.cells
   own-children l e = subst (All (NamesChild a l key)) (ap cells_of has) (linked.children key l (level_key ∙ ap Some e))
 
-  pub dissolved-linked : IsLinked b root level (ws ++ waiting_at n.level n.cells)
+  pub dissolved-linked : IsLinked b root level (ws ++ pending_at n.level n.cells)
   dissolved-linked = record {
     root_level = d.levels root (λ e. not_root (sym e)) ∙ linked.root_level;
     root_parent = d.parents root (λ e. not_root (sym e)) ∙ linked.root_parent;
@@ -202,14 +202,14 @@ module _ {D : ℕ} (a b : Slab (NodeCells D)) (root level : ℕ) (ws : List (Wai
         let old = linked.named k l (there-level k l e) other in
         let above = above-counts k (there-other k l e) (parent_at a k) refl in
         let step = waits k in omega arith;
-    waiting_levels = All-append (λ v. v.level ≤ level) ws (waiting_at n.level n.cells) linked.waiting_levels
+    pending_levels = All-append (λ v. v.level ≤ level) ws (pending_at n.level n.cells) linked.pending_levels
         (All-map (λ v. v.level ≤ level) (λ c. record { level = n.level; cell = c }) n.cells (λ j x within. linked.levels key n.level level_key));
-    waiting_named =
-        let N : Slab (NodeCells D) → Waiting D → Type 0 = λ s v. (i : ℕ) → v.level ≡ suc i → Names s i v.cell in
-        All-append (N b) ws (waiting_at n.level n.cells)
+    pending_named =
+        let N : Slab (NodeCells D) → Pending D → Type 0 = λ s v. (i : ℕ) → v.level ≡ suc i → Names s i v.cell in
+        All-append (N b) ws (pending_at n.level n.cells)
         (λ j x within i e.
         let v = get_or ws j x in
-        let is = linked.waiting_named j x within i e in
+        let is = linked.pending_named j x within i e in
         let below = low j x within in
         let free : key_of v.cell ≢ key = λ same. let l = same_Some _ _ (sym is.level_is ∙ ap (level_at a) same ∙ level_key) in omega arith in
         Names-same a b i v.cell (d.levels (key_of v.cell) free) is)
@@ -238,7 +238,7 @@ module _ {D : ℕ} (a b : Slab (NodeCells D)) (root level : ℕ) (ws : List (Wai
   ]
 
   pub dissolved-fitted : (M : ℕ) → IsFitted M a root ws (Some key) → 2 ≤ length (cells_at a root) →
-      IsFitted M b root (ws ++ waiting_at n.level n.cells) (Some parent)
+      IsFitted M b root (ws ++ pending_at n.level n.cells) (Some parent)
   dissolved-fitted M fitted branched = record {
     cap = fitted.cap;
     some = λ k l e. elim (cases_eq k parent) [
@@ -268,17 +268,17 @@ module _ {D : ℕ} (a b : Slab (NodeCells D)) (root level : ℕ) (ws : List (Wai
         let free = free-cells k l e j x within in
         let all = left-cells (λ c. Some key ≢ Some (key_of c) → c.rect ≡ hull_at a (key_of c)) k (suc l) e (fitted.hulls k l (there-level k (suc l) e)) in
         all j x within (λ s. free (sym (same_Some key _ s))) ∙ sym (same-hull _ free (λ s. odd (ap Some (sym s))));
-    waiting_boxes = All-append (λ v. IsBox D v.cell.rect) ws (waiting_at n.level n.cells) fitted.waiting_boxes
+    pending_boxes = All-append (λ v. IsBox D v.cell.rect) ws (pending_at n.level n.cells) fitted.pending_boxes
         (All-map (λ v. IsBox D v.cell.rect) (λ c. record { level = n.level; cell = c }) n.cells (subst (All B) (ap cells_of has) (fitted.boxes key)));
-    waiting_hulls =
-        let H : Waiting D → Type 0 = λ v. (i : ℕ) → v.level ≡ suc i → v.cell.rect ≡ hull_at b (key_of v.cell) in
-        All-append H ws (waiting_at n.level n.cells)
+    pending_hulls =
+        let H : Pending D → Type 0 = λ v. (i : ℕ) → v.level ≡ suc i → v.cell.rect ≡ hull_at b (key_of v.cell) in
+        All-append H ws (pending_at n.level n.cells)
         (λ j x within i e.
         let v = get_or ws j x in
-        let is = linked.waiting_named j x within i e in
+        let is = linked.pending_named j x within i e in
         let below = low j x within in
         let lower : i < n.level = omega arith in
-        fitted.waiting_hulls j x within i e ∙ sym (same-hull _ (below-key v.cell i lower is.level_is) (below-parent v.cell i lower is.level_is)))
+        fitted.pending_hulls j x within i e ∙ sym (same-hull _ (below-key v.cell i lower is.level_is) (below-parent v.cell i lower is.level_is)))
         (All-map H (λ c. record { level = n.level; cell = c }) n.cells (λ j x within i e.
         let c = get_or n.cells j x in
         let is = (own-children i e j x within).names in
@@ -305,7 +305,7 @@ module _ {D : ℕ} (a b : Slab (NodeCells D)) (root level : ℕ) (ws : List (Wai
   own-rows : leaf_cells_at a key ≡ leaf_part n.level n.cells
   own-rows = ap leaf_cells_of has
 
-  pub dissolved-homes : (f : ℤ → Option ℕ) → HasHomes f a ws → HasHomes f b (ws ++ waiting_at n.level n.cells)
+  pub dissolved-homes : (f : ℤ → Option ℕ) → HasHomes f a ws → HasHomes f b (ws ++ pending_at n.level n.cells)
   dissolved-homes f homes = record {
     home = λ k id some. elim (cases_eq k key) [
       | inl here ↦
@@ -329,16 +329,16 @@ module _ {D : ℕ} (a b : Slab (NodeCells D)) (root level : ℕ) (ws : List (Wai
                 | inr some ↦ absurd (other (same_Some k key (sym is ∙ homes.home key id (omega arith))))
               ] in omega arith
         ];
-    waiting = λ id some.
+    pending = λ id some.
         let step = rows-joined (has_id id) ws n.level n.cells in
         let own = ap (times_listed id) own-rows in
-        elim (cases_eq (times_listed id (waiting_rows ws)) 0) [
+        elim (cases_eq (times_listed id (pending_rows ws)) 0) [
           | inl none ↦ ap is_some (homes.home key id (omega arith))
-          | inr waited ↦ homes.waiting id (omega arith)
+          | inr waited ↦ homes.pending id (omega arith)
         ];
   }
 
-  pub dissolved-rows : (test : Cell D → Bool) → count_rows test b (ws ++ waiting_at n.level n.cells) ≡ count_rows test a ws
+  pub dissolved-rows : (test : Cell D → Bool) → count_rows test b (ws ++ pending_at n.level n.cells) ≡ count_rows test a ws
   dissolved-rows test =
       let F : Option (NodeCells D) → ℕ = λ place. count_by test (leaf_cells_of place) in
       let sums = sums-but F refl a.slots b.slots key (λ k ne. ap (count_by test) (leaf-other k ne)) in

@@ -1,5 +1,4 @@
 pub mod Changed
-pub mod Sums
 pub mod Dissolved
 pub mod Refitted
 pub mod Climbs

@@ -23,10 +23,11 @@ use Rattle.rt_tree_node.specs.Changes.{Changes}
 use Rattle.rt_tree_node.specs.declared.arena.Work.{Work}
 use Rattle.rt_tree_node.specs.Settles.{Settles}
 use Rattle.rt_tree_node.specs.Whole.{IsWhole, IsBranched, HasRoom, row_count}
-use Rattle.rt_tree_insert.specs.Awaiting.{Learns, AwaitsLeaf}
-use Rattle.rt_tree_insert.specs.Settling.{PlacesInTurn, CountsWork, PlacesRow}
-use Rattle.rt_tree_insert.proofs.Awaited.{waits-alone, whole-awaiting, rows-awaiting, waits-one}
-use Rattle.rt_tree_insert.proofs.Inserted.{inserts}
+use Rattle.rt_tree_place.specs.NewRow.{Learns, AwaitsLeaf}
+use Rattle.rt_tree_place.specs.Turns.{PlacesInTurn, CountsWork, PlacesRow}
+use Rattle.rt_tree_place.proofs.NewRow.{waits-alone, whole-awaiting, rows-awaiting, waits-one}
+use Rattle.rt_tree_place.proofs.Inserted.{inserts}
+use Rattle.rt_tree_place.proofs.Turns.{room-kept}
 use Rattle.rt_tree_remove.specs.declared.location.Location.{Location}
 use Rattle.rt_tree_remove.specs.Steps.{Forgets, Takes, Condenses, IsLocationOf, MovesAlone, IsNamedAt, LiesInside, LiesInsideNode}
 use Rattle.rt_tree_remove.specs.Removal.{Removes}
@@ -35,7 +36,7 @@ use Rattle.rt_tree_remove.proofs.Changed.{changed-parents, changed-others, chang
 use Rattle.rt_tree_remove.proofs.Climbs.{node-there, key-not_parent}
 use Rattle.rt_tree_remove.proofs.Condenses.{climbing-start, climbing-condensed}
 use Rattle.rt_tree_remove.proofs.Inside.{inside-before}
-use Rattle.rt_tree_remove.proofs.Placed.{placed-none, room-for}
+use Rattle.rt_tree_remove.proofs.Placed.{placed-none}
 use Rattle.rt_tree_remove.proofs.Removed.{removes, still-branched}
 use Rattle.rt_tree_remove.proofs.Taken.{takes, leaf-level}
 use Rattle.rt_tree_remove.proofs.WayGiven.{way-kept}
@@ -80,7 +81,7 @@ module _ {S : Type 0} (m : IndexMap ℤ ℕ S) (id : ℤ) (leaf : ℕ) (once : I
           made i p (swap_out int_eq int_eq_equiv (int_eq id) (int_eq_equiv.congr id) m.entries i p e at once _ refl)
 
 module _ {D : ℕ} (old : Arena D) (id : ℤ) (location : Location D) (b : Slab (NodeCells D)) (whole : IsWhole old) (branched : IsBranched old)
-    (idle : old.waiting.items ≡ []) (is : IsLocationOf old id location) (alone : MovesAlone old location) (unique : IsUnique int_eq old.leaves)
+    (idle : old.pending.items ≡ []) (is : IsLocationOf old id location) (alone : MovesAlone old location) (unique : IsUnique int_eq old.leaves)
     (change : Changes (λ n. record n { cells = remove n.cells location.at }) old.nodes b location.leaf) where
   abbrev leaf : ℕ
   leaf = location.leaf
@@ -140,34 +141,34 @@ module _ {D : ℕ} (old : Arena D) (id : ℤ) (location : Location D) (b : Slab 
 
   -- the row waits with another box
   module _ (u : Arena D) (rect : List Interval) (box : IsBox D rect)
-      (pushed : u.waiting.items ≡ old.waiting.items ++ record { level = 0; cell = record { number = id; rect = rect } } ∷ [])
-      (kept : vec_capacity u.waiting ≡ vec_capacity old.waiting) where
+      (pushed : u.pending.items ≡ old.pending.items ++ record { level = 0; cell = record { number = id; rect = rect } } ∷ [])
+      (kept : vec_capacity u.pending ≡ vec_capacity old.pending) where
     abbrev pub cell : Cell D
     cell = record { number = id; rect = rect }
 
     abbrev pub awaiting : Arena D
-    awaiting = record old { nodes = b; waiting = u.waiting }
+    awaiting = record old { nodes = b; pending = u.pending }
 
     pub awaits : AwaitsLeaf between awaiting cell
-    awaits = record { leaf = leaf; learns = without.learns; waiting = pushed; waiting_room = kept; rest = refl }
+    awaits = record { leaf = leaf; learns = without.learns; pending = pushed; pending_room = kept; rest = refl }
 
-    pub whole_waiting : IsWhole awaiting
-    whole_waiting = whole-awaiting between awaiting cell awaits idle gone.whole without.forgets.gone box
+    pub whole_pending : IsWhole awaiting
+    whole_pending = whole-awaiting between awaiting cell awaits idle gone.whole without.forgets.gone box
 
-    pub rows_waiting : row_count awaiting ≡ row_count old
-    rows_waiting =
+    pub rows_pending : row_count awaiting ≡ row_count old
+    rows_pending =
         let more = rows-awaiting between awaiting cell awaits idle in
         let fewer = gone.rows (λ c. true) in omega arith
 
-    pub room_waiting : HasRoom old (row_count old) → HasRoom awaiting (row_count awaiting)
-    room_waiting room = room-for old awaiting (row_count awaiting) (row_count old) (omega (arith, rows_waiting)) refl (change there.0 there.1).room room
+    pub room_pending : HasRoom old (row_count old) → HasRoom awaiting (row_count awaiting)
+    room_pending room = room-kept old awaiting (row_count awaiting) (row_count old) (omega (arith, rows_pending)) refl (change there.0 there.1).room room
 
-    pub one_waits : vec_len u.waiting ≡ 1
+    pub one_waits : vec_len u.pending ≡ 1
     one_waits = waits-one between awaiting cell awaits idle
 
     -- and was placed
     pub replaces : (new : Arena D) (work : Work) → Settles awaiting new 0 → (marks : ℕ) × PlacesInTurn awaiting 0 new marks work → CountsWork awaiting new 0 work →
-        ((c : Cell D) → awaiting.waiting.items ≡ record { level = 0; cell = c } ∷ [] → PlacesRow awaiting new c work) → Replaces old new id location.rect rect
+        ((c : Cell D) → awaiting.pending.items ≡ record { level = 0; cell = c } ∷ [] → PlacesRow awaiting new c work) → Replaces old new id location.rect rect
     replaces new work settled turned counted placed = record {
       between = between;
       removes = gone;

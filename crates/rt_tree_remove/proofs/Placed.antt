@@ -1,4 +1,4 @@
--- Cells that wait, and room for them.
+-- Pending cells, placed by a removal.
 use Rattle.std.proofs.Common.{◌≡◌, ℕ, ◌-◌, ◌*◌, ◌<◌, ◌≤◌, Bool, false, nat_eq, eq-eqb, arith, refl, ap, ◌∙◌, sym, inl, inr}
 use Rattle.std.proofs.lemmas.Bool.{true≢false, cases_lt}
 use Rattle.rt_box.specs.Capacity.{least_fill}
@@ -14,16 +14,6 @@ some-wait n b is off = elim (cases_lt 0 n) [
 ]
 
 module _ {D : ℕ} where
-  -- room for no more rows than before
-  pub room-for : (s t : Arena D) (m n : ℕ) → m ≤ n → t.capacity ≡ s.capacity → t.nodes.capacity ≡ s.nodes.capacity → HasRoom s n → HasRoom t m
-  room-for s t m n fewer same_capacity same_room room =
-      let w = ap (λ M. (least_fill M - 1) * 33) same_capacity in
-      let x = ap (λ M. (least_fill M - 1) * t.nodes.capacity) same_capacity in
-      let y = ap (λ c. (least_fill s.capacity - 1) * c) same_room in
-      let nodes = room.nodes in
-      let keys = room.keys in
-      record { nodes = omega arith; keys = omega arith }
-
   -- where none waits, none is placed
   pub placed-none : (t : Arena D) → IsWhole t → Places t t
   placed-none t whole = record {
@@ -32,7 +22,7 @@ module _ {D : ℕ} where
     ids = record { ids = refl; len = refl; room = refl };
     capacity = refl;
     room = refl;
-    waiting_room = refl;
+    pending_room = refl;
     fewer = omega arith;
     branched = λ h. h;
     still = λ none. refl;

@@ -12,7 +12,7 @@ use Rattle.rt_box.specs.Capacity.{least_fill}
 use Rattle.rt_box.specs.Rect.{IsBox}
 use Rattle.rt_tree_choice.specs.Hull.{hull}
 use Rattle.rt_tree_node.specs.declared.cell.Cell.{Cell}
-use Rattle.rt_tree_node.specs.declared.cell.Waiting.{Waiting}
+use Rattle.rt_tree_node.specs.declared.cell.Pending.{Pending}
 use Rattle.rt_tree_node.specs.Node.{NodeCells}
 use Rattle.rt_tree_node.specs.Changes.{Puts}
 use Rattle.rt_tree_node.specs.Places.{key_of, times_named, times_listed, cells_of, rects, cells_at, leaf_cells_at, leaf_cells_of, level_at, parent_at, hull_at, count_rows}
@@ -23,7 +23,7 @@ use Rattle.rt_tree_node.proofs.Homes.{homes-same}
 use Rattle.rt_tree_remove.specs.Steps.{IsNamedAt}
 use Rattle.rt_tree_remove.proofs.Changed.{RefitsAt, changed-levels, changed-parents, changed-others, changed-cells}
 use Rattle.rt_tree_remove.proofs.Dissolved.{unnamed-all, leaf-same}
-use Rattle.rt_tree_remove.proofs.Sums.{sums-same}
+use Rattle.rt_tree_node.proofs.Sums.{sums-same}
 
 module _ {D : ℕ} where
   -- a key that is named once is named by no other cell
@@ -38,7 +38,7 @@ module _ {D : ℕ} where
       let same = get_or-set_other cs at j c x other in
       λ e. unnamed-all key (set cs at c) gone j x (let long = length-set cs at c in omega arith) (ap key_of same ∙ e)
 
-module _ {D : ℕ} (a b : Slab (NodeCells D)) (root level : ℕ) (ws : List (Waiting D)) (key parent at l : ℕ) (p : NodeCells D)
+module _ {D : ℕ} (a b : Slab (NodeCells D)) (root level : ℕ) (ws : List (Pending D)) (key parent at l : ℕ) (p : NodeCells D)
     (linked : IsLinked a root level ws) (here : level_at a key ≡ Some l) (up : parent_at a key ≡ Some parent) (has : get a parent ≡ Some p)
     (up_level : level_at a parent ≡ Some (suc l)) (once : times_named key (cells_at a parent) ≡ 1)
     (low : All (λ w. w.level ≤ l) ws) (r : RefitsAt a b key parent at) where
@@ -114,12 +114,12 @@ module _ {D : ℕ} (a b : Slab (NodeCells D)) (root level : ℕ) (ws : List (Wai
           let free : key_of c ≢ key = λ s. other (same_Some _ _ (sym ((linked.children k i lev j x within).parent_is) ∙ ap (parent_at a) s ∙ up)) in
           fitted.hulls k i lev j x within (λ s. free (sym (same_Some key _ s))) ∙ sym (same-hull (key_of c) (λ s. odd (ap Some (sym s)))))
     ];
-    waiting_boxes = fitted.waiting_boxes;
-    waiting_hulls = λ j x within i e.
+    pending_boxes = fitted.pending_boxes;
+    pending_hulls = λ j x within i e.
         let v = get_or ws j x in
-        let is = linked.waiting_named j x within i e in
+        let is = linked.pending_named j x within i e in
         let below = low j x within in
-        fitted.waiting_hulls j x within i e ∙ sym (same-hull (key_of v.cell) (λ s.
+        fitted.pending_hulls j x within i e ∙ sym (same-hull (key_of v.cell) (λ s.
         let same = same_Some _ _ (sym is.level_is ∙ ap (level_at a) s ∙ up_level) in omega arith));
   }
     where

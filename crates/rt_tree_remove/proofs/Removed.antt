@@ -22,37 +22,23 @@ use Rattle.rt_tree_node.specs.Places.{numbers, cells_of, cells_at, level_at, par
 use Rattle.rt_tree_node.specs.Path.{KeepsShape}
 use Rattle.rt_tree_node.specs.Whole.{IsWhole, IsBranched, HasRoom, row_count}
 use Rattle.rt_tree_node.proofs.Places.{leaf-at_leaf}
+use Rattle.rt_tree_place.proofs.NewRow.{known-by_keys}
+use Rattle.rt_tree_place.proofs.Shapes.{shape-then}
+use Rattle.rt_tree_place.proofs.Turns.{room-kept}
 use Rattle.rt_tree_remove.specs.Above.{way_up}
 use Rattle.rt_tree_remove.specs.Removal.{LosesId, LeavesLeaf, Removes}
 use Rattle.rt_tree_remove.specs.Steps.{Forgets, Takes, Condenses, IsRoomy, Places, GivesWay}
 use Rattle.rt_tree_remove.proofs.Changed.{changed-levels, changed-parents, changed-others, changed-cells}
-use Rattle.rt_tree_remove.proofs.Condenses.{KeepsShape-then}
 use Rattle.rt_tree_remove.proofs.Dissolved.{leaf-same}
-use Rattle.rt_tree_remove.proofs.Placed.{room-for}
 use Rattle.rt_tree_remove.proofs.WayGiven.{way-still}
 use Rattle.rt_tree_remove.proofs.Reordered.{reordered-linked, reordered-fitted, reordered-homes, reordered-rows}
-
--- what the keys alone tell
-known-by_keys : {K V : Type 0} (test : K → Bool) (es fs : List (K × V)) → map (λ e. e.0) es ≡ map (λ e. e.0) fs → is_some (lookup test es) ≡ is_some (lookup test fs)
-known-by_keys test [] [] same = refl
-known-by_keys test [] (f ∷ fs) same = let long = ap length same in absurd (omega arith)
-known-by_keys test (e ∷ es) [] same = let long = ap length same in absurd (omega arith)
-known-by_keys {K} {V} test (e ∷ es) (f ∷ fs) same =
-    by (test e.0) (test f.0) (ap (λ ks. test (get_or ks 0 f.0)) same) (known-by_keys test es fs (ap (drop 1) same))
-  where
-    by : (p q : Bool) → p ≡ q → is_some (lookup test es) ≡ is_some (lookup test fs) →
-        is_some (cond p (Some e.1) (lookup test es)) ≡ is_some (cond q (Some f.1) (lookup test fs))
-    by true true same_test rest = refl
-    by true false same_test rest = absurd (true≢false same_test)
-    by false true same_test rest = absurd (true≢false (sym same_test))
-    by false false same_test rest = rest
 
 none-by_is_some : {X : Type 0} (o : Option X) → is_some o ≡ false → o ≡ None
 none-by_is_some None e = refl
 none-by_is_some (Some x) e = absurd (true≢false e)
 
 module _ {S : Type 0} where
-  -- the ids after the waiting cells were placed
+  -- the ids after the pending cells were placed
   pub loses-id : (old mid new : IndexMap ℤ ℕ S) (id : ℤ) → Forgets old mid id → KeepsIds mid new → LosesId old new id
   loses-id old mid new id forgets keeps =
       let known : (other : ℤ) → is_some (leaf_of int_eq new other) ≡ is_some (leaf_of int_eq mid other) = λ other. known-by_keys (int_eq other) new.entries mid.entries keeps.ids in
@@ -66,9 +52,9 @@ module _ {S : Type 0} where
       }
 
 module _ {D : ℕ} where
-  pub whole-reversed : (t u : Arena D) → u.waiting.items ≡ reverse t.waiting.items → IsWhole t → IsWhole (record t { waiting = u.waiting })
+  pub whole-reversed : (t u : Arena D) → u.pending.items ≡ reverse t.pending.items → IsWhole t → IsWhole (record t { pending = u.pending })
   whole-reversed t u turned whole =
-      let ws = t.waiting.items in
+      let ws = t.pending.items in
       let moved = IsPermutation-reverse ws in
       record {
         linked = subst (IsLinked t.nodes t.root t.level) (sym turned) (reordered-linked t.nodes ws (reverse ws) moved t.root t.level whole.linked);
@@ -76,10 +62,10 @@ module _ {D : ℕ} where
         homes = subst (HasHomes (leaf_of int_eq t.leaves) t.nodes) (sym turned) (reordered-homes t.nodes ws (reverse ws) moved (leaf_of int_eq t.leaves) whole.homes);
       }
 
-  pub rows-reversed : (t u : Arena D) → u.waiting.items ≡ reverse t.waiting.items → (test : Cell D → Bool) →
-      count_rows test t.nodes u.waiting.items ≡ count_rows test t.nodes t.waiting.items
+  pub rows-reversed : (t u : Arena D) → u.pending.items ≡ reverse t.pending.items → (test : Cell D → Bool) →
+      count_rows test t.nodes u.pending.items ≡ count_rows test t.nodes t.pending.items
   rows-reversed t u turned test =
-      ap (count_rows test t.nodes) turned ∙ reordered-rows t.nodes t.waiting.items (reverse t.waiting.items) (IsPermutation-reverse t.waiting.items) test
+      ap (count_rows test t.nodes) turned ∙ reordered-rows t.nodes t.pending.items (reverse t.pending.items) (IsPermutation-reverse t.pending.items) test
 
   -- the way up, where the parents are the same
   pub way_up-same : (a b : Slab (NodeCells D)) → ((k : ℕ) → parent_at b k ≡ parent_at a k) → (l k : ℕ) → way_up b l k ≡ way_up a l k
@@ -150,7 +136,7 @@ module _ {D : ℕ} where
           level = own.level ∙ same-levels leaf;
           parent = own.parent ∙ same-parents leaf;
           cells = sym (leaf-at_leaf new.nodes leaf (own.level ∙ takes.bottom)) ∙ own.rows ∙ leaf-at_leaf mid.nodes leaf takes.bottom ∙ leaf-cells;
-          others = λ k other. KeepsShape-then old.nodes mid.nodes new.nodes (way_up old.nodes old.level leaf) k
+          others = λ k other. shape-then old.nodes mid.nodes new.nodes (way_up old.nodes old.level leaf) k
               (kept-mid k other (way_up old.nodes old.level leaf)) (shape-new roomy k);
           homes = λ other differs. ap (λ m. leaf_of int_eq m other) condenses.keeps.leaves ∙ takes.forgets.others other differs;
         }
@@ -170,13 +156,13 @@ module _ {D : ℕ} where
         let root_is = ap (λ r. length (cells_at new.nodes r)) (condenses.keeps.root ∙ takes.root) in
         omega arith
 
-  pub removes : (s0 s1 s2 u s4 s5 : Arena D) (id : ℤ) (leaf at : ℕ) (rect : List Interval) → IsBranched s0 → s0.waiting.items ≡ [] →
-      Takes s0 s1 id leaf at rect → Condenses s1 s2 leaf → u.waiting.items ≡ reverse s2.waiting.items → vec_capacity u.waiting ≡ vec_capacity s2.waiting →
-      Places (record s2 { waiting = u.waiting }) s4 → vec_len s4.waiting ≡ 0 → GivesWay s4 s5 → Removes s0 s5 id rect
+  pub removes : (s0 s1 s2 u s4 s5 : Arena D) (id : ℤ) (leaf at : ℕ) (rect : List Interval) → IsBranched s0 → s0.pending.items ≡ [] →
+      Takes s0 s1 id leaf at rect → Condenses s1 s2 leaf → u.pending.items ≡ reverse s2.pending.items → vec_capacity u.pending ≡ vec_capacity s2.pending →
+      Places (record s2 { pending = u.pending }) s4 → vec_len s4.pending ≡ 0 → GivesWay s4 s5 → Removes s0 s5 id rect
   removes s0 s1 s2 u s4 s5 id leaf at rect branched idle takes condenses turned turned_room places none gives = record {
     whole = gives.whole;
     branched = gives.branched;
-    none_waits = ap (λ w. w.items) gives.waiting ∙ none_left;
+    none_waits = ap (λ w. w.items) gives.pending ∙ none_left;
     steps = record {
       leaf = leaf;
       at = at;
@@ -184,7 +170,7 @@ module _ {D : ℕ} where
       takes = takes;
       condensed = s2;
       condenses = condenses;
-      turned = record s2 { waiting = u.waiting };
+      turned = record s2 { pending = u.pending };
       turned_is = refl;
       reversed = turned;
       placed = s4;
@@ -203,19 +189,19 @@ module _ {D : ℕ} where
         (loses-id s0.leaves s1.leaves s4.leaves id takes.forgets (subst (λ m. KeepsIds m s4.leaves) condenses.keeps.leaves places.ids));
     capacity = gives.capacity ∙ places.capacity ∙ condenses.keeps.capacity ∙ takes.capacity;
     room = gives.room ∙ places.room ∙ condenses.keeps.room ∙ taken_room;
-    waiting_room =
-        let a = ap vec_capacity gives.waiting in
-        let b = places.waiting_room in
-        let c = condenses.keeps.waiting_room in
-        let d = ap vec_capacity takes.waiting in omega arith;
+    pending_room =
+        let a = ap vec_capacity gives.pending in
+        let b = places.pending_room in
+        let c = condenses.keeps.pending_room in
+        let d = ap vec_capacity takes.pending in omega arith;
     exact = λ where_it_lay home spare.
         let same : where_it_lay ≡ leaf = same_Some _ _ (sym home ∙ takes.home) in
         let roomy = still-roomy s0 s1 s2 id leaf at rect takes condenses (λ away. subst (λ k. suc (least_fill s0.capacity) ≤ length (cells_at s0.nodes k)) same (spare (λ e. away (sym same ∙ e)))) in
-        let idle2 : s2.waiting.items ≡ [] = condenses.waiting roomy ∙ ap (λ w. w.items) takes.waiting ∙ idle in
+        let idle2 : s2.pending.items ≡ [] = condenses.pending roomy ∙ ap (λ w. w.items) takes.pending ∙ idle in
         let emptied = ap length (turned ∙ ap reverse idle2) in
-        let long = u.waiting.ok.0 in
-        let none3 : vec_len u.waiting ≡ 0 = omega arith in
-        let s3 : Arena D = record s2 { waiting = u.waiting } in
+        let long = u.pending.ok.0 in
+        let none3 : vec_len u.pending ≡ 0 = omega arith in
+        let s3 : Arena D = record s2 { pending = u.pending } in
         let stays : s4 ≡ s3 = places.still none3 in
         let branched2 = still-branched s0 s1 s2 id leaf at rect takes condenses roomy branched in
         let end : s5 ≡ s3 = way-still s4 s5 gives (places.branched branched2) ∙ stays in
@@ -236,35 +222,35 @@ module _ {D : ℕ} where
         );
   }
     where
-      none_left : s4.waiting.items ≡ []
-      none_left = nil_from_length s4.waiting.items (let long = s4.waiting.ok.0 in omega arith)
+      none_left : s4.pending.items ≡ []
+      none_left = nil_from_length s4.pending.items (let long = s4.pending.ok.0 in omega arith)
 
       taken_room : s1.nodes.capacity ≡ s0.nodes.capacity
       taken_room = let there = leaf-there s0 s1 s2 id leaf at rect takes condenses in (takes.change there.0 there.1).room
 
-  -- the waiting cells can be placed
+  -- the pending cells can be placed
   module _ (s0 s1 s2 u : Arena D) (id : ℤ) (leaf at : ℕ) (rect : List Interval) (takes : Takes s0 s1 id leaf at rect) (condenses : Condenses s1 s2 leaf)
-      (turned : u.waiting.items ≡ reverse s2.waiting.items) (turned_room : vec_capacity u.waiting ≡ vec_capacity s2.waiting) where
-    pub fewer-rows : row_count (record s2 { waiting = u.waiting }) + 1 ≡ row_count s0
+      (turned : u.pending.items ≡ reverse s2.pending.items) (turned_room : vec_capacity u.pending ≡ vec_capacity s2.pending) where
+    pub fewer-rows : row_count (record s2 { pending = u.pending }) + 1 ≡ row_count s0
     fewer-rows =
         let a = rows-reversed s2 u turned (λ c. true) in
         let b = condenses.keeps.rows (λ c. true) in
         let c = takes.rows (λ c. true) in omega arith
 
-    pub ready-room : HasRoom s0 (row_count s0) → HasRoom (record s2 { waiting = u.waiting }) (row_count (record s2 { waiting = u.waiting }))
+    pub ready-room : HasRoom s0 (row_count s0) → HasRoom (record s2 { pending = u.pending }) (row_count (record s2 { pending = u.pending }))
     ready-room room =
         let fewer = fewer-rows in
         let there = leaf-there s0 s1 s2 id leaf at rect takes condenses in
-        room-for s0 (record s2 { waiting = u.waiting }) (row_count (record s2 { waiting = u.waiting })) (row_count s0) (omega arith)
+        room-kept s0 (record s2 { pending = u.pending }) (row_count (record s2 { pending = u.pending })) (row_count s0) (omega arith)
         (condenses.keeps.capacity ∙ takes.capacity) (condenses.keeps.room ∙ (takes.change there.0 there.1).room) room
 
-    pub ready-waiting : (least_fill s0.capacity - 1) * s0.level + 512 ≤ vec_capacity s0.waiting → vec_len u.waiting + 512 ≤ vec_capacity u.waiting
-    ready-waiting room =
-        let long = u.waiting.ok.0 in
+    pub ready-pending : (least_fill s0.capacity - 1) * s0.level + 512 ≤ vec_capacity s0.pending → vec_len u.pending + 512 ≤ vec_capacity u.pending
+    ready-pending room =
+        let long = u.pending.ok.0 in
         let same = ap length turned in
-        let reversed = length-reverse s2.waiting.items in
+        let reversed = length-reverse s2.pending.items in
         let few = condenses.few in
         let e = ap (λ M. (least_fill M - 1) * s2.level) (condenses.keeps.capacity ∙ takes.capacity) in
         let f = ap (λ l. (least_fill s0.capacity - 1) * l) (condenses.keeps.level ∙ takes.level) in
-        let a = condenses.keeps.waiting_room in
-        let b = ap vec_capacity takes.waiting in omega arith
+        let a = condenses.keeps.pending_room in
+        let b = ap vec_capacity takes.pending in omega arith

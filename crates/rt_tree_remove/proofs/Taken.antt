@@ -19,7 +19,7 @@ use Rattle.rt_tree_node.specs.declared.arena.Arena.{Arena}
 use Rattle.rt_tree_node.specs.declared.cell.Cell.{Cell}
 use Rattle.rt_tree_node.specs.Node.{NodeCells}
 use Rattle.rt_tree_node.specs.Changes.{Puts, Changes}
-use Rattle.rt_tree_node.specs.Places.{key_of, rects, times_named, times_listed, cells_of, leaf_cells_of, leaf_part, level_of, cells_at, inner_cells_at, leaf_cells_at, level_at, parent_at, hull_at, waiting_rows, waiting_nodes, count_rows}
+use Rattle.rt_tree_node.specs.Places.{key_of, rects, times_named, times_listed, cells_of, leaf_cells_of, leaf_part, level_of, cells_at, inner_cells_at, leaf_cells_at, level_at, parent_at, hull_at, pending_rows, pending_nodes, count_rows}
 use Rattle.rt_tree_node.specs.Sound.{NamesChild, IsLinked, IsFitted, HasHomes}
 use Rattle.rt_tree_node.specs.Whole.{IsWhole, IsBranched}
 use Rattle.rt_tree_node.proofs.Counts.{count-zero}
@@ -29,7 +29,7 @@ use Rattle.rt_tree_node.proofs.Homes.{same-id}
 use Rattle.rt_tree_remove.specs.Steps.{IsSoundBut, Forgets, Takes}
 use Rattle.rt_tree_remove.proofs.Changed.{changed-levels, changed-parents, changed-others, changed-cells}
 use Rattle.rt_tree_remove.proofs.Dissolved.{All-remove, parent-named, inner-same, leaf-same}
-use Rattle.rt_tree_remove.proofs.Sums.{sums-but}
+use Rattle.rt_tree_node.proofs.Sums.{sums-but}
 
 module _ {D : ℕ} where
   leaf-of : (s : Option (NodeCells D)) (id : ℤ) → 0 < times_listed id (leaf_cells_of s) → level_of s ≡ Some 0
@@ -45,18 +45,18 @@ module _ {D : ℕ} where
   listed-some id [] some = absurd (omega arith)
   listed-some id (c ∷ cs) some = omega arith
 
-module _ {D : ℕ} (t : Arena D) (id : ℤ) (leaf : ℕ) (whole : IsWhole t) (idle : t.waiting.items ≡ []) (home : leaf_of int_eq t.leaves id ≡ Some leaf) where
-  linked : IsLinked t.nodes t.root t.level t.waiting.items
+module _ {D : ℕ} (t : Arena D) (id : ℤ) (leaf : ℕ) (whole : IsWhole t) (idle : t.pending.items ≡ []) (home : leaf_of int_eq t.leaves id ≡ Some leaf) where
+  linked : IsLinked t.nodes t.root t.level t.pending.items
   linked = whole.linked
 
-  fitted : IsFitted t.capacity t.nodes t.root t.waiting.items None
+  fitted : IsFitted t.capacity t.nodes t.root t.pending.items None
   fitted = whole.fitted
 
-  homes : HasHomes (leaf_of int_eq t.leaves) t.nodes t.waiting.items
+  homes : HasHomes (leaf_of int_eq t.leaves) t.nodes t.pending.items
   homes = whole.homes
 
-  none-listed : (other : ℤ) → times_listed other (waiting_rows t.waiting.items) ≡ 0
-  none-listed other = ap (λ ws. times_listed other (waiting_rows ws)) idle
+  none-listed : (other : ℤ) → times_listed other (pending_rows t.pending.items) ≡ 0
+  none-listed other = ap (λ ws. times_listed other (pending_rows ws)) idle
 
   listed-once : times_listed id (leaf_cells_at t.nodes leaf) ≡ 1
   listed-once = let once = homes.there leaf id home in let none = none-listed id in omega arith
@@ -78,8 +78,8 @@ module _ {D : ℕ} (t : Arena D) (id : ℤ) (leaf : ℕ) (whole : IsWhole t) (id
 
   parent-high : IsBranched t → leaf ≢ t.root → 2 ≤ length (cells_at t.nodes t.root)
   parent-high branched away =
-      let none : times_named leaf (waiting_nodes t.waiting.items) ≡ 0 = ap (λ ws. times_named leaf (waiting_nodes ws)) idle in
-      let up = parent-named t.nodes t.root t.level t.waiting.items linked leaf 0 leaf-level away none in
+      let none : times_named leaf (pending_nodes t.pending.items) ≡ 0 = ap (λ ws. times_named leaf (pending_nodes ws)) idle in
+      let up = parent-named t.nodes t.root t.level t.pending.items linked leaf 0 leaf-level away none in
       let high = linked.levels up.0 1 up.2 in branched (omega arith)
 
   -- a whole tree is sound but for the leaf, too
@@ -95,8 +95,8 @@ module _ {D : ℕ} (t : Arena D) (id : ℤ) (leaf : ℕ) (whole : IsWhole t) (id
         most = λ k i e odd. fitted.most k i e (λ s. none-some k s);
         boxes = fitted.boxes;
         hulls = λ k i e j d w odd. fitted.hulls k i e j d w (λ s. none-some _ s);
-        waiting_boxes = fitted.waiting_boxes;
-        waiting_hulls = fitted.waiting_hulls;
+        pending_boxes = fitted.pending_boxes;
+        pending_hulls = fitted.pending_hulls;
       };
       homes = homes;
     };
@@ -142,7 +142,7 @@ module _ {D : ℕ} (t : Arena D) (id : ℤ) (leaf : ℕ) (whole : IsWhole t) (id
       | inr other ↦ inner-same t.nodes b k (levels k) (others k other)
     ]
 
-    taken-linked : IsLinked b t.root t.level t.waiting.items
+    taken-linked : IsLinked b t.root t.level t.pending.items
     taken-linked = record {
       root_level = levels t.root ∙ linked.root_level;
       root_parent = parents t.root ∙ linked.root_parent;
@@ -151,13 +151,13 @@ module _ {D : ℕ} (t : Arena D) (id : ℤ) (leaf : ℕ) (whole : IsWhole t) (id
       children = λ k i e. subst (All (NamesChild b i k)) (sym (others k (inner-other k i (sym (levels k) ∙ e)))) (λ j d w.
           let x = get_or (cells_at t.nodes k) j d in
           NamesChild-same t.nodes b i k x (levels (key_of x)) (parents (key_of x)) (linked.children k i (sym (levels k) ∙ e) j d w));
-      named = λ k i e other. ap (λ cs. times_named k cs + times_named k (waiting_nodes t.waiting.items)) (same-above t.nodes b inner-cells k (parents k))
+      named = λ k i e other. ap (λ cs. times_named k cs + times_named k (pending_nodes t.pending.items)) (same-above t.nodes b inner-cells k (parents k))
           ∙ linked.named k i (sym (levels k) ∙ e) other;
-      waiting_levels = linked.waiting_levels;
-      waiting_named = λ j d w i e. Names-same t.nodes b i (get_or t.waiting.items j d).cell (levels (key_of (get_or t.waiting.items j d).cell)) (linked.waiting_named j d w i e);
+      pending_levels = linked.pending_levels;
+      pending_named = λ j d w i e. Names-same t.nodes b i (get_or t.pending.items j d).cell (levels (key_of (get_or t.pending.items j d).cell)) (linked.pending_named j d w i e);
     }
 
-    taken-fitted : IsFitted t.capacity b t.root t.waiting.items (Some leaf)
+    taken-fitted : IsFitted t.capacity b t.root t.pending.items (Some leaf)
     taken-fitted = record {
       cap = fitted.cap;
       some = λ k i e.
@@ -178,8 +178,8 @@ module _ {D : ℕ} (t : Arena D) (id : ℤ) (leaf : ℕ) (whole : IsWhole t) (id
           let x = get_or (cells_at t.nodes k) j d in
           fitted.hulls k i (sym (levels k) ∙ e) j d w (λ s. none-some (key_of x) s)
           ∙ sym (ap (λ cs. hull (rects cs)) (others (key_of x) (λ s. odd (ap Some (sym s))))));
-      waiting_boxes = fitted.waiting_boxes;
-      waiting_hulls = subst (All (λ w. (i : ℕ) → w.level ≡ suc i → w.cell.rect ≡ hull_at b (key_of w.cell))) (sym idle)
+      pending_boxes = fitted.pending_boxes;
+      pending_hulls = subst (All (λ w. (i : ℕ) → w.level ≡ suc i → w.cell.rect ≡ hull_at b (key_of w.cell))) (sym idle)
           (All-nil (λ w. (i : ℕ) → w.level ≡ suc i → w.cell.rect ≡ hull_at b (key_of w.cell)));
     }
 
@@ -215,7 +215,7 @@ module _ {D : ℕ} (t : Arena D) (id : ℤ) (leaf : ℕ) (whole : IsWhole t) (id
         not-it true e = absurd (differs ((Decides-int_eq other id).0 e))
         not-it false e = ap (λ v. cond v 1 0) e
 
-    taken-homes : (g : ℤ → Option ℕ) → g id ≡ None → ((other : ℤ) → other ≢ id → g other ≡ leaf_of int_eq t.leaves other) → HasHomes g b t.waiting.items
+    taken-homes : (g : ℤ → Option ℕ) → g id ≡ None → ((other : ℤ) → other ≢ id → g other ≡ leaf_of int_eq t.leaves other) → HasHomes g b t.pending.items
     taken-homes g gone rest = record {
       home = λ k other some. elim (same-id other id) [
         | inl e ↦
@@ -236,10 +236,10 @@ module _ {D : ℕ} (t : Arena D) (id : ℤ) (leaf : ℕ) (whole : IsWhole t) (id
             let same = listed-other other differs k in
             let old = homes.there k other (sym (rest other differs) ∙ is) in omega arith
       ];
-      waiting = λ other some. let none = none-listed other in absurd (omega arith);
+      pending = λ other some. let none = none-listed other in absurd (omega arith);
     }
 
-    taken-rows : (test : Cell D → Bool) → count_rows test b t.waiting.items + cond (test row) 1 0 ≡ count_rows test t.nodes t.waiting.items
+    taken-rows : (test : Cell D → Bool) → count_rows test b t.pending.items + cond (test row) 1 0 ≡ count_rows test t.nodes t.pending.items
     taken-rows test =
         let F : Option (NodeCells D) → ℕ = λ place. count_by test (leaf_cells_of place) in
         let sums = sums-but F refl t.nodes.slots b.slots leaf (λ k ne. ap (count_by test) (leaf-same t.nodes b k (levels k) (others k ne))) in
@@ -276,7 +276,7 @@ module _ {D : ℕ} (t : Arena D) (id : ℤ) (leaf : ℕ) (whole : IsWhole t) (id
       change = change;
       forgets = forgets;
       rows = taken-rows;
-      waiting = refl;
+      pending = refl;
       root = refl;
       level = refl;
       capacity = refl;

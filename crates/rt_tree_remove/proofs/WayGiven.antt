@@ -14,7 +14,7 @@ use Rattle.rt_tree_node.specs.declared.arena.Arena.{Arena}
 use Rattle.rt_tree_node.specs.declared.cell.Cell.{Cell}
 use Rattle.rt_tree_node.specs.Node.{NodeCells}
 use Rattle.rt_tree_node.specs.Changes.{Puts}
-use Rattle.rt_tree_node.specs.Places.{key_of, rects, times_named, times_listed, cells_of, leaf_cells_of, level_of, parent_of, cells_at, leaf_cells_at, level_at, parent_at, hull_at, waiting_nodes, count_rows}
+use Rattle.rt_tree_node.specs.Places.{key_of, rects, times_named, times_listed, cells_of, leaf_cells_of, level_of, parent_of, cells_at, leaf_cells_at, level_at, parent_at, hull_at, pending_nodes, count_rows}
 use Rattle.rt_tree_node.specs.Sound.{Names, NamesChild, IsLinked, IsFitted}
 use Rattle.rt_tree_node.specs.Whole.{IsWhole, IsBranched}
 use Rattle.rt_tree_node.proofs.Places.{inner-at_inner, leaf-at_inner, named-none}
@@ -23,7 +23,7 @@ use Rattle.rt_tree_node.proofs.Homes.{homes-same}
 use Rattle.rt_tree_remove.specs.Steps.{LosesRoot, GivesWay}
 use Rattle.rt_tree_remove.proofs.Dissolved.{parent-named, leaf-same}
 use Rattle.rt_tree_remove.proofs.Changed.{named-at}
-use Rattle.rt_tree_remove.proofs.Sums.{sums-same}
+use Rattle.rt_tree_node.proofs.Sums.{sums-same}
 
 module _ {D : ℕ} where
   one-alone : (cs : List (Cell D)) (d : Cell D) → length cs ≡ 1 → cs ≡ get_or cs 0 d ∷ []
@@ -68,19 +68,19 @@ module _ {D : ℕ} where
       let place = named-at n.cells ns child 0 is some (λ x. sym (first x)) in
       ap (λ cs. key_of (get_or cs 0 d)) (ap cells_of has) ∙ place.names d
 
-module _ {D : ℕ} (t : Arena D) (l child : ℕ) (whole : IsWhole t) (idle : t.waiting.items ≡ []) (height : t.level ≡ suc l)
+module _ {D : ℕ} (t : Arena D) (l child : ℕ) (whole : IsWhole t) (idle : t.pending.items ≡ []) (height : t.level ≡ suc l)
     (alone : length (cells_at t.nodes t.root) ≤ 1) (child_is : (d : Cell D) → key_of (get_or (cells_at t.nodes t.root) 0 d) ≡ child) where
   a : Slab (NodeCells D)
   a = t.nodes
 
-  linked : IsLinked t.nodes t.root t.level t.waiting.items
+  linked : IsLinked t.nodes t.root t.level t.pending.items
   linked = whole.linked
 
-  fitted : IsFitted t.capacity t.nodes t.root t.waiting.items None
+  fitted : IsFitted t.capacity t.nodes t.root t.pending.items None
   fitted = whole.fitted
 
-  none-waits : (k : ℕ) → times_named k (waiting_nodes t.waiting.items) ≡ 0
-  none-waits k = ap (λ ws. times_named k (waiting_nodes ws)) idle
+  none-waits : (k : ℕ) → times_named k (pending_nodes t.pending.items) ≡ 0
+  none-waits k = ap (λ ws. times_named k (pending_nodes ws)) idle
 
   some-cell : Cell D
   some-cell = record { number = pos 0; rect = [] }
@@ -106,7 +106,7 @@ module _ {D : ℕ} (t : Arena D) (l child : ℕ) (whole : IsWhole t) (idle : t.w
   -- each node but the root is named by its parent, which is no higher than the root
   parent-of : (k i : ℕ) → level_at t.nodes k ≡ Some i → k ≢ t.root →
       (p : ℕ) × (parent_at t.nodes k ≡ Some p) × (level_at t.nodes p ≡ Some (suc i)) × (times_named k (cells_at t.nodes p) ≡ 1)
-  parent-of k i e away = parent-named t.nodes t.root t.level t.waiting.items linked k i e away (none-waits k)
+  parent-of k i e away = parent-named t.nodes t.root t.level t.pending.items linked k i e away (none-waits k)
 
   below-root : (k i : ℕ) → level_at t.nodes k ≡ Some i → k ≢ t.root → i ≤ l
   below-root k i e away =
@@ -141,7 +141,7 @@ module _ {D : ℕ} (t : Arena D) (l child : ℕ) (whole : IsWhole t) (idle : t.w
           (λ same. stays k (suc i) e (same_Some _ _ (sym is.parent_is ∙ ap (parent_at t.nodes) same ∙ child-parent))),
         )
 
-    given-linked : IsLinked b child l t.waiting.items
+    given-linked : IsLinked b child l t.pending.items
     given-linked = record {
       root_level = h.levels child (λ e. root-not_child (sym e)) ∙ child-level;
       root_parent = h.top;
@@ -162,14 +162,14 @@ module _ {D : ℕ} (t : Arena D) (l child : ℕ) (whole : IsWhole t) (idle : t.w
           let cells = ap (times_named k) (h.cells up.0 away) in
           let once = up.3 in
           let none = none-waits k in omega arith;
-      waiting_levels = subst (All (λ w. w.level ≤ l)) (sym idle) (All-nil (λ w. w.level ≤ l));
-      waiting_named = subst (All (λ w. (i : ℕ) → w.level ≡ suc i → Names b i w.cell)) (sym idle) (All-nil (λ w. (i : ℕ) → w.level ≡ suc i → Names b i w.cell));
+      pending_levels = subst (All (λ w. w.level ≤ l)) (sym idle) (All-nil (λ w. w.level ≤ l));
+      pending_named = subst (All (λ w. (i : ℕ) → w.level ≡ suc i → Names b i w.cell)) (sym idle) (All-nil (λ w. (i : ℕ) → w.level ≡ suc i → Names b i w.cell));
     }
 
     same-hull : (k : ℕ) → k ≢ t.root → hull_at b k ≡ hull_at t.nodes k
     same-hull k away = ap (λ cs. hull (rects cs)) (h.cells k away)
 
-    given-fitted : IsFitted t.capacity b child t.waiting.items None
+    given-fitted : IsFitted t.capacity b child t.pending.items None
     given-fitted = record {
       cap = fitted.cap;
       some = λ k i e. let long = ap length (h.cells k (stays k (suc i) e)) in let old = fitted.some k i (was k (suc i) e) in omega arith;
@@ -182,8 +182,8 @@ module _ {D : ℕ} (t : Arena D) (l child : ℕ) (whole : IsWhole t) (idle : t.w
       hulls = λ k i e. subst (All (λ c. None ≢ Some (key_of c) → c.rect ≡ hull_at b (key_of c))) (sym (h.cells k (stays k (suc i) e))) (λ j d within odd.
           let deep = named-deep k i e j d within in
           fitted.hulls k i (was k (suc i) e) j d within odd ∙ sym (same-hull _ deep.0));
-      waiting_boxes = fitted.waiting_boxes;
-      waiting_hulls = subst (All (λ w. (i : ℕ) → w.level ≡ suc i → w.cell.rect ≡ hull_at b (key_of w.cell))) (sym idle)
+      pending_boxes = fitted.pending_boxes;
+      pending_hulls = subst (All (λ w. (i : ℕ) → w.level ≡ suc i → w.cell.rect ≡ hull_at b (key_of w.cell))) (sym idle)
           (All-nil (λ w. (i : ℕ) → w.level ≡ suc i → w.cell.rect ≡ hull_at b (key_of w.cell)));
     }
 
@@ -193,7 +193,7 @@ module _ {D : ℕ} (t : Arena D) (l child : ℕ) (whole : IsWhole t) (idle : t.w
       | inr away ↦ leaf-same t.nodes b k (h.levels k away) (h.cells k away)
     ]
 
-    given-rows : (test : Cell D → Bool) → count_rows test b t.waiting.items ≡ count_rows test t.nodes t.waiting.items
+    given-rows : (test : Cell D → Bool) → count_rows test b t.pending.items ≡ count_rows test t.nodes t.pending.items
     given-rows test =
         let F : Option (NodeCells D) → ℕ = λ place. count_by test (leaf_cells_of place) in
         let sums = sums-same F refl t.nodes.slots b.slots (λ k. ap (count_by test) (same-leaves k)) in
@@ -204,10 +204,10 @@ module _ {D : ℕ} (t : Arena D) (l child : ℕ) (whole : IsWhole t) (idle : t.w
       whole = record {
         linked = given-linked;
         fitted = given-fitted;
-        homes = homes-same (leaf_of int_eq t.leaves) t.nodes b t.waiting.items (λ k id. ap (times_listed id) (same-leaves k)) whole.homes;
+        homes = homes-same (leaf_of int_eq t.leaves) t.nodes b t.pending.items (λ k id. ap (times_listed id) (same-leaves k)) whole.homes;
       };
       branched = λ high. let long = ap length (h.cells child (λ e. root-not_child (sym e))) in let two = child-filled in omega arith;
-      waiting = refl;
+      pending = refl;
       rows = given-rows;
       leaves = refl;
       capacity = refl;
@@ -221,7 +221,7 @@ module _ {D : ℕ} where
   way-kept t whole branched = record {
     whole = whole;
     branched = branched;
-    waiting = refl;
+    pending = refl;
     rows = λ test. refl;
     leaves = refl;
     capacity = refl;

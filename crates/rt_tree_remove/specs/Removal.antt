@@ -13,7 +13,7 @@ use Rattle.rt_tree_remove.specs.Above.{way_up}
 use Rattle.rt_tree_remove.specs.Steps.{Takes, Condenses, SettlesInTurn, GivesWay}
 
 module _ {S : Type 0} where
-  -- the map has the ids that it had, but this one, and as much room
+  -- the map has the ids that it had, except this one, and as much room
   pub record LosesId (old new : IndexMap ℤ ℕ S) (id : ℤ) : Type 0 where
     pub gone : leaf_of int_eq new id ≡ None
     pub others : (other : ℤ) → other ≢ id → IsSome (leaf_of int_eq new other) ↔ IsSome (leaf_of int_eq old other)
@@ -32,7 +32,7 @@ module _ {D : ℕ} where
     pub others : (k : ℕ) → k ≢ leaf → KeepsShape old.nodes new.nodes (way_up old.nodes old.level leaf) k
     pub homes : (other : ℤ) → other ≢ cell.number → leaf_of int_eq new.leaves other ≡ leaf_of int_eq old.leaves other
 
-  -- The steps: the row leaves its leaf, underfull nodes leave the tree from there up, their cells are inserted again, those
+  -- The steps: the row leaves its leaf, underfull nodes are eliminated from there up, their cells are inserted again, those
   -- of the lowest level first, and a root with one child gives way.
   pub record RemovesInSteps (old new : Arena D) (id : ℤ) (rect : List Interval) : Type 0 where
     pub leaf : ℕ
@@ -42,26 +42,26 @@ module _ {D : ℕ} where
     pub condensed : Arena D
     pub condenses : Condenses taken condensed leaf
     pub turned : Arena D
-    pub turned_is : turned ≡ record condensed { waiting = turned.waiting }
-    pub reversed : turned.waiting.items ≡ reverse condensed.waiting.items
+    pub turned_is : turned ≡ record condensed { pending = turned.pending }
+    pub reversed : turned.pending.items ≡ reverse condensed.pending.items
     pub placed : Arena D
     pub places : SettlesInTurn turned placed
-    pub none_left : placed.waiting.items ≡ []
+    pub none_left : placed.pending.items ≡ []
     pub gives_way : GivesWay placed new
 
-  -- the row with the id and the box is out of the tree, and each other row in it; where its leaf was the root or had
-  -- cells to spare, no other row moved
+  -- the row with the id and the box is out of the tree, and each other row in it; if its leaf was the root or had cells to
+  -- spare, no other row moved
   pub record Removes (old new : Arena D) (id : ℤ) (rect : List Interval) : Type 0 where
     pub whole : IsWhole new
     pub branched : IsBranched new
-    pub none_waits : new.waiting.items ≡ []
+    pub none_waits : new.pending.items ≡ []
     pub rows : (test : Cell D → Bool) →
-        count_rows test new.nodes new.waiting.items + (if test record { number = id; rect = rect } then 1 else 0)
-        ≡ count_rows test old.nodes old.waiting.items
+        count_rows test new.nodes new.pending.items + (if test record { number = id; rect = rect } then 1 else 0)
+        ≡ count_rows test old.nodes old.pending.items
     pub ids : LosesId old.leaves new.leaves id
     pub capacity : new.capacity ≡ old.capacity
     pub room : new.nodes.capacity ≡ old.nodes.capacity
-    pub waiting_room : vec_capacity new.waiting ≡ vec_capacity old.waiting
+    pub pending_room : vec_capacity new.pending ≡ vec_capacity old.pending
     pub steps : RemovesInSteps old new id rect
     pub exact : (leaf : ℕ) → leaf_of int_eq old.leaves id ≡ Some leaf →
         (leaf ≢ old.root → suc (least_fill old.capacity) ≤ length (cells_at old.nodes leaf)) →

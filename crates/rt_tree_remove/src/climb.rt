@@ -1,16 +1,16 @@
 //! One step up from a node that lost a cell.
 //!
-//! Either the node has enough cells and the box above it is fitted, or the node leaves the tree and its cells wait
+//! Either the node has enough cells and the box above it is fitted, or the node is eliminated and its cells are pending
 //! (`Climbs` in `specs/Steps.antt`).
 
 ghost use Rattle.std.specs.Prelude.{◌≡◌, ◌≢◌, ℕ, ◌+◌, ◌-◌, ◌*◌, ◌^◌, ◌<◌, ◌≤◌, ◌++◌, length, vec_len, vec_capacity};
 ghost use Rattle.slab.specs.Slab.{get, ContainsKey};
 ghost use Rattle.rt_box.specs.Capacity.{least_fill};
-ghost use Rattle.rt_tree_node.specs.Places.{times_named, cells_at, parent_at, waiting_at};
+ghost use Rattle.rt_tree_node.specs.Places.{times_named, cells_at, parent_at, pending_at};
 ghost use Rattle.rt_tree_remove.specs.Steps.{Dissolves, IsSoundBut, Climbs};
 
-use crate::find::place_of_child;
-use rt_tree_node::{Arena, Key, Node, Waiting, node_at, remove_cell, remove_node};
+use crate::child::child_position;
+use rt_tree_node::{Arena, Key, Node, Pending, node_at, remove_cell, remove_node};
 use rt_tree_place::refit;
 use slab::Slab;
 
@@ -27,31 +27,31 @@ pub(crate) fn remove_child<const D: usize>(
     ensures node { get nodes.old key ≡ Some result }
     ensures change { (at : ℕ) × Dissolves nodes.old nodes.new key parent at }
 {
-    let at = place_of_child(node_at(nodes, parent).numbers(), key);
+    let at = child_position(node_at(nodes, parent).numbers(), key);
     remove_cell(nodes, parent, at);
     remove_node(nodes, key)
 }
 
-/// Lets the cells of a node wait for another node of its level.
-pub(crate) fn await_places<const D: usize>(waiting: &mut Vec<Waiting<D>>, node: &Node<D>)
-    requires { vec_len waiting.old + length node.now.cells ≤ vec_capacity waiting.old }
-    ensures items { waiting.new.items ≡ waiting.old.items ++ waiting_at node.now.level node.now.cells }
-    ensures room { vec_capacity waiting.new ≡ vec_capacity waiting.old }
+/// Makes the cells of a node pending for other nodes of its level.
+pub(crate) fn push_cells<const D: usize>(pending: &mut Vec<Pending<D>>, node: &Node<D>)
+    requires { vec_len pending.old + length node.now.cells ≤ vec_capacity pending.old }
+    ensures items { pending.new.items ≡ pending.old.items ++ pending_at node.now.level node.now.cells }
+    ensures room { vec_capacity pending.new ≡ vec_capacity pending.old }
 {
     let level = node.level();
     for at in 0..node.len() {
         let cell = node.cell(at);
-        waiting.push_reserved(Waiting { level, cell });
+        pending.push_reserved(Pending { level, cell });
     }
 }
 
-/// A node with too few cells is taken out of its parent and its cells wait; of another the parent's cell gets
-/// the least box around its cells.
+/// An underfull node is taken out of its parent, and its cells are then pending. For any other node, the parent's cell gets
+/// the least box around the node's cells.
 pub(crate) fn climb<const D: usize>(tree: &mut Arena<D>, key: Key, parent: Key)
     requires but { IsSoundBut tree.old key }
     requires up { parent_at tree.old.nodes key ≡ Some parent }
     requires keys { tree.old.nodes.capacity ≤ 2 ^ 62 }
-    requires room { (least_fill tree.old.capacity - 1) * tree.old.level ≤ vec_capacity tree.old.waiting }
+    requires room { (least_fill tree.old.capacity - 1) * tree.old.level ≤ vec_capacity tree.old.pending }
     ensures { Climbs tree.old tree.new key parent }
 {
     if node_at(&tree.nodes, key).len() >= tree.capacity.least() {
@@ -59,5 +59,5 @@ pub(crate) fn climb<const D: usize>(tree: &mut Arena<D>, key: Key, parent: Key)
         return;
     }
     let node = remove_child(&mut tree.nodes, key, parent);
-    await_places(&mut tree.waiting, &node);
+    push_cells(&mut tree.pending, &node);
 }

@@ -1,12 +1,12 @@
 //! The way up from a leaf that lost a row.
 //!
-//! Only the node at hand may be out of shape (`IsSoundBut` in `specs/Steps.antt`). The way up stops early where
-//! that node has enough cells and the cell above it has the least box already.
+//! Only the node at hand may be out of shape (`IsSoundBut` in `specs/Steps.antt`). The way up stops early if that node has
+//! enough cells and the cell above it has the least box already.
 
-ghost use Rattle.std.specs.Prelude.{◌≡◌, ℕ, ◌-◌, ◌*◌, ◌^◌, ◌≤◌, Some, true, vec_capacity};
+ghost use Rattle.std.specs.Prelude.{◌≡◌, ◌-◌, ◌*◌, ◌^◌, ◌≤◌, Some, true, vec_capacity};
 ghost use Rattle.rt_box.specs.Capacity.{least_fill};
 ghost use Rattle.rt_tree_node.specs.Places.{level_at, parent_at};
-ghost use Rattle.rt_tree_remove.specs.Steps.{IsSoundBut, LiesInside, LiesInsideNode, HasLeastWhereInside, IsCondensed, Condenses};
+ghost use Rattle.rt_tree_remove.specs.Steps.{IsSoundBut, LiesInside, LiesInsideNode, HasLeastWhereInside, IsCondensed, EndsCondensed, Condenses};
 
 use crate::climb::climb;
 use rt_box::Rect;
@@ -52,13 +52,13 @@ pub(crate) fn lies_inside_leaf<const D: usize>(tree: &Arena<D>, leaf: Key, rect:
     }
 }
 
-/// Whether nothing is left to be done on the way up from a leaf that lost a row with this box, since the row touched no
-/// side of the leaf's box. It looks at no other cell of the leaf.
+/// Whether nothing is left to be done on the way up from a leaf that lost a row with this box, since the row touched no side
+/// of the leaf's box. It looks at no other cell of the leaf.
 fn stays_condensed<const D: usize>(tree: &Arena<D>, leaf: Key, rect: &Rect<D>) -> bool
     requires but { IsSoundBut tree.now leaf }
     requires keys { tree.now.nodes.capacity ≤ 2 ^ 62 }
     requires inside { HasLeastWhereInside tree.now.nodes leaf rect.now }
-    ensures { result ≡ true → (parent : ℕ) × (parent_at tree.now.nodes leaf ≡ Some parent) × IsCondensed tree.now leaf parent }
+    ensures { result ≡ true → EndsCondensed tree.now leaf }
 {
     if node_at(&tree.nodes, leaf).len() < tree.capacity.least() {
         return false;
@@ -66,12 +66,12 @@ fn stays_condensed<const D: usize>(tree: &Arena<D>, leaf: Key, rect: &Rect<D>) -
     lies_inside_leaf(tree, leaf, rect)
 }
 
-/// Takes out the nodes from the leaf up that have too few cells, and fits the boxes of the others.
+/// Eliminates the underfull nodes from the leaf up, and fits the boxes of the others.
 pub(crate) fn condense<const D: usize>(tree: &mut Arena<D>, leaf: Key, rect: &Rect<D>)
     requires but { IsSoundBut tree.old leaf }
     requires keys { tree.old.nodes.capacity ≤ 2 ^ 62 }
     requires bottom { level_at tree.old.nodes leaf ≡ Some 0 }
-    requires room { (least_fill tree.old.capacity - 1) * tree.old.level ≤ vec_capacity tree.old.waiting }
+    requires room { (least_fill tree.old.capacity - 1) * tree.old.level ≤ vec_capacity tree.old.pending }
     requires inside { HasLeastWhereInside tree.old.nodes leaf rect.now }
     ensures { Condenses tree.old tree.new leaf }
 {

@@ -1,7 +1,7 @@
 //! The root at the end of a removal.
 //!
-//! An inner root with one cell gives way to its child, once no cell waits. One turn is enough, since the child is
-//! filled (`GivesWay` in `specs/Steps.antt`).
+//! An inner root with one cell gives way to its child, once no cell is pending. One turn is enough, since the child is filled
+//! (`GivesWay` in `specs/Steps.antt`).
 
 ghost use Rattle.std.specs.Prelude.{◌≡◌, ◌<◌, ℤ, [], length, unsigned_abs, slice_index_or};
 ghost use Rattle.rt_tree_node.specs.Whole.{IsWhole};
@@ -20,7 +20,7 @@ fn first_key(numbers: &[i64]) -> Key
 /// Makes the only child of an inner root the root.
 pub(crate) fn give_way<const D: usize>(tree: &mut Arena<D>)
     requires whole { IsWhole tree.old }
-    requires idle { tree.old.waiting.items ≡ [] }
+    requires idle { tree.old.pending.items ≡ [] }
     ensures { GivesWay tree.old tree.new }
 {
     if tree.level == 0 {

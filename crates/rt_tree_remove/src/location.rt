@@ -24,12 +24,12 @@ pub struct Location<const D: usize> {
     pub rect: Rect<D>,
 }
 
-/// Finds the row with the id, where there is one. It is no part of its callers, so that the look-up stands in the program once.
+/// Finds the row with the id, if there is one. It is no part of its callers, so that the look-up stands in the program once.
 #[inline(never)]
 pub fn find_row<const D: usize>(tree: &Arena<D>, id: &i64) -> Option<Location<D>>
     requires few { D ≤ 3 }
     requires whole { IsWhole tree.now }
-    requires idle { tree.now.waiting.items ≡ [] }
+    requires idle { tree.now.pending.items ≡ [] }
     ensures { MatchOption result (leaf_of int_eq tree.now.leaves id.now ≡ None) (IsLocationOf tree.now id.now) }
 {
     let (index, leaf) = find_leaf(&tree.leaves, id)?;

@@ -1,12 +1,12 @@
 //! The replacement of a row by one that keeps its id.
 //!
-//! The row is removed and inserted again (`specs/Replacement.antt`). Where its removal leaves all else as it is, its id keeps
-//! its entry in the map of leaves meanwhile: nothing is taken out of the map and put in again.
+//! The row is removed and inserted again (`specs/Replacement.antt`). If its removal leaves all else as it is, its id keeps its
+//! entry in the map of leaves meanwhile: nothing is taken out of the map and put in again.
 
 ghost use Rattle.std.specs.Prelude.{◌≡◌, ◌+◌, ◌-◌, ◌*◌, ◌^◌, ◌<◌, ◌≤◌, [], true, vec_capacity};
 ghost use Rattle.indexmap.specs.IndexMap.{spare};
 ghost use Rattle.rt_box.specs.Capacity.{least_fill};
-ghost use Rattle.rt_tree_node.specs.Whole.{IsWhole, IsBranched, HasRoom, row_count};
+ghost use Rattle.rt_tree_node.specs.Whole.{IsWhole, IsBranched, HasRoom, row_count, most_rows_of_a_tree};
 ghost use Rattle.rt_tree_remove.specs.Steps.{IsSoundBut, IsLocationOf, MovesAlone};
 ghost use Rattle.rt_tree_remove.specs.Replacement.{Replaces};
 
@@ -14,8 +14,8 @@ use crate::condense::lies_inside_leaf;
 use crate::location::Location;
 use crate::remove::remove_found;
 use rt_box::Rect;
-use rt_tree_insert::{insert_row, push_row, settle};
 use rt_tree_node::{Arena, leaves_facts, node_at, remove_cell};
+use rt_tree_place::{insert_row, push_row, settle};
 
 /// Whether the removal of the row leaves all else as it is. Most rows lie inside their leaf's box, and most leaves have a cell
 /// to spare.
@@ -30,22 +30,23 @@ fn moves_alone<const D: usize>(tree: &Arena<D>, location: &Location<D>) -> bool
     lies_inside_leaf(tree, location.leaf, &location.rect)
 }
 
-/// Moves a row whose removal leaves all else as it is: its cell leaves the leaf, waits with the other box, and is placed.
+/// Moves a row whose removal leaves all else as it is: its cell leaves the leaf, is pending with the other box, and is
+/// placed.
 fn move_row<const D: usize>(tree: &mut Arena<D>, id: &i64, location: &Location<D>, rect: &Rect<D>)
     requires whole { IsWhole tree.old }
     requires branched { IsBranched tree.old }
-    requires idle { tree.old.waiting.items ≡ [] }
+    requires idle { tree.old.pending.items ≡ [] }
     requires location { IsLocationOf tree.old id.now location.now }
     requires alone { MovesAlone tree.old location.now }
-    requires rows { row_count tree.old ≤ 2 ^ 20 }
+    requires rows { row_count tree.old ≤ most_rows_of_a_tree }
     requires room { HasRoom tree.old (row_count tree.old) }
-    requires waiting_room { 513 ≤ vec_capacity tree.old.waiting }
+    requires pending_room { 513 ≤ vec_capacity tree.old.pending }
     ensures { Replaces tree.old tree.new id.now location.now.rect rect.now }
 {
     leaves_facts(&tree.leaves);
     rect.facts();
     remove_cell(&mut tree.nodes, location.leaf, location.at);
-    push_row(&mut tree.waiting, id, rect);
+    push_row(&mut tree.pending, id, rect);
     let _ = settle(tree, 0);
 }
 
@@ -58,13 +59,13 @@ pub fn replace_found<const D: usize>(
 )
     requires whole { IsWhole tree.old }
     requires branched { IsBranched tree.old }
-    requires idle { tree.old.waiting.items ≡ [] }
+    requires idle { tree.old.pending.items ≡ [] }
     requires location { IsLocationOf tree.old id.now location.now }
-    requires rows { row_count tree.old ≤ 2 ^ 20 }
+    requires rows { row_count tree.old ≤ most_rows_of_a_tree }
     requires room { HasRoom tree.old (row_count tree.old) }
     requires leaves_room { 1 ≤ spare tree.old.leaves }
-    requires waiting_room { (least_fill tree.old.capacity - 1) * tree.old.level + 512 ≤ vec_capacity tree.old.waiting }
-    requires one_more { 513 ≤ vec_capacity tree.old.waiting }
+    requires pending_room { (least_fill tree.old.capacity - 1) * tree.old.level + 512 ≤ vec_capacity tree.old.pending }
+    requires one_more { 513 ≤ vec_capacity tree.old.pending }
     ensures { Replaces tree.old tree.new id.now location.now.rect rect.now }
 {
     if moves_alone(tree, location) {

@@ -3,9 +3,9 @@
 //! The id leaves the map of leaves, and the cell its leaf. The leaf may then have one cell too few (`Takes` in
 //! `specs/Steps.antt`).
 
-ghost use Rattle.std.specs.Prelude.{◌≡◌, ℕ, ℤ, [], Some, slice_get};
+ghost use Rattle.std.specs.Prelude.{◌≡◌, []};
 ghost use Rattle.rt_tree_node.specs.Whole.{IsWhole, IsBranched};
-ghost use Rattle.rt_tree_remove.specs.Steps.{IsLocationOf, Forgets, Takes};
+ghost use Rattle.rt_tree_remove.specs.Steps.{IsLocationOf, ForgetsAt, Takes};
 
 use crate::location::Location;
 use indexmap::IndexMap;
@@ -14,7 +14,7 @@ use std::hash::RandomState;
 
 /// Takes the entry at the index out of the map.
 fn forget(leaves: &mut IndexMap<i64, Key, RandomState>, index: usize)
-    ensures { (id : ℤ) (leaf : ℕ) → slice_get leaves.old.entries index ≡ Some (id, leaf) → Forgets leaves.old leaves.new id }
+    ensures { ForgetsAt leaves.old leaves.new index }
 {
     // The index is known, so the id isn't looked up again.
     let _ = leaves.swap_remove_index(index);
@@ -24,7 +24,7 @@ fn forget(leaves: &mut IndexMap<i64, Key, RandomState>, index: usize)
 pub(crate) fn take_row<const D: usize>(tree: &mut Arena<D>, id: &i64, location: &Location<D>)
     requires whole { IsWhole tree.old }
     requires branched { IsBranched tree.old }
-    requires idle { tree.old.waiting.items ≡ [] }
+    requires idle { tree.old.pending.items ≡ [] }
     requires location { IsLocationOf tree.old id.now location.now }
     ensures { Takes tree.old tree.new id.now location.now.leaf location.now.at location.now.rect }
 {

@@ -5,6 +5,6 @@
 //! Stands on `rt_tree_walk`, for its rows. Definition: `specs/Buckets.antt` (how rows are dealt to buckets).
 #![tactic(auto)]
 
-mod sorting;
+mod sort;
 
-pub use sorting::sort_by_id;
+pub use sort::sort_by_id;

@@ -24,7 +24,8 @@ use Rattle.rt_tree_walk.specs.declared.searching.Row.{Row}
 use Rattle.rt_tree_walk.specs.Search.{times, row_of, AsksAdmitted, Counts}
 use Rattle.rt_tree_walk.specs.Visits.{keys_of, VisitsCounting}
 use Rattle.rt_tree_walk.proofs.Ints.{int_le-true, int_le-from}
-use Rattle.rt_tree_walk.proofs.Totals.{times-cons, times-one, sum-listed_le, upto-list}
+use Rattle.rt_tree_node.proofs.Sums.{upto-list}
+use Rattle.rt_tree_walk.proofs.Totals.{times-cons, times-one, sum-listed_le}
 use Rattle.rt_tree_walk.proofs.Judging.{count-mapped}
 use Rattle.rt_tree_walk.proofs.Inside.{keys-next, counting-dropped}
 use Rattle.rt_tree_walk.proofs.Progress.{IsSettled, Progress, Progress-start, Progress-step, Progress-end, key-there, level-some}
@@ -155,8 +156,8 @@ module _ {D : ℕ} where
           let there = counting-there (drop at (keys_of reached)) (drop (at + 1) (keys_of reached)) next.key count so first in
           level-some t.nodes next.key there.0 there.1
 
-      module _ (n : ℕ) (reached1 : List Reached) (asked : List Interval) (e : asked ≡ window)
-          (went : VisitsCounting t.nodes asked next.key n (keys_of reached) (keys_of reached1)) where
+      module _ (n : ℕ) (reached1 : List Reached) (query : List Interval) (e : query ≡ window)
+          (went : VisitsCounting t.nodes query next.key n (keys_of reached) (keys_of reached1)) where
         dropped : VisitsCounting t.nodes window next.key n (drop (at + 1) (keys_of reached)) (drop (at + 1) (keys_of reached1))
         dropped =
             counting-dropped t.nodes window next.key (at + 1) n (keys_of reached) (keys_of reached1)

@@ -23,7 +23,7 @@ use Rattle.rt_check.specs.Conditions.{is_leaf, lies_in, holds_child, is_reached,
 use Rattle.rt_tree_choice.specs.Hull.{hull}
 use Rattle.rt_tree_node.specs.declared.arena.Arena.{Arena}
 use Rattle.rt_tree_node.specs.declared.cell.Cell.{Cell}
-use Rattle.rt_tree_node.specs.Places.{key_of, rects, times_listed, cells_at, leaf_cells_at, level_at, hull_at, waiting_rows}
+use Rattle.rt_tree_node.specs.Places.{key_of, rects, times_listed, cells_at, leaf_cells_at, level_at, hull_at, pending_rows}
 use Rattle.rt_tree_node.specs.Sound.{NamesChild}
 use Rattle.rt_tree_node.proofs.Counts.{count-some}
 use Rattle.rt_tree_node.proofs.Places.{leaf-at_leaf, leaf-at_inner}
@@ -193,7 +193,7 @@ module _ {D : ℕ} (t : Arena D) (s : IsSettled t) (keys : List ℕ) (number : �
   listed-part id k e j = elim (cases_eq j k) [
     | inl q ↦
         let h = s.whole.homes.there k id e in
-        let none = ap (λ ws. times_listed id (waiting_rows ws)) s.none in
+        let none = ap (λ ws. times_listed id (pending_rows ws)) s.none in
         let same = ap (λ i. times_listed id (leaf_cells_at t.nodes i)) q in
         omega (arith, h, none, same, times-one k j q)
     | inr ne ↦ elim (cases_lt 0 (times_listed id (leaf_cells_at t.nodes j))) [

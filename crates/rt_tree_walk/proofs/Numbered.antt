@@ -16,7 +16,7 @@ use Rattle.rt_check.specs.Shadow.{ShadowLists}
 use Rattle.rt_tree_node.specs.declared.arena.Arena.{Arena}
 use Rattle.rt_tree_node.specs.declared.cell.Cell.{Cell}
 use Rattle.rt_tree_node.specs.Node.{NodeCells}
-use Rattle.rt_tree_node.specs.Places.{key_of, times_listed, cells_of, leaf_cells_at, level_of, level_at, parent_of, parent_at, waiting_rows}
+use Rattle.rt_tree_node.specs.Places.{key_of, times_listed, cells_of, leaf_cells_at, level_of, level_at, parent_of, parent_at, pending_rows}
 use Rattle.rt_tree_node.specs.Sound.{NamesChild}
 use Rattle.rt_tree_walk.specs.Preorder.{tree_keys, number_in}
 use Rattle.rt_tree_walk.specs.Outside.{noted, cell_row, node_row, row_entry, rising, outside, AreKnown}
@@ -100,7 +100,7 @@ module _ {D : ℕ} (t : Arena D) (s : IsSettled t) where
   pub leaf-node : (id : ℤ) → ForSome (leaf_of int_eq t.leaves id) (HasNode t s)
   leaf-node id key e =
       let h = s.whole.homes.there key id e in
-      let none = ap (λ ws. times_listed id (waiting_rows ws)) s.none in
+      let none = ap (λ ws. times_listed id (pending_rows ws)) s.none in
       let found = counted-contained (λ (c : Cell D). int_eq id c.number) (leaf_cells_at t.nodes key) (omega (arith, h, none)) in
       let leaf = leaf-level t.nodes key (let q = found.1.1 in omega arith) in
       (0, leaf.0)

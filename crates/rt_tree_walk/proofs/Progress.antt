@@ -23,7 +23,8 @@ use Rattle.rt_tree_walk.specs.declared.searching.Reached.{Reached}
 use Rattle.rt_tree_walk.specs.declared.searching.Row.{Row}
 use Rattle.rt_tree_walk.specs.Search.{times, row_of, LeadsInto, AsksAdmitted, IsReached, Finds, FindsAfter}
 use Rattle.rt_tree_walk.specs.Visits.{keys_of, Visits}
-use Rattle.rt_tree_walk.proofs.Totals.{times-append, times-one, times-is, upto, sum-listed, sum-listed_le, upto-le, upto-list}
+use Rattle.rt_tree_node.proofs.Sums.{upto, upto-list}
+use Rattle.rt_tree_walk.proofs.Totals.{times-append, times-one, times-is, sum-listed, sum-listed_le, upto-le}
 use Rattle.rt_tree_walk.proofs.Inside.{keys-next, visits-dropped}
 use Rattle.rt_tree_walk.proofs.Reaching.{All_contained, inner-level, leaf-level, hull-contained, counted-contained, reached-up}
 
@@ -42,10 +43,10 @@ module _ {D : ℕ} where
     pub each : (test : Row D → Bool) → AsksAdmitted window test →
         count_by test rows ≡ sum_by (λ k. count_by (λ c. test (row_of c)) (leaf_cells_at t.nodes k)) seen
 
-  -- what is sound and has nothing waiting
+  -- what is sound and has nothing pending
   pub record IsSettled (t : Arena D) : Type 0 where
     pub whole : IsWhole t
-    pub none : t.waiting.items ≡ []
+    pub none : t.pending.items ≡ []
 
   pub settled-linked : (t : Arena D) → IsSettled t → IsLinked t.nodes t.root t.level []
   settled-linked t s = subst (IsLinked t.nodes t.root t.level) s.none s.whole.linked
@@ -228,8 +229,8 @@ module _ {D : ℕ} where
     seen-reached k (IsReached.child {key = key} l up lev leads) = let h = so.below key l k (seen-reached key up) lev leads in omega arith
 
     -- a leaf with a row that is asked for is reached
-    asked-seen : (test : Row D → Bool) → AsksAdmitted window test → (k : ℕ) → 0 < count_by (λ c. test (row_of c)) (leaf_cells_at t.nodes k) → 0 < times k so.seen
-    asked-seen test asks k some =
+    query-seen : (test : Row D → Bool) → AsksAdmitted window test → (k : ℕ) → 0 < count_by (λ c. test (row_of c)) (leaf_cells_at t.nodes k) → 0 < times k so.seen
+    query-seen test asks k some =
         let found = counted-contained (λ (c : Cell D). test (row_of c)) (leaf_cells_at t.nodes k) some in
         let leaf = leaf-level t.nodes k (let h = found.1.1 in omega arith) in
         let there : Contains (cells_at t.nodes k) found.0 = subst (λ (xs : List (Cell D)). Contains xs found.0) leaf.1 found.1 in
@@ -246,7 +247,7 @@ module _ {D : ℕ} where
           let f : ℕ → ℕ = λ k. m (get t.nodes k) in
           let past : (k : ℕ) → length t.nodes.slots ≤ k → f k ≡ 0 = λ k h. ap m (get_or_past t.nodes.slots k None h) in
           let a : sum_by f so.seen ≡ upto f (length t.nodes.slots) =
-          sum-listed f (length t.nodes.slots) so.seen past (λ k. omega (arith, so.once k)) (asked-seen test asks) in
+          sum-listed f (length t.nodes.slots) so.seen past (λ k. omega (arith, so.once k)) (query-seen test asks) in
           let b = upto-list m t.nodes.slots None in
           let w = ap (λ ws. count_rows (λ c. test (row_of c)) t.nodes ws) s.none in
           omega (arith, a, b, w, so.each test asks);
@@ -302,10 +303,10 @@ module _ {D : ℕ} where
     pub next-few : at < length t.nodes.slots
     next-few = visited-few t window s (drop at (keys_of reached)) (drop (at + 1) (keys_of reached)) next.key so.more at so.so first
 
-    pub After-next : (rows1 : List (Row D)) (reached1 : List Reached) (asked : List Interval) → asked ≡ window →
-        Visits t.nodes asked next.key rows rows1 (keys_of reached) (keys_of reached1) →
+    pub After-next : (rows1 : List (Row D)) (reached1 : List Reached) (query : List Interval) → query ≡ window →
+        Visits t.nodes query next.key rows rows1 (keys_of reached) (keys_of reached1) →
         ProgressAfter t window (drop (at + 1) (keys_of reached1)) old rows1 (at + 1)
-    After-next rows1 reached1 asked e went =
+    After-next rows1 reached1 query e went =
         After-step t window s (drop at (keys_of reached)) (drop (at + 1) (keys_of reached)) next.key old rows at so first rows1 (drop (at + 1) (keys_of reached1))
         (visits-dropped t.nodes window next.key (at + 1) rows rows1 (keys_of reached) (keys_of reached1)
         (subst (λ (w : List Interval). Visits t.nodes w next.key rows rows1 (keys_of reached) (keys_of reached1)) e went)

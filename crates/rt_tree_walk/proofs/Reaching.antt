@@ -152,7 +152,7 @@ module _ {D : ℕ} where
               },
             )
 
-  module _ (t : Arena D) (window : List Interval) (whole : IsWhole t) (none : t.waiting.items ≡ []) where
+  module _ (t : Arena D) (window : List Interval) (whole : IsWhole t) (none : t.pending.items ≡ []) where
     linked-alone : IsLinked t.nodes t.root t.level []
     linked-alone = subst (IsLinked t.nodes t.root t.level) none whole.linked
 

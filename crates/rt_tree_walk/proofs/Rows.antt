@@ -2,7 +2,7 @@
 use Rattle.std.proofs.Common.{◌≡◌, ◌≢◌, ℕ, zero, suc, ◌<◌, ◌≤◌, Bool, true, false, cond, ℤ, ◌<ℤ◌, ◌≤ℤ◌, pos, List, [], ◌∷◌, length, map, get_or, Option, None, arith, refl, ap, sym, ◌∙◌, subst, inl, inr}
 use Rattle.std.specs.List.{All, sum_by, count_by, IsDistinct}
 use Rattle.std.specs.Ordering.{int_eq}
-use Rattle.std.proofs.lemmas.Bool.{cases_Bool, cases_lt}
+use Rattle.std.proofs.lemmas.Bool.{cases_Bool, cases_lt, true≢false}
 use Rattle.std.proofs.lemmas.Bool.Decides.{Decides-int_eq}
 use Rattle.std.proofs.lemmas.Int.{ints}
 use Rattle.std.proofs.lemmas.List.{get_or-map, length-map, get_or_past}
@@ -24,7 +24,8 @@ use Rattle.rt_tree_walk.specs.Search.{times}
 use Rattle.rt_tree_walk.specs.Preorder.{tree_keys, number_in}
 use Rattle.rt_tree_walk.specs.Outside.{cell_row, row_entry, rising, outside}
 use Rattle.rt_tree_walk.specs.InOrder.{AreByRisingId, row_cell, HasRows}
-use Rattle.rt_tree_walk.proofs.Totals.{sum-listed, upto-list}
+use Rattle.rt_tree_node.proofs.Sums.{upto-list}
+use Rattle.rt_tree_walk.proofs.Totals.{sum-listed}
 use Rattle.rt_tree_walk.proofs.Reaching.{leaf-level, All_contained}
 use Rattle.rt_tree_walk.proofs.Progress.{IsSettled}
 use Rattle.rt_tree_walk.proofs.Rising.{Rises, rising-rises, rising-count}
@@ -60,13 +61,10 @@ strictly (x ∷ xs) up once zero (suc j) d h g =
           let here : ◌≡◌ {A = ℕ} (cond (int_eq x x) 1 0) 1 = ap (λ b. cond b 1 0) ((Decides-int_eq x x).1 refl) in
           absurd (omega (arith, more, here, count-cons (int_eq x) x xs, once x))
       | inr e ↦
-          let ne : x ≢ y = λ q. both (int_eq x y) ((Decides-int_eq x y).1 q) e in
+          let ne : x ≢ y = λ q. true≢false (sym ((Decides-int_eq x y).1 q) ∙ e) in
           below x y le ne
     ]
   where
-    both : (b : Bool) → b ≡ true → b ≡ false → ⊥
-    both b p q = let r : true ≡ false = sym p ∙ q in cc
-
     below : (x y : ℤ) → x ≤ℤ y → x ≢ y → x <ℤ y
     below x y le ne = omega (arith, ints, le, ne)
 strictly (x ∷ xs) up once (suc i) (suc j) d h g =
@@ -126,7 +124,7 @@ module _ {D : ℕ} (t : Arena D) (s : IsSettled t) (test : RawCell D → Bool) w
     | inr none ↦ omega (arith, none)
   ]
 
-  pub rows-counted : count_by test (leaf_cells (map nodes (tree_keys t))) ≡ count_rows (λ c. test (row_cell c)) t.nodes t.waiting.items
+  pub rows-counted : count_by test (leaf_cells (map nodes (tree_keys t))) ≡ count_rows (λ c. test (row_cell c)) t.nodes t.pending.items
   unfolding measure
   rows-counted =
       let f : ℕ → ℕ = λ k. measure (get t.nodes k) in

@@ -2,9 +2,9 @@
 use Rattle.std.proofs.Common.{◌≡◌, ◌≢◌, ℕ, zero, suc, ◌+◌, ◌*◌, ◌<◌, ◌≤◌, cond, List, [], ◌∷◌, ◌++◌, length, get_or, take, nat_eq, nat_lt, eq-eqb, ne_eqb, arith, refl, ap, sym, ◌∙◌, inl, inr}
 use Rattle.std.specs.List.{sum_by}
 use Rattle.std.proofs.lemmas.Bool.{cases_eq, cases_lt, lt-ltb, le-ltb}
-use Rattle.std.proofs.lemmas.List.{take_more, take_all}
 use Rattle.std.proofs.lemmas.List.Sums.{sum_by-cons, sum_by-append}
 use Rattle.rt_tree_node.proofs.Counts.{count-append, count-one_yes, count-one_no}
+use Rattle.rt_tree_node.proofs.Sums.{upto}
 use Rattle.rt_tree_walk.specs.Search.{times}
 
 -- ---- how often a key is listed
@@ -31,11 +31,6 @@ module _ (f : ℕ → ℕ) where
   -- the sum of f over the listed keys below n
   part : ℕ → List ℕ → ℕ
   part n xs = sum_by (λ k. cond (nat_lt k n) (f k) 0) xs
-
-  -- the sum of f over all keys below n
-  pub upto : ℕ → ℕ
-  upto zero = 0
-  upto (suc n) = upto n + f n
 
   term-more : (n k : ℕ) → cond (nat_lt k (suc n)) (f k) 0 ≡ cond (nat_lt k n) (f k) 0 + times n (k ∷ []) * f n
   term-more n k = elim (cases_eq k n) [
@@ -98,39 +93,25 @@ module _ (f : ℕ → ℕ) where
   scaled-same (suc zero) x h some = omega arith
   scaled-same (suc (suc t)) x h some = absurd (omega arith)
 
-  part-le : (xs : List ℕ) → ((k : ℕ) → times k xs ≤ 1) → (n : ℕ) → part n xs ≤ upto n
+  part-le : (xs : List ℕ) → ((k : ℕ) → times k xs ≤ 1) → (n : ℕ) → part n xs ≤ upto f n
   unfolding upto
   part-le xs once zero = omega (arith, part-none xs)
   part-le xs once (suc n) = omega (arith, part-more n xs, part-le xs once n, scaled-le (times n xs) (f n) (once n))
 
-  part-same : (xs : List ℕ) → ((k : ℕ) → times k xs ≤ 1) → ((k : ℕ) → 0 < f k → 0 < times k xs) → (n : ℕ) → part n xs ≡ upto n
+  part-same : (xs : List ℕ) → ((k : ℕ) → times k xs ≤ 1) → ((k : ℕ) → 0 < f k → 0 < times k xs) → (n : ℕ) → part n xs ≡ upto f n
   unfolding upto
   part-same xs once all zero = omega (arith, part-none xs)
   part-same xs once all (suc n) = omega (arith, part-more n xs, part-same xs once all n, scaled-same (times n xs) (f n) (once n) (all n))
 
   -- f is summed over the keys below n where each of them is listed once, but for some at which f is 0
   pub sum-listed : (n : ℕ) (xs : List ℕ) → ((k : ℕ) → n ≤ k → f k ≡ 0) → ((k : ℕ) → times k xs ≤ 1) → ((k : ℕ) → 0 < f k → 0 < times k xs) →
-      sum_by f xs ≡ upto n
+      sum_by f xs ≡ upto f n
   sum-listed n xs past once all = sym (part-whole n xs past) ∙ part-same xs once all n
 
-  pub sum-listed_le : (n : ℕ) (xs : List ℕ) → ((k : ℕ) → n ≤ k → f k ≡ 0) → ((k : ℕ) → times k xs ≤ 1) → sum_by f xs ≤ upto n
+  pub sum-listed_le : (n : ℕ) (xs : List ℕ) → ((k : ℕ) → n ≤ k → f k ≡ 0) → ((k : ℕ) → times k xs ≤ 1) → sum_by f xs ≤ upto f n
   sum-listed_le n xs past once = omega (arith, part-whole n xs past, part-le xs once n)
 
-  pub upto-le : ((k : ℕ) → f k ≤ 1) → (n : ℕ) → upto n ≤ n
+  pub upto-le : ((k : ℕ) → f k ≤ 1) → (n : ℕ) → upto f n ≤ n
   unfolding upto
   upto-le few zero = omega arith
   upto-le few (suc n) = omega (arith, few n, upto-le few n)
-
-module _ {X : Type 0} (m : X → ℕ) (xs : List X) (d : X) where
-  upto-taken : (n : ℕ) → n ≤ length xs → upto (λ k. m (get_or xs k d)) n ≡ sum_by m (take n xs)
-  unfolding upto
-  upto-taken zero h = refl
-  upto-taken (suc n) h =
-      let e : suc n ≡ n + 1 = omega arith in
-      let a = ap (λ i. sum_by m (take i xs)) e ∙ ap (sum_by m) (take_more xs n d (omega arith)) in
-      let b = sum_by-append m (take n xs) (get_or xs n d ∷ []) in
-      omega (arith, a, b, upto-taken n (omega arith))
-
-  -- the sum over the places of a list
-  pub upto-list : upto (λ k. m (get_or xs k d)) (length xs) ≡ sum_by m xs
-  upto-list = upto-taken (length xs) (omega arith) ∙ ap (sum_by m) (take_all (length xs) xs (omega arith))

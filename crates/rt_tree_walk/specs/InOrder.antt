@@ -45,4 +45,4 @@ module _ {D : ℕ} where
 
   -- the leaves' cells are the rows: for each test as many pass it
   abbrev pub HasRows : ShadowLists D → Arena D → Type 0
-  HasRows s t = (test : RawCell D → Bool) → count_by test (leaf_cells s.nodes) ≡ count_rows (λ c. test (row_cell c)) t.nodes t.waiting.items
+  HasRows s t = (test : RawCell D → Bool) → count_by test (leaf_cells s.nodes) ≡ count_rows (λ c. test (row_cell c)) t.nodes t.pending.items

@@ -1,9 +1,9 @@
 -- A tree from outside: its nodes in preorder, numbered from 1, and its row entries by rising id.
-use Rattle.std.specs.Prelude.{ℕ, zero, suc, ◌<◌, ℤ, pos, List, [], ◌∷◌, map, Option, int_le, if◌then◌else◌, slice_index, unwrap_or, All}
+use Rattle.std.specs.Prelude.{◌≡◌, ℕ, zero, suc, ◌<◌, ℤ, pos, List, [], ◌∷◌, ◌++◌, map, Contains, Option, int_le, if◌then◌else◌, slice_index, unwrap_or, All}
 use Rattle.std.specs.Option.{option_map, option_map_or, ForSome}
 use Rattle.std.specs.Ordering.{int_eq}
-use Rattle.slab.specs.Slab.{get}
-use Rattle.indexmap.specs.IndexMap.{get as leaf_of, keys}
+use Rattle.slab.specs.Slab.{Slab, get}
+use Rattle.indexmap.specs.IndexMap.{IndexMap, get as leaf_of, keys}
 use Rattle.rt_box.specs.Rect.{los, his}
 use Rattle.rt_check.specs.declared.node.NodeRow.{NodeRow}
 use Rattle.rt_check.specs.declared.node.RawCell.{RawCell}
@@ -61,7 +61,26 @@ module _ {D : ℕ} where
 abbrev pub noted : List ℕ → ℕ → ℤ
 noted numbers key = pos (slice_index numbers key)
 
+-- each listed key has its number noted
+abbrev pub HasNumbers : List ℕ → List ℕ → Type 0
+HasNumbers order numbers = (key : ℕ) → Contains order key → noted numbers key ≡ number_in order key
+
+-- the entry of a row, by noted numbers
+abbrev pub noted_entry : {S : Type 0} → List ℕ → IndexMap ℤ ℕ S → ℤ → RowEntry
+noted_entry numbers leaves id = row_entry (noted numbers) (leaf_of int_eq leaves) id
+
 module _ {D : ℕ} where
+  -- the node at a key, by noted numbers
+  abbrev pub noted_node : List ℕ → Slab (NodeCells D) → ℕ → NodeRow D
+  noted_node numbers a key = node_row (noted numbers) key (get a key)
+
+  -- the shadow with more nodes, or with more rows
+  abbrev pub with_nodes : ShadowLists D → List (NodeRow D) → ShadowLists D
+  with_nodes s nodes = record s { nodes = s.nodes ++ nodes }
+
+  abbrev pub with_rows : ShadowLists D → List RowEntry → ShadowLists D
+  with_rows s rows = record s { rows = s.rows ++ rows }
+
   -- the node's own key, its parent's and its children's are below the bound
   pub record AreKnown (bound key : ℕ) (n : NodeCells D) : Type 0 where
     pub own : key < bound

@@ -20,7 +20,7 @@ module _ {D : ℕ} where
   abbrev pub LeadsInto : List Interval → List (Cell D) → ℕ → Type 0
   LeadsInto window cells key = (c : Cell D) × Contains cells c × (key_of c ≡ key) × MayHold D window c.rect
 
-  -- the root is reached, and where an inner node is reached, each child in whose cell the window may hold a box
+  -- the root is reached, and of an inner node that is reached each child in whose cell the window may hold a box
   pub data IsReached (t : Arena D) (window : List Interval) : ℕ → Type 0 where
     root : IsReached t window t.root
     child : {key k : ℕ} (l : ℕ) → IsReached t window key → level_at t.nodes key ≡ Some (suc l) →
@@ -35,7 +35,7 @@ module _ {D : ℕ} where
   pub record Finds (t : Arena D) (window : List Interval) (rows : List (Row D)) (visited : ℕ) : Type 0 where
     pub admitted : All (λ r. Admits window r.rect) rows
     pub each : (test : Row D → Bool) → AsksAdmitted window test →
-        count_by test rows ≡ count_rows (λ c. test (row_of c)) t.nodes t.waiting.items
+        count_by test rows ≡ count_rows (λ c. test (row_of c)) t.nodes t.pending.items
     pub nodes : List ℕ
     pub once : (key : ℕ) → IsReached t window key → times key nodes ≡ 1
     pub only : (key : ℕ) → 0 < times key nodes → IsReached t window key
@@ -46,10 +46,10 @@ module _ {D : ℕ} where
     pub rows : List (Row D)
     pub admitted : All (λ r. Admits window r.rect) rows
     pub each : (test : Row D → Bool) → AsksAdmitted window test →
-        count_by test rows ≡ count_rows (λ c. test (row_of c)) t.nodes t.waiting.items
+        count_by test rows ≡ count_rows (λ c. test (row_of c)) t.nodes t.pending.items
     pub counted : count ≡ length rows
 
-  -- behind the rows that a list held stand those that the search found
+  -- the rows that a list held are a prefix, and after them stand those that the search found
   pub record FindsAfter (t : Arena D) (window : List Interval) (old new : List (Row D)) (visited : ℕ) : Type 0 where
     pub more : List (Row D)
     pub is : new ≡ old ++ more

@@ -1,12 +1,15 @@
 -- What a search takes from one node.
 use Rattle.std.specs.Prelude.{◌≡◌, ℕ, ◌/◌, ◌%◌, ◌==◌, ◌≤◌, ◌<◌, Bool, true, if◌then◌else◌, Contains, List, [], ◌∷◌, ◌++◌, length, map, All, count_by}
+use Rattle.std.specs.Prelude.{Vec}
+use Rattle.std.specs.declared.alloc.Global.{Global}
 use Rattle.slab.specs.Slab.{Slab}
 use Rattle.rt_box.specs.declared.interval.Interval.{Interval}
 use Rattle.rt_box.specs.Window.{Admits, AdmitsWithin, IsReach, IsCore}
+use Rattle.rt_tree_node.specs.declared.arena.Arena.{Arena}
 use Rattle.rt_tree_node.specs.declared.cell.Cell.{Cell}
 use Rattle.rt_tree_node.specs.Node.{NodeCells}
 use Rattle.rt_tree_node.specs.Places.{key_of, times_named, cells_at, leaf_cells_at, inner_cells_at}
-use Rattle.rt_tree_walk.specs.declared.searching.Asked.{Asked}
+use Rattle.rt_tree_walk.specs.declared.searching.Query.{Query}
 use Rattle.rt_tree_walk.specs.declared.searching.Reached.{Reached}
 use Rattle.rt_tree_walk.specs.declared.searching.Row.{Row}
 use Rattle.rt_tree_walk.specs.Search.{times, row_of, LeadsInto, AsksAdmitted}
@@ -16,10 +19,10 @@ abbrev pub keys_of : List Reached → List ℕ
 keys_of reached = map (λ d. d.key) reached
 
 module _ {D : ℕ} where
-  -- a window is asked with its reach and its core
-  pub record IsAsked (asked : Asked D) : Type 0 where
-    pub reach : IsReach D asked.window asked.reach
-    pub core : IsCore D asked.window asked.core
+  -- a query has its window's reach and core
+  pub record IsQuery (query : Query D) : Type 0 where
+    pub reach : IsReach D query.window query.reach
+    pub core : IsCore D query.window query.core
 
   -- a marked node has no cell whose box the window refuses
   abbrev pub MarkHolds : Slab (NodeCells D) → List Interval → Reached → Type 0
@@ -47,6 +50,10 @@ module _ {D : ℕ} where
   picked [] bits = []
   picked (c ∷ cs) bits = if bits % 2 == 1 then c ∷ picked cs (bits / 2) else picked cs (bits / 2)
 
+  -- the keys of the picked cells
+  abbrev pub picked_keys : List (Cell D) → ℕ → List ℕ
+  picked_keys cells bits = map key_of (picked cells bits)
+
   -- the keys came last of those cells in which the window may hold a box
   pub record TakesChildren (window : List Interval) (cells : List (Cell D)) (old new : List ℕ) : Type 0 where
     pub more : List ℕ
@@ -56,7 +63,8 @@ module _ {D : ℕ} where
     pub all : (key : ℕ) → LeadsInto window cells key → 0 < times key more
 
   -- both, at a leaf and at another node
-  pub record Visits (a : Slab (NodeCells D)) (window : List Interval) (key : ℕ) (rows rows1 : List (Row D)) (keys keys1 : List ℕ) : Type 0 where
+  pub record Visits (a : Slab (NodeCells D)) (window : List Interval) (key : ℕ)
+      (rows rows1 : List (Row D)) (keys keys1 : List ℕ) : Type 0 where
     pub rows_are : TakesRows window (leaf_cells_at a key) rows rows1
     pub children_are : TakesChildren window (inner_cells_at a key) keys keys1
 
@@ -70,3 +78,21 @@ module _ {D : ℕ} where
   pub record VisitsCounting (a : Slab (NodeCells D)) (window : List Interval) (key count : ℕ) (keys keys1 : List ℕ) : Type 0 where
     pub rows_are : CountsRows window (leaf_cells_at a key) count
     pub children_are : TakesChildren window (inner_cells_at a key) keys keys1
+
+  -- the same of the lists that a search keeps: it takes children, and goes into the next node
+  abbrev pub ReachesChildren : Query D → List (Cell D) → Vec Reached Global → Vec Reached Global → Type 0
+  ReachesChildren query cells old new = TakesChildren query.window cells (keys_of old.items) (keys_of new.items)
+
+  abbrev pub AppendsKeys : List ℕ → Vec Reached Global → Vec Reached Global → Type 0
+  AppendsKeys keys old new = keys_of new.items ≡ keys_of old.items ++ keys
+
+  abbrev pub MarksChildren : Arena D → Query D → Reached → Vec Reached Global → Vec Reached Global → Type 0
+  MarksChildren t query next old new = Marks query.window (inner_cells_at t.nodes next.key) old.items new.items
+
+  abbrev pub GoesInto : Arena D → Query D → Reached → Vec (Row D) Global → Vec (Row D) Global → Vec Reached Global → Vec Reached Global → Type 0
+  GoesInto t query next rows rows1 old new =
+      Visits t.nodes query.window next.key rows.items rows1.items (keys_of old.items) (keys_of new.items)
+
+  abbrev pub GoesIntoCounting : Arena D → Query D → Reached → ℕ → Vec Reached Global → Vec Reached Global → Type 0
+  GoesIntoCounting t query next count old new =
+      VisitsCounting t.nodes query.window next.key count (keys_of old.items) (keys_of new.items)

@@ -10,22 +10,22 @@ ghost use Rattle.std.specs.Prelude.{◌≤◌, ◌<◌, length};
 use crate::searching::Reached;
 use rt_tree_node::{Arena, Node};
 
-/// So many nodes are looked at together: the nearest cache holds their boxes and numbers.
+/// How many nodes are looked at together: the nearest cache holds their boxes and numbers.
 const NODES_TOGETHER: usize = 16;
 
 // A node has an array of numbers, and one as large for each axis of its boxes.
 
-/// So many arrays take 2 MB. A tree that has more is at hand in the caches only in part: the first leaves of a search are
+/// How many arrays take 2 MB. A tree that has more is at hand in the caches only in part: the first leaves of a search are
 /// worth a look, later ones aren't.
 const SOME_ARRAYS: usize = 4_096;
 
-/// So many arrays take 7 MB. A tree that has more isn't at hand in the caches of most processors.
+/// How many arrays take 7 MB. A tree that has more isn't at hand in the caches of most processors.
 const MANY_ARRAYS: usize = 16_384;
 
-/// How many boxes of one axis, and how many numbers, stand on a line of memory.
+/// How many boxes of one axis, and how many numbers, stand on a cache line.
 const NUMBERS_A_LINE: usize = 8;
 
-/// How many lines of memory are looked at of a node's numbers, and for each axis of its boxes. Most nodes have no more.
+/// How many cache lines are looked at of a node's numbers, and for each axis of its boxes. Most nodes have no more.
 const LINES: usize = 6;
 
 /// What is needed of a leaf inside the window: its rows, or only how many they are.
@@ -51,7 +51,7 @@ pub(crate) struct LookAhead {
 // Both loops ask at fixed places whether a node goes so far: the processor foresees most answers. A loop up to the count
 // would wait for the node's own memory.
 
-/// A sum of what stands on each line of memory of a node's boxes.
+/// A sum of what stands on each cache line of a node's boxes.
 #[inline]
 fn sum_of_boxes<const D: usize>(node: &Node<D>) -> i64
     requires { D ≤ 3 }
@@ -69,7 +69,7 @@ fn sum_of_boxes<const D: usize>(node: &Node<D>) -> i64
     sum
 }
 
-/// A sum of what stands on each line of memory of a node's numbers.
+/// A sum of what stands on each cache line of a node's numbers.
 #[inline]
 fn sum_of_numbers<const D: usize>(node: &Node<D>) -> i64 {
     let (numbers, count) = (node.numbers(), node.len());
@@ -102,7 +102,7 @@ impl LookAhead {
         }
     }
 
-    /// Before a search goes into the next node of its list: looks at that one and at others behind it, unless that was done.
+    /// Before a search goes into the next node of its list: looks at that one and at some after it, unless that was done.
     #[inline]
     pub(crate) fn look<const D: usize>(&mut self, tree: &Arena<D>, reached: &[Reached], next: usize)
         requires few { D ≤ 3 }
@@ -113,8 +113,8 @@ impl LookAhead {
         }
     }
 
-    /// A sum of what stands on the lines of memory that are needed of a node. Of a leaf inside the window, a count needs
-    /// its own count alone.
+    /// A sum of what stands on the cache lines that are needed of a node. Of a leaf inside the window, a count needs its
+    /// own count alone.
     #[inline]
     fn sum_of<const D: usize>(&self, node: &Node<D>, is_leaf_inside: bool) -> i64
         requires { D ≤ 3 }

@@ -13,7 +13,7 @@ use rt_tree_node::{Arena, leaves_facts};
 /// The checker finds no problem in a whole tree, whose inner root has two cells at least.
 pub fn outside_is_sound<const D: usize>(tree: &Arena<D>)
     requires whole { IsWhole tree.now }
-    requires settled { tree.now.waiting.items ≡ [] }
+    requires settled { tree.now.pending.items ≡ [] }
     requires branched { IsBranched tree.now }
     ensures { IsSound (outside tree.now) }
 {
@@ -23,7 +23,7 @@ pub fn outside_is_sound<const D: usize>(tree: &Arena<D>)
 /// The nodes are listed in preorder.
 pub fn outside_is_in_preorder<const D: usize>(tree: &Arena<D>)
     requires whole { IsWhole tree.now }
-    requires settled { tree.now.waiting.items ≡ [] }
+    requires settled { tree.now.pending.items ≡ [] }
     ensures { IsPreorder (outside tree.now) }
 {
     let _ = tree;
@@ -39,7 +39,7 @@ pub fn entries_are_by_rising_id<const D: usize>(tree: &Arena<D>)
 /// The cells of the leaves are the rows.
 pub fn outside_has_the_rows<const D: usize>(tree: &Arena<D>)
     requires whole { IsWhole tree.now }
-    requires settled { tree.now.waiting.items ≡ [] }
+    requires settled { tree.now.pending.items ≡ [] }
     ensures { HasRows (outside tree.now) tree.now }
 {
     let _ = tree;

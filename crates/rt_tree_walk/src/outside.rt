@@ -10,9 +10,9 @@ ghost use Rattle.slab.specs.Slab.{get};
 ghost use Rattle.indexmap.specs.IndexMap.{get as leaf_of, keys};
 ghost use Rattle.rt_tree_node.specs.Places.{key_of};
 ghost use Rattle.rt_tree_node.specs.Whole.{IsWhole};
-ghost use Rattle.rt_tree_walk.specs.Outside.{noted, cell_number, cell_row, node_row, row_entry, rising, outside, AreKnown};
+ghost use Rattle.rt_tree_walk.specs.Outside.{noted, cell_number, cell_row, node_row, row_entry, rising, outside, noted_entry, noted_node, with_nodes, with_rows, AreKnown};
 
-use crate::listing::{number_keys, preorder};
+use crate::preorder::{number_keys, preorder};
 use crate::searching::child_of;
 use indexmap::IndexMap;
 use rt_check::{Items, NodeRow, RawCell, RowEntry, Shadow};
@@ -119,7 +119,7 @@ fn list_node<const D: usize>(
     requires few { D ≤ 3 }
     requires known { IsSomeAnd (get tree.now.nodes key) (AreKnown (length numbers.now) key) }
     requires small { All (λ n. n < 2 ^ 63) numbers.now }
-    ensures { OnOk result (shadow.new ≡ record shadow.old { nodes = shadow.old.nodes ++ node_row (noted numbers.now) key (get tree.now.nodes key) ∷ [] }) }
+    ensures { OnOk result (shadow.new ≡ with_nodes shadow.old (noted_node numbers.now tree.now.nodes key ∷ [])) }
 {
     let row = node_row(alloc, node_at(&tree.nodes, key), key, numbers)?;
     match shadow.add_node(row) {
@@ -139,7 +139,7 @@ fn list_nodes<const D: usize>(
     requires few { D ≤ 3 }
     requires known { All (λ key. IsSomeAnd (get tree.now.nodes key) (AreKnown (length numbers.now) key)) order.now }
     requires small { All (λ n. n < 2 ^ 63) numbers.now }
-    ensures { OnOk result (shadow.new ≡ record shadow.old { nodes = shadow.old.nodes ++ map (λ key. node_row (noted numbers.now) key (get tree.now.nodes key)) order.now }) }
+    ensures { OnOk result (shadow.new ≡ with_nodes shadow.old (map (noted_node numbers.now tree.now.nodes) order.now)) }
 {
     for key in order {
         list_node(shadow, alloc, tree, *key, numbers)?;
@@ -188,7 +188,7 @@ fn list_rows<const D: usize>(
 ) -> Result<(), AllocError>
     requires known { (id : ℤ) → ForSome (leaf_of int_eq leaves.now id) (λ key. key < length numbers.now) }
     requires small { All (λ n. n < 2 ^ 63) numbers.now }
-    ensures { OnOk result (shadow.new ≡ record shadow.old { rows = shadow.old.rows ++ map (row_entry (noted numbers.now) (leaf_of int_eq leaves.now)) ids.now }) }
+    ensures { OnOk result (shadow.new ≡ with_rows shadow.old (map (noted_entry numbers.now leaves.now) ids.now)) }
 {
     for id in ids {
         if shadow.add_row(row_entry(leaves, id, numbers)).is_err() {
@@ -203,14 +203,14 @@ fn list_rows<const D: usize>(
 ///
 /// # Errors
 ///
-/// `AllocError` where no memory is left.
+/// `AllocError` if no memory is left.
 pub fn shadow_of<const D: usize>(
     alloc: Global,
     keys: RandomState,
     tree: &Arena<D>,
 ) -> Result<Shadow<D>, AllocError>
     requires whole { IsWhole tree.now }
-    requires settled { tree.now.waiting.items ≡ [] }
+    requires settled { tree.now.pending.items ≡ [] }
     requires some { 1 ≤ D }
     requires few { D ≤ 3 }
     ensures { IfOk result (λ shadow. shadow ≡ outside tree.now) }

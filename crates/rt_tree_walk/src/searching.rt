@@ -1,18 +1,19 @@
 //! Searches: the rows whose boxes a window admits.
 //!
-//! The list of the nodes reached takes the place of recursion. A search goes through it from the root on and puts children
-//! at its end, so it meets the nodes level by level, and many can be looked at ahead. Rows are tested by the window, and
+//! The list of the nodes reached takes the place of recursion. A search goes through it from the root on and appends
+//! children, so it meets the nodes level by level, and many can be looked at ahead. Rows are tested by the window, and
 //! children by its reach. Tests without branches are there for speed alone, and so are `ahead` and the mark of a node
 //! (`specs/Search.antt`).
 
 ghost use Rattle.std.specs.Prelude.{◌≡◌, ◌^◌, ◌≤◌, ◌<◌, ◌++◌, [], true, false, All, length, map, List, IfOk, OnOk, OnErr};
 ghost use Rattle.rt_box.specs.declared.interval.Interval.{Interval};
 ghost use Rattle.slab.specs.Slab.{ContainsKey};
+ghost use Rattle.rt_box.specs.Capacity.{most_cells};
 ghost use Rattle.rt_box.specs.Window.{Admits, AdmitsWithin, IsReach};
 ghost use Rattle.rt_tree_node.specs.Whole.{IsWhole};
-ghost use Rattle.rt_tree_node.specs.Places.{key_of, cells_at, inner_cells_at};
+ghost use Rattle.rt_tree_node.specs.Places.{key_of};
 ghost use Rattle.rt_tree_walk.specs.Search.{row_of, Finds, FindsAfter, StaysInFront};
-ghost use Rattle.rt_tree_walk.specs.Visits.{picked, keys_of, IsAsked, MarkHolds, TakesRows, TakesChildren, Marks, Visits};
+ghost use Rattle.rt_tree_walk.specs.Visits.{picked, picked_keys, IsQuery, MarkHolds, TakesRows, Marks, AppendsKeys, ReachesChildren, MarksChildren, GoesInto};
 
 use crate::ahead::{LookAhead, Need};
 use rt_box::{Rect, Window};
@@ -27,10 +28,10 @@ const FIRST_ROOM: usize = 32;
 /// allocator has larger pieces of memory less quickly at hand.
 pub(crate) const REACHED_ROOM: usize = 64;
 
-/// From so many rows on, a search takes the rows of a leaf in the way that suits many.
+/// How many found rows make it likely that many more follow: from then on a search takes the rows of a leaf as suits many.
 const MANY_ROWS: usize = 16;
 
-/// From so many children on, it is asked which of them lie inside the window: of few, none is likely to.
+/// How many children make it likely that some lie inside the window: only of that many it is tested.
 const MANY_CHILDREN: usize = 8;
 
 /// A row that a search found.
@@ -51,22 +52,22 @@ pub struct Found<const D: usize> {
     pub visited: u64,
 }
 
-/// What a search asks of the boxes that it meets: of rows by its window, of children by the window's reach, and by its
-/// core whether a child's rows need no test. Both are made once.
+/// What a search tests boxes by: rows by its window, children by the window's reach, and by its core whether a child's rows
+/// need no test. Both are made once.
 #[derive(Drop)]
-pub(crate) struct Asked<const D: usize> {
+pub(crate) struct Query<const D: usize> {
     pub(crate) window: Window<D>,
     reach: Window<D>,
     core: Window<D>,
 }
 
-impl<const D: usize> Asked<D> {
-    /// What a search by the window asks.
-    pub(crate) fn new(window: &Window<D>) -> Asked<D>
+impl<const D: usize> Query<D> {
+    /// The query by a window.
+    pub(crate) fn new(window: &Window<D>) -> Query<D>
         ensures window { result.window ≡ window.now }
-        ensures asked { IsAsked result }
+        ensures query { IsQuery result }
     {
-        Asked {
+        Query {
             window: *window,
             reach: window.reach(),
             core: window.core(),
@@ -113,18 +114,18 @@ pub(crate) fn child_of<const D: usize>(cell: &Cell<D>) -> Key
     key_of(cell.number)
 }
 
-/// The boxes of a node's cells. How many there are is read of the numbers, where it lies beside the first box: that of the
-/// boxes lies on a line of memory of its own.
+/// The boxes of a node's cells. Their count is read from the numbers, since it lies beside the first box there: that of the
+/// boxes lies on a cache line of its own.
 #[inline]
 pub(crate) fn boxes_of<const D: usize>(node: &Node<D>) -> &[Rect<D>]
     ensures value { result.now ≡ map (λ c. c.rect) node.now.cells }
-    ensures few { length node.now.cells ≤ 52 }
+    ensures few { length node.now.cells ≤ most_cells }
 {
     &node.boxes()[..node.len()]
 }
 
-// Which cells of a node a window admits can't be foreseen. So all are tested first, with no branch, and each bit that is set
-// then leads to a cell.
+// Which cells of a node a window admits can't be foreseen. So all are tested first, with no branch; then each bit that is
+// set leads to a cell.
 
 /// Takes the rows of those cells of a leaf whose bits are set.
 fn push_rows<const D: usize>(
@@ -138,7 +139,7 @@ fn push_rows<const D: usize>(
 {
     leaf.facts();
     rows.reserve(bits.count_ones() as usize)?;
-    // While nothing else names the list, where it ends stays in a register.
+    // While nothing else names the list, its end stays in a register.
     let alloc = *rows.allocator();
     let mut list = mem::replace(rows, Vec::new(alloc));
     let mut rest = bits;
@@ -153,7 +154,7 @@ fn push_rows<const D: usize>(
 
 // Each way to take a leaf's rows is a function by itself, so that its loop has all registers.
 
-/// Takes the rows of a leaf that the window admits, where few do.
+/// Takes the rows of a leaf that the window admits. It suits leaves of which it admits few.
 #[inline(never)]
 fn take_few<const D: usize>(
     rows: &mut Vec<Row<D>>,
@@ -167,8 +168,8 @@ fn take_few<const D: usize>(
     push_rows(rows, leaf, bits)
 }
 
-/// Takes the rows of a leaf that the window admits, where many do: each row is put into the list at once, and given back
-/// where the window refuses it.
+/// Takes the rows of a leaf that the window admits. It suits leaves of which it admits many: each row is appended at once,
+/// and taken back if the window refuses it.
 #[inline(never)]
 fn take_many<const D: usize>(
     rows: &mut Vec<Row<D>>,
@@ -227,14 +228,14 @@ fn take_rows<const D: usize>(
     take_many(rows, leaf, window)
 }
 
-/// Whether the window is known to admit each box that lies in this one: nothing is known of a box that isn't asked about.
+/// Whether the window is known to admit each box that lies in this one. If `asks` isn't set, nothing is known.
 #[inline]
-fn is_inside<const D: usize>(asked: &Asked<D>, rect: &Rect<D>, asks: bool) -> bool
-    requires { IsAsked asked.now }
-    ensures { result ≡ true → AdmitsWithin D asked.now.window rect.now }
+fn is_inside<const D: usize>(query: &Query<D>, rect: &Rect<D>, asks: bool) -> bool
+    requires { IsQuery query.now }
+    ensures { result ≡ true → AdmitsWithin D query.now.window rect.now }
 {
     rect.facts();
-    asks && asked.core.admits(rect)
+    asks && query.core.admits(rect)
 }
 
 /// Takes the children that those cells of a node name whose bits are set, and marks the ones that are known to lie inside the
@@ -243,12 +244,12 @@ fn push_children<const D: usize>(
     reached: &mut Vec<Reached>,
     node: &Node<D>,
     bits: u64,
-    asked: &Asked<D>,
+    query: &Query<D>,
 ) -> Result<(), AllocError>
-    requires asked { IsAsked asked.now }
+    requires query { IsQuery query.now }
     requires within { bits < 2 ^ length node.now.cells }
-    ensures keys { OnOk result (keys_of reached.new.items ≡ keys_of reached.old.items ++ map key_of (picked node.now.cells bits)) }
-    ensures marks { OnOk result (Marks asked.now.window node.now.cells reached.old.items reached.new.items) }
+    ensures keys { OnOk result (AppendsKeys (picked_keys node.now.cells bits) reached.old reached.new) }
+    ensures marks { OnOk result (Marks query.now.window node.now.cells reached.old.items reached.new.items) }
 {
     node.facts();
     let count = bits.count_ones() as usize;
@@ -262,7 +263,7 @@ fn push_children<const D: usize>(
         let cell = node.cell(rest.trailing_zeros() as usize);
         list.push_reserved(Reached {
             key: child_of(&cell),
-            is_inside: is_inside(asked, &cell.rect, asks),
+            is_inside: is_inside(query, &cell.rect, asks),
         });
         rest &= rest - 1;
     }
@@ -275,18 +276,18 @@ fn push_children<const D: usize>(
 pub(crate) fn take_children<const D: usize>(
     reached: &mut Vec<Reached>,
     node: &Node<D>,
-    asked: &Asked<D>,
+    query: &Query<D>,
 ) -> Result<(), AllocError>
-    requires { IsAsked asked.now }
-    ensures children { OnOk result (TakesChildren asked.now.window node.now.cells (keys_of reached.old.items) (keys_of reached.new.items)) }
-    ensures marks { OnOk result (Marks asked.now.window node.now.cells reached.old.items reached.new.items) }
+    requires { IsQuery query.now }
+    ensures children { OnOk result (ReachesChildren query.now node.now.cells reached.old reached.new) }
+    ensures marks { OnOk result (Marks query.now.window node.now.cells reached.old.items reached.new.items) }
 {
-    let bits = asked.reach.admitted(boxes_of(node));
-    push_children(reached, node, bits, asked)
+    let bits = query.reach.admitted(boxes_of(node));
+    push_children(reached, node, bits, query)
 }
 
-// By itself, so that the numbers of a window are read as vectors from where they stand: those of two windows don't fit
-// into the registers of the search's loop.
+// By itself, so that the numbers of a window are read as vectors in place: those of two windows don't fit into the
+// registers of the search's loop.
 
 /// Goes into a node: takes a leaf's rows, or another node's children. The rows of a marked leaf need no test.
 #[inline(never)]
@@ -295,36 +296,36 @@ fn visit<const D: usize>(
     reached: &mut Vec<Reached>,
     tree: &Arena<D>,
     next: Reached,
-    asked: &Asked<D>,
+    query: &Query<D>,
 ) -> Result<(), AllocError>
     requires present { ContainsKey tree.now.nodes next.key }
     requires few { D ≤ 3 }
-    requires asked { IsAsked asked.now }
-    requires mark { MarkHolds tree.now.nodes asked.now.window next }
-    ensures ok { OnOk result (Visits tree.now.nodes asked.now.window next.key rows.old.items rows.new.items (keys_of reached.old.items) (keys_of reached.new.items)) }
-    ensures marks { OnOk result (Marks asked.now.window (inner_cells_at tree.now.nodes next.key) reached.old.items reached.new.items) }
+    requires query { IsQuery query.now }
+    requires mark { MarkHolds tree.now.nodes query.now.window next }
+    ensures ok { OnOk result (GoesInto tree.now query.now next rows.old rows.new reached.old reached.new) }
+    ensures marks { OnOk result (MarksChildren tree.now query.now next reached.old reached.new) }
     ensures err { OnErr result (rows.new.items ≡ rows.old.items) }
 {
     let node = node_at(&tree.nodes, next.key);
     if node.level() > 0 {
-        return take_children(reached, node, asked);
+        return take_children(reached, node, query);
     }
     if next.is_inside {
         return take_all(rows, node);
     }
-    take_rows(rows, node, &asked.window)
+    take_rows(rows, node, &query.window)
 }
 
-/// Appends the rows whose boxes the window admits, and answers the number of nodes that the search went into. A list
-/// that is kept between searches asks for memory a few times only.
+/// Appends the rows whose boxes the window admits, and returns the number of nodes that the search went into. A list that
+/// is kept between searches asks for memory only a few times.
 ///
 /// The search goes into the root, and from a node into each child in whose box one may lie that the
 /// window admits.
 ///
 /// # Errors
 ///
-/// `AllocError` where no memory is left for the rows found, or for the list of the nodes reached: 16 bytes a node. Some of
-/// the rows that were found may stand in the list then.
+/// `AllocError` if no memory is left for the rows found, or for the list of the nodes reached: 16 bytes a node. Some of the
+/// rows that were found may then stand in the list.
 pub fn search_into<const D: usize>(
     alloc: Global,
     tree: &Arena<D>,
@@ -332,7 +333,7 @@ pub fn search_into<const D: usize>(
     rows: &mut Vec<Row<D>>,
 ) -> Result<u64, AllocError>
     requires whole { IsWhole tree.now }
-    requires settled { tree.now.waiting.items ≡ [] }
+    requires settled { tree.now.pending.items ≡ [] }
     requires few { D ≤ 3 }
     ensures ok { IfOk result (λ visited. FindsAfter tree.now window.now rows.old.items rows.new.items visited) }
     ensures err { OnErr result (StaysInFront rows.old.items rows.new.items) }
@@ -340,12 +341,12 @@ pub fn search_into<const D: usize>(
     let mut reached = Vec::with_capacity(alloc, REACHED_ROOM)?;
     reached.push(Reached::root(tree))?;
     slab_facts(&tree.nodes);
-    let (asked, mut ahead) = (Asked::new(window), LookAhead::new(tree, Need::Rows));
+    let (query, mut ahead) = (Query::new(window), LookAhead::new(tree, Need::Rows));
     let mut visited = 0;
     while visited < reached.len() {
         ahead.look(tree, &reached, visited);
         let next = reached[visited];
-        visit(rows, &mut reached, tree, next, &asked)?;
+        visit(rows, &mut reached, tree, next, &query)?;
         visited += 1;
     }
     Ok(visited as u64)
@@ -355,14 +356,14 @@ pub fn search_into<const D: usize>(
 ///
 /// # Errors
 ///
-/// `AllocError` where no memory is left for the rows found, or for the list of the nodes reached: 16 bytes a node.
+/// `AllocError` if no memory is left for the rows found, or for the list of the nodes reached: 16 bytes a node.
 pub fn search<const D: usize>(
     alloc: Global,
     tree: &Arena<D>,
     window: &Window<D>,
 ) -> Result<Found<D>, AllocError>
     requires whole { IsWhole tree.now }
-    requires settled { tree.now.waiting.items ≡ [] }
+    requires settled { tree.now.pending.items ≡ [] }
     requires few { D ≤ 3 }
     ensures { IfOk result (λ found. Finds tree.now window.now found.rows.items found.visited) }
 {

@@ -7,6 +7,6 @@
 #[cfg(test)]
 mod boxes;
 #[cfg(test)]
-mod choosing;
+mod choices;
 #[cfg(test)]
 mod windows;

@@ -5,10 +5,10 @@
 #![tactic(auto)]
 
 #[cfg(test)]
-mod finding;
-#[cfg(test)]
 mod growth;
 #[cfg(test)]
 mod rows;
+#[cfg(test)]
+mod searches;
 #[cfg(test)]
 mod worked;

@@ -1,13 +1,10 @@
-//! Rows that come and go, where the contracts of a tree allow it.
+//! Rows that come and go, if the contracts of a tree allow it.
 
 ghost use Rattle.std.specs.Prelude.{◌≤◌};
 
 use rt_box::Rect;
-use rt_tree::{Tree, Work};
+use rt_tree::{MOST_ROWS_OF_A_TREE, Tree, Work};
 use std::test::Fail;
-
-/// How many rows a tree has at most.
-const MOST_ROWS_OF_A_TREE: usize = 1 << 20;
 
 /// Inserts a row that there is room for.
 pub(crate) fn insert_reserved<const D: usize>(

@@ -1,5 +1,5 @@
 use Rattle.std.proofs.lemmas.Result.{IfOk-weaker}
-use Rattle.rt_tree.specs.Finding.{FindsIn}
+use Rattle.rt_tree.specs.Search.{FindsIn}
 use Rattle.rt_tree_walk.specs.declared.searching.Found.{Found}
 use Rattle.capi.specs.Touching.{FindsTouching}
 use Rattle.capi.proofs.Picking.{finds_touching}

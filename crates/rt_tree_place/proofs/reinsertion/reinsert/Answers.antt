@@ -37,8 +37,8 @@ add_cells-requires g c =
     omega (arith, none, ap length near, lengths, len, c.take_cells-old.ensures.few) in
     search rules
 
-pub wait_for-requires : goal.wait_for-requires
-wait_for-requires g c =
+pub push_given_up-requires : goal.push_given_up-requires
+push_given_up-requires g c =
     let few = c.requires.few in
     let len = c.len.ensures.value in
     let far = c.as_slice-3.ensures.value in
@@ -51,7 +51,7 @@ wait_for-requires g c =
     let long = ap length c.boxes.ensures.value ∙ length-map c.take_cells-old.result.cells (λ q. q.rect) in
     let full = ap (λ s. length (cells_of s)) c.take_cells-old.ensures.node in
     let share = length-far boxes c.args.tree.now.capacity (omega (arith, long, full, c.requires.full)) in
-    let room : vec_len c.args.tree.now.waiting + length c.as_slice-3.result.now ≤ vec_capacity c.args.tree.now.waiting = omega (arith, ap length (far ∙ c.farthest-far.ensures), share, c.requires.room, c.facts.ensures) in
+    let room : vec_len c.args.tree.now.pending + length c.as_slice-3.result.now ≤ vec_capacity c.args.tree.now.pending = omega (arith, ap length (far ∙ c.farthest-far.ensures), share, c.requires.room, c.facts.ensures) in
     search rules
 
 pub returns : goal.returns
@@ -71,7 +71,7 @@ returns g c n has =
     subst (λ m. GivesUp c.args.tree.now record {
       nodes = c.add_cells.new.nodes;
       leaves = c.args.tree.now.leaves;
-      waiting = c.wait_for.new.waiting;
+      pending = c.push_given_up.new.pending;
       root = c.args.tree.now.root;
       level = c.args.tree.now.level;
       capacity = c.args.tree.now.capacity;
@@ -90,7 +90,7 @@ returns g c n has =
         len = added.len ∙ emptied.len;
         room = added.room ∙ emptied.room;
       };
-      waiting = c.wait_for.ensures.items;
-      waiting_room = c.wait_for.ensures.room;
+      pending = c.push_given_up.ensures.items;
+      pending_room = c.push_given_up.ensures.room;
       rest = refl;
     }

@@ -18,7 +18,7 @@ relieve-requires g c =
     let room = c.requires.room in
     let keys = c.requires.keys in
     let height = c.requires.height in
-    let waiting_room = c.requires.waiting_room in
+    let pending_room = c.requires.pending_room in
     let splits = c.requires.splits in
     let reinsertions = c.requires.reinsertions in
     search rules
@@ -30,7 +30,7 @@ refit-requires g c =
     let mid = c.relieve.new.tree in
     let rising = c.requires.rising in
     let r = c.relieve.ensures.relieves in
-    let keys : mid.nodes.capacity ≤ 2 ^ 62 = omega (arith, r.room, c.requires.keys) in
+    let keys : mid.nodes.capacity ≤ 2 ^ 62 = omega (arith, r.trims.room, c.requires.keys) in
     let here : ContainsKey mid.nodes c.args.key = present mid.nodes c.args.key rising.level (mid-key_level old c.args.key c.args.parent rising c.requires.up mid r) in
     let some : 1 ≤ length (cells_at mid.nodes c.args.key) = mid-some old c.args.key c.args.parent rising c.requires.up mid r in
     let above : ContainsKey mid.nodes c.args.parent = present mid.nodes c.args.parent (suc rising.level) (mid-parent_level old c.args.key c.args.parent rising c.requires.up mid r) in

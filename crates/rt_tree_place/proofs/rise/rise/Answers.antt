@@ -3,7 +3,7 @@ use Rattle.slab.specs.Slab.{HasRoomFor}
 use Rattle.rt_tree_node.specs.Places.{cells_at, parent_at, parent_of}
 use Rattle.rt_tree_place.specs.Rise.{ClimbsTo, HasRisen}
 use Rattle.rt_tree_place.specs.Steps.{IsRising}
-use Rattle.rt_tree_place.proofs.Risen.{risen-start, risen-more, ends-at_root, room-left, waiting-room_left, reinsertions-few}
+use Rattle.rt_tree_place.proofs.Risen.{risen-start, risen-more, ends-at_root, room-left, pending-room_left, reinsertions-few}
 use Rattle.rt_tree_place.proofs.Rested.{risen-rests}
 use Rattle.rt_tree_place.proofs.rise.rise.Goals as goal
 
@@ -36,12 +36,12 @@ lift-requires g c =
     let room : HasRoomFor t.nodes 1 = left.0 in
     let keys : t.nodes.capacity ≤ 2 ^ 62 = omega (arith, so_far.keeps.room, c.requires.keys) in
     let height : t.level ≤ 30 = left.2 in
-    let waiting_room : t.capacity < length (cells_at t.nodes c.loop-parent.key) → vec_len t.waiting + 15 ≤ vec_capacity t.waiting = λ full.
+    let pending_room : t.capacity < length (cells_at t.nodes c.loop-parent.key) → vec_len t.pending + 15 ≤ vec_capacity t.pending = λ full.
     omega (
       arith,
-      t.waiting.ok.0,
-      waiting-room_left s t c.args.from c.loop-parent.key c.args.marks.now c.loop-parent.marks c.args.work.now c.loop-parent.work so_far
-          (omega (arith, s.waiting.ok.0, c.requires.waiting_room)) full,
+      t.pending.ok.0,
+      pending-room_left s t c.args.from c.loop-parent.key c.args.marks.now c.loop-parent.marks c.args.work.now c.loop-parent.work so_far
+          (omega (arith, s.pending.ok.0, c.requires.pending_room)) full,
     ) in
     let splits : c.loop-parent.work.splits + 1 < 2 ^ 32 = omega (arith, left.1, c.requires.splits) in
     let reinsertions : c.loop-parent.work.reinsertions + 1 < 2 ^ 32 =

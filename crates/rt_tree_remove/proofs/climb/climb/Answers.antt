@@ -61,13 +61,13 @@ remove_child-node-requires g c =
     let few : g.row.D ≤ 3 = c.requires.but.axes in
     search rules
 
-pub await_places-requires : goal.await_places-requires
-await_places-requires g c =
+pub push_cells-requires : goal.push_cells-requires
+push_cells-requires g c =
     let t = c.args.tree.now in
     let own = ap (λ s. length (cells_of s)) c.node_at.ensures in
     let node = ap (λ s. length (cells_of s)) c.remove_child-node.ensures.node in
     let fits = waits-fit t c.args.key c.args.parent c.requires.but c.requires.up c.remove_child-node.result.cells (omega arith) c.requires.room in
-    let room : vec_len t.waiting + length c.remove_child-node.result.cells ≤ vec_capacity t.waiting = search rules in
+    let room : vec_len t.pending + length c.remove_child-node.result.cells ≤ vec_capacity t.pending = search rules in
     let few : g.row.D ≤ 3 = c.requires.but.axes in
     search rules
 
@@ -76,6 +76,6 @@ returns g c =
     let t = c.args.tree.now in
     let own = ap (λ s. length (cells_of s)) c.node_at.ensures in
     let node = ap (λ s. length (cells_of s)) c.remove_child-node.ensures.node in
-    climb-dissolve t c.args.key c.args.parent c.requires.but c.requires.up (record t { nodes = c.remove_child-node.new.nodes; waiting = c.await_places.new.waiting })
+    climb-dissolve t c.args.key c.args.parent c.requires.but c.requires.up (record t { nodes = c.remove_child-node.new.nodes; pending = c.push_cells.new.pending })
     c.remove_child-node.ensures.change.0 c.remove_child-node.result c.remove_child-node.ensures.node c.remove_child-node.ensures.change.1 (omega arith)
-    c.await_places.ensures.items c.await_places.ensures.room
+    c.push_cells.ensures.items c.push_cells.ensures.room

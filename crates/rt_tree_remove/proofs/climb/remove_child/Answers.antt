@@ -17,9 +17,9 @@ returns-clause-node g c =
 
 pub returns-clause-change : goal.returns-clause-change
 returns-clause-change g c =
-    let at = c.place_of_child-at.result in (
+    let at = c.child_position-at.result in (
       at,
       child-removed c.args.nodes.now c.remove_cell.new.nodes c.remove_node.new.nodes c.args.key c.args.parent at c.node_at.result.now c.numbers.result.now
-          c.node_at.ensures c.requires.apart c.numbers.ensures.value c.place_of_child-at.ensures.within c.place_of_child-at.ensures.names
+          c.node_at.ensures c.requires.apart c.numbers.ensures.value c.child_position-at.ensures.within c.child_position-at.ensures.names
           (c.remove_cell.ensures _ c.node_at.ensures) c.remove_node.ensures.updates c.remove_node.ensures.capacity,
     )

@@ -50,8 +50,8 @@ climb-requires g c =
     let product : (least_fill t.capacity - 1) * t.level ≡ (least_fill c.args.tree.now.capacity - 1) * c.args.tree.now.level =
     ap (λ n. (n - 1) * t.level) m ∙ ap (λ n. (least_fill c.args.tree.now.capacity - 1) * n) keeps.level in
     let old = c.requires.room in
-    let cap = keeps.waiting_room in
-    let room : (least_fill t.capacity - 1) * t.level ≤ vec_capacity t.waiting = omega arith in
+    let cap = keeps.pending_room in
+    let room : (least_fill t.capacity - 1) * t.level ≤ vec_capacity t.pending = omega arith in
     let keys : t.nodes.capacity ≤ 2 ^ 62 = omega (arith, keeps.room, c.requires.keys) in
     search rules
 

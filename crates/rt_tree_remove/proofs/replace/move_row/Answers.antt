@@ -1,7 +1,7 @@
 use Rattle.std.proofs.Common.{◌+◌, ◌^◌, ◌<◌, ◌≤◌, vec_len, vec_capacity, arith, rules}
 use Rattle.rt_tree_node.specs.declared.arena.Arena.{Arena}
 use Rattle.rt_tree_node.specs.Whole.{IsWhole, HasRoom, row_count}
-use Rattle.rt_tree_remove.proofs.Moved.{whole_waiting, rows_waiting, room_waiting, one_waits, replaces}
+use Rattle.rt_tree_remove.proofs.Moved.{whole_pending, rows_pending, room_pending, one_waits, replaces}
 use Rattle.rt_tree_remove.proofs.replace.move_row.Goals as goal
 
 pub settle-requires : goal.settle-requires
@@ -11,19 +11,19 @@ settle-requires g c =
     let location = c.args.location.now in
     let b = c.remove_cell.new.nodes in
     let r = c.requires in
-    let u : Arena g.row.D = record old { waiting = c.push_row.new.waiting } in
-    let mid : Arena g.row.D = record old { nodes = b; waiting = c.push_row.new.waiting } in
-    let whole : IsWhole mid = whole_waiting old id location b r.whole r.branched r.idle r.location r.alone c.leaves_facts.ensures c.remove_cell.ensures
+    let u : Arena g.row.D = record old { pending = c.push_row.new.cells } in
+    let mid : Arena g.row.D = record old { nodes = b; pending = c.push_row.new.cells } in
+    let whole : IsWhole mid = whole_pending old id location b r.whole r.branched r.idle r.location r.alone c.leaves_facts.ensures c.remove_cell.ensures
     u c.args.rect.now c.facts.ensures c.push_row.ensures.items c.push_row.ensures.room in
-    let same = rows_waiting old id location b r.whole r.branched r.idle r.location r.alone c.leaves_facts.ensures c.remove_cell.ensures
+    let same = rows_pending old id location b r.whole r.branched r.idle r.location r.alone c.leaves_facts.ensures c.remove_cell.ensures
     u c.args.rect.now c.facts.ensures c.push_row.ensures.items c.push_row.ensures.room in
     let one = one_waits old id location b r.whole r.branched r.idle r.location r.alone c.leaves_facts.ensures c.remove_cell.ensures
     u c.args.rect.now c.facts.ensures c.push_row.ensures.items c.push_row.ensures.room in
-    let waits : 0 < vec_len mid.waiting = omega arith in
+    let waits : 0 < vec_len mid.pending = omega arith in
     let rows : row_count mid ≤ 2 ^ 20 = omega (arith, same, r.rows) in
-    let room : HasRoom mid (row_count mid) = room_waiting old id location b r.whole r.branched r.idle r.location r.alone c.leaves_facts.ensures c.remove_cell.ensures
+    let room : HasRoom mid (row_count mid) = room_pending old id location b r.whole r.branched r.idle r.location r.alone c.leaves_facts.ensures c.remove_cell.ensures
     u c.args.rect.now c.facts.ensures c.push_row.ensures.items c.push_row.ensures.room r.room in
-    let waiting_room : vec_len mid.waiting + 512 ≤ vec_capacity mid.waiting = omega (arith, c.push_row.ensures.room, one) in
+    let pending_room : vec_len mid.pending + 512 ≤ vec_capacity mid.pending = omega (arith, c.push_row.ensures.room, one) in
     search rules
 
 pub returns : goal.returns
@@ -31,7 +31,7 @@ returns g c =
     let old = c.args.tree.now in
     let r = c.requires in
     let id = c.args.id.now in
-    let u : Arena g.row.D = record old { waiting = c.push_row.new.waiting } in
+    let u : Arena g.row.D = record old { pending = c.push_row.new.cells } in
     replaces old id c.args.location.now c.remove_cell.new.nodes r.whole r.branched r.idle r.location r.alone c.leaves_facts.ensures c.remove_cell.ensures
     u c.args.rect.now c.facts.ensures c.push_row.ensures.items c.push_row.ensures.room c.settle.new.tree c.settle.result
     c.settle.ensures.settles c.settle.ensures.turns c.settle.ensures.counts

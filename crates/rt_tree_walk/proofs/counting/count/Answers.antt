@@ -42,7 +42,7 @@ overflow_add-count g c =
     let reached1 = c.visit.new.reached.items in
     let n = c.in_ok-count.field-0 in
     let step = Counting-next c.args.tree.now c.args.window.now s l.reached.items l.visited c.index-next.result.now (omega (arith, c.loop-visited-test.true)) c.index-next.ensures l.count
-    l.invariant.progress n reached1 c.new-asked.result.window c.new-asked.ensures.window c.in_ok-count.ensures.count in
+    l.invariant.progress n reached1 c.new-query.result.window c.new-query.ensures.window c.in_ok-count.ensures.count in
     let few = Counting-few c.args.tree.now c.args.window.now s (drop (l.visited + 1) (keys_of reached1)) (l.count + n) step in
     let small = c.requires.small in
     omega arith
@@ -52,7 +52,7 @@ loop-visited-smaller g c =
     let s : IsSettled c.args.tree.now = record { whole = c.requires.whole; none = c.requires.settled } in
     let l = c.loop-visited in
     ahead-next c.args.tree.now c.args.window.now s l.reached.items l.visited c.index-next.result.now (omega (arith, c.loop-visited-test.true)) c.index-next.ensures l.count
-    l.invariant.progress c.in_ok-count.field-0 c.visit.new.reached.items c.new-asked.result.window c.new-asked.ensures.window c.in_ok-count.ensures.count
+    l.invariant.progress c.in_ok-count.field-0 c.visit.new.reached.items c.new-query.result.window c.new-query.ensures.window c.in_ok-count.ensures.count
 
 pub loop-visited-preserved : goal.loop-visited-preserved
 loop-visited-preserved g c =
@@ -62,11 +62,11 @@ loop-visited-preserved g c =
     let reached1 = c.visit.new.reached.items in
     let next : Reached = c.index-next.result.now in
     let below : l.visited < length reached = omega (arith, c.loop-visited-test.true) in
-    let marked = subst (λ (w : List Interval). Marks w (inner_cells_at c.args.tree.now.nodes next.key) reached reached1) c.new-asked.ensures.window c.in_ok-count.ensures.marks in
+    let marked = subst (λ (w : List Interval). Marks w (inner_cells_at c.args.tree.now.nodes next.key) reached reached1) c.new-query.ensures.window c.in_ok-count.ensures.marks in
     record {
       within = omega (arith, below, ap length marked.is, length-append reached marked.more);
       progress = Counting-next c.args.tree.now c.args.window.now s reached l.visited next below c.index-next.ensures l.count
-          l.invariant.progress c.in_ok-count.field-0 reached1 c.new-asked.result.window c.new-asked.ensures.window c.in_ok-count.ensures.count;
+          l.invariant.progress c.in_ok-count.field-0 reached1 c.new-query.result.window c.new-query.ensures.window c.in_ok-count.ensures.count;
       marks = marks-hold c.args.tree.now s.whole c.args.window.now next.key reached reached1 marked l.invariant.marks;
     }
 

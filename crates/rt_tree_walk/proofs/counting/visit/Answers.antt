@@ -9,7 +9,7 @@ node_at-node-requires g c = let few : g.row.D ≤ 3 = c.requires.few in search r
 pub returns-then-next-clause-count : goal.returns-then-next-clause-count
 returns-then-next-clause-count g c =
     let a = c.args.tree.now.nodes in
-    let window = c.args.asked.now.window in
+    let window = c.args.query.now.window in
     let keys = keys_of c.args.reached.now.items in
     subst (λ (count : ℕ). VisitsCounting a window c.args.next.key count keys keys) (sym c.len.ensures.value)
     (visits-counting_all a window c.args.next.key c.node_at-node.result.now c.node_at-node.ensures

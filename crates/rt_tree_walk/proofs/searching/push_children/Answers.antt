@@ -21,7 +21,7 @@ loop-rest-init g c =
       marks = record {
         more = [];
         is = same ∙ sym (append-nil c.args.reached.now.items);
-        inside = All-nil (λ d. d.is_inside ≡ true → NamesInside c.args.asked.now.window cells d.key);
+        inside = All-nil (λ d. d.is_inside ≡ true → NamesInside c.args.query.now.window cells d.key);
       };
       room = omega (arith, length-picked cells c.args.bits c.requires.within, ap vec_len c.replace-list.ensures.value, ap vec_capacity c.replace-list.ensures.value, c.in_ok-reserve.ensures.len, c.in_ok-reserve.ensures.ok);
     }
@@ -42,7 +42,7 @@ push_reserved-requires g c =
 pub loop-rest-preserved : goal.loop-rest-preserved
 loop-rest-preserved g c =
     let cells = c.args.node.now.cells in
-    let window = c.args.asked.now.window in
+    let window = c.args.query.now.window in
     let rest : ℕ = c.loop-rest.rest in
     let next : ℕ = bit_and rest (rest - 1) in
     let at : ℕ = count_trailing_zeros 64 rest in

@@ -8,7 +8,7 @@ abbrev pub invariant-loop-rest : goal.invariant-loop-rest
 invariant-loop-rest g l = record {
   below : l.rest < 2 ^ length l.node.cells;
   keys : keys_of l.list.items ++ map key_of (picked l.node.cells l.rest) ≡ keys_of l.fn.reached.items ++ map key_of (picked l.node.cells l.bits);
-  marks : Marks l.asked.window l.node.cells l.fn.reached.items l.list.items;
+  marks : Marks l.query.window l.node.cells l.fn.reached.items l.list.items;
   room : vec_len l.list + length (picked l.node.cells l.rest) ≤ vec_capacity l.list;
 }
 

@@ -50,11 +50,11 @@ loop-visited-preserved g c =
     let reached1 = c.visit.new.reached.items in
     let next : Reached = c.index-next.result.now in
     let below : l.visited < length reached = omega (arith, c.loop-visited-test.true) in
-    let marked = subst (λ (w : List Interval). Marks w (inner_cells_at c.args.tree.now.nodes next.key) reached reached1) c.new-asked.ensures.window c.in_ok-visit.ensures.marks in
+    let marked = subst (λ (w : List Interval). Marks w (inner_cells_at c.args.tree.now.nodes next.key) reached reached1) c.new-query.ensures.window c.in_ok-visit.ensures.marks in
     record {
       within = omega (arith, below, ap length marked.is, length-append reached marked.more);
       progress = After-next c.args.tree.now c.args.window.now s reached l.visited next below c.index-next.ensures c.args.rows.now.items l.rows.items l.invariant.progress
-          c.visit.new.rows.items reached1 c.new-asked.result.window c.new-asked.ensures.window c.in_ok-visit.ensures.ok;
+          c.visit.new.rows.items reached1 c.new-query.result.window c.new-query.ensures.window c.in_ok-visit.ensures.ok;
       marks = marks-hold c.args.tree.now s.whole c.args.window.now next.key reached reached1 marked l.invariant.marks;
     }
 

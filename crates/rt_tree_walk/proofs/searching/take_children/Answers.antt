@@ -13,14 +13,14 @@ pub push_children-requires : goal.push_children-requires
 push_children-requires g c =
     let cells = c.args.node.now.cells in
     let bits = c.admitted-bits.result in
-    let below : bits < 2 ^ length cells = (Tells-cells (Admits c.args.asked.now.reach) c.boxes_of.result.now cells bits c.boxes_of.ensures.value c.admitted-bits.ensures.told).1 in
+    let below : bits < 2 ^ length cells = (Tells-cells (Admits c.args.query.now.reach) c.boxes_of.result.now cells bits c.boxes_of.ensures.value c.admitted-bits.ensures.told).1 in
     search rules
 
 pub returns-clause-children : goal.returns-clause-children
 returns-clause-children g c =
     let cells = c.args.node.now.cells in
-    let window = c.args.asked.now.window in
-    let reach = c.args.asked.now.reach in
+    let window = c.args.query.now.window in
+    let reach = c.args.query.now.reach in
     let bits = c.admitted-bits.result in
     let told = (Tells-cells (Admits reach) c.boxes_of.result.now cells bits c.boxes_of.ensures.value c.admitted-bits.ensures.told).0 in
     let boxes = subst (λ (bs : List (List Interval)). All (IsBox g.row.D) bs) c.boxes_of.ensures.value c.admitted-bits.ensures.boxes in

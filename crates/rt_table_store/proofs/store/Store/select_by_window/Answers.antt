@@ -5,7 +5,7 @@ use Rattle.std.proofs.lemmas.List.Sorted.{length_permutation}
 use Rattle.rt_check.specs.Shadow.{ShadowLists}
 use Rattle.rt_tree_walk.specs.declared.searching.Row.{Row}
 use Rattle.rt_tree.specs.Boxes.{HasBoxes}
-use Rattle.rt_tree.specs.Finding.{FindsIn}
+use Rattle.rt_tree.specs.Search.{FindsIn}
 use Rattle.rt_table_row.specs.Filters.{admits}
 use Rattle.rt_table_store.specs.Stored.{Stored}
 use Rattle.rt_table_store.proofs.Found.{all_stand, sorted_are, window_loses_none}

@@ -2,7 +2,7 @@ use Rattle.std.proofs.Common.{ℕ, subst}
 use Rattle.std.proofs.lemmas.Result.{IfOk-weaker}
 use Rattle.rt_tree_walk.specs.Search.{Counts}
 use Rattle.rt_tree.specs.Lists.{TreeLists}
-use Rattle.rt_tree.specs.Finding.{CountsIn}
+use Rattle.rt_tree.specs.Search.{CountsIn}
 use Rattle.rt_tree.proofs.Kept.{settled}
 use Rattle.rt_tree.proofs.Reached.{counts-in}
 use Rattle.rt_tree.proofs.tree.Tree.count.Goals as goal

@@ -25,7 +25,7 @@ insert_row-work-requires g c =
     let rows : row_count t < 2 ^ 20 = omega (arith, rows-are i k, long, c.requires.few) in
     let room : HasRoom t (row_count t + 1) = less-room t (row_count t + i.spare) (row_count t + 1) k.room (omega (arith, some)) in
     let leaves_room : 1 ≤ spare t.leaves = omega (arith, some, k.leaves_room) in
-    let waiting_room : 513 ≤ vec_capacity t.waiting = omega (arith, k.waiting_room) in
+    let pending_room : 513 ≤ vec_capacity t.pending = omega (arith, k.pending_room) in
     search rules
 
 pub invariant_of-self : goal.invariant_of-self

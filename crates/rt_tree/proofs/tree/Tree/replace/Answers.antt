@@ -44,10 +44,10 @@ replace_found-requires g c =
     found-there t (settled i k) c.args.id.now c.find_row.result c.unwrap-location.result c.find_row.ensures c.unwrap-location.ensures in
     let rows : row_count t ≤ 2 ^ 20 = k.rows in
     let room : HasRoom t (row_count t) = less-room t (row_count t + i.spare) (row_count t) k.room (omega arith) in
-    let waiting_room : (least_fill t.capacity - 1) * t.level + 512 ≤ vec_capacity t.waiting = way-waits i k (c.levels_are_few.ensures.doubles 20 k.rows) in
+    let pending_room : (least_fill t.capacity - 1) * t.level + 512 ≤ vec_capacity t.pending = way-waits i k (c.levels_are_few.ensures.doubles 20 k.rows) in
     let some : 1 ≤ i.spare = subst (λ (v : TreeLists g.row.D). 1 ≤ v.spare) (sym c.self.view_is) c.requires.spare in
     let leaves_room : 1 ≤ spare t.leaves = omega (arith, some, k.leaves_room) in
-    let one_more : 513 ≤ vec_capacity t.waiting = omega (arith, k.waiting_room) in
+    let one_more : 513 ≤ vec_capacity t.pending = omega (arith, k.pending_room) in
     search rules
 
 pub invariant_of-self : goal.invariant_of-self

@@ -15,7 +15,7 @@ invariant_of-self g c =
     let t = c.self.inside.arena in
     let k = c.self.invariant in
     let u : Arena g.row.D =
-    record { nodes = c.make_room.new.nodes; leaves = t.leaves; waiting = t.waiting; root = t.root; level = t.level; capacity = t.capacity } in
+    record { nodes = c.make_room.new.nodes; leaves = t.leaves; pending = t.pending; root = t.root; level = t.level; capacity = t.capacity } in
     let room : HasRoom u (row_count t + i.spare) = grown-room t u (row_count t + i.spare) k.room c.make_room.ensures.grows c.make_room.ensures.keys refl in
     roomier-kept t u c.make_room.ensures.same refl refl refl refl refl refl i.spare k i.spare room k.leaves_room
 
@@ -25,7 +25,7 @@ invariant_of-self-in_err-reserve g c =
     let t = c.self.inside.arena in
     let k = c.self.invariant in
     let u : Arena g.row.D =
-    record { nodes = c.make_room.new.nodes; leaves = c.reserve.new.self; waiting = t.waiting; root = t.root; level = t.level; capacity = t.capacity } in
+    record { nodes = c.make_room.new.nodes; leaves = c.reserve.new.self; pending = t.pending; root = t.root; level = t.level; capacity = t.capacity } in
     let room : HasRoom u (row_count t + i.spare) = grown-room t u (row_count t + i.spare) k.room c.make_room.ensures.grows c.make_room.ensures.keys refl in
     let leaves_room : i.spare ≤ spare c.reserve.new.self = omega (arith, k.leaves_room, c.reserve.ensures.room.0) in
     roomier-kept t u c.make_room.ensures.same c.reserve.ensures.entries refl refl refl refl refl i.spare k i.spare room leaves_room
@@ -37,7 +37,7 @@ invariant_of-self-2 g c =
     let k = c.self.invariant in
     let n = c.room_ahead-spare.result in
     let u : Arena g.row.D =
-    record { nodes = c.make_room.new.nodes; leaves = c.reserve.new.self; waiting = t.waiting; root = t.root; level = t.level; capacity = t.capacity } in
+    record { nodes = c.make_room.new.nodes; leaves = c.reserve.new.self; pending = t.pending; root = t.root; level = t.level; capacity = t.capacity } in
     let room : HasRoom u (row_count t + n) = record {
       nodes = let wide = mul-le-mul_left (least_fill t.capacity - 1) c.in_ok-make_room.ensures.room in omega (arith, wide, c.nodes_for-room.ensures, c.len-rows.ensures.len, k.ids);
       keys = c.make_room.ensures.keys;
@@ -49,7 +49,7 @@ pub returns-clause-lists : goal.returns-clause-lists
 returns-clause-lists g c =
     let t = c.self.inside.arena in
     let u : Arena g.row.D =
-    record { nodes = c.make_room.new.nodes; leaves = c.reserve.new.self; waiting = t.waiting; root = t.root; level = t.level; capacity = t.capacity } in
+    record { nodes = c.make_room.new.nodes; leaves = c.reserve.new.self; pending = t.pending; root = t.root; level = t.level; capacity = t.capacity } in
     outside-same t u c.make_room.ensures.same c.reserve.ensures.entries refl refl refl refl refl
     ∙ ap (λ (v : TreeLists g.row.D). v.lists) c.self.view_is
 

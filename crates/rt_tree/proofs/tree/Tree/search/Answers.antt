@@ -3,7 +3,7 @@ use Rattle.std.proofs.lemmas.Result.{IfOk-weaker}
 use Rattle.rt_tree_walk.specs.declared.searching.Found.{Found}
 use Rattle.rt_tree_walk.specs.Search.{Finds}
 use Rattle.rt_tree.specs.Lists.{TreeLists}
-use Rattle.rt_tree.specs.Finding.{FindsIn}
+use Rattle.rt_tree.specs.Search.{FindsIn}
 use Rattle.rt_tree.proofs.Kept.{settled}
 use Rattle.rt_tree.proofs.Reached.{finds-in}
 use Rattle.rt_tree.proofs.tree.Tree.search.Goals as goal

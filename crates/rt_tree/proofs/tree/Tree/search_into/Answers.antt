@@ -2,7 +2,7 @@ use Rattle.std.proofs.Common.{subst}
 use Rattle.std.proofs.lemmas.Result.{IfOk-weaker}
 use Rattle.rt_tree_walk.specs.Search.{FindsAfter}
 use Rattle.rt_tree.specs.Lists.{TreeLists}
-use Rattle.rt_tree.specs.Finding.{FindsIn, FindsInAfter}
+use Rattle.rt_tree.specs.Search.{FindsIn, FindsInAfter}
 use Rattle.rt_tree.proofs.Kept.{settled}
 use Rattle.rt_tree.proofs.Reached.{finds-in}
 use Rattle.rt_tree.proofs.tree.Tree.search_into.Goals as goal

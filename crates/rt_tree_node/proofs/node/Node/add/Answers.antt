@@ -1,4 +1,4 @@
-use Rattle.std.proofs.Common.{◌≡◌, ◌<◌, [], ◌∷◌, ◌++◌, length, arith, ap, ◌∙◌, rules}
+use Rattle.std.proofs.Common.{◌<◌, [], ◌∷◌, ◌++◌, length, arith, ap, ◌∙◌, rules}
 use Rattle.rt_tree_node.specs.NodeInside.{paired}
 use Rattle.rt_tree_node.proofs.Paired.{length-paired, paired-push, node-changed}
 use Rattle.rt_tree_node.proofs.node.Node.add.Goals as goal

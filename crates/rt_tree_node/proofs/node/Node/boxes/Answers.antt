@@ -1,4 +1,4 @@
-use Rattle.std.proofs.Common.{◌≡◌, length, arith, ap, sym, ◌∙◌, map}
+use Rattle.std.proofs.Common.{length, arith, ap, sym, ◌∙◌, map}
 use Rattle.rt_tree_node.proofs.Paired.{length-paired, rects-paired}
 use Rattle.rt_tree_node.proofs.node.Node.boxes.Goals as goal
 

@@ -1,4 +1,4 @@
-use Rattle.std.proofs.Common.{◌≡◌, ◌<◌, get_or, length, arith, ap, ◌∙◌, rules}
+use Rattle.std.proofs.Common.{◌<◌, get_or, length, arith, ap, ◌∙◌, rules}
 use Rattle.rt_tree_node.proofs.Paired.{length-paired, paired-read}
 use Rattle.rt_tree_node.proofs.node.Node.cell.Goals as goal
 

@@ -1,5 +1,0 @@
-use Rattle.rt_tree_insert.proofs.Few.{few-waiting}
-use Rattle.rt_tree_insert.proofs.laws.waiting_cells_are_few.Goals as goal
-
-pub returns : goal.returns
-returns g c = few-waiting c.args.tree.now c.requires

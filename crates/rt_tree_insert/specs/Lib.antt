@@ -1,3 +1,0 @@
-pub mod Awaiting
-pub mod Settling
-pub mod Insertion
