@@ -4,7 +4,7 @@ use lib.IntN.{ℤ}
 use denote.Enum.Bare.{true_same, sameb}
 use Rattle.rt_sql.specs.contracts.token.Sign.{the_type}
 use Rattle.rt_sql_statement.specs.declared.statement.ColumnDef.{ColumnDef}
-use Rattle.rt_sql_statement.specs.declared.statement.Operator.{Operator}
+use Rattle.rt_box.specs.declared.operator.Operator.{Operator}
 use Rattle.rt_sql.specs.declared.token.Sign.{Sign}
 use Rattle.rt_sql.specs.declared.token.Sign.TheVariants.{LeftParenthesis, RightParenthesis, Comma, Plus, Minus, Equal, DoubleEqual, LessGreater, BangEqual, Less, LessOrEqual, Greater, GreaterOrEqual}
 use Rattle.rt_sql.specs.declared.token.Token.{Token}
@@ -21,7 +21,7 @@ use Rattle.rt_sql.proofs.Basics.{test}
 use Rattle.std.proofs.lemmas.Slice.Eq.{bytes_eq-Decides}
 use Rattle.std.specs.List.{list_any}
 use Rattle.std.specs.Str.{bytes_eq, str_to_ascii_lowercase}
-use Rattle.rt_sql_statement.specs.declared.statement.Operator.TheVariants.{Eq, Ne, Lt, Le, Gt, Ge}
+use Rattle.rt_box.specs.declared.operator.Operator.TheVariants.{Eq, Ne, Lt, Le, Gt, Ge}
 use Rattle.rt_sql.proofs.Separated.{turn_last, turn_more}
 use Rattle.rt_sql.proofs.Shorter.{sign_shorter, word_shorter, value_takes}
 use Rattle.rt_sql.proofs.Sound.{TakesEach}

@@ -3,8 +3,8 @@
 use Rattle.std.specs.Prelude.{◌≡◌, ◌⊎◌, Bool, true, false, List, [], ◌∷◌, ◌++◌, map, Option, Some, None, IsTrue, codes}
 use lib.IntN.{ℤ}
 use Rattle.rt_sql_statement.specs.declared.statement.ColumnDef.{ColumnDef}
-use Rattle.rt_sql_statement.specs.declared.statement.Operator.{Operator}
-use Rattle.rt_sql_statement.specs.declared.statement.Operator.TheVariants.{Eq, Ne, Lt, Le, Gt, Ge}
+use Rattle.rt_box.specs.declared.operator.Operator.{Operator}
+use Rattle.rt_box.specs.declared.operator.Operator.TheVariants.{Eq, Ne, Lt, Le, Gt, Ge}
 use Rattle.rt_sql_statement.specs.declared.statement.Rule.{Rule}
 use Rattle.rt_sql_statement.specs.declared.statement.Rule.TheVariants.{Abort, Replace, Ignore}
 use Rattle.rt_sql_statement.specs.declared.statement.Source.{Source}

@@ -15,6 +15,7 @@ pub mod value;
 
 pub use name::Name;
 pub use refusal::Refusal;
+pub use rt_box::Operator;
 pub use sqlite_items::Items;
-pub use statement::{ColumnDef, Compare, Cond, Edit, Operator, Rule, Source, Stmt, Test};
+pub use statement::{ColumnDef, Compare, Cond, Edit, Rule, Source, Stmt, Test};
 pub use value::{Blob, Text, Value};
