@@ -2,7 +2,7 @@
 use Rattle.std.proofs.Common.{◌≡◌, ◌≢◌, ℕ, false, ◌==◌, List, [], ◌∷◌, ◌++◌, IsTrue, ap, ◌∙◌, append_assoc, append-nil, arith}
 use Rattle.std.proofs.lemmas.Bool.Decides.{nat_tests}
 use Rattle.std.proofs.lemmas.List.Elements.{All-nil, All-push}
-use Rattle.rt_sql_cut.specs.Pieces.{Atom, Quoted, spelled_all, AreAtoms}
+use Rattle.rt_sql_cut.specs.Pieces.{Atom, Quoted, atoms_text, AreAtoms}
 use Rattle.rt_sql_cut.specs.Text.{is_quote, Lacks}
 use Rattle.rt_sql.specs.Parse.{QuotesAreAtoms}
 use Rattle.rt_sql.specs.Token.{Text, doubled}
@@ -14,7 +14,7 @@ other b q h = grind (arith, nat_tests)
 
 -- behind a quote and bytes that aren't quotes
 abbrev Open : ℕ → Text → Text → Text → Type 0
-Open q begun s after = (atoms : List Atom) × (spelled_all atoms ≡ q ∷ (begun ++ (doubled q s ++ q ∷ []))) × AreAtoms atoms after
+Open q begun s after = (atoms : List Atom) × (atoms_text atoms ≡ q ∷ (begun ++ (doubled q s ++ q ∷ []))) × AreAtoms atoms after
 
 from_open : (q : ℕ) (begun s after : Text) → IsTrue (is_quote q) → Lacks q begun → Open q begun s after
 from_open q begun [] after is lacks = (Quoted q begun ∷ [], append-nil (q ∷ (begun ++ q ∷ [])), ((is, lacks), tt))

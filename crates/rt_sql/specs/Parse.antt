@@ -11,7 +11,7 @@ use Rattle.rt_sql.specs.declared.token.Token.TheVariants as token
 use Rattle.rt_sql.specs.Grammar.{Spells}
 use Rattle.rt_sql.specs.Number.{WritesAnySize, WritesWithin64Bits}
 use Rattle.rt_sql_cut.specs.Piece.{PieceText}
-use Rattle.rt_sql_cut.specs.Pieces.{Atom, spelled_all, AreAtoms}
+use Rattle.rt_sql_cut.specs.Pieces.{Atom, atoms_text, AreAtoms}
 use Rattle.rt_sql_cut.specs.Text.{is_quote}
 use Rattle.rt_sql.specs.Token.{Text, doubled}
 use Rattle.rt_sql.specs.Word.{same_word}
@@ -67,7 +67,7 @@ OneAnswer = (piece : PieceText) (one other : Result Stmt Refusal) → Parses pie
 abbrev pub QuotesAreAtoms : Type 0
 QuotesAreAtoms =
     (quote : ℕ) (inside after : Text) → IsTrue (is_quote quote)
-    → (atoms : List Atom) × (spelled_all atoms ≡ (quote ∷ doubled quote inside) ++ quote ∷ []) × AreAtoms atoms after
+    → (atoms : List Atom) × (atoms_text atoms ≡ (quote ∷ doubled quote inside) ++ quote ∷ []) × AreAtoms atoms after
 
 abbrev pub EveryPieceHasAnAnswer : Type 0
 EveryPieceHasAnAnswer = (piece : PieceText) → (answer : Result Stmt Refusal) × Parses piece answer
