@@ -7,7 +7,7 @@ use Rattle.rt_sql_statement.specs.declared.value.Value.{Value}
 use Rattle.rt_sql_statement.specs.declared.value.Value.TheVariants.{Int}
 use Rattle.rt_sql_statement.specs.declared.statement.ColumnDef.{ColumnDef}
 use Rattle.rt_sql_statement.specs.declared.statement.Rule.TheVariants.{Abort, Replace}
-use Rattle.rt_sql_statement.specs.declared.statement.Operator.TheVariants.{Gt}
+use Rattle.rt_box.specs.declared.operator.Operator.TheVariants.{Gt}
 use Rattle.rt_sql_statement.specs.declared.statement.Source.TheVariants.{Literal}
 use Rattle.rt_sql_statement.specs.declared.statement.Test.{Test}
 use Rattle.rt_sql_statement.specs.declared.statement.Test.TheVariants.{Compare}

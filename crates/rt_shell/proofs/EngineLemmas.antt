@@ -7,7 +7,7 @@ use Rattle.std.specs.List.{concat}
 use Rattle.std.specs.Result.{is_err}
 use Rattle.rt_sql_cut.specs.Piece.{PieceText}
 use Rattle.rt_sql_cut.specs.Pieces.{IsGap, IsWholePiece, IsLastPiece, Pieces, EndedPieces}
-use Rattle.rt_sql_cut.specs.Cutter.{Front, StandsAt, FinishedAt, ready_piece}
+use Rattle.rt_sql_cut.specs.Cutter.{Front, StandsAt, StandsAtEnd, ready_piece}
 use Rattle.rt_sql_statement.specs.declared.refusal.Refusal.{Refusal}
 use Rattle.rt_sql_statement.specs.declared.refusal.Refusal.TheVariants.{OutOfMemory}
 use Rattle.rt_sql_cut.proofs.CutterFront.{nothing_ready}
@@ -38,7 +38,7 @@ after-outcome_of p piece answer new gives =
 
 -- the piece that was ready is answered, and the cutter starts anew
 pub answers_piece : (old : Engine) (piece : PieceText) (answer : Result Reply Refusal) (c : Front) (state : State) (is_refused : Bool) → Some piece ≡ ready_piece old.cutter
-    → ((x : List ℕ) → StandsAt old.cutter x → IsWholePiece x piece) → ((x : List ℕ) → FinishedAt old.cutter x → IsWholePiece x piece ⊎ IsLastPiece x piece)
+    → ((x : List ℕ) → StandsAt old.cutter x → IsWholePiece x piece) → ((x : List ℕ) → StandsAtEnd old.cutter x → IsWholePiece x piece ⊎ IsLastPiece x piece)
     → GivesAnswer old.session piece answer state → is_refused ≡ is_err answer → StandsAt c []
     → AnswersPiece old answer (record old { cutter = c; session = state; pieces = old.pieces + 1; refused = old.refused || is_refused })
 answers_piece old piece answer c state is_refused ready whole last gives refused anew = record {
@@ -295,7 +295,7 @@ prints_last : (options : Options) (marks : Marks) (p : Progress) (piece : PieceT
 prints_last options marks p piece outcome gives =
     text_from options marks p piece [] outcome gives no_lines (part_of options (p.pieces + 1) piece outcome) (status_of (after p outcome)) (sym (append-nil _)) (last_of_all options marks options.bail p outcome)
 
-pub gives_at_end : (old : Engine) (answer : Option (Result Reply Refusal)) (new : Engine) (x : List ℕ) → FinishedAt old.cutter x → AnswersNext old answer new
+pub gives_at_end : (old : Engine) (answer : Option (Result Reply Refusal)) (new : Engine) (x : List ℕ) → StandsAtEnd old.cutter x → AnswersNext old answer new
     → Gives false old.options (progress_of old) x (ready_lines old answer) (status_of (progress_of new))
 gives_at_end old None new x finished waits =
     (all_marked, ([], waits.gap x finished, prints_none old.options all_marked (progress_of old) (status_of (progress_of new)) (ap (λ e. status_of (progress_of e)) waits.same)))
@@ -313,12 +313,12 @@ gives_at_end old (Some answer) new x finished answers =
       ),
     )
 
-pub finishes_ok : (old : Engine) (c : Front) (new : Engine) (w v : Option (List ℕ)) (f g : ℕ) (flow : Flow) → ((x : List ℕ) → StandsAt old.cutter x → FinishedAt c x)
+pub finishes_ok : (old : Engine) (c : Front) (new : Engine) (w v : Option (List ℕ)) (f g : ℕ) (flow : Flow) → ((x : List ℕ) → StandsAt old.cutter x → StandsAtEnd c x)
     → AnswersReady (record old { cutter = c }) new w v f g (Ok flow) → Finishes old w v f g (Ok (status_of (progress_of new)))
 finishes_ok old c new w v f g flow ends ready =
     (ready_lines (record old { cutter = c }) ready.answer, ready.writes, λ x stands. gives_at_end (record old { cutter = c }) ready.answer new x (ends x stands) ready.answers)
 
-pub finishes_err : (old : Engine) (c : Front) (new : Engine) (w v : Option (List ℕ)) (f g : ℕ) (fault : WriteFault) → ((x : List ℕ) → StandsAt old.cutter x → FinishedAt c x)
+pub finishes_err : (old : Engine) (c : Front) (new : Engine) (w v : Option (List ℕ)) (f g : ℕ) (fault : WriteFault) → ((x : List ℕ) → StandsAt old.cutter x → StandsAtEnd c x)
     → AnswersReady (record old { cutter = c }) new w v f g (Err fault) → Finishes old w v f g (Err fault)
 finishes_err old c new w v f g fault ends ready = (
   ready_lines (record old { cutter = c }) ready.answer,

@@ -5,7 +5,7 @@ use Rattle.rt_bytes.specs.Bytes.{Writes, WritesAll, WritesPrefix}
 use Rattle.rt_bytes.specs.declared.device.WriteFault.{WriteFault}
 use Rattle.rt_sql_cut.specs.Piece.{PieceText}
 use Rattle.rt_sql_cut.specs.Pieces.{IsGap, IsWholePiece, IsLastPiece, Pieces, EndedPieces}
-use Rattle.rt_sql_cut.specs.Cutter.{StandsAt, FinishedAt, ready_piece}
+use Rattle.rt_sql_cut.specs.Cutter.{StandsAt, StandsAtEnd, ready_piece}
 use Rattle.rt_sql_statement.specs.declared.refusal.Refusal.{Refusal}
 use Rattle.rt_reply.specs.declared.reply.Reply.{Reply}
 use Rattle.rt_shell.specs.declared.engine.Engine.{Engine}
@@ -44,7 +44,7 @@ pub record AnswersPiece (old : Engine) (answer : Result Reply Refusal) (new : En
   pub piece : PieceText
   pub ready : ready_piece old.cutter ≡ Some piece
   pub whole : (x : List ℕ) → StandsAt old.cutter x → IsWholePiece x piece
-  pub last : (x : List ℕ) → FinishedAt old.cutter x → IsWholePiece x piece ⊎ IsLastPiece x piece
+  pub last : (x : List ℕ) → StandsAtEnd old.cutter x → IsWholePiece x piece ⊎ IsLastPiece x piece
   pub gives : GivesAnswer old.session piece answer new.session
   pub comes_on : progress_of new ≡ after (progress_of old) (outcome_of answer new.session)
   pub starts_anew : StandsAt new.cutter []
@@ -52,7 +52,7 @@ pub record AnswersPiece (old : Engine) (answer : Result Reply Refusal) (new : En
 
 -- no piece was ready, and nothing happened
 pub record WaitsForMore (old new : Engine) : Type 0 where
-  pub gap : (x : List ℕ) → FinishedAt old.cutter x → IsGap x
+  pub gap : (x : List ℕ) → StandsAtEnd old.cutter x → IsGap x
   pub not_ready : ready_piece old.cutter ≡ None
   pub same : new ≡ old
 

@@ -6,7 +6,7 @@ use Rattle.std.specs.List.{flat_map, join_by}
 use Rattle.rt_sql_cut.specs.Piece.{PieceText}
 use Rattle.rt_sql_cut.specs.declared.piece.Ending.{Ending}
 use Rattle.rt_sql_cut.specs.declared.piece.Ending.TheVariants.{Whole, Incomplete, TooLong}
-use Rattle.rt_sql.specs.Token.{doubled}
+use Rattle.rt_sql.specs.Token.{double}
 use Rattle.rt_sql_statement.specs.Refusal.{code_of, text_of}
 use Rattle.rt_sql_statement.specs.declared.refusal.Refusal.{Refusal}
 use Rattle.rt_sql_statement.specs.declared.value.Value.{Value}
@@ -25,7 +25,7 @@ hex_pair b = digit_glyph true (b / 16) ∷ digit_glyph true (b % 16) ∷ []
 abbrev pub value_text : Value → List ℕ
 value_text Null = codes "NULL"
 value_text (Int n) = signed_decimal n
-value_text (Text t) = codes "'" ++ doubled 39 t ++ codes "'"
+value_text (Text t) = codes "'" ++ double 39 t ++ codes "'"
 value_text (Blob bytes) = codes "X'" ++ flat_map hex_pair bytes ++ codes "'"
 
 -- the value of a row at that place; NULL past the last one

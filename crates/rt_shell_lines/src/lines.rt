@@ -7,7 +7,7 @@
 ghost use Rattle.std.specs.Prelude.{◌≡◌, ◌+◌, ◌*◌, ◌<◌, ◌≤◌, ◌++◌, ◌∷◌, ℕ, List, [], IfSome, codes, drop, length, slice_index_or, take};
 ghost use Rattle.std.specs.Fmt.{signed_decimal};
 ghost use Rattle.std.specs.List.{flat_map, join_by};
-ghost use Rattle.rt_sql.specs.Token.{doubled};
+ghost use Rattle.rt_sql.specs.Token.{double};
 ghost use Rattle.rt_table_row.specs.Entries.{listed_values};
 ghost use Rattle.rt_table_row.specs.Entries.{field_value};
 ghost use Rattle.rt_reply.specs.AnyRows.{box_values};
@@ -195,7 +195,7 @@ impl Lines {
 
     /// Puts a text in quotes, where it is short and has none inside.
     fn put_text(&mut self, text: &[u8]) -> Option<()>
-        ensures { IfSome result (λ _. self.new ≡ (codes "'" ++ doubled 39 text.now ++ codes "'") ++ self.old) }
+        ensures { IfSome result (λ _. self.new ≡ (codes "'" ++ double 39 text.now ++ codes "'") ++ self.old) }
     {
         if text.len() > MOST_TEXT || first_quote(text).is_some() {
             return None;

@@ -7,7 +7,7 @@ ghost use Rattle.std.specs.Prelude.{◌≡◌, ◌*◌, ◌<◌, ◌≤◌, ◌+
 ghost use Rattle.std.specs.Fmt.{digit_glyph, signed_decimal};
 ghost use Rattle.std.specs.List.{flat_map, position};
 ghost use Rattle.rt_bytes.specs.Devices.{WritesTo};
-ghost use Rattle.rt_sql.specs.Token.{doubled};
+ghost use Rattle.rt_sql.specs.Token.{double};
 ghost use Rattle.rt_shell_lines.specs.Lines.{hex_pair, value_text};
 
 use itoa::Buffer;
@@ -39,7 +39,7 @@ pub(crate) fn write_integer<W: ByteWriter>(number: &i64, writer: &mut W) -> Resu
 }
 
 fn write_text<W: ByteWriter>(text: &[u8], writer: &mut W) -> Result<(), WriteFault>
-    ensures { WritesTo W.ByteWriter writer.old writer.new result (codes "'" ++ doubled 39 text.now ++ codes "'") }
+    ensures { WritesTo W.ByteWriter writer.old writer.new result (codes "'" ++ double 39 text.now ++ codes "'") }
 {
     write_whole(writer, b"'")?;
     write_doubled(text, writer)?;
@@ -55,7 +55,7 @@ pub(crate) fn first_quote(text: &[u8]) -> Option<usize>
 
 /// Writes a text with each quote twice, in parts that end behind a quote.
 fn write_doubled<W: ByteWriter>(text: &[u8], writer: &mut W) -> Result<(), WriteFault>
-    ensures { WritesTo W.ByteWriter writer.old writer.new result (doubled 39 text.now) }
+    ensures { WritesTo W.ByteWriter writer.old writer.new result (double 39 text.now) }
 {
     let mut rest = text;
     while let Some(quote) = first_quote(rest) {

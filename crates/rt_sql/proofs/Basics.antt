@@ -11,3 +11,6 @@ test false f g = g refl
 
 pub none : {C X : Type 0} {x : X} → None ≡ Some x → C
 none e = absurd (cc)
+
+pub some_same : {A : Type 0} {a b : A} → Some a ≡ Some b → a ≡ b
+some_same e = cc

@@ -4,7 +4,8 @@ use lib.IntN.{ℤ}
 use denote.Enum.Bare.{true_same, sameb}
 use Rattle.rt_sql.specs.contracts.token.Sign.{the_type}
 use Rattle.rt_sql_statement.specs.declared.statement.ColumnDef.{ColumnDef}
-use Rattle.rt_sql_statement.specs.declared.statement.Operator.{Operator}
+use Rattle.rt_sql_statement.specs.declared.statement.Stmt.{Stmt}
+use Rattle.rt_box.specs.declared.operator.Operator.{Operator}
 use Rattle.rt_sql.specs.declared.token.Sign.{Sign}
 use Rattle.rt_sql.specs.declared.token.Sign.TheVariants.{LeftParenthesis, RightParenthesis, Comma, Plus, Minus, Equal, DoubleEqual, LessGreater, BangEqual, Less, LessOrEqual, Greater, GreaterOrEqual}
 use Rattle.rt_sql.specs.declared.token.Token.{Token}
@@ -21,8 +22,8 @@ use Rattle.rt_sql.proofs.Basics.{test}
 use Rattle.std.proofs.lemmas.Slice.Eq.{bytes_eq-Decides}
 use Rattle.std.specs.List.{list_any}
 use Rattle.std.specs.Str.{bytes_eq, str_to_ascii_lowercase}
-use Rattle.rt_sql_statement.specs.declared.statement.Operator.TheVariants.{Eq, Ne, Lt, Le, Gt, Ge}
-use Rattle.rt_sql.proofs.Separated.{turn_last, turn_more}
+use Rattle.rt_box.specs.declared.operator.Operator.TheVariants.{Eq, Ne, Lt, Le, Gt, Ge}
+use Rattle.rt_sql.proofs.Sequences.{turn_last, turn_more}
 use Rattle.rt_sql.proofs.Shorter.{sign_shorter, word_shorter, value_takes}
 use Rattle.rt_sql.proofs.Sound.{TakesEach}
 
@@ -82,10 +83,13 @@ past_sign s ts after g = past (token.Sign s) ts after g
 pub past_word : (w : Text) (ts after : List Token) → G.word w ts after → R.rest ts ≡ after
 past_word w ts after g = past (token.Word g.0) ts after g.1
 
-same_word-other : (u v w : Text) → same_word u v ≡ true → same_word v w ≡ false → same_word u w ≡ false
-same_word-other u v w e f =
+same_word-alike : (u v w : Text) → same_word u v ≡ true → same_word u w ≡ same_word v w
+same_word-alike u v w e =
     let is_same : str_to_ascii_lowercase u ≡ str_to_ascii_lowercase v = (bytes_eq-Decides (str_to_ascii_lowercase u) (str_to_ascii_lowercase v)).0 e in
-    ap (λ x. bytes_eq x (str_to_ascii_lowercase w)) is_same ∙ f
+    ap (λ x. bytes_eq x (str_to_ascii_lowercase w)) is_same
+
+same_word-other : (u v w : Text) → same_word u v ≡ true → same_word v w ≡ false → same_word u w ≡ false
+same_word-other u v w e f = same_word-alike u v w e ∙ f
 
 pub other_word : (v w : Text) (ts after : List Token) → same_word v w ≡ false → G.word v ts after → R.sees_word w ts ≡ false
 unfolding R.is_word
@@ -94,6 +98,12 @@ other_word v w ts after e g = word_at w (token.Word g.0) ts after g.1 ∙ same_w
 -- the same for a dot's word
 pub other_dot : (u v w : Text) → same_word u v ≡ true → same_word v w ≡ false → same_word u w ≡ false
 other_dot u v w e f = same_word-other u v w e f
+
+-- a dot line with one name asks for the same in whatever ASCII case its word is written
+pub statement_by_same : (v w n : Text) (lines : List (Text × (Text → Stmt))) → same_word w v ≡ true → R.statement_by w n lines ≡ R.statement_by v n lines
+unfolding R.statement_by
+statement_by_same v w n [] h = refl
+statement_by_same v w n (line ∷ lines) h = rw (same_word-alike w v line.0 h, statement_by_same v w n lines h) refl
 
 pub past_name : (n : Text) (ts after : List Token) → G.name n ts after → R.rest ts ≡ after
 past_name n ts after (inl g) = past (token.Word n) ts after g.0
@@ -229,24 +239,24 @@ abbrev pub Separates : (List Token → Bool) → G.Part → (List Token → Type
 Separates sees separator Fine = (ts mid : List Token) → separator ts mid → (sees ts ≡ true) × (R.rest ts ≡ mid) × Fine ts × (length mid < length ts)
 
 module _ {A : Type 0} (sees : List Token → Bool) (separator : G.Part) (Fine : List Token → Type 0) (seen : Separates sees separator Fine) (item : Parser A) (P : A → G.Part) (takes : TakesTokens item) (complete : (ts : List Token) (a : A) (after : List Token) → P a ts after → Fine after → item ts ≡ Some (a, after)) where
-  complete_separated_from : (xs : List A) (n : ℕ) (found : List A) (ts after : List Token) → length ts ≤ n → G.separated separator P xs ts after → sees after ≡ false → Fine after → R.separated_from sees item n found ts ≡ Some (found ++ xs, after)
-  complete_separated_from [] n found ts after enough g stops fine = absurd g
-  complete_separated_from (x ∷ []) zero found ts after enough g stops fine =
+  complete_sequence_from : (xs : List A) (n : ℕ) (found : List A) (ts after : List Token) → length ts ≤ n → G.sequence separator P xs ts after → sees after ≡ false → Fine after → R.sequence_from sees item n found ts ≡ Some (found ++ xs, after)
+  complete_sequence_from [] n found ts after enough g stops fine = absurd g
+  complete_sequence_from (x ∷ []) zero found ts after enough g stops fine =
       absurd (omega (arith, takes ts x g.0 (complete ts x g.0 g.1 (rw g.2 fine))))
-  complete_separated_from (x ∷ y ∷ ys) zero found ts after enough g stops fine =
+  complete_sequence_from (x ∷ y ∷ ys) zero found ts after enough g stops fine =
       absurd (omega (arith, takes ts x g.0 (complete ts x g.0 g.1 (seen g.0 g.2.0 g.2.1).2)))
-  complete_separated_from (x ∷ []) (suc n) found ts after enough g stops fine =
+  complete_sequence_from (x ∷ []) (suc n) found ts after enough g stops fine =
       rw (← g.2) (turn_last sees item n found ts g.0 x (complete ts x g.0 g.1 (rw g.2 fine)) (rw g.2 stops))
-  complete_separated_from (x ∷ y ∷ ys) (suc n) found ts after enough g stops fine =
+  complete_sequence_from (x ∷ y ∷ ys) (suc n) found ts after enough g stops fine =
       let k = seen g.0 g.2.0 g.2.1 in
       let e = complete ts x g.0 g.1 k.2 in
       turn_more sees item n found ts g.0 x e k.0
-      ∙ ap (λ s. R.separated_from sees item n (found ++ x ∷ []) s) k.1
-      ∙ complete_separated_from (y ∷ ys) n (found ++ x ∷ []) g.2.0 after (omega (arith, takes ts x g.0 e, k.3)) g.2.2 stops fine
+      ∙ ap (λ s. R.sequence_from sees item n (found ++ x ∷ []) s) k.1
+      ∙ complete_sequence_from (y ∷ ys) n (found ++ x ∷ []) g.2.0 after (omega (arith, takes ts x g.0 e, k.3)) g.2.2 stops fine
       ∙ ap (λ zs. Some (zs, after)) (append_assoc found (x ∷ []) (y ∷ ys))
 
-  pub complete_separated : (ts : List Token) (xs : List A) (after : List Token) → G.separated separator P xs ts after → sees after ≡ false → Fine after → R.separated sees item ts ≡ Some (xs, after)
-  complete_separated ts xs after g stops fine = complete_separated_from xs (length ts) [] ts after (omega arith) g stops fine
+  pub complete_sequence : (ts : List Token) (xs : List A) (after : List Token) → G.sequence separator P xs ts after → sees after ≡ false → Fine after → R.sequence sees item ts ≡ Some (xs, after)
+  complete_sequence ts xs after g stops fine = complete_sequence_from xs (length ts) [] ts after (omega arith) g stops fine
 
 abbrev pub Anything : List Token → Type 0
 Anything ts = Unit {0}
@@ -259,7 +269,7 @@ and_separates ts mid g = (sees_own_word (codes "AND") ts mid g, past_word (codes
 
 pub complete_commas : {A : Type 0} (item : Parser A) (P : A → G.Part) (takes : TakesTokens item) (complete : Complete item P) (ts : List Token) (xs : List A) (after : List Token) → G.by_commas P xs ts after → R.sees_sign Comma after ≡ false → R.by_commas item ts ≡ Some (xs, after)
 complete_commas item P takes complete ts xs after g stops =
-    complete_separated (R.sees_sign Comma) (G.sign Comma) Anything comma_separates item P takes (λ s a t h _. complete s a t h) ts xs after g stops tt
+    complete_sequence (R.sees_sign Comma) (G.sign Comma) Anything comma_separates item P takes (λ s a t h _. complete s a t h) ts xs after g stops tt
 
 pub complete_list : (read : Read) (writes : Writes) (each : TakesEach read writes) → Complete (R.list read) (G.list writes)
 unfolding R.list

@@ -19,13 +19,14 @@ use Rattle.rt_sql.specs.Token.{Text}
 use Rattle.rt_sql.specs.Number.{Writes}
 use Rattle.rt_sql.specs.Word.{same_word}
 use Rattle.rt_sql.specs.Grammar as G
+use Rattle.rt_sql.specs.Grammar.{◌⨾◌}
 use Rattle.rt_sql.specs.Reading.{Parser, Read}
 use Rattle.rt_sql.specs.Reading as R
 use Rattle.rt_sql_statement.specs.declared.statement.Test.TheVariants as tests
 use Rattle.rt_sql_statement.specs.declared.statement.Source.TheVariants as sources
 use Rattle.rt_sql.proofs.Shorter.{sign_shorter, name_takes, list_takes, column_takes, test_takes, set_takes}
 use Rattle.rt_sql.proofs.Sound.{TakesEach}
-use Rattle.rt_sql.proofs.Complete.{Complete, Separates, Anything, and_separates, complete_separated, complete_commas, complete_list, EndsColumn, complete_column, comma_ends_column, parenthesis_ends_column, sees_own_sign, other_sign, no_sign_at_word, no_word_at_sign, sees_own_word, past_sign, past_word, other_word, other_dot, past_name, no_sign_at_name, no_value_at_name, value_begins, complete_sign, complete_keyword, complete_name, complete_text, complete_number, complete_operator, complete_value, no_word_at_operator}
+use Rattle.rt_sql.proofs.Complete.{Complete, Separates, Anything, and_separates, complete_sequence, complete_commas, complete_list, EndsColumn, complete_column, comma_ends_column, parenthesis_ends_column, sees_own_sign, other_sign, no_sign_at_word, no_word_at_sign, sees_own_word, past_sign, past_word, other_word, other_dot, statement_by_same, past_name, no_sign_at_name, no_value_at_name, value_begins, complete_sign, complete_keyword, complete_name, complete_text, complete_number, complete_operator, complete_value, no_word_at_operator}
 
 -- a statement ends at its `;`, and a dot line may end without
 abbrev pub Ends : List Token → Type 0
@@ -124,9 +125,9 @@ unfolding R.condition
 complete_condition read writes each ts [] after g stops = rw (g, stops.0) refl
 complete_condition read writes each ts (x ∷ xs) after g stops =
     rw (sees_own_word (codes "WHERE") ts g.0 g.1, past_word (codes "WHERE") ts g.0 g.1)
-    (complete_separated (R.sees_word (codes "AND")) (G.word (codes "AND")) Anything and_separates (R.a_test read) (G.test writes) (test_takes read) (λ s a t h _. complete_test read writes each s a t h) g.0 (x ∷ xs) after g.2 stops.1 tt)
+    (complete_sequence (R.sees_word (codes "AND")) (G.word (codes "AND")) Anything and_separates (R.a_test read) (G.test writes) (test_takes read) (λ s a t h _. complete_test read writes each s a t h) g.0 (x ∷ xs) after g.2 stops.1 tt)
 
--- what stands where a condition may stand begins with no sign of these
+-- what stands in the place of a condition begins with no sign of these
 no_sign_at_condition : (s : Sign) (writes : Writes) (xs : List Test) (ts after : List Token) → sameb the_type Semicolon s ≡ false → G.condition writes xs ts after → Ends after → R.sees_sign s ts ≡ false
 no_sign_at_condition s writes [] ts after h g e = ap (R.sees_sign s) g ∙ ends_sign s after h e
 no_sign_at_condition s writes (x ∷ xs) ts after h g e = no_sign_at_word s (codes "WHERE") ts g.0 g.1
@@ -265,14 +266,14 @@ order_ends : (o : Option Text) (ts after : List Token) → G.order o ts after �
 order_ends None ts after g ends = rw g (end_ends after ends)
 order_ends (Some n) ts after g ends = (other_word (codes "ORDER") (codes "WHERE") ts g.0 refl g.1, other_word (codes "ORDER") (codes "AND") ts g.0 refl g.1)
 
-complete_shown : (ts : List Token) (o : Option (List Text)) (after : List Token) → G.shown o ts after → R.sees_sign Comma after ≡ false → R.shown ts ≡ Some (o, after)
-unfolding R.shown
-complete_shown ts None after g stops = rw (sees_own_sign Star ts after g, past_sign Star ts after g) refl
-complete_shown ts (Some []) after g stops = absurd g
-complete_shown ts (Some (n ∷ ns)) after g stops =
+complete_selection : (ts : List Token) (o : Option (List Text)) (after : List Token) → G.selection o ts after → R.sees_sign Comma after ≡ false → R.selection ts ≡ Some (o, after)
+unfolding R.selection
+complete_selection ts None after g stops = rw (sees_own_sign Star ts after g, past_sign Star ts after g) refl
+complete_selection ts (Some []) after g stops = absurd g
+complete_selection ts (Some (n ∷ ns)) after g stops =
     rw (no_sign_at_name Star n ts g.0 g.1, complete_commas R.name G.name name_takes complete_name ts (n ∷ ns) after g stops) refl
 
-no_check : (o : Option (List Text)) (ts mid after : List Token) → G.shown o ts mid → G.word (codes "FROM") mid after → (R.sees_word (codes "RTREECHECK") ts && R.sees_sign LeftParenthesis (R.rest ts)) ≡ false
+no_check : (o : Option (List Text)) (ts mid after : List Token) → G.selection o ts mid → G.word (codes "FROM") mid after → (R.sees_word (codes "RTREECHECK") ts && R.sees_sign LeftParenthesis (R.rest ts)) ≡ false
 no_check None ts mid after g w = rw (no_word_at_sign (codes "RTREECHECK") Star ts mid g) refl
 no_check (Some []) ts mid after g w = absurd g
 no_check (Some (n ∷ [])) ts mid after g w =
@@ -301,7 +302,7 @@ complete_create read writes each table if_absent columns ts after g ends =
       complete_keyword (codes "USING") (g.2.2.2.2.0) (g.2.2.2.2.2.0) (g.2.2.2.2.2.1),
       complete_keyword (codes "RTREE_I32") (g.2.2.2.2.2.0) (g.2.2.2.2.2.2.0) (g.2.2.2.2.2.2.1),
       complete_sign LeftParenthesis (g.2.2.2.2.2.2.0) (g.2.2.2.2.2.2.2.0) (g.2.2.2.2.2.2.2.1),
-      complete_separated (R.sees_sign Comma) (G.sign Comma) EndsColumn comma_ends_column (R.column read) (G.column writes) (column_takes read) (complete_column read writes each) (g.2.2.2.2.2.2.2.0) columns (g.2.2.2.2.2.2.2.2.0) (g.2.2.2.2.2.2.2.2.1) (other_sign RightParenthesis Comma (g.2.2.2.2.2.2.2.2.0) after refl (g.2.2.2.2.2.2.2.2.2)) (parenthesis_ends_column (g.2.2.2.2.2.2.2.2.0) after (g.2.2.2.2.2.2.2.2.2)),
+      complete_sequence (R.sees_sign Comma) (G.sign Comma) EndsColumn comma_ends_column (R.column read) (G.column writes) (column_takes read) (complete_column read writes each) (g.2.2.2.2.2.2.2.0) columns (g.2.2.2.2.2.2.2.2.0) (g.2.2.2.2.2.2.2.2.1) (other_sign RightParenthesis Comma (g.2.2.2.2.2.2.2.2.0) after refl (g.2.2.2.2.2.2.2.2.2)) (parenthesis_ends_column (g.2.2.2.2.2.2.2.2.0) after (g.2.2.2.2.2.2.2.2.2)),
       complete_sign RightParenthesis (g.2.2.2.2.2.2.2.2.0) after (g.2.2.2.2.2.2.2.2.2),
     )
     refl
@@ -333,7 +334,7 @@ complete_update read writes each table sets cond ts after g ends =
       past_word (codes "UPDATE") ts g.0 g.1,
       complete_name (g.0) table (g.2.0) (g.2.1),
       complete_keyword (codes "SET") (g.2.0) (g.2.2.0) (g.2.2.1),
-      complete_separated (R.sees_sign Comma) (G.sign Comma) EndsSource comma_ends_source (R.set read) (G.set writes) (set_takes read) (complete_set read writes each) (g.2.2.0) sets (g.2.2.2.0) (g.2.2.2.1) (no_sign_at_condition Comma writes cond (g.2.2.2.0) after refl (g.2.2.2.2) ends) (no_sign_at_condition Plus writes cond (g.2.2.2.0) after refl (g.2.2.2.2) ends, no_sign_at_condition Minus writes cond (g.2.2.2.0) after refl (g.2.2.2.2) ends),
+      complete_sequence (R.sees_sign Comma) (G.sign Comma) EndsSource comma_ends_source (R.set read) (G.set writes) (set_takes read) (complete_set read writes each) (g.2.2.0) sets (g.2.2.2.0) (g.2.2.2.1) (no_sign_at_condition Comma writes cond (g.2.2.2.0) after refl (g.2.2.2.2) ends) (no_sign_at_condition Plus writes cond (g.2.2.2.0) after refl (g.2.2.2.2) ends, no_sign_at_condition Minus writes cond (g.2.2.2.0) after refl (g.2.2.2.2) ends),
       complete_condition read writes each (g.2.2.2.0) cond after (g.2.2.2.2) (end_ends after ends),
     )
     refl
@@ -361,7 +362,7 @@ complete_select read writes each columns table cond by ts after g ends =
       sees_own_word (codes "SELECT") ts g.0 g.1,
       past_word (codes "SELECT") ts g.0 g.1,
       no_check columns g.0 g.2.0 g.2.2.0 g.2.1 g.2.2.1,
-      complete_shown (g.0) columns (g.2.0) (g.2.1) (no_sign_at_word Comma (codes "FROM") (g.2.0) (g.2.2.0) (g.2.2.1)),
+      complete_selection (g.0) columns (g.2.0) (g.2.1) (no_sign_at_word Comma (codes "FROM") (g.2.0) (g.2.2.0) (g.2.2.1)),
       complete_keyword (codes "FROM") (g.2.0) (g.2.2.0) (g.2.2.1),
       complete_name (g.2.2.0) table (g.2.2.2.0) (g.2.2.2.1),
       complete_condition read writes each (g.2.2.2.0) cond (g.2.2.2.2.0) (g.2.2.2.2.1) (order_ends by (g.2.2.2.2.0) after (g.2.2.2.2.2) ends),
@@ -431,20 +432,17 @@ complete_watch read writes each view table cond ts after g ends =
     )
     refl
 
-complete_unwatch : (read : Read) (w n : Text) (ts after : List Token) → same_word w (codes "UNWATCH") ≡ true → G.name n ts after → R.command read w ts ≡ Some (stmt.Unwatch n, after)
+-- a dot line with one name
+complete_line : (read : Read) (v w n : Text) (asked : Stmt) (ts after : List Token) → same_word w v ≡ true → same_word v (codes "WATCH") ≡ false → R.statement_by v n G.named_lines ≡ Some asked → G.name n ts after → R.command read w ts ≡ Some (asked, after)
 unfolding R.command R.named_command
-complete_unwatch read w n ts after h g = rw (other_dot w (codes "UNWATCH") (codes "WATCH") h refl, complete_name ts n after g, h) refl
+complete_line read v w n asked ts after h other known g =
+    rw (other_dot w v (codes "WATCH") h other, complete_name ts n after g, statement_by_same v w n G.named_lines h, known) refl
 
-complete_view : (read : Read) (w n : Text) (ts after : List Token) → same_word w (codes "VIEW") ≡ true → G.name n ts after → R.command read w ts ≡ Some (stmt.View n, after)
-unfolding R.command R.named_command
-complete_view read w n ts after h g = rw (other_dot w (codes "VIEW") (codes "WATCH") h refl, complete_name ts n after g, other_dot w (codes "VIEW") (codes "UNWATCH") h refl, h) refl
+complete_named_line : (read : Read) (v n : Text) (asked : Stmt) (ts : List Token) → same_word v (codes "WATCH") ≡ false → R.statement_by v n G.named_lines ≡ Some asked → ((G.dot v ⨾ G.name n) ⨾ G.ending) ts [] → R.whole read ts ≡ Some (asked, [])
+complete_named_line read v n asked ts other known g =
+    whole_at_dot read g.1.1.0 ts g.1.0 g.1.1.1 ∙ ended_command read asked g.1.1.0 g.1.0 g.0 (complete_line read v g.1.1.0 n asked g.1.0 g.0 g.1.1.2 other known g.1.2) g.2
 
-complete_nodes : (read : Read) (w n : Text) (ts after : List Token) → same_word w (codes "NODES") ≡ true → G.name n ts after → R.command read w ts ≡ Some (stmt.Nodes n, after)
-unfolding R.command R.named_command
-complete_nodes read w n ts after h g =
-    rw (other_dot w (codes "NODES") (codes "WATCH") h refl, complete_name ts n after g, other_dot w (codes "NODES") (codes "UNWATCH") h refl, other_dot w (codes "NODES") (codes "VIEW") h refl, h) refl
-
-pub head_word : (how : Rule) (ts mid : List Token) → G.head how ts mid → (w : Text) × (after : List Token) × (ts ≡ token.Word w ∷ after)
+head_word : (how : Rule) (ts mid : List Token) → G.head how ts mid → (w : Text) × (after : List Token) × (ts ≡ token.Word w ∷ after)
 head_word Abort ts mid (inl g) = (g.0, mid, g.1)
 head_word Abort ts mid (inr g) = (g.1.0, g.0, g.1.1)
 head_word Ignore ts mid g = (g.1.0, g.0, g.1.1)
@@ -452,6 +450,7 @@ head_word Replace ts mid (inl g) = (g.0, mid, g.1)
 head_word Replace ts mid (inr g) = (g.1.0, g.0, g.1.1)
 
 pub complete_whole : (read : Read) (writes : Writes) (each : TakesEach read writes) (ts : List Token) (s : Stmt) → G.Spells writes ts s → R.whole read ts ≡ Some (s, [])
+unfolding R.statement_by
 complete_whole read writes each ts (stmt.Create table if_absent columns) g =
     whole_at_word read g.1.1.0 ts g.1.0 g.1.1.1 ∙ ended_statement read (stmt.Create table if_absent columns) ts g.0 (complete_create read writes each table if_absent columns ts g.0 g.1 (inr ([], g.2))) g.2
 complete_whole read writes each ts (stmt.Drop table if_there) g =
@@ -469,9 +468,6 @@ complete_whole read writes each ts (stmt.Check table) g =
     whole_at_word read g.1.1.0 ts g.1.0 g.1.1.1 ∙ ended_statement read (stmt.Check table) ts g.0 (complete_check read writes each table ts g.0 g.1 (inr ([], g.2))) g.2
 complete_whole read writes each ts (stmt.Watch view table cond) g =
     whole_at_dot read g.1.1.0 ts g.1.0 g.1.1.1 ∙ ended_command read (stmt.Watch view table cond) g.1.1.0 g.1.0 g.0 (complete_watch read writes each view table cond ts g.0 g.1 (dot_line_ends g.0 g.2)) g.2
-complete_whole read writes each ts (stmt.Unwatch n) g =
-    whole_at_dot read g.1.1.0 ts g.1.0 g.1.1.1 ∙ ended_command read (stmt.Unwatch n) g.1.1.0 g.1.0 g.0 (complete_unwatch read g.1.1.0 n g.1.0 g.0 g.1.1.2 g.1.2) g.2
-complete_whole read writes each ts (stmt.View n) g =
-    whole_at_dot read g.1.1.0 ts g.1.0 g.1.1.1 ∙ ended_command read (stmt.View n) g.1.1.0 g.1.0 g.0 (complete_view read g.1.1.0 n g.1.0 g.0 g.1.1.2 g.1.2) g.2
-complete_whole read writes each ts (stmt.Nodes n) g =
-    whole_at_dot read g.1.1.0 ts g.1.0 g.1.1.1 ∙ ended_command read (stmt.Nodes n) g.1.1.0 g.1.0 g.0 (complete_nodes read g.1.1.0 n g.1.0 g.0 g.1.1.2 g.1.2) g.2
+complete_whole read writes each ts (stmt.Unwatch n) g = complete_named_line read (codes "UNWATCH") n (stmt.Unwatch n) ts refl refl g
+complete_whole read writes each ts (stmt.View n) g = complete_named_line read (codes "VIEW") n (stmt.View n) ts refl refl g
+complete_whole read writes each ts (stmt.Nodes n) g = complete_named_line read (codes "NODES") n (stmt.Nodes n) ts refl refl g

@@ -6,7 +6,7 @@ use Rattle.rt_sql_cut.specs.Text.{is_white}
 use Rattle.rt_sql.specs.Kind.{kind_of}
 use Rattle.rt_sql.specs.declared.kind.Kind.{Kind}
 use Rattle.rt_sql.specs.declared.kind.Kind.TheVariants.{Letter, Digit, Dollar, White, Mark}
-use Rattle.rt_sql.specs.Lex.{lexeme, begins_comment, is_gap, gap, spelled, word, digits, blob, in_quotes, sign}
+use Rattle.rt_sql.specs.Lex.{lexeme, begins_comment, is_gap, gap, token_lexeme, word, digits, blob, in_quotes, sign}
 use Rattle.rt_sql.specs.Token.{Text, begins_word, is_in_word}
 use Rattle.rt_sql.proofs.Basics.{test}
 
@@ -105,11 +105,11 @@ unfolding begins_word
 no_blob b c h = grind (arith, nat_tests)
 
 pub letter_lexeme : (b : ℕ) (z : Text) → begins_word b ≡ true → lexeme b z ≡ (if (b == 88 || b == 120) && slice_index z 1 == 39 then blob (drop 2 z) (word z) else word z)
-unfolding lexeme spelled
+unfolding lexeme token_lexeme
 letter_lexeme b z h = let g : is_gap b (slice_index z 1) ≡ false = letter_gap b (slice_index z 1) h in rw (g, h) refl
 
 pub digit_lexeme : (b : ℕ) (z : Text) → is_ascii_digit b ≡ true → begins_word b ≡ false → lexeme b z ≡ digits z
-unfolding lexeme spelled
+unfolding lexeme token_lexeme
 digit_lexeme b z h w =
     let g : is_gap b (slice_index z 1) ≡ false = grind (arith, nat_tests) in
     let x : ((b == 88 || b == 120) && slice_index z 1 == 39) ≡ false = grind (arith, nat_tests) in
@@ -117,7 +117,7 @@ digit_lexeme b z h w =
 
 pub mark_lexeme : (b : ℕ) (z : Text) → begins_word b ≡ false → is_ascii_digit b ≡ false → is_white b ≡ false
     → lexeme b z ≡ (if is_gap b (slice_index z 1) then gap b z else (if b == 39 || b == 34 then in_quotes b (drop 1 z) else sign b (slice_index z 1)))
-unfolding lexeme spelled
+unfolding lexeme token_lexeme
 mark_lexeme b z w d h =
     let x : ((b == 88 || b == 120) && slice_index z 1 == 39) ≡ false = no_blob b (slice_index z 1) w in
     rw (x, w, d) refl
@@ -140,7 +140,7 @@ sign_lexeme b z w d h n e39 e34 =
     mark_lexeme b z w d h ∙ rw (g, q) refl
 
 pub quote_lexeme : (b : ℕ) (z : Text) → (b ≡ 39) ⊎ (b ≡ 34) → lexeme b z ≡ in_quotes b (drop 1 z)
-unfolding lexeme spelled begins_word
+unfolding lexeme token_lexeme begins_word
 quote_lexeme b z (inl e) = rw e refl
 quote_lexeme b z (inr e) = rw e refl
 

@@ -11,8 +11,8 @@ mod Numbers
 mod PieceLists
 mod QuoteAtoms
 mod Quotes
-mod Reserved
-mod Separated
+mod ReservedWords
+mod Sequences
 mod Shorter
 mod TokenLists
 mod Transfer

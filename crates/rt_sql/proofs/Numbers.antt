@@ -55,7 +55,7 @@ unfolding fits
 fits_short true n h = grind (arith, nat_tests)
 fits_short false n h = grind (arith, nat_tests)
 
--- where the number has room to spare its sign doesn't matter
+-- if the number has room to spare, its sign doesn't matter
 pub short_number : (numbers : Numbers) (is_negative : Bool) (digits : Text) → decimal digits < 2 ^ 63 → number_by numbers is_negative digits ≡ Some (with_sign is_negative (decimal digits))
 unfolding number_by
 short_number Within64Bits b digits h = let f = fits_short b (decimal digits) h in rw f refl

@@ -1,5 +1,5 @@
 -- From what is read to what a text spells.
-use Rattle.std.proofs.Common.{◌≡◌, ◌⊎◌, inl, inr, ℕ, suc, Bool, true, false, ◌==◌, List, [], ◌∷◌, Some, None, Result, Ok, Err, ◌||◌, codes, refl, ap, ◌∙◌, sym, arith}
+use Rattle.std.proofs.Common.{◌≡◌, ◌⊎◌, inl, inr, ℕ, suc, Bool, true, false, ◌==◌, List, [], ◌∷◌, map, Some, None, Result, Ok, Err, ◌||◌, codes, refl, ap, ◌∙◌, sym, arith}
 use Rattle.std.proofs.lemmas.Bool.Decides.{nat_tests}
 use Rattle.std.proofs.lemmas.List.Folds.{list_any_at}
 use Rattle.std.proofs.lemmas.Str.{IsUtf8-from_is_utf8, is_utf8-from_IsUtf8}
@@ -14,22 +14,20 @@ use Rattle.rt_sql_statement.specs.declared.refusal.Refusal.{Refusal}
 use Rattle.rt_sql_statement.specs.declared.refusal.Refusal.TheVariants as r
 use Rattle.rt_sql_statement.specs.declared.statement.Stmt.{Stmt}
 use Rattle.rt_sql.specs.declared.token.Token.{Token}
-use Rattle.rt_sql.specs.Grammar.{Spells}
+use Rattle.rt_sql.specs.Grammar.{Spells, named_lines, is_command}
 use Rattle.rt_sql.specs.Lex.{piece_tokens}
 use Rattle.rt_sql.specs.Number.{Writes, WritesAnySize, WritesWithin64Bits, with_sign, decimal, fits, within, number_by}
 use Rattle.rt_sql.specs.Parse.{IsText, ParsesText, ParsesAs, Parses, is_unknown}
 use Rattle.rt_sql.specs.Word.{same_word}
-use Rattle.rt_sql_statement.specs.declared.statement.Edit.TheVariants as edit
-use Rattle.rt_sql_statement.specs.declared.statement.Stmt.TheVariants as stmt
 use Rattle.rt_sql.specs.declared.token.Token.TheVariants as token
 use Rattle.rt_sql_cut.specs.Piece.{PieceText}
 use Rattle.rt_sql.specs.Reading as R
 use Rattle.rt_sql.specs.Reading.{Outcome, Read}
 use Rattle.rt_sql.specs.Token.{Text}
 use Rattle.rt_sql.specs.Tokens.{PieceTokens}
-use Rattle.rt_sql.proofs.CompleteForms.{complete_whole, head_word}
+use Rattle.rt_sql.proofs.CompleteForms.{complete_whole}
 use Rattle.rt_sql.proofs.Numbers.{fits_signed, fits_from_signed}
-use Rattle.rt_sql.proofs.Basics.{cases, test, none}
+use Rattle.rt_sql.proofs.Basics.{cases, test, none, some_same}
 use Rattle.rt_sql.proofs.Sound.{TakesOnly, TakesEach, same}
 use Rattle.rt_sql.proofs.SoundForms.{sound_whole}
 use Rattle.rt_sql.proofs.PieceLists.{piece_tokens_are, are_piece_tokens}
@@ -43,9 +41,6 @@ exact b d = Some (with_sign b (decimal d))
 exact_each : TakesEach exact WritesAnySize
 unfolding exact
 exact_each b d n w = rw w refl
-
-some_same : {A : Type 0} {a b : A} → Some a ≡ Some b → a ≡ b
-some_same e = cc
 
 within_only : TakesOnly (number_by Within64Bits) WritesWithin64Bits
 unfolding number_by
@@ -91,7 +86,7 @@ parses_outside text s left e f = (
 )
 
 unknown_is : (ts : List Token) → is_unknown ts ≡ R.unknown_in (R.first ts)
-unfolding R.unknown_in R.first R.is_command
+unfolding R.unknown_in R.first
 unknown_is [] = refl
 unknown_is (token.Dot w ∷ ts) = refl
 unknown_is (token.Word x ∷ ts) = refl
@@ -116,53 +111,32 @@ parses_none text known e = (
 )
 
 -- a dot line that spells something is known
-known_at_word : (w : Text) (ts after : List Token) → ts ≡ token.Word w ∷ after → is_unknown ts ≡ false
-known_at_word w ts after g = rw g refl
+neither : (x y : Bool) → (x || y) ≡ false → (x ≡ false) × (y ≡ false)
+neither true y h = absurd (cc)
+neither false y h = (refl, h)
 
-known_at_dot : (w : Text) (ts after : List Token) → ts ≡ token.Dot w ∷ after → R.is_command w ≡ true → is_unknown ts ≡ false
-unfolding R.is_command
-known_at_dot w ts after g h = rw (g, h) refl
+asks_nothing : (w n : Text) (lines : List (Text × (Text → Stmt))) → list_any (same_word w) (map (λ line. line.0) lines) ≡ false → R.statement_by w n lines ≡ None
+unfolding R.statement_by
+asks_nothing w n [] h = refl
+asks_nothing w n (line ∷ lines) h =
+    let k = neither (same_word w line.0) (list_any (same_word w) (map (λ line. line.0) lines)) h in
+    rw k.0 (asks_nothing w n lines k.1)
 
-or_true : (x y : Bool) → y ≡ true → (x || y) ≡ true
-or_true true y h = refl
-or_true false y h = h
+no_command : (read : Read) (w : Text) (ts : List Token) → is_command w ≡ false → R.command read w ts ≡ None
+unfolding is_command R.command R.named_command
+no_command read w ts h =
+    let k = neither (same_word w (codes "WATCH")) (list_any (same_word w) (map (λ line. line.0) named_lines)) h in
+    rw k.0 (cases (R.name ts) (λ e. rw e refl) (λ x e. rw (e, asks_nothing w x.0 named_lines k.1) refl))
 
-or_first : (x y : Bool) → x ≡ true → (x || y) ≡ true
-or_first true y h = refl
-or_first false y h = absurd (cc)
+read_known : (read : Read) (ts : List Token) (s : Stmt) → R.whole read ts ≡ Some (s, []) → is_unknown ts ≡ false
+unfolding R.whole R.whole_command R.dot_in R.first R.rest
+read_known read [] s e = refl
+read_known read (token.Dot w ∷ ts) s e =
+    test (is_command w) (λ known. rw known refl) (λ unknown. none (rw (no_command read w ts unknown) at e))
+read_known read (_ ∷ ts) s e = refl
 
-watch_known : (w : Text) → same_word w (codes "WATCH") ≡ true → R.is_command w ≡ true
-unfolding R.is_command
-watch_known w h = rw h refl
-
-unwatch_known : (w : Text) → same_word w (codes "UNWATCH") ≡ true → R.is_command w ≡ true
-unfolding R.is_command
-unwatch_known w h =
-    or_first (same_word w (codes "WATCH") || same_word w (codes "UNWATCH") || same_word w (codes "VIEW")) (same_word w (codes "NODES"))
-    (or_first (same_word w (codes "WATCH") || same_word w (codes "UNWATCH")) (same_word w (codes "VIEW")) (or_true (same_word w (codes "WATCH")) (same_word w (codes "UNWATCH")) h))
-
-view_known : (w : Text) → same_word w (codes "VIEW") ≡ true → R.is_command w ≡ true
-unfolding R.is_command
-view_known w h =
-    or_first (same_word w (codes "WATCH") || same_word w (codes "UNWATCH") || same_word w (codes "VIEW")) (same_word w (codes "NODES"))
-    (or_true (same_word w (codes "WATCH") || same_word w (codes "UNWATCH")) (same_word w (codes "VIEW")) h)
-
-nodes_known : (w : Text) → same_word w (codes "NODES") ≡ true → R.is_command w ≡ true
-unfolding R.is_command
-nodes_known w h = or_true (same_word w (codes "WATCH") || same_word w (codes "UNWATCH") || same_word w (codes "VIEW")) (same_word w (codes "NODES")) h
-
-spelled_known : (writes : Writes) (ts : List Token) (s : Stmt) → Spells writes ts s → is_unknown ts ≡ false
-spelled_known writes ts (stmt.Create a b c) g = known_at_word g.1.1.0 ts g.1.0 g.1.1.1
-spelled_known writes ts (stmt.Drop a b) g = known_at_word g.1.1.0 ts g.1.0 g.1.1.1
-spelled_known writes ts (stmt.Edit a (edit.Insert how b c)) g = let k = head_word how ts g.1.0 g.1.1 in known_at_word k.0 ts k.1 k.2
-spelled_known writes ts (stmt.Edit a (edit.Update b c)) g = known_at_word g.1.1.0 ts g.1.0 g.1.1.1
-spelled_known writes ts (stmt.Edit a (edit.Delete b)) g = known_at_word g.1.1.0 ts g.1.0 g.1.1.1
-spelled_known writes ts (stmt.Select a b c d) g = known_at_word g.1.1.0 ts g.1.0 g.1.1.1
-spelled_known writes ts (stmt.Check a) g = known_at_word g.1.1.0 ts g.1.0 g.1.1.1
-spelled_known writes ts (stmt.Watch a b c) g = known_at_dot g.1.1.0 ts g.1.0 g.1.1.1 (watch_known g.1.1.0 g.1.1.2)
-spelled_known writes ts (stmt.Unwatch a) g = known_at_dot g.1.1.0 ts g.1.0 g.1.1.1 (unwatch_known g.1.1.0 g.1.1.2)
-spelled_known writes ts (stmt.View a) g = known_at_dot g.1.1.0 ts g.1.0 g.1.1.1 (view_known g.1.1.0 g.1.1.2)
-spelled_known writes ts (stmt.Nodes a) g = known_at_dot g.1.1.0 ts g.1.0 g.1.1.1 (nodes_known g.1.1.0 g.1.1.2)
+spelled_known : (read : Read) (writes : Writes) (each : TakesEach read writes) (ts : List Token) (s : Stmt) → Spells writes ts s → is_unknown ts ≡ false
+spelled_known read writes each ts s g = read_known read ts s (complete_whole read writes each ts s g)
 
 -- ---- laws
 
@@ -207,7 +181,7 @@ not_both x e f = cc
 ok_or_unknown : (text : Text) (s : Stmt) → ParsesText text (Ok s) → ParsesText text (Err r.UnknownCommand) → ⊥
 ok_or_unknown text s g h =
     let own = rw (one_list text g.0 h.0 g.1 h.1) at g.2 in
-    not_both (is_unknown h.0) h.2 (spelled_known WritesWithin64Bits h.0 s own)
+    not_both (is_unknown h.0) h.2 (spelled_known (number_by Within64Bits) WritesWithin64Bits within_each h.0 s own)
 
 syntax_or_range : (text : Text) → ParsesText text (Err r.SyntaxError) → ParsesText text (Err r.IntegerOutOfRange) → ⊥
 syntax_or_range text g h =
@@ -220,7 +194,7 @@ syntax_or_unknown text g h = not_both (is_unknown g.0) (ap is_unknown (one_list 
 range_or_unknown : (text : Text) → ParsesText text (Err r.IntegerOutOfRange) → ParsesText text (Err r.UnknownCommand) → ⊥
 range_or_unknown text g h =
     let own = rw (one_list text g.0 h.0 g.1 h.1) at g.2.1 in
-    not_both (is_unknown h.0) h.2 (spelled_known WritesAnySize h.0 g.2.0 own)
+    not_both (is_unknown h.0) h.2 (spelled_known exact WritesAnySize exact_each h.0 g.2.0 own)
 
 one_ok : (text : Text) (s t : Stmt) → ParsesText text (Ok s) → ParsesText text (Ok t) → s ≡ t
 one_ok text s t g h = one_within h.0 s t (rw (one_list text g.0 h.0 g.1 h.1) at g.2) h.2

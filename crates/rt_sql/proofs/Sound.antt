@@ -121,33 +121,33 @@ words_are (_ ∷ ts) = ([], refl)
 -- ---- lists
 
 module _ {A : Type 0} (separator : G.Part) (P : A → G.Part) where
-  further_from : (ys : List A) (ts mid after : List Token) → separator ts mid → G.separated separator P ys mid after → G.further separator P ys ts after
+  further_from : (ys : List A) (ts mid after : List Token) → separator ts mid → G.sequence separator P ys mid after → G.further separator P ys ts after
   further_from [] ts mid after c g = absurd g
   further_from (y ∷ ys) ts mid after c g = (mid, c, g)
 
 module _ {A : Type 0} (sees : List Token → Bool) (separator : G.Part) (is_seen : (ts : List Token) → sees ts ≡ true → separator ts (R.rest ts)) (item : Parser A) (P : A → G.Part) (sound : Sound item P) where
-  sound_separated_from : (n : ℕ) (found : List A) (ts : List Token) (vs : List A) (after : List Token) → R.separated_from sees item n found ts ≡ Some (vs, after) → (xs : List A) × (vs ≡ found ++ xs) × G.separated separator P xs ts after
-  unfolding R.separated_from
-  sound_separated_from zero found ts vs after h = none h
-  sound_separated_from (suc n) found ts vs after h =
+  sound_sequence_from : (n : ℕ) (found : List A) (ts : List Token) (vs : List A) (after : List Token) → R.sequence_from sees item n found ts ≡ Some (vs, after) → (xs : List A) × (vs ≡ found ++ xs) × G.sequence separator P xs ts after
+  unfolding R.sequence_from
+  sound_sequence_from zero found ts vs after h = none h
+  sound_sequence_from (suc n) found ts vs after h =
       cases (item ts)
       (λ e. none (rw e at h))
       (λ x e. let h1 = rw e at h in
       test (sees x.1)
-      (λ f. let more = sound_separated_from n (found ++ x.0 ∷ []) (R.rest x.1) vs after (rw f at h1) in (
+      (λ f. let more = sound_sequence_from n (found ++ x.0 ∷ []) (R.rest x.1) vs after (rw f at h1) in (
         x.0 ∷ more.0,
         more.1 ∙ append_assoc found (x.0 ∷ []) more.0,
         (x.1, sound ts x.0 x.1 e, further_from separator P more.0 x.1 (R.rest x.1) after (is_seen x.1 f) more.2),
       ))
       (λ f. let k = same (rw f at h1) in (x.0 ∷ [], sym k.0, (x.1, sound ts x.0 x.1 e, k.1))))
 
-  pub sound_separated : Sound (R.separated sees item) (G.separated separator P)
-  sound_separated ts vs after h =
-      let k = sound_separated_from (length ts) [] ts vs after h in
+  pub sound_sequence : Sound (R.sequence sees item) (G.sequence separator P)
+  sound_sequence ts vs after h =
+      let k = sound_sequence_from (length ts) [] ts vs after h in
       rw k.1 k.2
 
 pub sound_by_commas : {A : Type 0} (item : Parser A) (P : A → G.Part) → Sound item P → Sound (R.by_commas item) (G.by_commas P)
-sound_by_commas item P sound = sound_separated (R.sees_sign Comma) (G.sign Comma) (sees_sign_is Comma) item P sound
+sound_by_commas item P sound = sound_sequence (R.sees_sign Comma) (G.sign Comma) (sees_sign_is Comma) item P sound
 
 -- ---- parts with numbers in them
 

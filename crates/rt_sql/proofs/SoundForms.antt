@@ -15,8 +15,8 @@ use Rattle.rt_sql.specs.Word.{same_word}
 use Rattle.rt_sql.specs.Grammar as G
 use Rattle.rt_sql.specs.Reading.{Parser, Read}
 use Rattle.rt_sql.specs.Reading as R
-use Rattle.rt_sql.proofs.Basics.{cases, test, none}
-use Rattle.rt_sql.proofs.Sound.{same, TakesOnly, Sound, sound_sign, sound_keyword, sound_name, sound_number, sees_sign_is, sees_word_is, sound_text, sound_operator, sound_separated, sound_by_commas, sound_value, sound_list, sound_column}
+use Rattle.rt_sql.proofs.Basics.{cases, test, none, some_same}
+use Rattle.rt_sql.proofs.Sound.{same, TakesOnly, Sound, sound_sign, sound_keyword, sound_name, sound_number, sees_sign_is, sees_word_is, sound_text, sound_operator, sound_sequence, sound_by_commas, sound_value, sound_list, sound_column}
 
 pub and_both : (x y : Bool) → (x && y) ≡ true → (x ≡ true) × (y ≡ true)
 and_both true true h = (refl, refl)
@@ -164,7 +164,7 @@ sound_test read writes only ts r after h0 =
     (λ e. sound_null_test writes ts x1.1 (R.rest x1.1) x1.0 r after named (sees_word_is (codes "IS") x1.1 e) (rw e at h1))
     (λ e. sound_comparison read writes only ts x1.1 x1.0 r after named (rw e at h1)))
 
-tests_follow : (writes : Writes) (xs : List Test) (ts mid after : List Token) → G.word (codes "WHERE") ts mid → G.separated (G.word (codes "AND")) (G.test writes) xs mid after → G.condition writes xs ts after
+tests_follow : (writes : Writes) (xs : List Test) (ts mid after : List Token) → G.word (codes "WHERE") ts mid → G.sequence (G.word (codes "AND")) (G.test writes) xs mid after → G.condition writes xs ts after
 tests_follow writes [] ts mid after w g = absurd g
 tests_follow writes (x ∷ xs) ts mid after w g = (mid, w, g)
 
@@ -173,7 +173,7 @@ unfolding R.condition
 sound_condition read writes only ts r after h0 =
     test (R.sees_word (codes "WHERE") ts)
     (λ e. tests_follow writes r ts (R.rest ts) after (sees_word_is (codes "WHERE") ts e)
-    (sound_separated (R.sees_word (codes "AND")) (G.word (codes "AND")) (sees_word_is (codes "AND")) (R.a_test read) (G.test writes) (sound_test read writes only) (R.rest ts) r after (rw e at h0)))
+    (sound_sequence (R.sees_word (codes "AND")) (G.word (codes "AND")) (sees_word_is (codes "AND")) (R.a_test read) (G.test writes) (sound_test read writes only) (R.rest ts) r after (rw e at h0)))
     (λ e. let k = same (rw e at h0) in rw (← k.0, ← k.1) refl)
 
 sound_from_column : (read : Read) (writes : Writes) (only : TakesOnly read writes) → Sound (R.from_column read) (G.source writes)
@@ -247,9 +247,9 @@ sound_order ts r after h0 =
     rw (← k.0, ← k.1) (t1, sees_word_is (codes "ORDER") ts e, (x1.1, sound_keyword (codes "BY") t1 x1.0 x1.1 e1, (x2.1, sound_name x1.1 x2.0 x2.1 e2, if_any_word (codes "ASC") x2.1))))))
     (λ e. let k = same (rw e at h0) in rw (← k.0, ← k.1) refl)
 
-sound_shown : Sound R.shown G.shown
-unfolding R.shown
-sound_shown ts r after h0 =
+sound_selection : Sound R.selection G.selection
+unfolding R.selection
+sound_selection ts r after h0 =
     test (R.sees_sign Star ts)
     (λ e. let k = same (rw e at h0) in rw (← k.0, ← k.1) (sees_sign_is Star ts e))
     (λ e. let h1 = rw e at h0 in
@@ -259,13 +259,13 @@ sound_shown ts r after h0 =
 pub sound_select_rows : (read : Read) (writes : Writes) (only : TakesOnly read writes) (start ts : List Token) (r : Stmt) (after : List Token) → G.word (codes "SELECT") start ts → R.select_rows read ts ≡ Some (r, after) → G.statement writes r start after
 unfolding R.select_rows
 sound_select_rows read writes only start ts r after begins_at h0 =
-    cases (R.shown ts) (λ e. none (rw e at h0)) (λ x1 e1. let h1 = rw e1 at h0 in
+    cases (R.selection ts) (λ e. none (rw e at h0)) (λ x1 e1. let h1 = rw e1 at h0 in
     cases (R.keyword (codes "FROM") x1.1) (λ e. none (rw e at h1)) (λ x2 e2. let h2 = rw e2 at h1 in
     cases (R.name x2.1) (λ e. none (rw e at h2)) (λ x3 e3. let h3 = rw e3 at h2 in
     cases (R.condition read x3.1) (λ e. none (rw e at h3)) (λ x4 e4. let h4 = rw e4 at h3 in
     cases (R.order x4.1) (λ e. none (rw e at h4)) (λ x5 e5. let h5 = rw e5 at h4 in
     let k = same h5 in
-    rw (← k.0, ← k.1) (ts, begins_at, (x1.1, sound_shown ts x1.0 x1.1 e1, (x2.1, sound_keyword (codes "FROM") x1.1 x2.0 x2.1 e2, (x3.1, sound_name x2.1 x3.0 x3.1 e3, (x4.1, sound_condition read writes only x3.1 x4.0 x4.1 e4, sound_order x4.1 x5.0 x5.1 e5))))))))))
+    rw (← k.0, ← k.1) (ts, begins_at, (x1.1, sound_selection ts x1.0 x1.1 e1, (x2.1, sound_keyword (codes "FROM") x1.1 x2.0 x2.1 e2, (x3.1, sound_name x2.1 x3.0 x3.1 e3, (x4.1, sound_condition read writes only x3.1 x4.0 x4.1 e4, sound_order x4.1 x5.0 x5.1 e5))))))))))
 
 pub sound_check : (writes : Writes) (start mid ts : List Token) (r : Stmt) (after : List Token) → G.word (codes "SELECT") start mid → G.word (codes "RTREECHECK") mid ts → R.check ts ≡ Some (r, after) → G.statement writes r start after
 unfolding R.check
@@ -372,20 +372,38 @@ sound_watch read writes only start ts r after begins_at h0 =
 abbrev Ended : Writes → List Token → Stmt → List Token → Type 0
 Ended writes start r after = (G.statement writes r start after) × ((s t : List Token) → G.ending s t → G.end_of r s t)
 
+-- a dot line's word and a name spell what it asks for
+abbrev SpellsLine : Writes → Text × (Text → Stmt) → Type 0
+SpellsLine writes line = (n : Text) (start mid after : List Token) → G.dot line.0 start mid → G.name n mid after → Ended writes start (line.1 n) after
+
+abbrev SpellLines : Writes → List (Text × (Text → Stmt)) → Type 0
+SpellLines writes [] = Unit {0}
+SpellLines writes (line ∷ lines) = SpellsLine writes line × SpellLines writes lines
+
+named_lines_spell : (writes : Writes) → SpellLines writes G.named_lines
+named_lines_spell writes = (
+  λ n start mid after d g. ((mid, d, g), λ s t e. e),
+  (
+    λ n start mid after d g. ((mid, d, g), λ s t e. e),
+    (λ n start mid after d g. ((mid, d, g), λ s t e. e), tt),
+  ),
+)
+
+sound_line : (writes : Writes) (w n : Text) (lines : List (Text × (Text → Stmt))) (start ts after : List Token) (r : Stmt) → SpellLines writes lines → start ≡ token.Dot w ∷ ts → G.name n ts after → R.statement_by w n lines ≡ Some r → Ended writes start r after
+unfolding R.statement_by
+sound_line writes w n [] start ts after r spell begins_at named h = none h
+sound_line writes w n (line ∷ lines) start ts after r spell begins_at named h =
+    test (same_word w line.0)
+    (λ e. rw (← some_same (rw e at h)) (spell.0 n start ts after (w, begins_at, e) named))
+    (λ e. sound_line writes w n lines start ts after r spell.1 begins_at named (rw e at h))
+
 sound_named_command : (writes : Writes) (w : Text) (start ts : List Token) (r : Stmt) (after : List Token) → start ≡ token.Dot w ∷ ts → R.named_command w ts ≡ Some (r, after) → Ended writes start r after
 unfolding R.named_command
 sound_named_command writes w start ts r after begins_at h0 =
     cases (R.name ts) (λ e. none (rw e at h0)) (λ x1 e1. let h1 = rw e1 at h0 in
-    let named = sound_name ts x1.0 x1.1 e1 in
-    test (same_word w (codes "UNWATCH"))
-    (λ e. let k = same (rw e at h1) in rw (← k.0, ← k.1) ((ts, (w, begins_at, e), named), λ s t g. g))
-    (λ e. let h2 = rw e at h1 in
-    test (same_word w (codes "VIEW"))
-    (λ f. let k = same (rw f at h2) in rw (← k.0, ← k.1) ((ts, (w, begins_at, f), named), λ s t g. g))
-    (λ f. let h3 = rw f at h2 in
-    test (same_word w (codes "NODES"))
-    (λ g. let k = same (rw g at h3) in rw (← k.0, ← k.1) ((ts, (w, begins_at, g), named), λ s t g. g))
-    (λ g. none (rw g at h3)))))
+    cases (R.statement_by w x1.0 G.named_lines) (λ e. none (rw e at h1)) (λ asked e2.
+    let k = same (rw e2 at h1) in
+    rw (← k.0, ← k.1) (sound_line writes w x1.0 G.named_lines start ts x1.1 asked (named_lines_spell writes) begins_at (sound_name ts x1.0 x1.1 e1) e2)))
 
 sound_command : (read : Read) (writes : Writes) (only : TakesOnly read writes) (w : Text) (start ts : List Token) (r : Stmt) (after : List Token) → start ≡ token.Dot w ∷ ts → R.command read w ts ≡ Some (r, after) → Ended writes start r after
 unfolding R.command

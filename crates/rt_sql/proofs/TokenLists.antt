@@ -11,9 +11,9 @@ use Rattle.rt_sql.specs.declared.token.Sign.TheVariants.{LeftParenthesis, RightP
 use Rattle.rt_sql.specs.declared.token.Token.{Token}
 use Rattle.rt_sql.specs.declared.token.Token.TheVariants as token
 use Rattle.rt_sql_cut.specs.Text.{is_white}
-use Rattle.rt_sql.specs.Token.{Text, begins_word, is_in_word, is_in_line, begins, doubled}
+use Rattle.rt_sql.specs.Token.{Text, begins_word, is_in_word, is_in_line, begins, double}
 use Rattle.rt_sql.specs.Tokens.{spelling, is_byte, IsToken, IsLongest, TokenAt, GapAt, GapsAt, Gap, IsTokens}
-use Rattle.rt_sql.specs.Lex.{Lexeme, bad, lexeme, spelled, gap, is_gap, word, digits, in_quotes, blob, closing, closed, line_len, block_len, long_sign, short_sign, sign, signed, put, tokens_of}
+use Rattle.rt_sql.specs.Lex.{Lexeme, bad, lexeme, token_lexeme, gap, is_gap, word, digits, in_quotes, blob, closing, quote_token, line_len, block_len, long_sign, short_sign, sign, sign_token, put, tokens_of}
 use Rattle.rt_sql.proofs.Basics.{test, cases}
 use Rattle.rt_sql.proofs.Comments.{line_passes, passes_line, line_stops, stops_line, is_open, and_both, begins_slash, block_end, open_lacks, lacks_open}
 use Rattle.rt_sql.proofs.Cuts.{word_goes_on}
@@ -113,13 +113,13 @@ unfolding begins_word
 letter_begins b (inl e) = rw e (refl, refl)
 letter_begins b (inr e) = rw e (refl, refl)
 
-text_is : (t s after : Text) → t ≡ doubled 39 s → begins (is_byte 39) after ≡ false → in_quotes 39 (t ++ 39 ∷ after) ≡ (Some (token.Text t), length t + 2)
+text_is : (t s after : Text) → t ≡ double 39 s → begins (is_byte 39) after ≡ false → in_quotes 39 (t ++ 39 ∷ after) ≡ (Some (token.Text t), length t + 2)
 unfolding in_quotes
 text_is t s after d stops =
-    let end : closing 39 0 (t ++ 39 ∷ after) ≡ Some (length t) = rw d (closing_doubled 39 0 s after stops ∙ ap Some (zero-add (length (doubled 39 s)))) in
+    let end : closing 39 0 (t ++ 39 ∷ after) ≡ Some (length t) = rw d (closing_doubled 39 0 s after stops ∙ ap Some (zero-add (length (double 39 s)))) in
     rw (end, take_front t (39 ∷ after)) refl
 
-doubled_some : (q : ℕ) (n : Text) → n ≢ [] → doubled q n ≢ []
+doubled_some : (q : ℕ) (n : Text) → n ≢ [] → double q n ≢ []
 doubled_some q [] h = absurd (h refl)
 doubled_some q (b ∷ n) h =
     test (b == q) (λ e. rw e (λ k. cc)) (λ e. rw e (λ k. cc))
@@ -127,14 +127,14 @@ doubled_some q (b ∷ n) h =
 not_zero : (n : ℕ) → (suc n == 0) ≡ false
 not_zero n = grind (arith, nat_tests)
 
-name_is : (t after : Text) → t ≢ [] → closed 34 (t ++ 34 ∷ after) (Some (length t)) ≡ (Some (token.Quoted t), length t + 2)
+name_is : (t after : Text) → t ≢ [] → quote_token 34 (t ++ 34 ∷ after) (Some (length t)) ≡ (Some (token.Quoted t), length t + 2)
 name_is [] after h = absurd (h refl)
 name_is (b ∷ t) after h = rw (not_zero (length t)) (ap (λ x. (Some (token.Quoted (b ∷ x)), suc (length t) + 2)) (take_front t (34 ∷ after)))
 
-quoted_is : (t n after : Text) → t ≡ doubled 34 n → n ≢ [] → begins (is_byte 34) after ≡ false → in_quotes 34 (t ++ 34 ∷ after) ≡ (Some (token.Quoted t), length t + 2)
+quoted_is : (t n after : Text) → t ≡ double 34 n → n ≢ [] → begins (is_byte 34) after ≡ false → in_quotes 34 (t ++ 34 ∷ after) ≡ (Some (token.Quoted t), length t + 2)
 unfolding in_quotes
 quoted_is t n after d some stops =
-    let end : closing 34 0 (t ++ 34 ∷ after) ≡ Some (length t) = rw d (closing_doubled 34 0 n after stops ∙ ap Some (zero-add (length (doubled 34 n)))) in
+    let end : closing 34 0 (t ++ 34 ∷ after) ≡ Some (length t) = rw d (closing_doubled 34 0 n after stops ∙ ap Some (zero-add (length (double 34 n)))) in
     rw end (name_is t after (rw d (doubled_some 34 n some)))
 
 even_is : (n : ℕ) → n % 2 ≡ 0 → (n % 2 == 0) ≡ true
@@ -170,26 +170,26 @@ two_quotes x q t after = let e : length t + 3 ≡ suc (suc (suc (length t))) = o
 -- at a start that is spelled out, in terms of its first bytes
 abbrev at_start : Text → Lexeme
 at_start [] = bad
-at_start (b ∷ z) = spelled b (slice_index z 0) (b ∷ z)
+at_start (b ∷ z) = token_lexeme b (slice_index z 0) (b ∷ z)
 
 moved : (t : Token) (start other after : Text) → start ≡ other → LexedOrLonger t (at_start other) other after → LexedOrLonger t (at_start start) start after
 moved t start other after e h = rw e h
 
-lexed_quoted : (q after : Text) (n : Text) → q ≡ doubled 34 n → n ≢ [] → begins (is_byte 34) after ≡ false → LexedOrLonger (token.Quoted q) (at_start ((34 ∷ q) ++ 34 ∷ after)) ((34 ∷ q) ++ 34 ∷ after) after
-unfolding spelled begins_word
+lexed_quoted : (q after : Text) (n : Text) → q ≡ double 34 n → n ≢ [] → begins (is_byte 34) after ≡ false → LexedOrLonger (token.Quoted q) (at_start ((34 ∷ q) ++ 34 ∷ after)) ((34 ∷ q) ++ 34 ∷ after) after
+unfolding token_lexeme begins_word
 lexed_quoted q after n d some stops = inl (length q + 2, quoted_is q n after d some stops, omega arith, one_quote 34 q after)
 
-lexed_text : (t after : Text) (s : Text) → t ≡ doubled 39 s → begins (is_byte 39) after ≡ false → LexedOrLonger (token.Text t) (at_start ((39 ∷ t) ++ 39 ∷ after)) ((39 ∷ t) ++ 39 ∷ after) after
-unfolding spelled begins_word
+lexed_text : (t after : Text) (s : Text) → t ≡ double 39 s → begins (is_byte 39) after ≡ false → LexedOrLonger (token.Text t) (at_start ((39 ∷ t) ++ 39 ∷ after)) ((39 ∷ t) ++ 39 ∷ after) after
+unfolding token_lexeme begins_word
 lexed_text t after s d stops = inl (length t + 2, text_is t s after d stops, omega arith, one_quote 39 t after)
 
 lexed_blob : (x : ℕ) (h after : Text) → (x ≡ 88) ⊎ (x ≡ 120) → list_all is_ascii_hexdigit h ≡ true → length h % 2 ≡ 0 → LexedOrLonger (token.Blob h) (at_start ((x ∷ 39 ∷ h) ++ 39 ∷ after)) ((x ∷ 39 ∷ h) ++ 39 ∷ after) after
-unfolding spelled
+unfolding token_lexeme
 lexed_blob x h after letter all even =
     inl (length h + 3, rw ((letter_begins x letter).0) (blob_is h after (word ((x ∷ 39 ∷ h) ++ 39 ∷ after)) all even), omega arith, two_quotes x 39 h after)
 
 lexed_digits : (b : ℕ) (d after : Text) → is_ascii_digit b ≡ true → list_all is_ascii_digit (b ∷ d) ≡ true → begins is_in_word after ≡ false → LexedOrLonger (token.Digits (b ∷ d)) (at_start ((b ∷ d) ++ after)) ((b ∷ d) ++ after) after
-unfolding spelled
+unfolding token_lexeme
 lexed_digits b d after first all stops =
     let w = digit_no_word b first in
     inl (length (b ∷ d), rw (letter_or_word b (slice_index (d ++ after) 0) w, w, first) (digits_is (b ∷ d) after all stops), omega arith, drop_front (b ∷ d) after)
@@ -248,7 +248,7 @@ letter_word x (y ∷ w) after first all e =
     absurd (let k = no_quote_in_word y goes.0 in cc)
 
 lexed_word : (x : ℕ) (w after : Text) → begins_word x ≡ true → list_all is_in_word (x ∷ w) ≡ true → begins is_in_word after ≡ false → LexedOrLonger (token.Word (x ∷ w)) (at_start ((x ∷ w) ++ after)) ((x ∷ w) ++ after) after
-unfolding spelled
+unfolding token_lexeme
 lexed_word x w after first all stops =
     test ((x == 88 || x == 120) && slice_index (w ++ after) 0 == 39)
     (λ e. rw e (letter_word x w after first all (and_both (x == 88 || x == 120) (slice_index (w ++ after) 0 == 39) e)))
@@ -260,7 +260,7 @@ abbrev LexedSign : Sign → Text → Type 0
 LexedSign s after = LexedOrLonger (token.Sign s) (at_start (spelling s ++ after)) (spelling s ++ after) after
 
 lexed_sign : (s : Sign) (after : Text) → LexedSign s after
-unfolding spelled begins_word sign long_sign short_sign
+unfolding token_lexeme begins_word sign long_sign short_sign
 lexed_sign LeftParenthesis [] = inl (1, refl, omega arith, refl)
 lexed_sign LeftParenthesis (c ∷ z) = test (c == 61) (λ e. rw e (inl (1, refl, omega arith, refl))) (λ e. rw e (inl (1, refl, omega arith, refl)))
 lexed_sign RightParenthesis [] = inl (1, refl, omega arith, refl)
@@ -339,25 +339,25 @@ inside_is : (q n m : ℕ) (z inside after : Text) → z ≡ inside ++ q ∷ afte
 inside_is q n m z inside after e f =
     (rw (f, e) (take_front inside (q ∷ after)), rw (f, e) (one_quote q inside after))
 
-found_text : (z : Text) (o : Option ℕ) → closing 39 0 z ≡ o → Found (39 ∷ z) (closed 39 z o).0 (closed 39 z o).1
+found_text : (z : Text) (o : Option ℕ) → closing 39 0 z ≡ o → Found (39 ∷ z) (quote_token 39 z o).0 (quote_token 39 z o).1
 found_text z None e = refl
 found_text z (Some m) e =
     let k = closed_by 39 0 z m e in
-    let len : m ≡ length (doubled 39 k.0) = omega (arith, k.4) in
-    let i = inside_is 39 0 m z (doubled 39 k.0) k.1 k.2 len in
+    let len : m ≡ length (double 39 k.0) = omega (arith, k.4) in
+    let i = inside_is 39 0 m z (double 39 k.0) k.1 k.2 len in
     ((k.0, i.0, (rw (i.0, i.1) (ap (λ x. 39 ∷ x) k.2), rw i.1 k.3)), omega arith)
 
-some_inside : (m : ℕ) (n : Text) → suc m ≡ length (doubled 34 n) → n ≢ []
+some_inside : (m : ℕ) (n : Text) → suc m ≡ length (double 34 n) → n ≢ []
 some_inside m [] e = λ h. absurd (omega (arith, e))
 some_inside m (b ∷ n) e = λ h. cc
 
-found_quoted : (z : Text) (o : Option ℕ) → closing 34 0 z ≡ o → Found (34 ∷ z) (closed 34 z o).0 (closed 34 z o).1
+found_quoted : (z : Text) (o : Option ℕ) → closing 34 0 z ≡ o → Found (34 ∷ z) (quote_token 34 z o).0 (quote_token 34 z o).1
 found_quoted z None e = refl
 found_quoted z (Some zero) e = refl
 found_quoted z (Some (suc m)) e =
     let k = closed_by 34 0 z (suc m) e in
-    let len : suc m ≡ length (doubled 34 k.0) = omega (arith, k.4) in
-    let i = inside_is 34 0 (suc m) z (doubled 34 k.0) k.1 k.2 len in
+    let len : suc m ≡ length (double 34 k.0) = omega (arith, k.4) in
+    let i = inside_is 34 0 (suc m) z (double 34 k.0) k.1 k.2 len in
     rw (not_zero m) ((k.0, i.0, some_inside m k.0 len, (rw (i.0, i.1) (ap (λ x. 34 ∷ x) k.2), rw i.1 k.3)), omega arith)
 
 short_is : (b : ℕ) (s : Sign) → short_sign b ≡ Some s → b ∷ [] ≡ spelling s
@@ -396,7 +396,7 @@ long_is b c Equal h = absurd (grind (arith, nat_tests))
 long_is b c Less h = absurd (grind (arith, nat_tests))
 long_is b c Greater h = absurd (grind (arith, nat_tests))
 
-found_short : (b : ℕ) (z : Text) (o : Option Sign) → short_sign b ≡ o → Found (b ∷ z) (signed o 1 bad).0 (signed o 1 bad).1
+found_short : (b : ℕ) (z : Text) (o : Option Sign) → short_sign b ≡ o → Found (b ∷ z) (sign_token o 1 bad).0 (sign_token o 1 bad).1
 found_short b z None e = refl
 found_short b z (Some s) e = (ap (λ x. x ++ z) (short_is b s e), omega arith)
 
@@ -419,7 +419,7 @@ found_letter x (c ∷ z) e =
     rw quote (found_blob x z e.0 (letter_begins x (is_letter x e.0)).1)
 
 found : (b : ℕ) (z : Text) → Found (b ∷ z) (at_start (b ∷ z)).0 (at_start (b ∷ z)).1
-unfolding spelled in_quotes
+unfolding token_lexeme in_quotes
 found b z =
     test ((b == 88 || b == 120) && slice_index z 0 == 39)
     (λ e. rw e (found_letter b z (and_both (b == 88 || b == 120) (slice_index z 0 == 39) e)))

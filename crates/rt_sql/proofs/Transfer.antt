@@ -32,9 +32,9 @@ module _ {A : Type 0} (separator : G.Part) (P Q : A → G.Part) (each : (a : A) 
       let ys = carry_further xs g.2.0 after g.2.2 in
       (y.0 ∷ ys.0, (g.0, g.1, (g.2.0, y.1, ys.1)))
 
-  carry_separated : (xs : List A) (ts after : List Token) → G.separated separator P xs ts after → HasSome (G.separated separator Q) ts after
-  carry_separated [] ts after g = absurd g
-  carry_separated (x ∷ xs) ts after g =
+  carry_sequence : (xs : List A) (ts after : List Token) → G.sequence separator P xs ts after → HasSome (G.sequence separator Q) ts after
+  carry_sequence [] ts after g = absurd g
+  carry_sequence (x ∷ xs) ts after g =
       let y = each x ts g.0 g.1 in
       let ys = carry_further xs g.0 after g.2 in
       (y.0 ∷ ys.0, (g.0, y.1, ys.1))
@@ -53,7 +53,7 @@ module _ (one other : Writes) (carries : Carries one other) where
 
   carry_list : (vs : List Value) (ts after : List Token) → G.list one vs ts after → HasSome (G.list other) ts after
   carry_list vs ts after g =
-      let ws = carry_separated (G.sign Comma) (G.value one) (G.value other) carry_value vs g.0 g.2.0 g.2.1 in
+      let ws = carry_sequence (G.sign Comma) (G.value one) (G.value other) carry_value vs g.0 g.2.0 g.2.1 in
       (ws.0, (g.0, g.1, (g.2.0, ws.1, g.2.2)))
 
   carry_some_digits : (ts after : List Token) → G.some_digits one ts after → G.some_digits other ts after
@@ -78,14 +78,14 @@ module _ (one other : Writes) (carries : Carries one other) where
   carry_test (tests.IsNull n) ts after g = (tests.IsNull n, g)
   carry_test (tests.IsNotNull n) ts after g = (tests.IsNotNull n, g)
 
-  tests_follow : (xs : List Test) (ts mid after : List Token) → G.word (codes "WHERE") ts mid → G.separated (G.word (codes "AND")) (G.test other) xs mid after → G.condition other xs ts after
+  tests_follow : (xs : List Test) (ts mid after : List Token) → G.word (codes "WHERE") ts mid → G.sequence (G.word (codes "AND")) (G.test other) xs mid after → G.condition other xs ts after
   tests_follow [] ts mid after w g = absurd g
   tests_follow (x ∷ xs) ts mid after w g = (mid, w, g)
 
   carry_condition : (xs : List Test) (ts after : List Token) → G.condition one xs ts after → HasSome (G.condition other) ts after
   carry_condition [] ts after g = ([], g)
   carry_condition (x ∷ xs) ts after g =
-      let ys = carry_separated (G.word (codes "AND")) (G.test one) (G.test other) carry_test (x ∷ xs) g.0 after g.2 in
+      let ys = carry_sequence (G.word (codes "AND")) (G.test one) (G.test other) carry_test (x ∷ xs) g.0 after g.2 in
       (ys.0, tests_follow ys.0 ts g.0 after g.1 ys.1)
 
   carry_source : (s : Source) (ts after : List Token) → G.source one s ts after → HasSome (G.source other) ts after
@@ -101,14 +101,14 @@ module _ (one other : Writes) (carries : Carries one other) where
 
   pub carry : (ts : List Token) (s : Stmt) → G.Spells one ts s → (t : Stmt) × G.Spells other ts t
   carry ts (stmt.Create table if_absent columns) g =
-      let xs = carry_separated (G.sign Comma) (G.column one) (G.column other) carry_column columns (g.1.2.2.2.2.2.2.2.0) (g.1.2.2.2.2.2.2.2.2.0) (g.1.2.2.2.2.2.2.2.2.1) in
+      let xs = carry_sequence (G.sign Comma) (G.column one) (G.column other) carry_column columns (g.1.2.2.2.2.2.2.2.0) (g.1.2.2.2.2.2.2.2.2.0) (g.1.2.2.2.2.2.2.2.2.1) in
       (stmt.Create table if_absent xs.0, (g.0, (g.1.0, g.1.1, (g.1.2.0, g.1.2.1, (g.1.2.2.0, g.1.2.2.1, (g.1.2.2.2.0, g.1.2.2.2.1, (g.1.2.2.2.2.0, g.1.2.2.2.2.1, (g.1.2.2.2.2.2.0, g.1.2.2.2.2.2.1, (g.1.2.2.2.2.2.2.0, g.1.2.2.2.2.2.2.1, (g.1.2.2.2.2.2.2.2.0, g.1.2.2.2.2.2.2.2.1, (g.1.2.2.2.2.2.2.2.2.0, xs.1, g.1.2.2.2.2.2.2.2.2.2))))))))), g.2))
   carry ts (stmt.Drop table if_there) g = (stmt.Drop table if_there, g)
   carry ts (stmt.Edit table (edit.Insert how columns rows)) g =
-      let xs = carry_separated (G.sign Comma) (G.list one) (G.list other) carry_list rows (g.1.2.2.2.2.0) (g.0) (g.1.2.2.2.2.2) in
+      let xs = carry_sequence (G.sign Comma) (G.list one) (G.list other) carry_list rows (g.1.2.2.2.2.0) (g.0) (g.1.2.2.2.2.2) in
       (stmt.Edit table (edit.Insert how columns xs.0), (g.0, (g.1.0, g.1.1, (g.1.2.0, g.1.2.1, (g.1.2.2.0, g.1.2.2.1, (g.1.2.2.2.0, g.1.2.2.2.1, (g.1.2.2.2.2.0, g.1.2.2.2.2.1, xs.1))))), g.2))
   carry ts (stmt.Edit table (edit.Update sets cond)) g =
-      let xs = carry_separated (G.sign Comma) (G.set one) (G.set other) carry_set sets (g.1.2.2.0) (g.1.2.2.2.0) (g.1.2.2.2.1) in
+      let xs = carry_sequence (G.sign Comma) (G.set one) (G.set other) carry_set sets (g.1.2.2.0) (g.1.2.2.2.0) (g.1.2.2.2.1) in
       let c = carry_condition cond (g.1.2.2.2.0) (g.0) (g.1.2.2.2.2) in
       (stmt.Edit table (edit.Update xs.0 c.0), (g.0, (g.1.0, g.1.1, (g.1.2.0, g.1.2.1, (g.1.2.2.0, g.1.2.2.1, (g.1.2.2.2.0, xs.1, c.1)))), g.2))
   carry ts (stmt.Edit table (edit.Delete cond)) g =

@@ -1,4 +1,4 @@
--- What a cursor over a text shows: the tokens that are left.
+-- What a cursor over a text shows: the tokens that are left (own).
 use Rattle.std.specs.Prelude.{◌≡◌, List, [], None}
 use Rattle.rt_sql.specs.declared.token.Token.{Token}
 use Rattle.rt_sql.specs.declared.tokens.Tokens.TheInside.{Inside}

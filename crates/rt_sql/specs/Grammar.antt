@@ -1,10 +1,11 @@
 -- Which tokens spell which statement (SQLite's documentation: SQL As Understood By SQLite; The SQLite R*Tree Module; dot lines: own).
 -- A part of a statement is a relation between the tokens from its start on and those after it.
 use Rattle.std.specs.Prelude.{◌≡◌, ◌⊎◌, Bool, true, false, List, [], ◌∷◌, ◌++◌, map, Option, Some, None, IsTrue, codes}
+use Rattle.std.specs.List.{list_any}
 use lib.IntN.{ℤ}
 use Rattle.rt_sql_statement.specs.declared.statement.ColumnDef.{ColumnDef}
-use Rattle.rt_sql_statement.specs.declared.statement.Operator.{Operator}
-use Rattle.rt_sql_statement.specs.declared.statement.Operator.TheVariants.{Eq, Ne, Lt, Le, Gt, Ge}
+use Rattle.rt_box.specs.declared.operator.Operator.{Operator}
+use Rattle.rt_box.specs.declared.operator.Operator.TheVariants.{Eq, Ne, Lt, Le, Gt, Ge}
 use Rattle.rt_sql_statement.specs.declared.statement.Rule.{Rule}
 use Rattle.rt_sql_statement.specs.declared.statement.Rule.TheVariants.{Abort, Replace, Ignore}
 use Rattle.rt_sql_statement.specs.declared.statement.Source.{Source}
@@ -21,7 +22,7 @@ use Rattle.rt_sql.specs.declared.token.Token.TheVariants as token
 use Rattle.rt_sql_statement.specs.declared.value.Value.{Value}
 use Rattle.rt_sql_statement.specs.declared.value.Value.TheVariants as values
 use Rattle.rt_sql.specs.Number.{Writes}
-use Rattle.rt_sql.specs.Token.{Text, undoubled, hex_bytes}
+use Rattle.rt_sql.specs.Token.{Text, undouble, hex_bytes}
 use Rattle.rt_sql.specs.Word.{same_word, is_reserved}
 
 abbrev pub Part : Type 1
@@ -62,13 +63,13 @@ abbrev pub plain_name : Text → Part
 plain_name n ts after = (ts ≡ token.Word n ∷ after) × (is_reserved n ≡ false)
 
 abbrev pub quoted_name : Text → Part
-quoted_name n ts after = (q : Text) × (ts ≡ token.Quoted q ∷ after) × (n ≡ undoubled 34 q)
+quoted_name n ts after = (q : Text) × (ts ≡ token.Quoted q ∷ after) × (n ≡ undouble 34 q)
 
 abbrev pub name : Text → Part
 name n = plain_name n or quoted_name n
 
 abbrev pub text : Text → Part
-text t ts after = (q : Text) × (ts ≡ token.Text q ∷ after) × (t ≡ undoubled 39 q)
+text t ts after = (q : Text) × (ts ≡ token.Text q ∷ after) × (t ≡ undouble 39 q)
 
 abbrev pub blob : Text → Part
 blob bytes ts after = (h : Text) × (ts ≡ token.Blob h ∷ after) × (bytes ≡ hex_bytes h)
@@ -82,12 +83,12 @@ abbrev pub further : {A : Type 0} → Part → (A → Part) → List A → Part
 further separator item [] = nothing
 further separator item (x ∷ xs) = separator ⨾ item x ⨾ further separator item xs
 
-abbrev pub separated : {A : Type 0} → Part → (A → Part) → List A → Part
-separated separator item [] = never
-separated separator item (x ∷ xs) = item x ⨾ further separator item xs
+abbrev pub sequence : {A : Type 0} → Part → (A → Part) → List A → Part
+sequence separator item [] = never
+sequence separator item (x ∷ xs) = item x ⨾ further separator item xs
 
 abbrev pub by_commas : {A : Type 0} → (A → Part) → List A → Part
-by_commas = separated (sign Comma)
+by_commas = sequence (sign Comma)
 
 -- ---- values
 
@@ -136,7 +137,7 @@ test writes (tests.IsNotNull column) = name column ⨾ word (codes "IS") ⨾ wor
 -- [WHERE test {AND test}]
 abbrev pub condition : Writes → List Test → Part
 condition writes [] = nothing
-condition writes (t ∷ ts) = word (codes "WHERE") ⨾ separated (word (codes "AND")) (test writes) (t ∷ ts)
+condition writes (t ∷ ts) = word (codes "WHERE") ⨾ sequence (word (codes "AND")) (test writes) (t ∷ ts)
 
 -- ---- parts of statements
 
@@ -161,9 +162,9 @@ abbrev pub set : Writes → Text × Source → Part
 set writes s = name s.0 ⨾ sign Equal ⨾ source writes s.1
 
 -- * | name {, name}
-abbrev pub shown : Option (List Text) → Part
-shown None = sign Star
-shown (Some names) = by_commas name names
+abbrev pub selection : Option (List Text) → Part
+selection None = sign Star
+selection (Some names) = by_commas name names
 
 -- [ORDER BY name [ASC]]
 abbrev pub order : Option Text → Part
@@ -175,6 +176,17 @@ order (Some column) = word (codes "ORDER") ⨾ word (codes "BY") ⨾ name column
 -- the dot with its word, which ASCII case doesn't change
 abbrev pub dot : Text → Part
 dot spelling ts after = (w : Text) × (ts ≡ token.Dot w ∷ after) × IsTrue (same_word w spelling)
+
+-- the dot lines that take one name: the word of each, and what it asks for
+abbrev pub named_lines : List (Text × (Text → Stmt))
+named_lines = (codes "UNWATCH", Unwatch) ∷ (codes "VIEW", View) ∷ (codes "NODES", Nodes) ∷ []
+
+-- the words of all dot lines
+abbrev pub dot_words : List Text
+dot_words = codes "WATCH" ∷ map (λ line. line.0) named_lines
+
+unfoldable pub is_command : Text → Bool
+is_command w = list_any (same_word w) dot_words
 
 -- a dot line may end at a `;`, at which a statement has to end
 abbrev pub ending : Part
@@ -193,7 +205,7 @@ statement writes (Edit table (Update sets cond)) =
     word (codes "UPDATE") ⨾ name table ⨾ word (codes "SET") ⨾ by_commas (set writes) sets ⨾ condition writes cond
 statement writes (Edit table (Delete cond)) = word (codes "DELETE") ⨾ word (codes "FROM") ⨾ name table ⨾ condition writes cond
 statement writes (Select columns table cond by) =
-    word (codes "SELECT") ⨾ shown columns ⨾ word (codes "FROM") ⨾ name table ⨾ condition writes cond ⨾ order by
+    word (codes "SELECT") ⨾ selection columns ⨾ word (codes "FROM") ⨾ name table ⨾ condition writes cond ⨾ order by
 statement writes (Check table) =
     word (codes "SELECT") ⨾ word (codes "RTREECHECK") ⨾ sign LeftParenthesis ⨾ text table ⨾ sign RightParenthesis
 statement writes (Watch view table cond) =

@@ -1,4 +1,4 @@
--- The token at the front of a text, and the tokens of a whole text, as functions.
+-- The first token of a text, and the tokens of a whole text, as functions (own).
 use Rattle.std.specs.Prelude.{ℕ, zero, suc, ◌+◌, ◌-◌, ◌%◌, Bool, List, [], ◌∷◌, ◌&&◌, ◌||◌, take, drop, slice_index, Option, Some, None, ◌==◌, if◌then◌else◌}
 use Rattle.std.specs.Char.{is_ascii_digit, is_ascii_hexdigit}
 use Rattle.std.specs.List.{prefix_len}
@@ -24,7 +24,7 @@ digits z =
     let end = prefix_len is_ascii_digit z in
     if is_in_word (slice_index z end) then bad else (Some (token.Digits (take end z)), end)
 
--- where the quote stands that closes, from the place `at` on, where z begins
+-- the place of the closing quote; z begins at the place `at`
 abbrev pub closing : ℕ → ℕ → Text → Option ℕ
 closing quote at [] = None
 closing quote at (b ∷ []) = if b == quote then Some at else None
@@ -32,17 +32,17 @@ closing quote at (b ∷ c ∷ z) =
     if b == quote then (if c == quote then closing quote (at + 2) z else Some at) else closing quote (at + 1) (c ∷ z)
 
 -- a text in single quotes, or a name in double ones, which isn't empty
-abbrev pub closed : ℕ → Text → Option ℕ → Lexeme
-closed quote z None = bad
-closed quote z (Some end) =
+abbrev pub quote_token : ℕ → Text → Option ℕ → Lexeme
+quote_token quote z None = bad
+quote_token quote z (Some end) =
     if quote == 39 then (Some (token.Text (take end z)), end + 2)
     else (if end == 0 then bad else (Some (token.Quoted (take end z)), end + 2))
 
 -- for z without its first byte, the quote
 unfoldable pub in_quotes : ℕ → Text → Lexeme
-in_quotes quote z = closed quote z (closing quote 0 z)
+in_quotes quote z = quote_token quote z (closing quote 0 z)
 
--- for z without its first two bytes; where it is no blob, the letter begins a word
+-- for z without its first two bytes; if it is no blob, the letter begins a word
 unfoldable pub blob : Text → Lexeme → Lexeme
 blob z other =
     let end = prefix_len is_ascii_hexdigit z in
@@ -67,13 +67,13 @@ short_sign b =
     else (if b == 43 then Some Plus else (if b == 45 then Some Minus else (if b == 42 then Some Star
     else (if b == 61 then Some Equal else (if b == 60 then Some Less else (if b == 62 then Some Greater else None)))))))))
 
-abbrev pub signed : Option Sign → ℕ → Lexeme → Lexeme
-signed None len other = other
-signed (Some sign) len other = (Some (token.Sign sign), len)
+abbrev pub sign_token : Option Sign → ℕ → Lexeme → Lexeme
+sign_token None len other = other
+sign_token (Some sign) len other = (Some (token.Sign sign), len)
 
 -- at a byte b, which the text z begins with, and the byte c after it
 unfoldable pub sign : ℕ → ℕ → Lexeme
-sign b c = signed (long_sign b c) 2 (signed (short_sign b) 1 bad)
+sign b c = sign_token (long_sign b c) 2 (sign_token (short_sign b) 1 bad)
 
 abbrev pub begins_comment : ℕ → ℕ → Bool
 begins_comment b c = (b == 45 && c == 45) || (b == 47 && c == 42)
@@ -87,8 +87,8 @@ gap b z =
     else (if b == 45 then (None, 2 + line_len (drop 2 z)) else (None, 2 + block_len (drop 2 z)))
 
 -- at a byte b, which the text z begins with, and the byte c after it
-unfoldable pub spelled : ℕ → ℕ → Text → Lexeme
-spelled b c z =
+unfoldable pub token_lexeme : ℕ → ℕ → Text → Lexeme
+token_lexeme b c z =
     if (b == 88 || b == 120) && c == 39 then blob (drop 2 z) (word z)
     else (if begins_word b then word z
     else (if is_ascii_digit b then digits z
@@ -96,7 +96,7 @@ spelled b c z =
     else sign b c)))
 
 unfoldable pub lexeme : ℕ → Text → Lexeme
-lexeme b z = if is_gap b (slice_index z 1) then gap b z else spelled b (slice_index z 1) z
+lexeme b z = if is_gap b (slice_index z 1) then gap b z else token_lexeme b (slice_index z 1) z
 
 abbrev pub put : Option Token → List Token → List Token
 put None ts = ts

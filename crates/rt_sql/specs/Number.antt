@@ -1,4 +1,4 @@
--- The number that a sign and digits write.
+-- The number that a sign and digits write (own).
 use Rattle.std.specs.Prelude.{◌≡◌, ℕ, ◌+◌, ◌-◌, ◌*◌, ◌^◌, Bool, cond, nat_lt, [], ◌∷◌, Option, Some, None, FitsSigned, unwrap_or, if◌then◌else◌}
 use Rattle.std.specs.Int.{w64}
 use lib.IntN.{ℤ, pos, neg_ℤ}
@@ -27,7 +27,7 @@ WritesAnySize is_negative digits n = n ≡ with_sign is_negative (decimal digits
 abbrev pub WritesWithin64Bits : Writes
 WritesWithin64Bits is_negative digits n = (n ≡ with_sign is_negative (decimal digits)) × FitsSigned w64 n
 
--- ---- the same as a function, where one outside 64 bits may be read as 0
+-- ---- the same as a function; one outside 64 bits may be read as 0
 
 unfoldable pub fits : Bool → ℕ → Bool
 fits is_negative n = if is_negative then nat_lt n (2 ^ 63 + 1) else nat_lt n (2 ^ 63)

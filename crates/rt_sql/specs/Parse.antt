@@ -1,5 +1,5 @@
 -- What a piece of a script asks for, or why it is refused. Source: own.
-use Rattle.std.specs.Prelude.{◌≡◌, ◌⊎◌, ℕ, Bool, false, not, ◌||◌, List, [], ◌∷◌, ◌++◌, Result, Ok, Err, Contains, IsTrue, codes}
+use Rattle.std.specs.Prelude.{◌≡◌, ◌⊎◌, ℕ, Bool, false, not, List, [], ◌∷◌, ◌++◌, Result, Ok, Err, Contains, IsTrue}
 use Rattle.std.specs.Str.{IsUtf8}
 use Rattle.rt_sql_cut.specs.declared.piece.Ending.{Ending}
 use Rattle.rt_sql_cut.specs.declared.piece.Ending.TheVariants.{Whole, Incomplete, TooLong}
@@ -8,26 +8,26 @@ use Rattle.rt_sql_statement.specs.declared.refusal.Refusal.TheVariants.{SyntaxEr
 use Rattle.rt_sql_statement.specs.declared.statement.Stmt.{Stmt}
 use Rattle.rt_sql.specs.declared.token.Token.{Token}
 use Rattle.rt_sql.specs.declared.token.Token.TheVariants as token
-use Rattle.rt_sql.specs.Grammar.{Spells}
+use Rattle.rt_sql.specs.Grammar.{Spells, is_command}
 use Rattle.rt_sql.specs.Number.{WritesAnySize, WritesWithin64Bits}
 use Rattle.rt_sql_cut.specs.Piece.{PieceText}
-use Rattle.rt_sql_cut.specs.Pieces.{Atom, spelled_all, AreAtoms}
+use Rattle.rt_sql_cut.specs.Pieces.{Atom, atoms_text, AreAtoms}
 use Rattle.rt_sql_cut.specs.Text.{is_quote}
-use Rattle.rt_sql.specs.Token.{Text, doubled}
-use Rattle.rt_sql.specs.Word.{same_word}
+use Rattle.rt_sql.specs.Token.{Text, double}
 use Rattle.rt_sql.specs.Tokens.{PieceTokens}
 
 -- UTF-8 with no zero byte
 abbrev pub IsText : Text → Type 0
 IsText text = IsUtf8 text × ¬ Contains text 0
 
--- a dot line whose word is none of the four
+-- a dot line whose word is none of the grammar's
 abbrev pub is_unknown : List Token → Bool
 is_unknown [] = false
-is_unknown (token.Dot w ∷ ts) = not (same_word w (codes "WATCH") || same_word w (codes "UNWATCH") || same_word w (codes "VIEW") || same_word w (codes "NODES"))
+is_unknown (token.Dot w ∷ ts) = not (is_command w)
 is_unknown (t ∷ ts) = false
 
--- The statement that the tokens spell, all of its integers within 64 bits. An unknown command comes before a syntax error, where they spell none with integers of any size.
+-- The statement that the tokens spell, all of its integers within 64 bits. An unknown command comes before a syntax error,
+-- which is due if they spell none with integers of any size.
 abbrev pub ParsesText : Text → Result Stmt Refusal → Type 0
 ParsesText text (Ok asked) = (tokens : List Token) × PieceTokens text tokens × Spells WritesWithin64Bits tokens asked
 ParsesText text (Err UnknownCommand) = (tokens : List Token) × PieceTokens text tokens × IsTrue (is_unknown tokens)
@@ -67,7 +67,7 @@ OneAnswer = (piece : PieceText) (one other : Result Stmt Refusal) → Parses pie
 abbrev pub QuotesAreAtoms : Type 0
 QuotesAreAtoms =
     (quote : ℕ) (inside after : Text) → IsTrue (is_quote quote)
-    → (atoms : List Atom) × (spelled_all atoms ≡ (quote ∷ doubled quote inside) ++ quote ∷ []) × AreAtoms atoms after
+    → (atoms : List Atom) × (atoms_text atoms ≡ (quote ∷ double quote inside) ++ quote ∷ []) × AreAtoms atoms after
 
 abbrev pub EveryPieceHasAnAnswer : Type 0
 EveryPieceHasAnAnswer = (piece : PieceText) → (answer : Result Stmt Refusal) × Parses piece answer

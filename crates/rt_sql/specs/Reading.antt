@@ -1,4 +1,5 @@
--- Statements read from the front of a list of tokens, as functions: the value and the tokens after it, or none where the tokens spell no such thing.
+-- Statements read from a list of tokens, as functions (own): the value and the tokens after it, or none if the tokens spell
+-- no such thing.
 use Rattle.std.specs.Prelude.{◌≡◌, ◌≢◌, ◌<◌, ℕ, zero, suc, Bool, true, false, not, List, [], ◌∷◌, ◌++◌, length, Option, Some, None, Result, Ok, Err, if◌then◌else◌, codes, ◌&&◌, ◌||◌}
 use lib.IntN.{ℤ}
 use Rattle.std.specs.Option.{is_some}
@@ -13,8 +14,8 @@ use Rattle.rt_sql.specs.declared.token.Token.TheVariants as token
 use Rattle.rt_sql_statement.specs.declared.refusal.Refusal.{Refusal}
 use Rattle.rt_sql_statement.specs.declared.refusal.Refusal.TheVariants.{OutOfMemory}
 use Rattle.rt_sql_statement.specs.declared.statement.ColumnDef.{ColumnDef}
-use Rattle.rt_sql_statement.specs.declared.statement.Operator.{Operator}
-use Rattle.rt_sql_statement.specs.declared.statement.Operator.TheVariants.{Eq, Ne, Lt, Le, Gt, Ge}
+use Rattle.rt_box.specs.declared.operator.Operator.{Operator}
+use Rattle.rt_box.specs.declared.operator.Operator.TheVariants.{Eq, Ne, Lt, Le, Gt, Ge}
 use Rattle.rt_sql_statement.specs.declared.statement.Rule.{Rule}
 use Rattle.rt_sql_statement.specs.declared.statement.Rule.TheVariants.{Abort, Replace, Ignore}
 use Rattle.rt_sql_statement.specs.declared.statement.Source.{Source}
@@ -26,7 +27,8 @@ use Rattle.rt_sql_statement.specs.declared.statement.Test.{Test}
 use Rattle.rt_sql_statement.specs.declared.statement.Test.TheVariants as test
 use Rattle.rt_sql_statement.specs.declared.value.Value.{Value}
 use Rattle.rt_sql_statement.specs.declared.value.Value.TheVariants as value
-use Rattle.rt_sql.specs.Token.{Text, undoubled, hex_bytes}
+use Rattle.rt_sql.specs.Grammar.{named_lines, is_command}
+use Rattle.rt_sql.specs.Token.{Text, undouble, hex_bytes}
 use Rattle.rt_sql.specs.Word.{same_word, is_reserved}
 
 abbrev pub Outcome : Type 0 → Type 0
@@ -62,6 +64,10 @@ first (t ∷ ts) = Some t
 unfoldable pub rest : List Token → List Token
 rest [] = []
 rest (t ∷ ts) = ts
+
+-- a token is left
+abbrev pub is_left : List Token → Bool
+is_left ts = is_some (first ts)
 
 unfoldable pub is_sign : Sign → Token → Bool
 is_sign sign (token.Sign s) = sameb the_type s sign
@@ -111,7 +117,7 @@ Reads outcome (Err e) new = e ≢ OutOfMemory → outcome ≡ None
 
 unfoldable pub name_in : Option Token → Option Text
 name_in (Some (token.Word w)) = if is_reserved w then None else Some w
-name_in (Some (token.Quoted q)) = Some (undoubled 34 q)
+name_in (Some (token.Quoted q)) = Some (undouble 34 q)
 name_in _ = None
 
 unfoldable pub name : Parser Text
@@ -134,7 +140,7 @@ integer read = do
   number read is_negative
 
 unfoldable pub literal_in : Option Token → Option Value
-literal_in (Some (token.Text t)) = Some (value.Text (undoubled 39 t))
+literal_in (Some (token.Text t)) = Some (value.Text (undouble 39 t))
 literal_in (Some (token.Blob h)) = Some (value.Blob (hex_bytes h))
 literal_in _ = None
 
@@ -166,24 +172,28 @@ a_value read = do
 
 -- ---- lists. Each turn takes a token, so their number bounds the turns.
 
-unfoldable pub separated_from : {A : Type 0} → (List Token → Bool) → Parser A → ℕ → List A → Parser (List A)
-separated_from sees item zero found = refuse
-separated_from sees item (suc turns) found = do
+unfoldable pub sequence_from : {A : Type 0} → (List Token → Bool) → Parser A → ℕ → List A → Parser (List A)
+sequence_from sees item zero found = refuse
+sequence_from sees item (suc turns) found = do
   x ← item
   more ← (λ ts. Some (sees ts, if sees ts then rest ts else ts))
-  if more then separated_from sees item turns (found ++ x ∷ []) else pure (found ++ x ∷ [])
+  if more then sequence_from sees item turns (found ++ x ∷ []) else pure (found ++ x ∷ [])
 
 -- items with what `sees` sees between
-abbrev pub separated : {A : Type 0} → (List Token → Bool) → Parser A → Parser (List A)
-separated sees item = λ ts. separated_from sees item (length ts) [] ts
+abbrev pub sequence : {A : Type 0} → (List Token → Bool) → Parser A → Parser (List A)
+sequence sees item = λ ts. sequence_from sees item (length ts) [] ts
 
 abbrev pub by_commas : {A : Type 0} → Parser A → Parser (List A)
-by_commas item = separated (sees_sign Comma) item
+by_commas item = sequence (sees_sign Comma) item
 
--- what is seen where a separator comes next
+-- a separator comes next
 abbrev pub sees : Separator → List Token → Bool
 sees separators.Comma = sees_sign Comma
 sees separators.And = sees_word (codes "AND")
+
+-- items with separators between
+abbrev pub sequence_by : {A : Type 0} → Separator → Parser A → Parser (List A)
+sequence_by separator item = sequence (sees separator) item
 
 -- what reads an item takes a token
 abbrev pub TakesTokens : {A : Type 0} → Parser A → Type 0
@@ -346,7 +356,7 @@ a_test read = do
 unfoldable pub condition : Read → Parser (List Test)
 condition read = do
   is_where ← eat_word (codes "WHERE")
-  if is_where then separated (sees_word (codes "AND")) (a_test read) else pure []
+  if is_where then sequence (sees_word (codes "AND")) (a_test read) else pure []
 
 -- ---- UPDATE and DELETE
 
@@ -412,14 +422,14 @@ order = do
   is_ordered ← eat_word (codes "ORDER")
   if is_ordered then order_by else pure None
 
-unfoldable pub shown : Parser (Option (List Text))
-shown = do
+unfoldable pub selection : Parser (Option (List Text))
+selection = do
   is_all ← eat_sign Star
   if is_all then pure None else (do names ← by_commas name; pure (Some names))
 
 unfoldable pub select_rows : Read → Parser Stmt
 select_rows read = do
-  columns ← shown
+  columns ← selection
   keyword (codes "FROM")
   table ← name
   tests ← condition read
@@ -427,7 +437,7 @@ select_rows read = do
   pure (stmt.Select columns table tests by)
 
 unfoldable pub text_in : Option Token → Option Text
-text_in (Some (token.Text t)) = Some (undoubled 39 t)
+text_in (Some (token.Text t)) = Some (undouble 39 t)
 text_in _ = None
 
 unfoldable pub text : Parser Text
@@ -482,13 +492,15 @@ watch read = do
   tests ← condition read
   pure (stmt.Watch view table tests)
 
-unfoldable pub is_command : Text → Bool
-is_command w = same_word w (codes "WATCH") || same_word w (codes "UNWATCH") || same_word w (codes "VIEW") || same_word w (codes "NODES")
+-- what a dot line of that word asks for, if it is one of these and has that name
+unfoldable pub statement_by : Text → Text → List (Text × (Text → Stmt)) → Option Stmt
+statement_by w n [] = None
+statement_by w n (line ∷ lines) = if same_word w line.0 then Some (line.1 n) else statement_by w n lines
 
 unfoldable pub named_command : Text → Parser Stmt
 named_command w = do
   n ← name
-  if same_word w (codes "UNWATCH") then pure (stmt.Unwatch n) else (if same_word w (codes "VIEW") then pure (stmt.View n) else (if same_word w (codes "NODES") then pure (stmt.Nodes n) else refuse))
+  paired (statement_by w n named_lines)
 
 unfoldable pub command : Read → Text → Parser Stmt
 command read w = if same_word w (codes "WATCH") then watch read else named_command w

@@ -1,5 +1,5 @@
 -- The characters of a statement's text, as bytes (SQLite's documentation: Identifiers and literals).
-use Rattle.std.specs.Prelude.{ℕ, ◌+◌, ◌-◌, ◌*◌, Bool, false, not, List, [], ◌∷◌, ◌&&◌, ◌||◌, ◌==◌, nat_le, if◌then◌else◌}
+use Rattle.std.specs.Prelude.{◌≡◌, ℕ, ◌+◌, ◌-◌, ◌*◌, ◌<◌, Bool, false, not, List, [], ◌∷◌, ◌++◌, length, take, drop, slice_index, ◌&&◌, ◌||◌, ◌==◌, nat_le, if◌then◌else◌}
 use Rattle.std.specs.Char.{is_ascii_alphabetic, is_ascii_alphanumeric, is_ascii_digit}
 use Rattle.std.specs.Int.{is_in_range}
 
@@ -19,15 +19,23 @@ begins is_in [] = false
 begins is_in (b ∷ z) = is_in b
 
 -- with each quote twice
-abbrev pub doubled : ℕ → Text → Text
-doubled quote [] = []
-doubled quote (b ∷ z) = if b == quote then b ∷ b ∷ doubled quote z else b ∷ doubled quote z
+abbrev pub double : ℕ → Text → Text
+double quote [] = []
+double quote (b ∷ z) = if b == quote then b ∷ b ∷ double quote z else b ∷ double quote z
 
 -- with one quote for each two
-abbrev pub undoubled : ℕ → Text → Text
-undoubled quote [] = []
-undoubled quote (b ∷ []) = b ∷ []
-undoubled quote (b ∷ c ∷ z) = if b == quote && c == quote then b ∷ undoubled quote z else b ∷ undoubled quote (c ∷ z)
+abbrev pub undouble : ℕ → Text → Text
+undouble quote [] = []
+undouble quote (b ∷ []) = b ∷ []
+undouble quote (b ∷ c ∷ z) = if b == quote && c == quote then b ∷ undouble quote z else b ∷ undouble quote (c ∷ z)
+
+-- at this place two quotes stand side by side
+abbrev pub IsPairAt : ℕ → Text → ℕ → Type 0
+IsPairAt quote text at = (at + 1 < length text) × (slice_index text at ≡ quote) × (slice_index text (at + 1) ≡ quote)
+
+-- and nothing before them is doubled
+abbrev pub UndoublesAt : ℕ → Text → ℕ → Type 0
+UndoublesAt quote text at = undouble quote text ≡ take (at + 1) text ++ undouble quote (drop (at + 2) text)
 
 abbrev pub hex_value : ℕ → ℕ
 hex_value b = if is_ascii_digit b then b - 48 else (if is_in_range 97 102 b then b - 87 else (if is_in_range 65 70 b then b - 55 else 0))

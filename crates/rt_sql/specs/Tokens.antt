@@ -7,7 +7,7 @@ use Rattle.rt_sql.specs.declared.token.Sign.TheVariants.{LeftParenthesis, RightP
 use Rattle.rt_sql.specs.declared.token.Token.{Token}
 use Rattle.rt_sql.specs.declared.token.Token.TheVariants as token
 use Rattle.rt_sql_cut.specs.Text.{is_white, IsLineText, EndsLine, IsBlockText, IsOpenBlockText}
-use Rattle.rt_sql.specs.Token.{Text, begins_word, is_in_word, begins, doubled}
+use Rattle.rt_sql.specs.Token.{Text, begins_word, is_in_word, begins, double}
 
 abbrev pub spelling : Sign → Text
 spelling LeftParenthesis = codes "("
@@ -40,9 +40,9 @@ IsInQuotes quote inside text after = (text ≡ (quote ∷ inside) ++ quote ∷ a
 -- the text begins with a spelling of the token, and `after` follows
 abbrev pub IsToken : Token → Text → Text → Type 0
 IsToken (token.Word w) text after = (text ≡ w ++ after) × IsWord w after
-IsToken (token.Quoted q) text after = (n : Text) × (q ≡ doubled 34 n) × (n ≢ []) × IsInQuotes 34 q text after
+IsToken (token.Quoted q) text after = (n : Text) × (q ≡ double 34 n) × (n ≢ []) × IsInQuotes 34 q text after
 IsToken (token.Digits d) text after = (text ≡ d ++ after) × IsTrue (begins is_ascii_digit d) × IsTrue (list_all is_ascii_digit d) × (begins is_in_word after ≡ false)
-IsToken (token.Text t) text after = (s : Text) × (t ≡ doubled 39 s) × IsInQuotes 39 t text after
+IsToken (token.Text t) text after = (s : Text) × (t ≡ double 39 s) × IsInQuotes 39 t text after
 IsToken (token.Blob h) text after =
     (x : ℕ) × ((x ≡ 88) ⊎ (x ≡ 120)) × (text ≡ (x ∷ 39 ∷ h) ++ 39 ∷ after) × IsTrue (list_all is_ascii_hexdigit h) × (length h % 2 ≡ 0)
 IsToken (token.Sign s) text after = text ≡ spelling s ++ after
@@ -73,7 +73,7 @@ TokenAt token.Bad = IsBad
 abbrev pub IsLine : Text → Text → Type 0
 IsLine text after = (line : Text) × (text ≡ (45 ∷ 45 ∷ line) ++ after) × IsLineText line × EndsLine after
 
--- `/*` up to the next `*/`, or up to the end where none comes
+-- `/*` up to the next `*/`, or up to the end if none comes
 abbrev pub IsBlock : Text → Text → Type 0
 IsBlock text after = (body : Text) × (text ≡ (47 ∷ 42 ∷ body) ++ 42 ∷ 47 ∷ after) × IsBlockText body
 
@@ -87,7 +87,7 @@ IsWhite text after = (b : ℕ) × (text ≡ b ∷ after) × IsTrue (is_white b)
 abbrev pub GapAt : Text → Text → Type 0
 GapAt text after = IsWhite text after ⊎ IsLine text after ⊎ IsBlock text after ⊎ IsLastBlock text after
 
--- one after another, where `start` follows
+-- one after another, and then `start`
 abbrev pub GapsAt : List Text → Text → Text → Type 0
 GapsAt [] text start = text ≡ start
 GapsAt (next ∷ more) text start = GapAt text next × GapsAt more next start
@@ -112,6 +112,6 @@ IsDotLine text [] = ⊥
 IsDotLine text (token.Dot w ∷ ts) = (after : Text) × (text ≡ (46 ∷ w) ++ after) × IsDotWord w after × IsTokens after ts
 IsDotLine text (t ∷ ts) = ⊥
 
--- the tokens of a piece of a script, which is a dot line where it begins with a dot
+-- the tokens of a piece of a script, which is a dot line if it begins with a dot
 abbrev pub PieceTokens : Text → List Token → Type 0
 PieceTokens text tokens = IsDotLine text tokens ⊎ ((begins (is_byte 46) text ≡ false) × IsTokens text tokens)

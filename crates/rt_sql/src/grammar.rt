@@ -1,10 +1,9 @@
 //! Which statement tokens spell, one function for each rule of the grammar.
 //!
-//! Each function takes the tokens that it reads from the front, and its contract names the rule of `specs/Reading.antt` that
-//! it follows. No token is looked at twice, but for the one after the next in `IF NOT EXISTS` and `rtreecheck(`.
+//! Each function takes the tokens that it reads, and its contract names the rule of `specs/Reading.antt` that it follows.
+//! No token is looked at twice, unless it follows `IF` or `rtreecheck`.
 
 ghost use Rattle.std.specs.Prelude.{◌≡◌, true, false, Err, MatchResult};
-ghost use Rattle.std.specs.Option.{is_some};
 ghost use Rattle.rt_sql.specs.Number.{number_by};
 ghost use Rattle.rt_sql.specs.Reading as reading;
 ghost use Rattle.rt_sql.specs.Reading.{Reads};
@@ -63,7 +62,7 @@ fn statement(alloc: Global, tokens: &mut Tokens<'_>, numbers: Numbers) -> Result
 
 /// Checks that no token is left.
 fn finish(tokens: &Tokens<'_>) -> Result<(), Refusal>
-    ensures { MatchResult result (λ _. is_some (reading.first tokens.now) ≡ false) (λ _. is_some (reading.first tokens.now) ≡ true) }
+    ensures { MatchResult result (λ _. reading.is_left tokens.now ≡ false) (λ _. reading.is_left tokens.now ≡ true) }
 {
     if tokens.peek().is_some() {
         return Err(Refusal::SyntaxError);
@@ -71,10 +70,10 @@ fn finish(tokens: &Tokens<'_>) -> Result<(), Refusal>
     Ok(())
 }
 
-/// Refuses a statement that doesn't end where it should. It stands apart, since to drop a statement takes long code.
+/// Refuses a statement that lacks its end. It stands apart, since to drop a statement takes long code.
 #[cold]
 #[inline(never)]
-fn refused(_asked: Stmt) -> Result<Stmt, Refusal>
+fn refuse(_asked: Stmt) -> Result<Stmt, Refusal>
     ensures { result ≡ Err Refusal.SyntaxError }
 {
     Err(Refusal::SyntaxError)
@@ -109,10 +108,10 @@ fn whole_statement(
 {
     let asked = statement(alloc, tokens, numbers)?;
     if !tokens.eat_sign(Sign::Semicolon) {
-        return refused(asked);
+        return refuse(asked);
     }
     if finish(tokens).is_err() {
-        return refused(asked);
+        return refuse(asked);
     }
     Ok(asked)
 }

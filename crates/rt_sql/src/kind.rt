@@ -5,6 +5,8 @@
 ghost use Rattle.std.specs.Prelude.{◌≡◌};
 ghost use Rattle.rt_sql.specs.Kind as spec;
 
+use crate::kind::Kind::{Digit, Dollar, Letter, Mark, White};
+
 /// What a byte is to the lexer.
 #[derive(Clone, Copy, Debug)]
 pub enum Kind {
@@ -20,35 +22,41 @@ pub enum Kind {
     Mark,
 }
 
-const L: Kind = Kind::Letter;
-
-const D: Kind = Kind::Digit;
-
-const S: Kind = Kind::Dollar;
-
-const W: Kind = Kind::White;
-
-const M: Kind = Kind::Mark;
-
-/// The kind of each byte, sixteen a line.
+/// The kind of each byte, eight a line.
 #[rattlefmt::skip]
 static KINDS: [Kind; 256] = [
-    M, M, M, M, M, M, M, M, M, W, W, M, W, W, M, M,
-    M, M, M, M, M, M, M, M, M, M, M, M, M, M, M, M,
-    W, M, M, M, S, M, M, M, M, M, M, M, M, M, M, M,
-    D, D, D, D, D, D, D, D, D, D, M, M, M, M, M, M,
-    M, L, L, L, L, L, L, L, L, L, L, L, L, L, L, L,
-    L, L, L, L, L, L, L, L, L, L, L, M, M, M, M, L,
-    M, L, L, L, L, L, L, L, L, L, L, L, L, L, L, L,
-    L, L, L, L, L, L, L, L, L, L, L, M, M, M, M, M,
-    L, L, L, L, L, L, L, L, L, L, L, L, L, L, L, L,
-    L, L, L, L, L, L, L, L, L, L, L, L, L, L, L, L,
-    L, L, L, L, L, L, L, L, L, L, L, L, L, L, L, L,
-    L, L, L, L, L, L, L, L, L, L, L, L, L, L, L, L,
-    L, L, L, L, L, L, L, L, L, L, L, L, L, L, L, L,
-    L, L, L, L, L, L, L, L, L, L, L, L, L, L, L, L,
-    L, L, L, L, L, L, L, L, L, L, L, L, L, L, L, L,
-    L, L, L, L, L, L, L, L, L, L, L, L, L, L, L, L,
+    Mark, Mark, Mark, Mark, Mark, Mark, Mark, Mark,
+    Mark, White, White, Mark, White, White, Mark, Mark,
+    Mark, Mark, Mark, Mark, Mark, Mark, Mark, Mark,
+    Mark, Mark, Mark, Mark, Mark, Mark, Mark, Mark,
+    White, Mark, Mark, Mark, Dollar, Mark, Mark, Mark,
+    Mark, Mark, Mark, Mark, Mark, Mark, Mark, Mark,
+    Digit, Digit, Digit, Digit, Digit, Digit, Digit, Digit,
+    Digit, Digit, Mark, Mark, Mark, Mark, Mark, Mark,
+    Mark, Letter, Letter, Letter, Letter, Letter, Letter, Letter,
+    Letter, Letter, Letter, Letter, Letter, Letter, Letter, Letter,
+    Letter, Letter, Letter, Letter, Letter, Letter, Letter, Letter,
+    Letter, Letter, Letter, Mark, Mark, Mark, Mark, Letter,
+    Mark, Letter, Letter, Letter, Letter, Letter, Letter, Letter,
+    Letter, Letter, Letter, Letter, Letter, Letter, Letter, Letter,
+    Letter, Letter, Letter, Letter, Letter, Letter, Letter, Letter,
+    Letter, Letter, Letter, Mark, Mark, Mark, Mark, Mark,
+    Letter, Letter, Letter, Letter, Letter, Letter, Letter, Letter,
+    Letter, Letter, Letter, Letter, Letter, Letter, Letter, Letter,
+    Letter, Letter, Letter, Letter, Letter, Letter, Letter, Letter,
+    Letter, Letter, Letter, Letter, Letter, Letter, Letter, Letter,
+    Letter, Letter, Letter, Letter, Letter, Letter, Letter, Letter,
+    Letter, Letter, Letter, Letter, Letter, Letter, Letter, Letter,
+    Letter, Letter, Letter, Letter, Letter, Letter, Letter, Letter,
+    Letter, Letter, Letter, Letter, Letter, Letter, Letter, Letter,
+    Letter, Letter, Letter, Letter, Letter, Letter, Letter, Letter,
+    Letter, Letter, Letter, Letter, Letter, Letter, Letter, Letter,
+    Letter, Letter, Letter, Letter, Letter, Letter, Letter, Letter,
+    Letter, Letter, Letter, Letter, Letter, Letter, Letter, Letter,
+    Letter, Letter, Letter, Letter, Letter, Letter, Letter, Letter,
+    Letter, Letter, Letter, Letter, Letter, Letter, Letter, Letter,
+    Letter, Letter, Letter, Letter, Letter, Letter, Letter, Letter,
+    Letter, Letter, Letter, Letter, Letter, Letter, Letter, Letter,
 ];
 
 /// The kind of a byte.

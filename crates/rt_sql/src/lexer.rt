@@ -18,9 +18,13 @@ use crate::token::{Sign, Spelling, Token};
 /// Kinds of characters, by their bytes.
 #[derive(Clone, Copy, Debug)]
 enum Class {
+    /// A decimal digit.
     Digit,
+    /// A hexadecimal digit.
     Hex,
+    /// What a word goes on with.
     InWord,
+    /// What a comment of a line goes on with.
     InLine,
 }
 
@@ -59,8 +63,8 @@ fn byte(text: &[u8], at: usize) -> u8
     if at < text.len() { text[at] } else { 0 }
 }
 
-/// How many bytes of the class the text begins with.
-fn front_len(class: Class, text: &[u8]) -> usize
+/// The length of the text's prefix of that class.
+fn prefix_len(class: Class, text: &[u8]) -> usize
     ensures value { result ≡ prefix_len (is_in class) text.now }
     ensures within { result ≤ length text.now }
 {
@@ -77,7 +81,7 @@ fn word(text: &str) -> Lexeme<'_>
     ensures cut { IsCharBoundary text.now result.1 }
     ensures moves { spec.begins_word (slice_index text.now 0) ≡ true → 0 < result.1 }
 {
-    let end = front_len(Class::InWord, text.as_bytes());
+    let end = prefix_len(Class::InWord, text.as_bytes());
     (Some(Token::Word(Spelling::new(&text[..end]))), end)
 }
 
@@ -89,15 +93,15 @@ fn digits(text: &str) -> Lexeme<'_>
     ensures moves { 0 < result.1 }
 {
     let bytes = text.as_bytes();
-    let end = front_len(Class::Digit, bytes);
+    let end = prefix_len(Class::Digit, bytes);
     if is_in_word(byte(bytes, end)) {
         return (Some(Token::Bad), 1);
     }
     (Some(Token::Digits(Spelling::new(&text[..end]))), end)
 }
 
-/// Where the quote stands that closes, in a text without the opening one. A doubled quote
-/// doesn't close.
+/// The place of the closing quote, in a text without the opening one. A doubled quote doesn't
+/// close.
 #[tactic(auto, using(crate::proofs::Closings::closing_goes, crate::proofs::Closings::closing_skips))]
 fn closing(quote: u8, text: &[u8]) -> Option<usize>
     ensures value { result ≡ lexing.closing quote 0 text.now }
@@ -197,7 +201,7 @@ fn block_len(rest: &str) -> usize
     bytes.len()
 }
 
-/// A blob, or a word where the letter begins no blob.
+/// A blob, or a word if the letter begins no blob.
 #[tactic(auto, using(crate::proofs::Cuts::cut_past_blob, crate::proofs::Cuts::cut_before), unfolding(crate::specs::Lex::blob))]
 fn blob(text: &str) -> Lexeme<'_>
     requires some { 1 < length text.now }
@@ -209,7 +213,7 @@ fn blob(text: &str) -> Lexeme<'_>
 {
     let rest = &text[2..];
     let bytes = rest.as_bytes();
-    let end = front_len(Class::Hex, bytes);
+    let end = prefix_len(Class::Hex, bytes);
     if byte(bytes, end) == b'\'' && end % 2 == 0 {
         (Some(Token::Blob(Spelling::new(&rest[..end]))), end + 3)
     } else {
@@ -230,15 +234,15 @@ fn comment_len(first: u8, text: &str) -> usize
 {
     let rest = &text[2..];
     2 + if first == b'-' {
-        front_len(Class::InLine, rest.as_bytes())
+        prefix_len(Class::InLine, rest.as_bytes())
     } else {
         block_len(rest)
     }
 }
 
-/// A word, or a blob where a quote follows its first letter.
+/// A word, or a blob if a quote follows its first letter.
 #[tactic(auto, using(crate::proofs::Lexemes::letter_lexeme))]
-fn lettered(first: u8, text: &str) -> Lexeme<'_>
+fn letter_lexeme(first: u8, text: &str) -> Lexeme<'_>
     requires some { 0 < length text.now }
     requires first { first ≡ slice_index text.now 0 }
     requires letter { spec.begins_word first ≡ true }
@@ -265,7 +269,7 @@ fn begins_comment(b: u8, next: u8) -> bool
 }
 
 /// A sign, a comment, or what stands in quotes.
-fn marked(first: u8, text: &str) -> Lexeme<'_>
+fn mark_lexeme(first: u8, text: &str) -> Lexeme<'_>
     requires some { 0 < length text.now }
     requires first { first ≡ slice_index text.now 0 }
     requires word { spec.begins_word first ≡ false }
@@ -296,12 +300,12 @@ fn lexeme(first: u8, text: &str) -> Lexeme<'_>
     match kind_of(first) {
         Kind::White => (None, 1),
         Kind::Digit => digits(text),
-        Kind::Letter => lettered(first, text),
-        Kind::Dollar | Kind::Mark => marked(first, text),
+        Kind::Letter => letter_lexeme(first, text),
+        Kind::Dollar | Kind::Mark => mark_lexeme(first, text),
     }
 }
 
-/// The first token, or none where the text has none, and the text after it.
+/// The first token, or none if the text has none, and the text after it.
 #[inline(always)]
 pub fn lex(text: &str) -> (Option<Token<'_>>, &str)
     ensures tokens { lexing.tokens_of text.now ≡ lexing.put result.0 (lexing.tokens_of result.1.now) }
@@ -325,7 +329,7 @@ pub fn dot_len(line: &str) -> usize
     ensures cut { IsCharBoundary line.now result }
 {
     match line.as_bytes() {
-        [first, ..] if begins_word(*first) => front_len(Class::InWord, line.as_bytes()),
+        [first, ..] if begins_word(*first) => prefix_len(Class::InWord, line.as_bytes()),
         _ => 0,
     }
 }

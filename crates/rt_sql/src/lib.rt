@@ -2,12 +2,12 @@
 //!
 //! - `parse` makes of a piece the statement that its tokens spell, or says by a `Refusal` why there
 //!   is none.
-//! - `refused_at` finds the token of a piece that no statement goes on with.
+//! - `refused_at` finds the token of a piece at which no statement goes on.
 //! - `Stmt`, what it is made of, and `Refusal` are those of `rt_sql_statement`, passed on.
 //! - `laws`: tokens spell at most one statement, and each piece has one answer.
 //!
-//! A piece is a statement exactly where its tokens spell it; else it is refused by the first reason that applies,
-//! or for want of memory.
+//! A piece is a statement exactly if its tokens spell it. Else it is refused by the first reason that applies,
+//! or because no memory is left.
 //!
 //! Stands on `rt_sql_cut` (pieces) and `rt_sql_statement`. Definitions: `specs/Grammar.antt` (which tokens spell which
 //! statement), `Word.antt` (its words), `Tokens.antt` (the tokens of a text), `Token.antt` (their characters),

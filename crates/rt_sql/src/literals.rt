@@ -2,16 +2,16 @@
 //!
 //! Both calls make a new value: a doubled quote becomes one, and two digits become a byte (`specs/Token.antt`).
 
-ghost use Rattle.std.specs.Prelude.{◌≡◌, ℕ, ◌+◌, ◌<◌, ◌++◌, length, take, drop, slice_index, IfOk, MatchOption};
+ghost use Rattle.std.specs.Prelude.{◌≡◌, ◌<◌, IfOk, IfSome, MatchOption};
 ghost use Rattle.std.specs.String.{string_bytes};
 ghost use Rattle.rt_sql.specs.Token as spec;
 
 use std::alloc::{AllocError, Global};
 
-/// The first place where two quotes stand side by side.
+/// The first place of two quotes side by side.
 fn pair_at(quote: u8, text: &[u8]) -> Option<usize>
-    ensures value { MatchOption result (spec.undoubled quote text.now ≡ text.now) (λ at. spec.undoubled quote text.now ≡ take (at + 1) text.now ++ spec.undoubled quote (drop (at + 2) text.now)) }
-    ensures within { MatchOption result (Unit {0}) (λ at. (at + 1 < length text.now) × (slice_index text.now at ≡ quote) × (slice_index text.now (at + 1) ≡ quote)) }
+    ensures value { MatchOption result (spec.undouble quote text.now ≡ text.now) (spec.UndoublesAt quote text.now) }
+    ensures within { IfSome result (spec.IsPairAt quote text.now) }
 {
     let mut at = 0;
     while at < text.len() {
@@ -24,9 +24,9 @@ fn pair_at(quote: u8, text: &[u8]) -> Option<usize>
 }
 
 /// The text with one quote for each two.
-pub fn undoubled(alloc: Global, quote: u8, text: &str) -> Result<String, AllocError>
+pub fn undouble(alloc: Global, quote: u8, text: &str) -> Result<String, AllocError>
     requires { quote < 128 }
-    ensures { IfOk result (λ plain. string_bytes plain ≡ spec.undoubled quote text.now) }
+    ensures { IfOk result (λ plain. string_bytes plain ≡ spec.undouble quote text.now) }
 {
     let mut plain = String::new(alloc);
     let mut rest = text;

@@ -7,7 +7,7 @@ ghost use Rattle.std.specs.Prelude.{◌≡◌, ◌<◌, ◌≤◌, ◌^◌, leng
 ghost use Rattle.std.specs.Int.{w64};
 ghost use Rattle.rt_sql.specs.Number as spec;
 
-/// So few digits write a number within 64 bits, whatever they are.
+/// The most digits that write a number within 64 bits, whatever they are.
 const SHORT: usize = 17;
 
 /// Which integers a reading takes.
@@ -15,7 +15,7 @@ const SHORT: usize = 17;
 pub enum Numbers {
     /// Those within 64 bits.
     Within64Bits,
-    /// Any, where one outside 64 bits is read as 0.
+    /// Any; one outside 64 bits is read as 0.
     AnySize,
 }
 
@@ -32,8 +32,8 @@ fn magnitude(digits: &str) -> Option<u64>
     Some(number)
 }
 
-fn signed(is_negative: bool, magnitude: u64) -> Option<i64>
-    ensures { SomeIff result (FitsSigned w64 (spec.with_sign is_negative magnitude)) (spec.with_sign is_negative magnitude) }
+fn with_sign(is_negative: bool, magnitude: u64) -> Option<i64>
+    ensures { let number = spec.with_sign is_negative magnitude in SomeIff result (FitsSigned w64 number) number }
 {
     let number = i128::from(magnitude);
     i64::try_from(if is_negative { -number } else { number }).ok()
@@ -44,7 +44,7 @@ fn within(is_negative: bool, digits: &str) -> Option<i64>
     ensures { result ≡ spec.within is_negative digits.now }
 {
     match magnitude(digits) {
-        Some(magnitude) => signed(is_negative, magnitude),
+        Some(magnitude) => with_sign(is_negative, magnitude),
         None => None,
     }
 }
@@ -63,7 +63,7 @@ fn short(digits: &str) -> u64
     number
 }
 
-/// The number that any digits write, or none where it isn't taken.
+/// The number that any digits write, or none if it isn't taken.
 #[cold]
 #[inline(never)]
 #[tactic(auto, unfolding(crate::specs::Number::number_by))]
@@ -76,7 +76,7 @@ fn long(numbers: Numbers, is_negative: bool, digits: &str) -> Option<i64>
     }
 }
 
-/// The number that the digits write in base ten, or none where it isn't taken.
+/// The number that the digits write in base ten, or none if it isn't taken.
 #[tactic(auto, using(crate::proofs::Numbers::short_number))]
 pub fn number(numbers: Numbers, is_negative: bool, digits: &str) -> Option<i64>
     ensures { result ≡ spec.number_by numbers is_negative digits.now }

@@ -82,7 +82,7 @@ fn parse_text(alloc: Global, text: &str) -> Result<Stmt, Refusal>
 ///
 /// Refuses a piece that is too long, incomplete, no UTF-8 text without zero bytes, a dot line
 /// with an unknown word, no statement, or a statement with an integer outside 64 bits; the first
-/// that applies. In place of any answer memory may run out, which is `Refusal::OutOfMemory`.
+/// that applies. `OutOfMemory` if no memory is left, in place of any answer.
 pub fn parse(alloc: Global, piece: &Piece<'_>) -> Result<Stmt, Refusal>
     ensures { ParsesUnlessMemory piece.now result }
 {
@@ -96,8 +96,8 @@ pub fn parse(alloc: Global, piece: &Piece<'_>) -> Result<Stmt, Refusal>
     }
 }
 
-/// Where the tokens of a piece stop beginning a statement, if that is why `parse` refuses it: the bytes of the first token
-/// that no statement goes on with, or the end of the text if more is due. It is none too if memory runs out.
+/// The bytes of the token at which no statement goes on, or the end of the text if a token is missing there. None unless
+/// `parse` refuses the piece as a `SyntaxError`, or if no memory is left.
 #[cold]
 pub fn refused_at(alloc: Global, piece: &Piece<'_>) -> Option<Range<usize>>
     ensures refused { IsSome result → ParsesUnlessMemory piece.now (Err Refusal.SyntaxError) }

@@ -1,7 +1,7 @@
 //! The tokens of a piece, from a place on.
 //!
-//! The next token is cut, and the text behind it isn't yet. So tokens take no memory, and contracts see the list
-//! of those that are left (`specs/Cursor.antt`).
+//! The next token is cut, and the text behind it isn't yet. So tokens take no memory. Contracts see the list of those
+//! that are left (`specs/Cursor.antt`).
 
 use crate::lexer::{dot_len, lex};
 use crate::token::{Sign, Spelling, Token};

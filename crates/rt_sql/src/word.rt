@@ -7,14 +7,14 @@ ghost use Rattle.std.specs.List.{list_any};
 ghost use Rattle.rt_sql.specs.Word as spec;
 
 /// The word is one of these, in whatever ASCII case.
-fn is_among(word: &str, words: &[&str]) -> bool
+pub fn is_among(word: &str, words: &[&str]) -> bool
     ensures { result ≡ list_any (λ other. spec.same_word word.now other.now) words.now }
 {
     words.iter().any(|other| word.eq_ignore_ascii_case(other))
 }
 
 /// The word is no name unless it is quoted. Only words as long as it is are compared with it.
-#[tactic(auto, using(crate::proofs::Reserved::two, crate::proofs::Reserved::three, crate::proofs::Reserved::four, crate::proofs::Reserved::five, crate::proofs::Reserved::six, crate::proofs::Reserved::seven, crate::proofs::Reserved::none))]
+#[tactic(auto, using(crate::proofs::ReservedWords::two, crate::proofs::ReservedWords::three, crate::proofs::ReservedWords::four, crate::proofs::ReservedWords::five, crate::proofs::ReservedWords::six, crate::proofs::ReservedWords::seven, crate::proofs::ReservedWords::none))]
 pub fn is_reserved(word: &str) -> bool
     ensures { result ≡ spec.is_reserved word.now }
 {

@@ -3,27 +3,27 @@ use Rattle.std.proofs.Common.{◌≡◌, ◌≢◌, ℕ, ◌<◌, ◌≤◌, Lis
 use Rattle.std.proofs.lemmas.Bool.{cases_lt, cases_eq, lt-ltb, le-ltb, le-leb, lt-leb, cond-true, cond-false}
 use Rattle.std.proofs.lemmas.List.{length_push}
 use Rattle.std.proofs.lemmas.List.Elements.{All-push}
-use Rattle.rt_sql_cut.specs.Pieces.{Atom, Byte, Line, Block, Quoted, spelled, spelled_all, IsComment, IsGapAtom, IsClosedGap, IsAtom, AreAtoms, held_of}
+use Rattle.rt_sql_cut.specs.Pieces.{Atom, Byte, Line, Block, Quoted, atom_text, atoms_text, IsComment, IsGapAtom, IsClosedGap, IsAtom, AreAtoms, holding}
 use Rattle.rt_sql_cut.specs.Text.{HasClose, BeginsComment}
 use Rattle.rt_sql_cut.specs.Cutter.{IsOpen}
 use Rattle.rt_sql_cut.specs.CutterStep.{with_byte}
 use Rattle.rt_sql_cut.specs.declared.cutter.Spot.TheVariants.{LineComment, BlockComment, AfterStar}
 
 -- the bytes of atoms and one more
-pub spelled_all-push : (atoms : List Atom) (atom : Atom) → spelled_all (atoms ++ atom ∷ []) ≡ spelled_all atoms ++ spelled atom
-spelled_all-push [] atom = append-nil (spelled atom)
-spelled_all-push (a ∷ atoms) atom = ap (λ l. spelled a ++ l) (spelled_all-push atoms atom) ∙ sym (append_assoc (spelled a) (spelled_all atoms) (spelled atom))
+pub atoms_text-push : (atoms : List Atom) (atom : Atom) → atoms_text (atoms ++ atom ∷ []) ≡ atoms_text atoms ++ atom_text atom
+atoms_text-push [] atom = append-nil (atom_text atom)
+atoms_text-push (a ∷ atoms) atom = ap (λ l. atom_text a ++ l) (atoms_text-push atoms atom) ∙ sym (append_assoc (atom_text a) (atoms_text atoms) (atom_text atom))
 
 -- atoms and one more
-pub AreAtoms-push : (atoms : List Atom) (atom : Atom) (rest : List ℕ) → AreAtoms atoms (spelled atom ++ rest) → IsAtom atom rest → AreAtoms (atoms ++ atom ∷ []) rest
+pub AreAtoms-push : (atoms : List Atom) (atom : Atom) (rest : List ℕ) → AreAtoms atoms (atom_text atom ++ rest) → IsAtom atom rest → AreAtoms (atoms ++ atom ∷ []) rest
 AreAtoms-push [] atom rest are is = (is, tt)
 AreAtoms-push (a ∷ atoms) atom rest are is =
-    (subst (IsAtom a) (sym (ap (λ l. l ++ rest) (spelled_all-push atoms atom) ∙ append_assoc (spelled_all atoms) (spelled atom) rest)) are.0, AreAtoms-push atoms atom rest are.1 is)
+    (subst (IsAtom a) (sym (ap (λ l. l ++ rest) (atoms_text-push atoms atom) ∙ append_assoc (atoms_text atoms) (atom_text atom) rest)) are.0, AreAtoms-push atoms atom rest are.1 is)
 
 -- a gap and one more atom
-pub IsClosedGap-push : (x : List ℕ) (atom : Atom) → IsClosedGap x → IsGapAtom atom → IsClosedGap (x ++ spelled atom)
+pub IsClosedGap-push : (x : List ℕ) (atom : Atom) → IsClosedGap x → IsGapAtom atom → IsClosedGap (x ++ atom_text atom)
 IsClosedGap-push x atom gap is =
-    (gap.0 ++ atom ∷ [], ap (λ l. l ++ spelled atom) gap.1 ∙ sym (spelled_all-push gap.0 atom), All-push IsGapAtom gap.0 atom gap.2 is)
+    (gap.0 ++ atom ∷ [], ap (λ l. l ++ atom_text atom) gap.1 ∙ sym (atoms_text-push gap.0 atom), All-push IsGapAtom gap.0 atom gap.2 is)
 
 -- a comment may stand in a gap, and in a statement
 pub comment_in_gap : (atom : Atom) → IsComment atom → IsGapAtom atom
@@ -141,7 +141,7 @@ star_to_block b no_slash no_star tail h =
 
 -- these bytes and one more are a comment
 abbrev pub IsClosedBy : ℕ → List ℕ → Type 0
-IsClosedBy b tail = (atom : Atom) × (tail ++ b ∷ [] ≡ spelled atom) × IsComment atom
+IsClosedBy b tail = (atom : Atom) × (tail ++ b ∷ [] ≡ atom_text atom) × IsComment atom
 
 pub line_closes : (b : ℕ) → b ≡ 10 → (tail : List ℕ) → IsOpen LineComment tail → IsClosedBy b tail
 line_closes b is tail h =
@@ -152,28 +152,28 @@ star_closes b is tail h =
     (Block h.0, ap (λ l. l ++ b ∷ []) h.1 ∙ ap (λ l. 47 ∷ 42 ∷ l) (append_assoc h.0 (42 ∷ []) (b ∷ [])) ∙ ap (λ c. 47 ∷ 42 ∷ (h.0 ++ 42 ∷ c ∷ [])) is, h.2)
 
 -- what is held, by how many bytes there are
-held_of-short : (body : List ℕ) → length body ≤ 65536 → held_of body ≡ Some body
-held_of-short body h = cond-true _ _ _ (le-leb _ _ h)
+holding-short : (body : List ℕ) → length body ≤ 65536 → holding body ≡ Some body
+holding-short body h = cond-true _ _ _ (le-leb _ _ h)
 
-held_of-long : (body : List ℕ) → 65536 < length body → held_of body ≡ None
-held_of-long body h = cond-false _ _ _ (lt-leb _ _ h)
+holding-long : (body : List ℕ) → 65536 < length body → holding body ≡ None
+holding-long body h = cond-false _ _ _ (lt-leb _ _ h)
 
 -- no more bytes are held where there is no room
-held_of-full : (body : List ℕ) (b : ℕ) → 65536 ≤ length body → with_byte (held_of body) b ≡ None
-held_of-full body b full =
+holding-full : (body : List ℕ) (b : ℕ) → 65536 ≤ length body → with_byte (holding body) b ≡ None
+holding-full body b full =
     ⊎_elim
-    (λ (longer : 65536 < length body). ap (λ held. with_byte held b) (held_of-long body longer))
+    (λ (longer : 65536 < length body). ap (λ held. with_byte held b) (holding-long body longer))
     (λ (same : length body ≤ 65536).
-    ap (λ held. with_byte held b) (held_of-short body same) ∙ cond-false _ _ _ (le-ltb _ _ full))
+    ap (λ held. with_byte held b) (holding-short body same) ∙ cond-false _ _ _ (le-ltb _ _ full))
     (cases_lt 65536 (length body))
 
 -- what is held of one more byte
-pub held_of-push : (body : List ℕ) (b : ℕ) → with_byte (held_of body) b ≡ held_of (body ++ b ∷ [])
-held_of-push body b =
+pub holding-push : (body : List ℕ) (b : ℕ) → with_byte (holding body) b ≡ holding (body ++ b ∷ [])
+holding-push body b =
     let one_more = length_push body b in
     ⊎_elim
     (λ (short : length body < 65536).
-    ap (λ held. with_byte held b) (held_of-short body (omega arith)) ∙ cond-true _ _ _ (lt-ltb _ _ short) ∙ sym (held_of-short (body ++ b ∷ []) (omega arith)))
+    ap (λ held. with_byte held b) (holding-short body (omega arith)) ∙ cond-true _ _ _ (lt-ltb _ _ short) ∙ sym (holding-short (body ++ b ∷ []) (omega arith)))
     (λ (full : 65536 ≤ length body).
-    held_of-full body b full ∙ sym (held_of-long (body ++ b ∷ []) (omega arith)))
+    holding-full body b full ∙ sym (holding-long (body ++ b ∷ []) (omega arith)))
     (cases_lt (length body) 65536)

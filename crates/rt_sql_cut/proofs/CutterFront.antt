@@ -6,11 +6,11 @@ use Rattle.std.proofs.Math.Seq.{take-append-add}
 use Rattle.std.proofs.lemmas.List.Elements.{All-nil, All-push}
 use Rattle.std.specs.Option.{option_map}
 use Rattle.rt_sql_cut.specs.Piece.{PieceText}
-use Rattle.rt_sql_cut.specs.Pieces.{Atom, Byte, Quoted as QuotedAtom, spelled, spelled_all, IsClosedGap, IsGap, IsOpenComment, IsAtom, AreAtoms, is_gap_byte, BeginsStatement, IsOpenQuote, IsWholePiece, IsLastPiece, held_of, piece_of}
+use Rattle.rt_sql_cut.specs.Pieces.{Atom, Byte, Quoted as QuotedAtom, atom_text, atoms_text, IsClosedGap, IsGap, IsOpenComment, IsAtom, AreAtoms, is_gap_byte, BeginsStatement, IsOpenQuote, IsWholePiece, IsLastPiece, holding, piece_of}
 use Rattle.rt_sql_cut.specs.Text.{is_quote}
-use Rattle.rt_sql_cut.specs.Cutter.{Front, IsOpen, undecided, StopsInGap, StopsInStatement, StopsInDotLine, StopsAt, StandsAt, FinishedAt, last_ending, ending_at, ready_piece}
-use Rattle.rt_sql_cut.specs.CutterStep.{place_after, gap_after, statement_after, held_after, held_in, with_byte, front_after, is_mark, stays, run_len, with_bytes}
-use Rattle.rt_sql_cut.proofs.CutterAtoms.{spelled_all-push, AreAtoms-push, IsClosedGap-push, comment_in_gap, comment_in_statement, no_comment, dash_alone, slash_alone, line_grows, block_grows, block_to_star, star_to_star, star_to_block, nothing_closes, no_close_in_front, IsClosedBy, line_closes, star_closes, held_of-push}
+use Rattle.rt_sql_cut.specs.Cutter.{Front, IsOpen, possible_start, StopsInGap, StopsInStatement, StopsInDotLine, StopsAt, StandsAt, StandsAtEnd, last_ending, ending_at, ready_piece}
+use Rattle.rt_sql_cut.specs.CutterStep.{place_after, gap_after, statement_after, holding_after, holding_in, with_byte, front_after, is_mark, stays, run_len, with_bytes}
+use Rattle.rt_sql_cut.proofs.CutterAtoms.{atoms_text-push, AreAtoms-push, IsClosedGap-push, comment_in_gap, comment_in_statement, no_comment, dash_alone, slash_alone, line_grows, block_grows, block_to_star, star_to_star, star_to_block, nothing_closes, no_close_in_front, IsClosedBy, line_closes, star_closes, holding-push}
 use Rattle.rt_sql_cut.proofs.CutterRuns.{piece_then, no_piece, first_whole}
 use Rattle.rt_sql_cut.specs.declared.piece.Ending.{Ending}
 use Rattle.rt_sql_cut.specs.declared.piece.Ending.TheVariants.{Whole, Incomplete}
@@ -22,7 +22,7 @@ use Rattle.rt_sql_cut.specs.declared.cutter.Place.{Place}
 use Rattle.rt_sql_cut.specs.declared.cutter.Place.TheVariants.{In, Quoted, DotLine, End}
 
 -- the tail of a gap grows
-gap_grows : (spot to : Spot) (held held' : Option (List ℕ)) (x : List ℕ) (b : ℕ) → StopsInGap spot held x → held' ≡ Some (undecided to) → ((tail : List ℕ) → IsOpen spot tail → IsOpen to (tail ++ b ∷ [])) → StopsInGap to held' (x ++ b ∷ [])
+gap_grows : (spot to : Spot) (held held' : Option (List ℕ)) (x : List ℕ) (b : ℕ) → StopsInGap spot held x → held' ≡ Some (possible_start to) → ((tail : List ℕ) → IsOpen spot tail → IsOpen to (tail ++ b ∷ [])) → StopsInGap to held' (x ++ b ∷ [])
 gap_grows spot to held held' x b h holds grow = record {
   gap = h.gap;
   tail = h.tail ++ b ∷ [];
@@ -36,9 +36,9 @@ gap_grows spot to held held' x b h holds grow = record {
 gap_closes : (spot : Spot) (held : Option (List ℕ)) (x : List ℕ) (b : ℕ) → StopsInGap spot held x → ((tail : List ℕ) → IsOpen spot tail → IsClosedBy b tail) → StopsInGap Between (Some []) (x ++ b ∷ [])
 gap_closes spot held x b h close =
     let closes = close h.tail h.open_tail in record {
-      gap = h.gap ++ spelled closes.0;
+      gap = h.gap ++ atom_text closes.0;
       tail = [];
-      split = ap (λ l. l ++ b ∷ []) h.split ∙ append_assoc h.gap h.tail (b ∷ []) ∙ ap (λ l. h.gap ++ l) closes.1 ∙ sym (append-nil (h.gap ++ spelled closes.0));
+      split = ap (λ l. l ++ b ∷ []) h.split ∙ append_assoc h.gap h.tail (b ∷ []) ∙ ap (λ l. h.gap ++ l) closes.1 ∙ sym (append-nil (h.gap ++ atom_text closes.0));
       closed = IsClosedGap-push h.gap closes.0 h.closed (comment_in_gap closes.0 closes.2);
       open_tail = refl;
       holds = refl;
@@ -63,16 +63,16 @@ statement_grows Tail To held x b h grow = record {
   split = ap (λ l. l ++ b ∷ []) h.split ∙ append_assoc h.gap h.body (b ∷ []);
   closed = h.closed;
   begins = λ rest. subst BeginsStatement (sym (append_assoc h.body (b ∷ []) rest)) (h.begins (b ∷ rest));
-  holds = ap (λ held. with_byte held b) h.holds ∙ held_of-push h.body b;
+  holds = ap (λ held. with_byte held b) h.holds ∙ holding-push h.body b;
   atoms = h.atoms;
   tail = h.tail ++ b ∷ [];
-  parts = ap (λ l. l ++ b ∷ []) h.parts ∙ append_assoc (spelled_all h.atoms) h.tail (b ∷ []);
+  parts = ap (λ l. l ++ b ∷ []) h.parts ∙ append_assoc (atoms_text h.atoms) h.tail (b ∷ []);
   are_atoms = λ rest. subst (AreAtoms h.atoms) (sym (append_assoc h.tail (b ∷ []) rest)) (h.are_atoms (b ∷ rest));
   open_tail = grow h.tail h.open_tail;
 }
 
 -- the tail of a statement becomes an atom
-statement_closes : (Tail : List ℕ → Type 0) (held : Option (List ℕ)) (x : List ℕ) (b : ℕ) → StopsInStatement Tail held x → ((tail : List ℕ) → Tail tail → (atom : Atom) × (tail ++ b ∷ [] ≡ spelled atom) × ((rest : List ℕ) → IsAtom atom rest)) → StopsInStatement (IsOpen Between) (with_byte held b) (x ++ b ∷ [])
+statement_closes : (Tail : List ℕ → Type 0) (held : Option (List ℕ)) (x : List ℕ) (b : ℕ) → StopsInStatement Tail held x → ((tail : List ℕ) → Tail tail → (atom : Atom) × (tail ++ b ∷ [] ≡ atom_text atom) × ((rest : List ℕ) → IsAtom atom rest)) → StopsInStatement (IsOpen Between) (with_byte held b) (x ++ b ∷ [])
 statement_closes Tail held x b h close =
     let closes = close h.tail h.open_tail in record {
       gap = h.gap;
@@ -80,16 +80,16 @@ statement_closes Tail held x b h close =
       split = ap (λ l. l ++ b ∷ []) h.split ∙ append_assoc h.gap h.body (b ∷ []);
       closed = h.closed;
       begins = λ rest. subst BeginsStatement (sym (append_assoc h.body (b ∷ []) rest)) (h.begins (b ∷ rest));
-      holds = ap (λ held. with_byte held b) h.holds ∙ held_of-push h.body b;
+      holds = ap (λ held. with_byte held b) h.holds ∙ holding-push h.body b;
       atoms = h.atoms ++ closes.0 ∷ [];
       tail = [];
-      parts = ap (λ l. l ++ b ∷ []) h.parts ∙ append_assoc (spelled_all h.atoms) h.tail (b ∷ []) ∙ ap (λ l. spelled_all h.atoms ++ l) closes.1 ∙ sym (spelled_all-push h.atoms closes.0) ∙ sym (append-nil _);
+      parts = ap (λ l. l ++ b ∷ []) h.parts ∙ append_assoc (atoms_text h.atoms) h.tail (b ∷ []) ∙ ap (λ l. atoms_text h.atoms ++ l) closes.1 ∙ sym (atoms_text-push h.atoms closes.0) ∙ sym (append-nil _);
       are_atoms = λ rest. AreAtoms-push h.atoms closes.0 rest (subst (AreAtoms h.atoms) (sym (append_assoc h.tail (b ∷ []) rest) ∙ ap (λ l. l ++ rest) closes.1) (h.are_atoms (b ∷ rest))) (closes.2 rest);
       open_tail = refl;
     }
 
 -- a comment in a statement becomes an atom
-comment_closes : (spot : Spot) (b : ℕ) → ((tail : List ℕ) → IsOpen spot tail → IsClosedBy b tail) → (tail : List ℕ) → IsOpen spot tail → (atom : Atom) × (tail ++ b ∷ [] ≡ spelled atom) × ((rest : List ℕ) → IsAtom atom rest)
+comment_closes : (spot : Spot) (b : ℕ) → ((tail : List ℕ) → IsOpen spot tail → IsClosedBy b tail) → (tail : List ℕ) → IsOpen spot tail → (atom : Atom) × (tail ++ b ∷ [] ≡ atom_text atom) × ((rest : List ℕ) → IsAtom atom rest)
 comment_closes spot b close tail h =
     let closes = close tail h in
     (closes.0, closes.1, λ rest. comment_in_statement closes.0 rest closes.2)
@@ -101,9 +101,9 @@ record StopsBefore (b : ℕ) (held : Option (List ℕ)) (x : List ℕ) : Type 0 
   split : x ≡ gap ++ body
   closed : IsClosedGap gap
   begins : (rest : List ℕ) → BeginsStatement (body ++ b ∷ rest)
-  holds : held ≡ held_of body
+  holds : held ≡ holding body
   atoms : List Atom
-  parts : body ≡ spelled_all atoms
+  parts : body ≡ atoms_text atoms
   are_atoms : (rest : List ℕ) → AreAtoms atoms (b ∷ rest)
 
 before_between : (held : Option (List ℕ)) (x : List ℕ) (b : ℕ) → StopsInStatement (IsOpen Between) held x → StopsBefore b held x
@@ -115,7 +115,7 @@ before_between held x b h = record {
   begins = λ rest. h.begins (b ∷ rest);
   holds = h.holds;
   atoms = h.atoms;
-  parts = h.parts ∙ ap (λ l. spelled_all h.atoms ++ l) h.open_tail ∙ append-nil (spelled_all h.atoms);
+  parts = h.parts ∙ ap (λ l. atoms_text h.atoms ++ l) h.open_tail ∙ append-nil (atoms_text h.atoms);
   are_atoms = λ rest. subst (λ l. AreAtoms h.atoms (l ++ b ∷ rest)) h.open_tail (h.are_atoms (b ∷ rest));
 }
 
@@ -130,7 +130,7 @@ before_alone spot a held x b h opens is_atom =
       begins = λ rest. h.begins (b ∷ rest);
       holds = h.holds;
       atoms = h.atoms ++ Byte a ∷ [];
-      parts = h.parts ∙ ap (λ l. spelled_all h.atoms ++ l) opened ∙ sym (spelled_all-push h.atoms (Byte a));
+      parts = h.parts ∙ ap (λ l. atoms_text h.atoms ++ l) opened ∙ sym (atoms_text-push h.atoms (Byte a));
       are_atoms = λ rest. AreAtoms-push h.atoms (Byte a) (b ∷ rest) (subst (λ l. AreAtoms h.atoms (l ++ b ∷ rest)) opened (h.are_atoms (b ∷ rest))) (is_atom rest);
     }
 
@@ -149,7 +149,7 @@ before_first held x b h begins = record {
 }
 
 -- a statement that begins with a byte that could begin a comment, and doesn't
-before_second : (spot : Spot) (a : ℕ) (held : Option (List ℕ)) (x : List ℕ) (b : ℕ) → StopsInGap spot held x → ((tail : List ℕ) → IsOpen spot tail → tail ≡ a ∷ []) → undecided spot ≡ a ∷ [] → ((rest : List ℕ) → BeginsStatement (a ∷ b ∷ rest)) → ((rest : List ℕ) → IsAtom (Byte a) (b ∷ rest)) → StopsBefore b held x
+before_second : (spot : Spot) (a : ℕ) (held : Option (List ℕ)) (x : List ℕ) (b : ℕ) → StopsInGap spot held x → ((tail : List ℕ) → IsOpen spot tail → tail ≡ a ∷ []) → possible_start spot ≡ a ∷ [] → ((rest : List ℕ) → BeginsStatement (a ∷ b ∷ rest)) → ((rest : List ℕ) → IsAtom (Byte a) (b ∷ rest)) → StopsBefore b held x
 before_second spot a held x b h opens waits begins is_atom = record {
   gap = h.gap;
   body = a ∷ [];
@@ -170,7 +170,7 @@ opens_tail Tail held x b h open_tail = record {
   split = ap (λ l. l ++ b ∷ []) h.split ∙ append_assoc h.gap h.body (b ∷ []);
   closed = h.closed;
   begins = λ rest. subst BeginsStatement (sym (append_assoc h.body (b ∷ []) rest)) (h.begins rest);
-  holds = ap (λ held. with_byte held b) h.holds ∙ held_of-push h.body b;
+  holds = ap (λ held. with_byte held b) h.holds ∙ holding-push h.body b;
   atoms = h.atoms;
   tail = b ∷ [];
   parts = ap (λ l. l ++ b ∷ []) h.parts;
@@ -186,10 +186,10 @@ is_atom_byte held x b h is_atom = record {
   split = ap (λ l. l ++ b ∷ []) h.split ∙ append_assoc h.gap h.body (b ∷ []);
   closed = h.closed;
   begins = λ rest. subst BeginsStatement (sym (append_assoc h.body (b ∷ []) rest)) (h.begins rest);
-  holds = ap (λ held. with_byte held b) h.holds ∙ held_of-push h.body b;
+  holds = ap (λ held. with_byte held b) h.holds ∙ holding-push h.body b;
   atoms = h.atoms ++ Byte b ∷ [];
   tail = [];
-  parts = ap (λ l. l ++ b ∷ []) h.parts ∙ sym (spelled_all-push h.atoms (Byte b)) ∙ sym (append-nil _);
+  parts = ap (λ l. l ++ b ∷ []) h.parts ∙ sym (atoms_text-push h.atoms (Byte b)) ∙ sym (append-nil _);
   are_atoms = λ rest. AreAtoms-push h.atoms (Byte b) rest (h.are_atoms rest) (is_atom rest);
   open_tail = refl;
 }
@@ -204,11 +204,11 @@ ends_statement held x b is h = (
   inl (
     (
       h.atoms,
-      ap (λ l. l ++ b ∷ []) h.parts ∙ ap (λ c. spelled_all h.atoms ++ c ∷ []) is,
+      ap (λ l. l ++ b ∷ []) h.parts ∙ ap (λ c. atoms_text h.atoms ++ c ∷ []) is,
       subst (λ c. AreAtoms h.atoms (c ∷ [])) is (h.are_atoms []),
       h.begins [],
     ),
-    ap (λ held. piece_of held Whole) (ap (λ held. with_byte held b) h.holds ∙ held_of-push h.body b),
+    ap (λ held. piece_of held Whole) (ap (λ held. with_byte held b) h.holds ∙ holding-push h.body b),
   ),
 )
 
@@ -231,7 +231,7 @@ line_goes_on held x b other h = record {
   split = ap (λ l. l ++ b ∷ []) h.split ∙ append_assoc h.gap h.line (b ∷ []);
   closed = h.closed;
   is_line = (h.is_line.0 ++ b ∷ [], ap (λ l. l ++ b ∷ []) h.is_line.1, All-push (λ c. c ≢ 10) h.is_line.0 b h.is_line.2 other);
-  holds = ap (λ held. with_byte held b) h.holds ∙ held_of-push h.line b;
+  holds = ap (λ held. with_byte held b) h.holds ∙ holding-push h.line b;
 }
 
 -- a line feed ends it
@@ -245,9 +245,9 @@ line_ends held x b is h = (
 )
 
 -- the byte goes on with the statement
-goes_on : (held : Option (List ℕ)) (x : List ℕ) (b : ℕ) → StopsBefore b held x → StopsAt (statement_after b) (held_after (statement_after b) held b) (x ++ b ∷ [])
+goes_on : (held : Option (List ℕ)) (x : List ℕ) (b : ℕ) → StopsBefore b held x → StopsAt (statement_after b) (holding_after (statement_after b) held b) (x ++ b ∷ [])
 goes_on held x b h =
-    let Goal : Place → Type 0 = λ place. StopsAt place (held_after place held b) (x ++ b ∷ []) in
+    let Goal : Place → Type 0 = λ place. StopsAt place (holding_after place held b) (x ++ b ∷ []) in
     let unquoted : Place = In Statement Between in
     let other : Place = cond (is_quote b) (Quoted b) unquoted in
     let no_dash : Place = cond (eqb b 47) (In Statement AfterSlash) other in
@@ -270,9 +270,9 @@ goes_on held x b h =
     ))))))
 
 -- a byte between pieces
-gap_byte : (held : Option (List ℕ)) (x : List ℕ) (b : ℕ) → StopsInGap Between held x → StopsAt (gap_after b) (held_after (gap_after b) held b) (x ++ b ∷ [])
+gap_byte : (held : Option (List ℕ)) (x : List ℕ) (b : ℕ) → StopsInGap Between held x → StopsAt (gap_after b) (holding_after (gap_after b) held b) (x ++ b ∷ [])
 gap_byte held x b h =
-    let Goal : Place → Type 0 = λ place. StopsAt place (held_after place held b) (x ++ b ∷ []) in
+    let Goal : Place → Type 0 = λ place. StopsAt place (holding_after place held b) (x ++ b ∷ []) in
     let no_dash : Place = cond (eqb b 47) (In Gap AfterSlash) (statement_after b) in
     let no_dot : Place = cond (eqb b 45) (In Gap AfterDash) no_dash in
     let no_gap : Place = cond (eqb b 46) DotLine no_dot in
@@ -325,14 +325,14 @@ before_slash Statement held x b alone h =
     before_alone AfterSlash 47 held x b h (λ tail is. is) (slash_atom b alone)
 
 -- a comment begins or goes on, in a gap or a statement
-part_grows : (part : Part) (spot to : Spot) (held : Option (List ℕ)) (x : List ℕ) (b : ℕ) → StopsAt (In part spot) held x → undecided to ≡ [] → ((tail : List ℕ) → IsOpen spot tail → IsOpen to (tail ++ b ∷ [])) → StopsAt (In part to) (held_in part held b) (x ++ b ∷ [])
+part_grows : (part : Part) (spot to : Spot) (held : Option (List ℕ)) (x : List ℕ) (b : ℕ) → StopsAt (In part spot) held x → possible_start to ≡ [] → ((tail : List ℕ) → IsOpen spot tail → IsOpen to (tail ++ b ∷ [])) → StopsAt (In part to) (holding_in part held b) (x ++ b ∷ [])
 part_grows Gap spot to held x b h none grow =
     gap_grows spot to held (Some []) x b h (ap Some (sym none)) grow
 part_grows Statement spot to held x b h none grow =
     statement_grows (IsOpen spot) (IsOpen to) held x b h grow
 
 -- a comment ends, in a gap or a statement
-part_closes : (part : Part) (spot : Spot) (held : Option (List ℕ)) (x : List ℕ) (b : ℕ) → StopsAt (In part spot) held x → ((tail : List ℕ) → IsOpen spot tail → IsClosedBy b tail) → StopsAt (In part Between) (held_in part held b) (x ++ b ∷ [])
+part_closes : (part : Part) (spot : Spot) (held : Option (List ℕ)) (x : List ℕ) (b : ℕ) → StopsAt (In part spot) held x → ((tail : List ℕ) → IsOpen spot tail → IsClosedBy b tail) → StopsAt (In part Between) (holding_in part held b) (x ++ b ∷ [])
 part_closes Gap spot held x b h close = gap_closes spot held x b h close
 part_closes Statement spot held x b h close =
     statement_closes (IsOpen spot) held x b h (comment_closes spot b close)
@@ -342,36 +342,36 @@ quote_grows : (quote b : ℕ) → b ≢ quote → (tail : List ℕ) → IsOpenQu
 quote_grows quote b other tail h =
     (h.0 ++ b ∷ [], ap (λ l. l ++ b ∷ []) h.1, h.2, All-push (λ c. c ≢ quote) h.0 b h.3 other)
 
-quote_closes : (quote b : ℕ) → b ≡ quote → (tail : List ℕ) → IsOpenQuote quote tail → (atom : Atom) × (tail ++ b ∷ [] ≡ spelled atom) × ((rest : List ℕ) → IsAtom atom rest)
+quote_closes : (quote b : ℕ) → b ≡ quote → (tail : List ℕ) → IsOpenQuote quote tail → (atom : Atom) × (tail ++ b ∷ [] ≡ atom_text atom) × ((rest : List ℕ) → IsAtom atom rest)
 quote_closes quote b is tail h =
     (QuotedAtom quote h.0, ap (λ l. l ++ b ∷ []) h.1 ∙ ap (λ c. quote ∷ (h.0 ++ c ∷ [])) is, λ rest. (h.2, h.3))
 
 -- one more byte after a place that is no end
-pub stops_after : (place : Place) (held : Option (List ℕ)) (x : List ℕ) (b : ℕ) → place ≢ End → StopsAt place held x → StopsAt (place_after place b) (held_after (place_after place b) held b) (x ++ b ∷ [])
+pub stops_after : (place : Place) (held : Option (List ℕ)) (x : List ℕ) (b : ℕ) → place ≢ End → StopsAt place held x → StopsAt (place_after place b) (holding_after (place_after place b) held b) (x ++ b ∷ [])
 stops_after (In Gap Between) held x b on h = gap_byte held x b h
 stops_after (In Statement Between) held x b on h = goes_on held x b (before_between held x b h)
 stops_after (In part AfterDash) held x b on h =
-    let Goal : Place → Type 0 = λ place. StopsAt place (held_after place held b) (x ++ b ∷ []) in
+    let Goal : Place → Type 0 = λ place. StopsAt place (holding_after place held b) (x ++ b ∷ []) in
     cond_both (eqb b 45) (In part LineComment) (statement_after b) Goal
     (λ dash. part_grows part AfterDash LineComment held x b h refl (second_dash b (eqb-true b 45 dash)))
     (λ other. goes_on held x b (before_dash part held x b (eqb-false b 45 other) h))
 stops_after (In part AfterSlash) held x b on h =
-    let Goal : Place → Type 0 = λ place. StopsAt place (held_after place held b) (x ++ b ∷ []) in
+    let Goal : Place → Type 0 = λ place. StopsAt place (holding_after place held b) (x ++ b ∷ []) in
     cond_both (eqb b 42) (In part BlockComment) (statement_after b) Goal
     (λ star. part_grows part AfterSlash BlockComment held x b h refl (star_of_slash b (eqb-true b 42 star)))
     (λ other. goes_on held x b (before_slash part held x b (eqb-false b 42 other) h))
 stops_after (In part LineComment) held x b on h =
-    let Goal : Spot → Type 0 = λ spot. StopsAt (In part spot) (held_after (In part spot) held b) (x ++ b ∷ []) in
+    let Goal : Spot → Type 0 = λ spot. StopsAt (In part spot) (holding_after (In part spot) held b) (x ++ b ∷ []) in
     cond_both (eqb b 10) Between LineComment Goal
     (λ line_feed. part_closes part LineComment held x b h (line_closes b (eqb-true b 10 line_feed)))
     (λ other. part_grows part LineComment LineComment held x b h refl (line_grows b (eqb-false b 10 other)))
 stops_after (In part BlockComment) held x b on h =
-    let Goal : Spot → Type 0 = λ spot. StopsAt (In part spot) (held_after (In part spot) held b) (x ++ b ∷ []) in
+    let Goal : Spot → Type 0 = λ spot. StopsAt (In part spot) (holding_after (In part spot) held b) (x ++ b ∷ []) in
     cond_both (eqb b 42) AfterStar BlockComment Goal
     (λ star. part_grows part BlockComment AfterStar held x b h refl (block_to_star b (eqb-true b 42 star)))
     (λ other. part_grows part BlockComment BlockComment held x b h refl (block_grows b (eqb-false b 42 other)))
 stops_after (In part AfterStar) held x b on h =
-    let Goal : Spot → Type 0 = λ spot. StopsAt (In part spot) (held_after (In part spot) held b) (x ++ b ∷ []) in
+    let Goal : Spot → Type 0 = λ spot. StopsAt (In part spot) (holding_after (In part spot) held b) (x ++ b ∷ []) in
     let no_slash : Spot = cond (eqb b 42) AfterStar BlockComment in
     cond_both (eqb b 47) Between no_slash Goal
     (λ slash. part_closes part AfterStar held x b h (star_closes b (eqb-true b 47 slash)))
@@ -379,12 +379,12 @@ stops_after (In part AfterStar) held x b on h =
     (λ star. part_grows part AfterStar AfterStar held x b h refl (star_to_star b (eqb-true b 42 star)))
     (λ not_star. part_grows part AfterStar BlockComment held x b h refl (star_to_block b (eqb-false b 47 not_slash) (eqb-false b 42 not_star))))
 stops_after (Quoted quote) held x b on h =
-    let Goal : Place → Type 0 = λ place. StopsAt place (held_after place held b) (x ++ b ∷ []) in
+    let Goal : Place → Type 0 = λ place. StopsAt place (holding_after place held b) (x ++ b ∷ []) in
     cond_both (eqb b quote) (In Statement Between) (Quoted quote) Goal
     (λ same. statement_closes (IsOpenQuote quote) held x b h (quote_closes quote b (eqb-true b quote same)))
     (λ other. statement_grows (IsOpenQuote quote) (IsOpenQuote quote) held x b h (quote_grows quote b (eqb-false b quote other)))
 stops_after DotLine held x b on h =
-    let Goal : Place → Type 0 = λ place. StopsAt place (held_after place held b) (x ++ b ∷ []) in
+    let Goal : Place → Type 0 = λ place. StopsAt place (holding_after place held b) (x ++ b ∷ []) in
     cond_both (eqb b 10) End DotLine Goal
     (λ line_feed.
     subst (λ held. IsWholePiece (x ++ b ∷ []) (piece_of held Whole)) (sym (cond-true _ _ _ line_feed)) (line_ends held x b (eqb-true b 10 line_feed) h))
@@ -403,7 +403,7 @@ gap_left : (spot : Spot) (held : Option (List ℕ)) (x : List ℕ) → StopsInGa
 gap_left spot held x h tail_is = (h.gap, h.tail, h.split, h.closed, tail_is h.tail h.open_tail)
 
 -- a statement of one byte that the input ends
-byte_left : (spot : Spot) (a : ℕ) (held : Option (List ℕ)) (x : List ℕ) → StopsInGap spot held x → ((tail : List ℕ) → IsOpen spot tail → tail ≡ a ∷ []) → undecided spot ≡ a ∷ [] → BeginsStatement (a ∷ []) → IsAtom (Byte a) [] → IsLastPiece x (piece_of held Incomplete)
+byte_left : (spot : Spot) (a : ℕ) (held : Option (List ℕ)) (x : List ℕ) → StopsInGap spot held x → ((tail : List ℕ) → IsOpen spot tail → tail ≡ a ∷ []) → possible_start spot ≡ a ∷ [] → BeginsStatement (a ∷ []) → IsAtom (Byte a) [] → IsLastPiece x (piece_of held Incomplete)
 byte_left spot a held x h opens waits begins is_atom = (
   h.gap,
   a ∷ [],
@@ -444,7 +444,7 @@ alone_left spot a held x h opens is_atom =
         (
           h.atoms ++ Byte a ∷ [],
           [],
-          h.parts ∙ ap (λ l. spelled_all h.atoms ++ l) opened ∙ sym (spelled_all-push h.atoms (Byte a)) ∙ sym (append-nil _),
+          h.parts ∙ ap (λ l. atoms_text h.atoms ++ l) opened ∙ sym (atoms_text-push h.atoms (Byte a)) ∙ sym (append-nil _),
           AreAtoms-push h.atoms (Byte a) [] (subst (λ l. AreAtoms h.atoms (l ++ [])) opened (h.are_atoms [])) is_atom,
           subst BeginsStatement (append-nil h.body) (h.begins []),
           inl refl,
@@ -531,7 +531,7 @@ pub whole_at : (f : Front) (x : List ℕ) → StandsAt f x → MatchOption (read
 whole_at f x stands = subst (λ finished. MatchOption (ready_piece (record f { finished = finished })) (IsGap x ⊎ ((p : PieceText) × IsLastPiece x p)) (λ p. IsWholePiece x p)) (sym stands.0) (ready_open f.place f.held x stands.1)
 
 -- what is ready where it has ended
-pub last_at : (f : Front) (x : List ℕ) → FinishedAt f x → MatchOption (ready_piece f) (IsGap x) (λ p. IsWholePiece x p ⊎ IsLastPiece x p)
+pub last_at : (f : Front) (x : List ℕ) → StandsAtEnd f x → MatchOption (ready_piece f) (IsGap x) (λ p. IsWholePiece x p ⊎ IsLastPiece x p)
 last_at f x stands = subst (λ finished. MatchOption (ready_piece (record f { finished = finished })) (IsGap x) (λ p. IsWholePiece x p ⊎ IsLastPiece x p)) (sym stands.0) (ready_last f.place f.held x stands.1)
 
 -- no piece is ready where no byte was taken, as after `clear`
@@ -550,7 +550,7 @@ goes_with (In Statement Between) held x b is h =
     let slash = or_parts (b == 59 || b == 45) (b == 47) quote.0 in
     let dash = or_parts (b == 59) (b == 45) slash.0 in
     let same : statement_after b ≡ In Statement Between = cond-false _ _ _ dash.0 ∙ cond-false _ _ _ dash.1 ∙ cond-false _ _ _ slash.1 ∙ cond-false _ _ _ quote.1 in
-    subst (λ place. StopsAt place (held_after place held b) (x ++ b ∷ [])) same (stops_after (In Statement Between) held x b (λ e. cc) h)
+    subst (λ place. StopsAt place (holding_after place held b) (x ++ b ∷ [])) same (stops_after (In Statement Between) held x b (λ e. cc) h)
 goes_with (In Statement AfterDash) held x b is h = absurd (false≢true is)
 goes_with (In Statement AfterSlash) held x b is h = absurd (false≢true is)
 goes_with (In Statement LineComment) held x b is h = absurd (false≢true is)
@@ -558,10 +558,10 @@ goes_with (In Statement BlockComment) held x b is h = absurd (false≢true is)
 goes_with (In Statement AfterStar) held x b is h = absurd (false≢true is)
 goes_with (Quoted quote) held x b is h =
     let same : place_after (Quoted quote) b ≡ Quoted quote = cond-false _ _ _ (not-true (b == quote) is) in
-    subst (λ place. StopsAt place (held_after place held b) (x ++ b ∷ [])) same (stops_after (Quoted quote) held x b (λ e. cc) h)
+    subst (λ place. StopsAt place (holding_after place held b) (x ++ b ∷ [])) same (stops_after (Quoted quote) held x b (λ e. cc) h)
 goes_with DotLine held x b is h =
     let same : place_after DotLine b ≡ DotLine = cond-false _ _ _ (not-true (b == 10) is) in
-    subst (λ place. StopsAt place (held_after place held b) (x ++ b ∷ [])) same (stops_after DotLine held x b (λ e. cc) h)
+    subst (λ place. StopsAt place (holding_after place held b) (x ++ b ∷ [])) same (stops_after DotLine held x b (λ e. cc) h)
 goes_with End held x b is h = absurd (false≢true is)
 
 -- the bytes at the front that leave the place as it is

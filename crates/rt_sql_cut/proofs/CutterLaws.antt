@@ -4,7 +4,7 @@ use Rattle.std.proofs.lemmas.List.Elements.{All-nil}
 use Rattle.rt_sql_cut.specs.Piece.{PieceText}
 use Rattle.rt_sql_cut.specs.Pieces.{IsGapAtom, IsGap, IsLastPiece, piece_of, Pieces, CuttingIsDetermined, EveryTextIsCut}
 use Rattle.rt_sql_cut.specs.Cutter.{StopsAt}
-use Rattle.rt_sql_cut.specs.CutterStep.{place_after, held_after}
+use Rattle.rt_sql_cut.specs.CutterStep.{place_after, holding_after}
 use Rattle.rt_sql_cut.proofs.CutterFront.{stops_after, no_end, end_or_not}
 use Rattle.rt_sql_cut.proofs.CutterRuns.{first_of, first_gap, first_whole, first_last}
 use Rattle.rt_sql_cut.specs.declared.piece.Ending.TheVariants.{Whole}
@@ -70,13 +70,13 @@ cut_from (b ∷ bs) before place held on h =
     let more = append_assoc before (b ∷ []) bs in
     let Cut : List ℕ → Type 0 = λ l. (ps : List PieceText) × Pieces l ps in
     let to = place_after place b in
-    let next : StopsAt to (held_after to held b) (before ++ b ∷ []) = stops_after place held before b on h in
+    let next : StopsAt to (holding_after to held b) (before ++ b ∷ []) = stops_after place held before b on h in
     ⊎_elim
     (λ (is : to ≡ End).
-    let whole = subst (λ place. StopsAt place (held_after place held b) (before ++ b ∷ [])) is next in
+    let whole = subst (λ place. StopsAt place (holding_after place held b) (before ++ b ∷ [])) is next in
     let rest = cut_from bs [] (In Gap Between) (Some []) (λ e. cc) nothing_taken in
-    let cut : Cut (before ++ b ∷ bs) = (piece_of (held_after End held b) Whole ∷ rest.0, inr (before ++ b ∷ [], bs, sym more, whole, rest.1)) in cut)
-    (λ (goes_on : to ≢ End). subst Cut more (cut_from bs (before ++ b ∷ []) to (held_after to held b) goes_on next))
+    let cut : Cut (before ++ b ∷ bs) = (piece_of (holding_after End held b) Whole ∷ rest.0, inr (before ++ b ∷ [], bs, sym more, whole, rest.1)) in cut)
+    (λ (goes_on : to ≢ End). subst Cut more (cut_from bs (before ++ b ∷ []) to (holding_after to held b) goes_on next))
     (end_or_not to)
 
 pub cut_somehow : EveryTextIsCut

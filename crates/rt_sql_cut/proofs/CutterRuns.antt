@@ -3,7 +3,7 @@ use Rattle.std.proofs.Common.{◌≡◌, ◌≢◌, ℕ, Bool, true, false, cond
 use Rattle.std.proofs.lemmas.Bool.{cases_eq, eqb-true, eq-eqb, ne_eqb, or_cases, cond-true, cond-false, true≢false}
 use Rattle.std.proofs.lemmas.List.Elements.{All-head, All-tail}
 use Rattle.rt_sql_cut.specs.Piece.{PieceText}
-use Rattle.rt_sql_cut.specs.Pieces.{Atom, Byte, Line, Block, Quoted as QuotedAtom, spelled, spelled_all, IsComment, IsOpenComment, IsGapAtom, IsClosedGap, IsGap, IsAtom, AreAtoms, is_gap_byte, IsOpenQuote, BeginsStatement, IsOpenStatement, IsStatement, IsDotLine, IsWholePiece, IsLastPiece, seen}
+use Rattle.rt_sql_cut.specs.Pieces.{Atom, Byte, Line, Block, Quoted as QuotedAtom, atom_text, atoms_text, IsComment, IsOpenComment, IsGapAtom, IsClosedGap, IsGap, IsAtom, AreAtoms, is_gap_byte, IsOpenQuote, BeginsStatement, IsOpenStatement, IsStatement, IsDotLine, IsWholePiece, IsLastPiece, piece_from}
 use Rattle.rt_sql_cut.specs.Text.{Lacks, BeginsComment, is_quote}
 use Rattle.rt_sql_cut.specs.Cutter.{last_ending}
 use Rattle.rt_sql_cut.specs.CutterStep.{place_after, gap_after, statement_after}
@@ -26,7 +26,7 @@ pub data Outcome : Type 0 where
 -- where the text ends, with these bytes of a piece, which ends so
 abbrev outcome_of : List ℕ → Option Ending → Outcome
 outcome_of body None = no_piece
-outcome_of body (Some ending) = last_piece (seen body ending)
+outcome_of body (Some ending) = last_piece (piece_from body ending)
 
 -- the bytes of a piece in a gap or a statement
 abbrev body_in : Part → List ℕ → List ℕ
@@ -56,7 +56,7 @@ end_or End ended on = ended
 abbrev first_piece : Place → List ℕ → List ℕ → Outcome
 first_piece place body [] = outcome_of body (last_ending place)
 first_piece place body (b ∷ bs) =
-    end_or (place_after place b) (piece_then (seen (body_after (place_after place b) body b) Whole) bs) (first_piece (place_after place b) (body_after (place_after place b) body b) bs)
+    end_or (place_after place b) (piece_then (piece_from (body_after (place_after place b) body b) Whole) bs) (first_piece (place_after place b) (body_after (place_after place b) body b) bs)
 
 -- the first piece of a whole text
 abbrev pub first_of : List ℕ → Outcome
@@ -65,7 +65,7 @@ first_of x = first_piece (In Gap Between) [] x
 -- what comes after a byte that leads to a place
 abbrev outcome_at : List ℕ → ℕ → List ℕ → Place → Outcome
 outcome_at body b bs to =
-    end_or to (piece_then (seen (body_after to body b) Whole) bs) (first_piece to (body_after to body b) bs)
+    end_or to (piece_then (piece_from (body_after to body b) Whole) bs) (first_piece to (body_after to body b) bs)
 
 -- one byte
 leads : (place to : Place) (body : List ℕ) (b : ℕ) (bs : List ℕ) → place_after place b ≡ to → first_piece place body (b ∷ bs) ≡ outcome_at body b bs to
@@ -168,7 +168,7 @@ body_in-comment Gap body a b text end = refl
 body_in-comment Statement body a b text end = simp append_assoc
 
 -- a comment
-run_comment : (part : Part) (atom : Atom) (body rest : List ℕ) → IsComment atom → first_piece (In part Between) (body_in part body) (spelled atom ++ rest) ≡ first_piece (In part Between) (body_in part (body ++ spelled atom)) rest
+run_comment : (part : Part) (atom : Atom) (body rest : List ℕ) → IsComment atom → first_piece (In part Between) (body_in part body) (atom_text atom ++ rest) ≡ first_piece (In part Between) (body_in part (body ++ atom_text atom)) rest
 run_comment part (Byte b) body rest is = absurd is
 run_comment part (QuotedAtom quote text) body rest is = absurd is
 run_comment part (Line text) body rest is =
@@ -218,29 +218,29 @@ quote_after quote is = ⊎_elim
     (or_cases (eqb quote 39) (eqb quote 34) is)
 
 -- an atom of a statement
-run_atom : (atom : Atom) (body rest : List ℕ) → IsAtom atom rest → first_piece (In Statement Between) body (spelled atom ++ rest) ≡ first_piece (In Statement Between) (body ++ spelled atom) rest
+run_atom : (atom : Atom) (body rest : List ℕ) → IsAtom atom rest → first_piece (In Statement Between) body (atom_text atom ++ rest) ≡ first_piece (In Statement Between) (body ++ atom_text atom) rest
 run_atom (Byte b) body rest is = run_byte b body rest is
 run_atom (Line text) body rest is = run_comment Statement (Line text) body rest is
 run_atom (Block text) body rest is = run_comment Statement (Block text) body rest is
 run_atom (QuotedAtom quote text) body rest is =
     leads (In Statement Between) (Quoted quote) body quote _ (quote_after quote is.0) ∙ ap (first_piece (Quoted quote) (body ++ quote ∷ [])) (append_assoc text (quote ∷ []) rest) ∙ run_quote quote (body ++ quote ∷ []) text (quote ∷ rest) is.1 ∙ leads (Quoted quote) (In Statement Between) (body ++ quote ∷ [] ++ text) quote rest (cond-true _ _ _ (eq-eqb quote quote refl)) ∙ ap (λ l. first_piece (In Statement Between) l rest) (simp append_assoc)
 
-run_atoms : (atoms : List Atom) (body rest : List ℕ) → AreAtoms atoms rest → first_piece (In Statement Between) body (spelled_all atoms ++ rest) ≡ first_piece (In Statement Between) (body ++ spelled_all atoms) rest
+run_atoms : (atoms : List Atom) (body rest : List ℕ) → AreAtoms atoms rest → first_piece (In Statement Between) body (atoms_text atoms ++ rest) ≡ first_piece (In Statement Between) (body ++ atoms_text atoms) rest
 run_atoms [] body rest are = ap (λ l. first_piece (In Statement Between) l rest) (sym (append-nil body))
 run_atoms (atom ∷ atoms) body rest are =
-    ap (first_piece (In Statement Between) body) (append_assoc (spelled atom) (spelled_all atoms) rest) ∙ run_atom atom body (spelled_all atoms ++ rest) are.0 ∙ run_atoms atoms (body ++ spelled atom) rest are.1 ∙ ap (λ l. first_piece (In Statement Between) l rest) (append_assoc body (spelled atom) (spelled_all atoms))
+    ap (first_piece (In Statement Between) body) (append_assoc (atom_text atom) (atoms_text atoms) rest) ∙ run_atom atom body (atoms_text atoms ++ rest) are.0 ∙ run_atoms atoms (body ++ atom_text atom) rest are.1 ∙ ap (λ l. first_piece (In Statement Between) l rest) (append_assoc body (atom_text atom) (atoms_text atoms))
 
 -- the atoms of a gap
-run_gap_atom : (atom : Atom) (rest : List ℕ) → IsGapAtom atom → first_of (spelled atom ++ rest) ≡ first_of rest
+run_gap_atom : (atom : Atom) (rest : List ℕ) → IsGapAtom atom → first_of (atom_text atom ++ rest) ≡ first_of rest
 run_gap_atom (Byte b) rest is = leads (In Gap Between) (In Gap Between) [] b rest (cond-true _ _ _ is)
 run_gap_atom (Line text) rest is = run_comment Gap (Line text) [] rest is
 run_gap_atom (Block text) rest is = run_comment Gap (Block text) [] rest is
 run_gap_atom (QuotedAtom quote text) rest is = absurd is
 
-run_gap : (atoms : List Atom) (rest : List ℕ) → All IsGapAtom atoms → first_of (spelled_all atoms ++ rest) ≡ first_of rest
+run_gap : (atoms : List Atom) (rest : List ℕ) → All IsGapAtom atoms → first_of (atoms_text atoms ++ rest) ≡ first_of rest
 run_gap [] rest all = refl
 run_gap (atom ∷ atoms) rest all =
-    ap first_of (append_assoc (spelled atom) (spelled_all atoms) rest) ∙ run_gap_atom atom (spelled_all atoms ++ rest) (All-head IsGapAtom atom atoms all) ∙ run_gap atoms rest (All-tail IsGapAtom atom atoms all)
+    ap first_of (append_assoc (atom_text atom) (atoms_text atoms) rest) ∙ run_gap_atom atom (atoms_text atoms ++ rest) (All-head IsGapAtom atom atoms all) ∙ run_gap atoms rest (All-tail IsGapAtom atom atoms all)
 
 run_after_gap : (gap rest : List ℕ) → IsClosedGap gap → first_of (gap ++ rest) ≡ first_of rest
 run_after_gap gap rest is = ap (λ l. first_of (l ++ rest)) is.1 ∙ run_gap is.0 rest is.2
@@ -282,29 +282,29 @@ IsAtom-more (QuotedAtom quote text) x rest is = is
 AreAtoms-more : (atoms : List Atom) (rest : List ℕ) → AreAtoms atoms (59 ∷ []) → AreAtoms atoms (59 ∷ rest)
 AreAtoms-more [] rest are = tt
 AreAtoms-more (atom ∷ atoms) rest are =
-    (IsAtom-more atom (spelled_all atoms) rest are.0, AreAtoms-more atoms rest are.1)
+    (IsAtom-more atom (atoms_text atoms) rest are.0, AreAtoms-more atoms rest are.1)
 
 -- a statement is a piece
-run_statement : (x rest : List ℕ) → IsStatement x → first_of (x ++ rest) ≡ piece_then (seen x Whole) rest
+run_statement : (x rest : List ℕ) → IsStatement x → first_of (x ++ rest) ≡ piece_then (piece_from x Whole) rest
 run_statement x rest is =
-    let whole = ap (λ l. l ++ rest) is.1 ∙ append_assoc (spelled_all is.0) (59 ∷ []) rest in
-    ap first_of whole ∙ run_begins (spelled_all is.0 ++ 59 ∷ rest) (BeginsStatement-more (spelled_all is.0) rest (subst BeginsStatement is.1 is.3)) ∙ run_atoms is.0 [] (59 ∷ rest) (AreAtoms-more is.0 rest is.2) ∙ ap (λ l. piece_then (seen l Whole) rest) (sym is.1)
+    let whole = ap (λ l. l ++ rest) is.1 ∙ append_assoc (atoms_text is.0) (59 ∷ []) rest in
+    ap first_of whole ∙ run_begins (atoms_text is.0 ++ 59 ∷ rest) (BeginsStatement-more (atoms_text is.0) rest (subst BeginsStatement is.1 is.3)) ∙ run_atoms is.0 [] (59 ∷ rest) (AreAtoms-more is.0 rest is.2) ∙ ap (λ l. piece_then (piece_from l Whole) rest) (sym is.1)
 
 -- a dot line is a piece
-run_dot_line : (line rest : List ℕ) → IsDotLine line → first_of (line ++ 10 ∷ rest) ≡ piece_then (seen line Whole) rest
+run_dot_line : (line rest : List ℕ) → IsDotLine line → first_of (line ++ 10 ∷ rest) ≡ piece_then (piece_from line Whole) rest
 run_dot_line line rest is =
-    ap (λ l. first_of (l ++ 10 ∷ rest)) is.1 ∙ run_dots (46 ∷ []) is.0 (10 ∷ rest) is.2 ∙ ap (λ l. piece_then (seen l Whole) rest) (sym is.1)
+    ap (λ l. first_of (l ++ 10 ∷ rest)) is.1 ∙ run_dots (46 ∷ []) is.0 (10 ∷ rest) is.2 ∙ ap (λ l. piece_then (piece_from l Whole) rest) (sym is.1)
 
 -- where the text ends in a gap or a statement
 abbrev outcome_in : Part → List ℕ → Outcome
 outcome_in Gap body = no_piece
-outcome_in Statement body = last_piece (seen body Incomplete)
+outcome_in Statement body = last_piece (piece_from body Incomplete)
 
 left_in_comment : (part : Part) (spot : Spot) (body : List ℕ) (a b : ℕ) (text : List ℕ) → last_ending (In Gap spot) ≡ None → outcome_of (body_in part (body_in part body ++ a ∷ [] ++ b ∷ [] ++ text)) (last_ending (In part spot)) ≡ outcome_in part (body ++ a ∷ b ∷ text)
 left_in_comment Gap spot body a b text none_left = ap (outcome_of []) none_left
 left_in_comment Statement spot body a b text none_left =
     let same : body ++ a ∷ [] ++ b ∷ [] ++ text ≡ body ++ a ∷ b ∷ text = simp append_assoc in
-    ap (λ l. last_piece (seen l Incomplete)) same
+    ap (λ l. last_piece (piece_from l Incomplete)) same
 
 none_in_block : (star : Bool) → last_ending (In Gap (spot_of star)) ≡ None
 none_in_block true = refl
@@ -321,25 +321,25 @@ run_open_comment part body tail (inr is) =
     ap (first_piece (In part Between) (body_in part body)) is.1 ∙ leads (In part Between) (In part AfterSlash) (body_in part body) 47 _ (slash_of part) ∙ ap (first_piece (In part BlockComment) (body_in part begun)) (sym (append-nil is.0)) ∙ run_block part false begun is.0 [] (IsUnclosed-from is.0 is.2) ∙ left_in_comment part (spot_of star) body 47 42 is.0 (none_in_block star) ∙ ap (λ l. outcome_in part (body ++ l)) (sym is.1)
 
 -- quotes that the input ends
-run_open_quote : (quote : ℕ) (body tail : List ℕ) → IsOpenQuote quote tail → first_piece (In Statement Between) body tail ≡ last_piece (seen (body ++ tail) Incomplete)
+run_open_quote : (quote : ℕ) (body tail : List ℕ) → IsOpenQuote quote tail → first_piece (In Statement Between) body tail ≡ last_piece (piece_from (body ++ tail) Incomplete)
 run_open_quote quote body tail is =
-    ap (first_piece (In Statement Between) body) is.1 ∙ leads (In Statement Between) (Quoted quote) body quote is.0 (quote_after quote is.2) ∙ ap (first_piece (Quoted quote) (body ++ quote ∷ [])) (sym (append-nil is.0)) ∙ run_quote quote (body ++ quote ∷ []) is.0 [] is.3 ∙ ap (λ l. last_piece (seen l Incomplete)) (append_assoc body (quote ∷ []) is.0 ∙ ap (λ l. body ++ l) (sym is.1))
+    ap (first_piece (In Statement Between) body) is.1 ∙ leads (In Statement Between) (Quoted quote) body quote is.0 (quote_after quote is.2) ∙ ap (first_piece (Quoted quote) (body ++ quote ∷ [])) (sym (append-nil is.0)) ∙ run_quote quote (body ++ quote ∷ []) is.0 [] is.3 ∙ ap (λ l. last_piece (piece_from l Incomplete)) (append_assoc body (quote ∷ []) is.0 ∙ ap (λ l. body ++ l) (sym is.1))
 
-run_tail : (body tail : List ℕ) → (tail ≡ []) ⊎ (IsOpenComment tail ⊎ ((quote : ℕ) × IsOpenQuote quote tail)) → first_piece (In Statement Between) body tail ≡ last_piece (seen (body ++ tail) Incomplete)
+run_tail : (body tail : List ℕ) → (tail ≡ []) ⊎ (IsOpenComment tail ⊎ ((quote : ℕ) × IsOpenQuote quote tail)) → first_piece (In Statement Between) body tail ≡ last_piece (piece_from (body ++ tail) Incomplete)
 run_tail body tail (inl is) =
-    subst (λ l. first_piece (In Statement Between) body l ≡ last_piece (seen (body ++ l) Incomplete)) (sym is) (ap (λ l. last_piece (seen l Incomplete)) (sym (append-nil body)))
+    subst (λ l. first_piece (In Statement Between) body l ≡ last_piece (piece_from (body ++ l) Incomplete)) (sym is) (ap (λ l. last_piece (piece_from l Incomplete)) (sym (append-nil body)))
 run_tail body tail (inr (inl is)) = run_open_comment Statement body tail is
 run_tail body tail (inr (inr is)) = run_open_quote is.0 body tail is.1
 
 -- a statement that the input ends is the last piece
-run_open_statement : (x : List ℕ) → IsOpenStatement x → first_of x ≡ last_piece (seen x Incomplete)
+run_open_statement : (x : List ℕ) → IsOpenStatement x → first_of x ≡ last_piece (piece_from x Incomplete)
 run_open_statement x is =
-    run_begins x is.4 ∙ ap (first_piece (In Statement Between) []) is.2 ∙ run_atoms is.0 [] is.1 is.3 ∙ run_tail (spelled_all is.0) is.1 is.5 ∙ ap (λ l. last_piece (seen l Incomplete)) (sym is.2)
+    run_begins x is.4 ∙ ap (first_piece (In Statement Between) []) is.2 ∙ run_atoms is.0 [] is.1 is.3 ∙ run_tail (atoms_text is.0) is.1 is.5 ∙ ap (λ l. last_piece (piece_from l Incomplete)) (sym is.2)
 
 -- so is a dot line that the input ends
-run_open_line : (line : List ℕ) → IsDotLine line → first_of line ≡ last_piece (seen line Whole)
+run_open_line : (line : List ℕ) → IsDotLine line → first_of line ≡ last_piece (piece_from line Whole)
 run_open_line line is =
-    ap first_of is.1 ∙ ap (first_piece DotLine (46 ∷ [])) (sym (append-nil is.0)) ∙ run_dots (46 ∷ []) is.0 [] is.2 ∙ ap (λ l. last_piece (seen l Whole)) (sym is.1)
+    ap first_of is.1 ∙ ap (first_piece DotLine (46 ∷ [])) (sym (append-nil is.0)) ∙ run_dots (46 ∷ []) is.0 [] is.2 ∙ ap (λ l. last_piece (piece_from l Whole)) (sym is.1)
 
 -- the three ways a text can be
 pub first_gap : (x : List ℕ) → IsGap x → first_of x ≡ no_piece

@@ -3,7 +3,7 @@
 use Rattle.std.specs.Prelude.{◌≡◌, ℕ, Bool, true, false, List, [], ◌∷◌, ◌++◌, Option, Some, None}
 use Rattle.std.specs.Option.{option_map}
 use Rattle.rt_sql_cut.specs.Piece.{PieceText}
-use Rattle.rt_sql_cut.specs.Pieces.{Atom, spelled_all, IsClosedGap, AreAtoms, IsOpenQuote, BeginsStatement, IsDotLine, held_of, piece_of, IsWholePiece}
+use Rattle.rt_sql_cut.specs.Pieces.{Atom, atoms_text, IsClosedGap, AreAtoms, IsOpenQuote, BeginsStatement, IsDotLine, holding, piece_of, IsWholePiece}
 use Rattle.rt_sql_cut.specs.Text.{HasClose, IsLineText, IsBlockText}
 use Rattle.rt_sql_cut.specs.declared.piece.Ending.{Ending}
 use Rattle.rt_sql_cut.specs.declared.piece.Ending.TheVariants.{Whole, Incomplete}
@@ -31,13 +31,13 @@ IsOpen AfterStar tail =
     (text : List ℕ) × (tail ≡ 47 ∷ 42 ∷ (text ++ 42 ∷ [])) × IsBlockText text
 
 -- the bytes in a gap that may turn out to begin a statement
-abbrev pub undecided : Spot → List ℕ
-undecided Between = []
-undecided AfterDash = 45 ∷ []
-undecided AfterSlash = 47 ∷ []
-undecided LineComment = []
-undecided BlockComment = []
-undecided AfterStar = []
+abbrev pub possible_start : Spot → List ℕ
+possible_start Between = []
+possible_start AfterDash = 45 ∷ []
+possible_start AfterSlash = 47 ∷ []
+possible_start LineComment = []
+possible_start BlockComment = []
+possible_start AfterStar = []
 
 -- the bytes since the last piece's end stop in a gap, at this spot
 pub record StopsInGap (spot : Spot) (held : Option (List ℕ)) (x : List ℕ) : Type 0 where
@@ -46,7 +46,7 @@ pub record StopsInGap (spot : Spot) (held : Option (List ℕ)) (x : List ℕ) : 
   pub split : x ≡ gap ++ tail
   pub closed : IsClosedGap gap
   pub open_tail : IsOpen spot tail
-  pub holds : held ≡ Some (undecided spot)
+  pub holds : held ≡ Some (possible_start spot)
 
 -- the bytes since the last piece's end stop in a statement, behind atoms and such a tail, whatever
 -- comes after them
@@ -56,10 +56,10 @@ pub record StopsInStatement (Tail : List ℕ → Type 0) (held : Option (List �
   pub split : x ≡ gap ++ body
   pub closed : IsClosedGap gap
   pub begins : (rest : List ℕ) → BeginsStatement (body ++ rest)
-  pub holds : held ≡ held_of body
+  pub holds : held ≡ holding body
   pub atoms : List Atom
   pub tail : List ℕ
-  pub parts : body ≡ spelled_all atoms ++ tail
+  pub parts : body ≡ atoms_text atoms ++ tail
   pub are_atoms : (rest : List ℕ) → AreAtoms atoms (tail ++ rest)
   pub open_tail : Tail tail
 
@@ -70,7 +70,7 @@ pub record StopsInDotLine (held : Option (List ℕ)) (x : List ℕ) : Type 0 whe
   pub split : x ≡ gap ++ line
   pub closed : IsClosedGap gap
   pub is_line : IsDotLine line
-  pub holds : held ≡ held_of line
+  pub holds : held ≡ holding line
 
 -- the bytes since the last piece's end stop at this kind of place
 abbrev pub StopsAt : Place → Option (List ℕ) → List ℕ → Type 0
@@ -80,13 +80,13 @@ StopsAt (Quoted quote) held x = StopsInStatement (IsOpenQuote quote) held x
 StopsAt DotLine held x = StopsInDotLine held x
 StopsAt End held x = IsWholePiece x (piece_of held Whole)
 
--- the front of these bytes, taken since the last piece's end, in an input that may go on
+-- the place after these bytes, taken since the last piece's end, in an input that may go on
 abbrev pub StandsAt : Front → List ℕ → Type 0
 StandsAt f x = (f.finished ≡ false) × StopsAt f.place f.held x
 
--- the same where the input has ended
-abbrev pub FinishedAt : Front → List ℕ → Type 0
-FinishedAt f x = (f.finished ≡ true) × StopsAt f.place f.held x
+-- the same, if the input has ended
+abbrev pub StandsAtEnd : Front → List ℕ → Type 0
+StandsAtEnd f x = (f.finished ≡ true) × StopsAt f.place f.held x
 
 -- how the end of the input ends a piece at a kind of place
 abbrev pub last_ending : Place → Option Ending

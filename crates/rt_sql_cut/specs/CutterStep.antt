@@ -49,33 +49,33 @@ with_byte None b = None
 with_byte (Some bytes) b = if nat_lt (length bytes) 65536 then Some (bytes ++ b ∷ []) else None
 
 -- what is held in a gap or a statement, after one more byte
-abbrev pub held_in : Part → Option (List ℕ) → ℕ → Option (List ℕ)
-held_in Gap held b = Some []
-held_in Statement held b = with_byte held b
+abbrev pub holding_in : Part → Option (List ℕ) → ℕ → Option (List ℕ)
+holding_in Gap held b = Some []
+holding_in Statement held b = with_byte held b
 
--- what is held, where the byte led to this place: a byte in a gap only while it may begin a statement,
+-- what is held, if the byte led to this place: a byte in a gap only while it may begin a statement,
 -- and not the line feed that ends a dot line
-abbrev pub held_after : Place → Option (List ℕ) → ℕ → Option (List ℕ)
-held_after (In part AfterDash) held b = with_byte held b
-held_after (In part AfterSlash) held b = with_byte held b
-held_after (In part Between) held b = held_in part held b
-held_after (In part LineComment) held b = held_in part held b
-held_after (In part BlockComment) held b = held_in part held b
-held_after (In part AfterStar) held b = held_in part held b
-held_after (Quoted quote) held b = with_byte held b
-held_after DotLine held b = with_byte held b
-held_after End held b = if b == 10 then held else with_byte held b
+abbrev pub holding_after : Place → Option (List ℕ) → ℕ → Option (List ℕ)
+holding_after (In part AfterDash) held b = with_byte held b
+holding_after (In part AfterSlash) held b = with_byte held b
+holding_after (In part Between) held b = holding_in part held b
+holding_after (In part LineComment) held b = holding_in part held b
+holding_after (In part BlockComment) held b = holding_in part held b
+holding_after (In part AfterStar) held b = holding_in part held b
+holding_after (Quoted quote) held b = with_byte held b
+holding_after DotLine held b = with_byte held b
+holding_after End held b = if b == 10 then held else with_byte held b
 
 -- the front after one more byte
 abbrev pub front_after : Front → ℕ → Front
 front_after f b =
-    record f { place = place_after f.place b; held = held_after (place_after f.place b) f.held b }
+    record f { place = place_after f.place b; held = holding_after (place_after f.place b) f.held b }
 
 -- the byte ends a statement, opens a quote, or may begin a comment
 abbrev pub is_mark : ℕ → Bool
 is_mark b = b == 59 || b == 45 || b == 47 || is_quote b
 
--- how many bytes at the front are none of these
+-- the length of the prefix without them
 abbrev pub unmarked_len : List ℕ → ℕ
 unmarked_len bytes = prefix_len (λ b. not (is_mark b)) bytes
 
@@ -92,7 +92,7 @@ stays (Quoted quote) b = not (b == quote)
 stays DotLine b = not (b == 10)
 stays End b = false
 
--- how many bytes at the front are such
+-- the length of the prefix of such bytes
 abbrev pub run_len : Place → List ℕ → ℕ
 run_len place bytes = prefix_len (stays place) bytes
 

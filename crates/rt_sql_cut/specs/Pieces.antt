@@ -20,16 +20,16 @@ pub data Atom : Type 0 where
   Quoted : ℕ → List ℕ → Atom
 
 -- the bytes of an atom
-abbrev pub spelled : Atom → List ℕ
-spelled (Byte b) = b ∷ []
-spelled (Line text) = 45 ∷ 45 ∷ (text ++ 10 ∷ [])
-spelled (Block text) = 47 ∷ 42 ∷ (text ++ 42 ∷ 47 ∷ [])
-spelled (Quoted quote text) = quote ∷ (text ++ quote ∷ [])
+abbrev pub atom_text : Atom → List ℕ
+atom_text (Byte b) = b ∷ []
+atom_text (Line text) = 45 ∷ 45 ∷ (text ++ 10 ∷ [])
+atom_text (Block text) = 47 ∷ 42 ∷ (text ++ 42 ∷ 47 ∷ [])
+atom_text (Quoted quote text) = quote ∷ (text ++ quote ∷ [])
 
 -- the bytes of atoms, one after another
-abbrev pub spelled_all : List Atom → List ℕ
-spelled_all [] = []
-spelled_all (atom ∷ atoms) = spelled atom ++ spelled_all atoms
+abbrev pub atoms_text : List Atom → List ℕ
+atoms_text [] = []
+atoms_text (atom ∷ atoms) = atom_text atom ++ atoms_text atoms
 
 -- a comment, which ends at the first line feed, or at the first `*/` after its `/*`
 abbrev pub IsComment : Atom → Type 0
@@ -53,7 +53,7 @@ IsGapAtom (Quoted quote text) = ⊥
 
 -- what stands before a piece
 abbrev pub IsClosedGap : List ℕ → Type 0
-IsClosedGap x = (atoms : List Atom) × (x ≡ spelled_all atoms) × All IsGapAtom atoms
+IsClosedGap x = (atoms : List Atom) × (x ≡ atoms_text atoms) × All IsGapAtom atoms
 
 -- nothing but what may stand between pieces, to the end of the text
 abbrev pub IsGap : List ℕ → Type 0
@@ -70,13 +70,13 @@ IsAtom (Quoted quote text) rest = IsTrue (is_quote quote) × Lacks quote text
 -- atoms of a statement, before these bytes
 abbrev pub AreAtoms : List Atom → List ℕ → Type 0
 AreAtoms [] rest = Unit {0}
-AreAtoms (atom ∷ atoms) rest = IsAtom atom (spelled_all atoms ++ rest) × AreAtoms atoms rest
+AreAtoms (atom ∷ atoms) rest = IsAtom atom (atoms_text atoms ++ rest) × AreAtoms atoms rest
 
 -- a quote that isn't closed, and what follows it
 abbrev pub IsOpenQuote : ℕ → List ℕ → Type 0
 IsOpenQuote quote x = (text : List ℕ) × (x ≡ quote ∷ text) × IsTrue (is_quote quote) × Lacks quote text
 
--- a statement begins where neither a gap nor a dot line goes on
+-- a statement begins if neither a gap nor a dot line goes on
 abbrev pub BeginsStatement : List ℕ → Type 0
 BeginsStatement [] = ⊥
 BeginsStatement (b ∷ rest) = (is_gap_byte b ≡ false) × (b ≢ 46) × ¬ BeginsComment (b ∷ rest)
@@ -84,13 +84,13 @@ BeginsStatement (b ∷ rest) = (is_gap_byte b ≡ false) × (b ≢ 46) × ¬ Beg
 -- a statement up to and with its `;`
 abbrev pub IsStatement : List ℕ → Type 0
 IsStatement x =
-    (atoms : List Atom) × (x ≡ spelled_all atoms ++ 59 ∷ []) × AreAtoms atoms (59 ∷ [])
+    (atoms : List Atom) × (x ≡ atoms_text atoms ++ 59 ∷ []) × AreAtoms atoms (59 ∷ [])
     × BeginsStatement x
 
 -- a statement whose `;` doesn't come
 abbrev pub IsOpenStatement : List ℕ → Type 0
 IsOpenStatement x =
-    (atoms : List Atom) × (tail : List ℕ) × (x ≡ spelled_all atoms ++ tail) × AreAtoms atoms tail
+    (atoms : List Atom) × (tail : List ℕ) × (x ≡ atoms_text atoms ++ tail) × AreAtoms atoms tail
     × BeginsStatement x
     × ((tail ≡ []) ⊎ (IsOpenComment tail ⊎ ((quote : ℕ) × IsOpenQuote quote tail)))
 
@@ -99,30 +99,30 @@ abbrev pub IsDotLine : List ℕ → Type 0
 IsDotLine x = (words : List ℕ) × (x ≡ 46 ∷ words) × Lacks 10 words
 
 -- what is held of the bytes of a piece: all of them, or nothing of more than 65,536
-abbrev pub held_of : List ℕ → Option (List ℕ)
-held_of bytes = if nat_le (length bytes) 65536 then Some bytes else None
+abbrev pub holding : List ℕ → Option (List ℕ)
+holding bytes = if nat_le (length bytes) 65536 then Some bytes else None
 
 -- a piece as what is held of it shows it
 abbrev pub piece_of : Option (List ℕ) → Ending → PieceText
 piece_of (Some bytes) ending = record { text = bytes; ending = ending }
 piece_of None ending = record { text = []; ending = TooLong }
 
--- a piece of these bytes as it is seen
-abbrev pub seen : List ℕ → Ending → PieceText
-seen bytes ending = piece_of (held_of bytes) ending
+-- a piece of these bytes, as it is handed out
+abbrev pub piece_from : List ℕ → Ending → PieceText
+piece_from bytes ending = piece_of (holding bytes) ending
 
 -- a gap and then one piece, which ends where the text ends
 abbrev pub IsWholePiece : List ℕ → PieceText → Type 0
 IsWholePiece x p =
     (gap body : List ℕ) × (x ≡ gap ++ body) × IsClosedGap gap
-    × ((IsStatement body × (p ≡ seen body Whole))
-    ⊎ ((line : List ℕ) × (body ≡ line ++ 10 ∷ []) × IsDotLine line × (p ≡ seen line Whole)))
+    × ((IsStatement body × (p ≡ piece_from body Whole))
+    ⊎ ((line : List ℕ) × (body ≡ line ++ 10 ∷ []) × IsDotLine line × (p ≡ piece_from line Whole)))
 
 -- a gap and then a piece that has begun, which only the end of the input ends
 abbrev pub IsLastPiece : List ℕ → PieceText → Type 0
 IsLastPiece x p =
     (gap body : List ℕ) × (x ≡ gap ++ body) × IsClosedGap gap
-    × ((IsOpenStatement body × (p ≡ seen body Incomplete)) ⊎ (IsDotLine body × (p ≡ seen body Whole)))
+    × ((IsOpenStatement body × (p ≡ piece_from body Incomplete)) ⊎ (IsDotLine body × (p ≡ piece_from body Whole)))
 
 -- the pieces of a whole text
 abbrev pub Pieces : List ℕ → List PieceText → Type 0

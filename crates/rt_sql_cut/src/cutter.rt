@@ -23,7 +23,9 @@ const BLOCK: usize = 16;
 /// A gap between pieces, or a statement.
 #[derive(Clone, Copy, PartialEq, Eq, Debug)]
 enum Part {
+    /// What stands between pieces.
     Gap,
+    /// A statement that has begun.
     Statement,
 }
 
@@ -47,9 +49,11 @@ enum Spot {
 /// The kind of place at which the bytes so far stop.
 #[derive(Clone, Copy, PartialEq, Eq, Debug)]
 enum Place {
+    /// In a gap or a statement, at this spot.
     In(Part, Spot),
     /// In a statement, behind this quote.
     Quoted(u8),
+    /// In a dot line.
     DotLine,
     /// At the end of a piece.
     End,
@@ -99,7 +103,7 @@ impl Place {
         }
     }
 
-    /// How many bytes at the front are such.
+    /// The length of the prefix of such bytes.
     fn run_len(self, bytes: &[u8]) -> usize
         ensures value { result ≡ run_len self bytes.now }
         ensures within { result ≤ length bytes.now }
@@ -114,7 +118,7 @@ impl Place {
         end
     }
 
-    /// How a piece ended here, if one has: by itself, or with the input.
+    /// How a piece ended here, if one did: by itself, or with the input.
     fn ending(self, finished: bool) -> Option<Ending>
         ensures { result ≡ ending_at self finished }
     {
@@ -163,7 +167,7 @@ fn is_mark(byte: u8) -> bool
     (byte == b';') | (byte == b'-') | (byte == b'/') | (byte == b'\'') | (byte == b'"')
 }
 
-/// Such a byte is among these.
+/// A mark is among these bytes.
 fn has_mark(block: &[u8]) -> bool
     ensures { result ≡ list_any is_mark block.now }
 {
@@ -174,7 +178,7 @@ fn has_mark(block: &[u8]) -> bool
     found
 }
 
-/// The length of the blocks at the front in which no such byte is.
+/// The length of the prefix of whole blocks that have no mark.
 fn unmarked_blocks(bytes: &[u8]) -> usize
     ensures value { result + unmarked_len (drop result bytes.now) ≡ unmarked_len bytes.now }
     ensures within { result ≤ length bytes.now }
@@ -225,8 +229,9 @@ pub struct Cutter {
 }
 
 impl Model for Cutter {
-    ghost use Rattle.std.specs.Prelude.{◌≡◌, ◌≤◌, [], Some, None, IsTrue, vec_len, vec_capacity, if◌then◌else◌};
+    ghost use Rattle.std.specs.Prelude.{Some, None, if◌then◌else◌};
     ghost use Rattle.rt_sql_cut.specs.Cutter.{Front};
+    ghost use Rattle.rt_sql_cut.specs.Room.{HasRoom};
 
     ghost Value = { Front };
 
@@ -236,18 +241,18 @@ impl Model for Cutter {
       finished = c.finished;
     } };
 
-    ghost invariant = { λ c. (65536 ≤ vec_capacity c.held) × (vec_len c.held ≤ 65536) × (IsTrue c.too_long → c.held.items ≡ []) };
+    ghost invariant = { HasRoom };
 }
 
 impl Cutter {
-    ghost use Rattle.rt_sql_cut.specs.Cutter.{StandsAt, FinishedAt, ready_piece};
+    ghost use Rattle.rt_sql_cut.specs.Cutter.{StandsAt, StandsAtEnd, ready_piece};
     ghost use Rattle.rt_sql_cut.specs.CutterStep.{front_after, with_byte, with_bytes};
 
     /// A cutter at the start of a script.
     ///
     /// # Errors
     ///
-    /// Fails where there is no memory for the longest piece. No other call takes any.
+    /// `AllocError` if no memory is left for the longest piece. No other call takes any.
     pub fn new(alloc: Global) -> Result<Cutter, AllocError>
         ensures { IfOk result (λ c. StandsAt c []) }
     {
@@ -285,8 +290,8 @@ impl Cutter {
 
     /// The input has ended. What has begun is then the last piece, until `clear`. A second call changes nothing.
     pub fn finish(&mut self)
-        ensures finished { (x : List ℕ) → StandsAt self.old x → FinishedAt self.new x }
-        ensures again { (x : List ℕ) → FinishedAt self.old x → self.new ≡ self.old }
+        ensures finished { (x : List ℕ) → StandsAt self.old x → StandsAtEnd self.new x }
+        ensures again { (x : List ℕ) → StandsAtEnd self.old x → self.new ≡ self.old }
     {
         self.finished = true;
     }
@@ -296,7 +301,7 @@ impl Cutter {
         ensures value { result ≡ ready_piece self.now }
         ensures whole { (x : List ℕ) → StandsAt self.now x
             → MatchOption result (IsGap x ⊎ ((p : PieceText) × IsLastPiece x p)) (λ p. IsWholePiece x p) }
-        ensures last { (x : List ℕ) → FinishedAt self.now x
+        ensures last { (x : List ℕ) → StandsAtEnd self.now x
             → MatchOption result (IsGap x) (λ p. IsWholePiece x p ⊎ IsLastPiece x p) }
         ensures within { IfSome result (λ p. length p.text ≤ 65536) }
     {
@@ -318,7 +323,7 @@ impl Cutter {
         self.finished = false;
     }
 
-    /// Takes the bytes at the front that leave the place as it is, all at once, and says how many.
+    /// Takes the prefix of bytes that leave the place as it is, all at once, and says how long it is.
     #[tactic(auto, using(crate::proofs::CutterFront::stands_run))]
     fn take_run(&mut self, bytes: &[u8]) -> usize
         ensures within { result ≤ length bytes.now }
@@ -346,7 +351,7 @@ impl Cutter {
         }
     }
 
-    /// Holds one more byte of the piece, or none where it has too many.
+    /// Holds one more byte of the piece, or none if it has too many.
     fn hold(&mut self, byte: u8)
         ensures { self.new ≡ record self.old { held = with_byte self.old.held byte } }
     {
@@ -359,7 +364,7 @@ impl Cutter {
         }
     }
 
-    /// Holds more bytes of the piece, or none where it has too many.
+    /// Holds more bytes of the piece, or none if it has too many.
     #[tactic(auto, using(crate::proofs::CutterHolds::bytes_none, crate::proofs::CutterHolds::bytes_short, crate::proofs::CutterHolds::bytes_long))]
     fn hold_all(&mut self, bytes: &[u8])
         ensures { self.new ≡ record self.old { held = with_bytes self.old.held bytes.now } }
@@ -373,7 +378,7 @@ impl Cutter {
         }
     }
 
-    /// Holds no byte, as where no piece has begun.
+    /// Holds no byte, as if no piece had begun.
     fn drop_held(&mut self)
         ensures { self.new ≡ record self.old { held = Some [] } }
     {

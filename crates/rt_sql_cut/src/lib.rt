@@ -6,11 +6,12 @@
 //! - `text::is_white` is the white space that parts them, and tokens too.
 //! - `laws`: each text is cut in one way.
 //!
-//! A cutter stands at the front of what it was fed, for every text and every way of feeding it, and a piece is
-//! ready exactly where one has ended. Only `Cutter::new` takes memory.
+//! For every text and every way of feeding it, a piece is ready exactly if one has ended. Only `Cutter::new` takes
+//! memory.
 //!
 //! Stands on nothing but std. Definitions: `specs/Pieces.antt` (the pieces of a whole text), `Piece.antt` (one
-//! piece), `Text.antt` (white space, quotes and comments), `Cutter.antt` (where a cutter stands).
+//! piece), `Text.antt` (white space, quotes and comments), `Cutter.antt` (where a cutter stands), `Room.antt` (its
+//! memory).
 #![tactic(auto)]
 
 mod cutter;

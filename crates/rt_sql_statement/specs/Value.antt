@@ -1,4 +1,4 @@
--- When two values are the same: of one kind, and there with the same number, characters or bytes.
+-- When two values are the same: of one kind, with the same number, characters or bytes.
 -- NULL is NULL, unlike in a comparison of SQL. Source: own.
 use Rattle.std.specs.Prelude.{Bool, true, false}
 use Rattle.std.specs.Ordering.{int_eq}

@@ -1,7 +1,7 @@
 //! SQL statements as data: what a script asks for, whatever text spells it.
 //!
 //! - `Stmt` and what it is made of, in `statement`, `Name` and `Value` are plain data. Lists in them
-//!   are `Items`, which contracts see as lists.
+//!   are `Items`, which contracts see as lists. Comparisons are those of `rt_box`, passed on.
 //! - `Refusal` has the number and the words that each refusal prints, those of tables and views too.
 //!
 //! Definitions: `specs/Name.antt` (when two names are one), `Value.antt` (when two values are the same),
@@ -15,6 +15,7 @@ pub mod value;
 
 pub use name::Name;
 pub use refusal::Refusal;
+pub use rt_box::Operator;
 pub use sqlite_items::Items;
-pub use statement::{ColumnDef, Compare, Cond, Edit, Operator, Rule, Source, Stmt, Test};
+pub use statement::{ColumnDef, Compare, Cond, Edit, Rule, Source, Stmt, Test};
 pub use value::{Blob, Text, Value};

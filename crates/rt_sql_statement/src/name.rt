@@ -1,6 +1,6 @@
 //! Names of tables, columns and views.
 //!
-//! A name keeps the case that was written. Two names are one where they differ in ASCII case at most
+//! A name keeps the case that was written. Two names are one if they differ in nothing but ASCII case
 //! (`specs/Name.antt`). A short name, as most are, takes no memory beside its own.
 
 ghost use Rattle.std.specs.Prelude.{◌≡◌};
@@ -12,13 +12,13 @@ use std::alloc::{AllocError, Global};
 use std::fmt;
 use std::marker::Model;
 
-/// The most bytes of a name that are kept in place; a longer one stands on the heap.
+/// The most bytes of a name that stands in place; a longer one stands on the heap.
 const MOST_IN_PLACE: usize = 16;
 
-/// A letter in lower case stands so far behind the same letter in upper case.
+/// How far a letter in lower case stands behind the same letter in upper case.
 const CASES_APART: u8 = 32;
 
-/// Whether both bytes are the same but for ASCII case. Mostly they are the same, or differ in what case doesn't change, and
+/// Whether both bytes are the same, ASCII case aside. Mostly they are the same, or differ in what case doesn't change, and
 /// no case is folded.
 fn is_same_byte(own: u8, other: u8) -> bool
     ensures { result ≡ eq_ignore_ascii_case own other }
@@ -44,8 +44,10 @@ fn are_same(own: &[u8], other: &[u8]) -> bool
 
 /// Where the text of a name stands.
 #[derive(Drop)]
-enum Kept {
+enum Storage {
+    /// In the name itself.
     InPlace(ArrayString<MOST_IN_PLACE>),
+    /// On the heap.
     OnHeap(String),
 }
 
@@ -53,7 +55,7 @@ enum Kept {
 /// the quotes round it.
 #[derive(Drop)]
 pub struct Name {
-    kept: Kept,
+    storage: Storage,
 }
 
 // By hand, since where the text stands is nobody's business.
@@ -71,7 +73,7 @@ impl Model for Name {
 
     ghost Value = { List ℕ };
 
-    ghost view = { λ name. text_in name.kept };
+    ghost view = { λ name. text_in name.storage };
 }
 
 impl Name {
@@ -85,12 +87,12 @@ impl Name {
     {
         if let Ok(short) = ArrayString::from(text) {
             return Ok(Name {
-                kept: Kept::InPlace(short),
+                storage: Storage::InPlace(short),
             });
         }
         let long = String::from_str(alloc, text)?;
         Ok(Name {
-            kept: Kept::OnHeap(long),
+            storage: Storage::OnHeap(long),
         })
     }
 
@@ -99,7 +101,7 @@ impl Name {
         ensures { result ≡ string_bytes text }
     {
         Name {
-            kept: Kept::OnHeap(text),
+            storage: Storage::OnHeap(text),
         }
     }
 
@@ -107,9 +109,9 @@ impl Name {
     pub fn as_str(&self) -> &str
         ensures { result.now ≡ self.now }
     {
-        match &self.kept {
-            Kept::InPlace(text) => text.as_str(),
-            Kept::OnHeap(text) => text.as_str(),
+        match &self.storage {
+            Storage::InPlace(text) => text.as_str(),
+            Storage::OnHeap(text) => text.as_str(),
         }
     }
 

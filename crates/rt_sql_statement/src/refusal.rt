@@ -12,26 +12,47 @@ use std::fmt;
 /// Why a piece of a script was refused.
 #[derive(Clone, Copy, PartialEq, Eq, Debug)]
 pub enum Refusal {
+    /// The piece spells no statement.
     SyntaxError,
+    /// The input ends inside a statement.
     IncompleteInput,
+    /// The piece has more than 65,536 bytes.
     StatementTooLong,
+    /// The piece isn't UTF-8, or has a zero byte.
     NotUtf8,
+    /// No table has that name.
     NoSuchTable,
+    /// A table has that name already.
     TableAlreadyExists,
+    /// A list of columns makes no table, or names one twice.
     BadColumnList,
+    /// No column of the table has that name.
     NoSuchColumn,
+    /// A row doesn't have a value for each column.
     WrongNumberOfValues,
+    /// A value isn't of its column's type.
     WrongType,
+    /// An integer is outside its column's range, or outside 64 bits.
     IntegerOutOfRange,
+    /// Another row has that id.
     IdAlreadyTaken,
+    /// A row's minimum is above its maximum.
     MinimumAboveMaximum,
+    /// The table can hold no more rows.
     TableFull,
+    /// The greatest id is taken, so there is none for a row without one.
     NoIdLeft,
+    /// No view has that name.
     NoSuchView,
+    /// A view has that name already.
     ViewAlreadyExists,
+    /// A view shows rows of the table.
     TableIsWatched,
+    /// No more tables or views can be held.
     TooManyTablesOrViews,
+    /// No memory is left.
     OutOfMemory,
+    /// No dot line begins with that word.
     UnknownCommand,
 }
 

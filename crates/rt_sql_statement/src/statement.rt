@@ -5,6 +5,7 @@
 
 use crate::name::Name;
 use crate::value::Value;
+use rt_box::Operator;
 use sqlite_items::Items;
 
 /// What an INSERT does with a row whose id is taken.
@@ -16,23 +17,6 @@ pub enum Rule {
     Replace,
     /// Passes over the new row, and also over one whose minimum is above its maximum.
     Ignore,
-}
-
-/// A comparison: `=`, `<>`, `<`, `<=`, `>` or `>=`.
-#[derive(Clone, Copy, PartialEq, Eq, Debug)]
-pub enum Operator {
-    /// `=`.
-    Eq,
-    /// `<>`.
-    Ne,
-    /// `<`.
-    Lt,
-    /// `<=`.
-    Le,
-    /// `>`.
-    Gt,
-    /// `>=`.
-    Ge,
 }
 
 /// A column compared with a value.

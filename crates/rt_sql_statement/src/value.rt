@@ -34,7 +34,7 @@ impl Text {
         })
     }
 
-    /// The same of a string, which isn't copied.
+    /// A text of these characters, which aren't copied.
     pub fn from_string(text: String) -> Text
         ensures { result ≡ string_bytes text }
     {
@@ -107,7 +107,7 @@ impl Blob {
         })
     }
 
-    /// The same of a vector, which isn't copied.
+    /// A blob of these bytes, which aren't copied.
     pub fn from_vec(bytes: Vec<u8>) -> Blob
         ensures { result ≡ bytes.items }
     {
@@ -183,8 +183,8 @@ impl Value {
     }
 }
 
-/// Two values are equal where they are one value: of one kind, and there with the same number,
-/// characters or bytes. NULL equals NULL, as it doesn't in a comparison of SQL.
+/// Two values are equal if they are one value: of one kind, with the same number, characters or
+/// bytes. NULL equals NULL, unlike in a comparison of SQL.
 impl PartialEq for Value {
     ghost use Rattle.std.specs.Prelude.{◌≡◌, ◌↔◌, IsTrue};
     ghost use Rattle.std.specs.Cmp.{partial_equiv_from_equiv};

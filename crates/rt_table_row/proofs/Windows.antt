@@ -1,14 +1,17 @@
 -- The window of a condition, and the rows that the condition picks.
-use Rattle.std.proofs.Common.{◌≡◌, ℕ, zero, suc, ◌+◌, ◌*◌, ◌<◌, ◌≤◌, ◌↔◌, Bool, true, false, not, ◌||◌, ◌&&◌, nat_lt, List, [], ◌∷◌, map, zip, length, get_or, Some, ℤ, pos, All, FitsSigned, w32, arith, refl, sym, ap, subst, inl, inr, take, ◌∙◌}
+use Rattle.std.proofs.Common.{◌≡◌, ℕ, zero, suc, ◌+◌, ◌*◌, ◌<◌, ◌≤◌, ◌↔◌, Bool, true, false, not, ◌||◌, ◌&&◌, nat_lt, List, [], ◌∷◌, map, zip, length, get_or, Some, ℤ, pos, All, FitsSigned, w32, arith, refl, sym, ap, subst, inl, inr, take, ◌∙◌, rules}
 use Rattle.std.specs.List.{list_all, AllZip}
 use Rattle.std.proofs.lemmas.List.{get_or-map, get_or_append_left, length-map, take_all}
 use Rattle.std.proofs.lemmas.List.Elements.{All-head, All-tail, All-nil, All-cons, All-more}
 use Rattle.std.proofs.lemmas.Bool.{cases_eq, and_from}
 use Rattle.std.proofs.lemmas.Bool.Decides.{nat_tests}
 use Rattle.rt_box.specs.declared.interval.Interval.{Interval}
+use Rattle.rt_box.specs.declared.operator.Operator.{Operator}
+use Rattle.rt_box.specs.declared.operator.Operator.TheVariants.{Eq, Ne, Lt, Le, Gt, Ge}
 use Rattle.rt_box.specs.Interval.{FitsEnds, Includes}
+use Rattle.rt_box.specs.Operators.{Keeps}
 use Rattle.rt_box.specs.Rect.{IsBox, coordinates}
-use Rattle.rt_box.specs.Window.{Allows, Admits, IsUnlimited}
+use Rattle.rt_box.specs.Window.{Allows, Admits, IsUnlimited, Narrows}
 use Rattle.rt_box.proofs.Narrowing.{length-coordinates, allowed_at, admits_from}
 use Rattle.rt_sql_statement.specs.declared.value.Value.{Value}
 use Rattle.rt_sql_statement.specs.declared.value.Value.TheVariants.{Null, Int}
@@ -59,6 +62,29 @@ window-of columns cond filter window made at =
             (both.0, by_name columns.names cond filter.places k z made.places_are (rw (← same) both.1))),
         (λ both. (at.exact k z h).1 (both.0, rw same (by_place columns.names cond filter.places k z made.places_are both.1))),
       );
+    }
+
+-- ---- a window narrowed by a comparison
+
+-- a window's comparison keeps the numbers that pass a condition's
+kept_passes : (op : Operator) (z value : ℤ) → Keeps op z value ↔ ((is_unequal op || compares op (Int z) (Int value)) ≡ true)
+kept_passes Eq z value = search rules
+kept_passes Ne z value = search rules
+kept_passes Lt z value = search rules
+kept_passes Le z value = search rules
+kept_passes Gt z value = search rules
+kept_passes Ge z value = search rules
+
+pub narrowed_by_number : (old new : List Interval) (k : ℕ) (op : Operator) (value : ℤ) → Narrows old new k op value →
+    NarrowsTo old new k (λ z. is_unequal op || compares op (Int z) (Int value))
+narrowed_by_number old new k op value narrowed =
+    record {
+      long = narrowed.long;
+      taken = λ z.
+          let kept = narrowed.taken z in
+          let same = kept_passes op z value in
+          (λ allowed. let both = kept.0 allowed in (both.0, same.0 both.1), λ both. kept.1 (both.0, same.1 both.1));
+      others = narrowed.others;
     }
 
 -- ---- a row that passes lies in the window

@@ -6,8 +6,8 @@ use Rattle.std.specs.Ordering.{is_eq, is_ne, is_lt, is_le, is_gt, is_ge, nat_cmp
 use Rattle.std.specs.Cmp.Lexicographic.{slice_cmp}
 use Rattle.rt_sql_statement.specs.declared.value.Value.{Value}
 use Rattle.rt_sql_statement.specs.declared.value.Value.TheVariants.{Null, Int, Text, Blob}
-use Rattle.rt_sql_statement.specs.declared.statement.Operator.{Operator}
-use Rattle.rt_sql_statement.specs.declared.statement.Operator.TheVariants.{Eq, Ne, Lt, Le, Gt, Ge}
+use Rattle.rt_box.specs.declared.operator.Operator.{Operator}
+use Rattle.rt_box.specs.declared.operator.Operator.TheVariants.{Eq, Ne, Lt, Le, Gt, Ge}
 
 abbrev pub is_null : Value → Bool
 is_null Null = true

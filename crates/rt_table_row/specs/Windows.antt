@@ -4,10 +4,8 @@ use Rattle.std.specs.Prelude.{◌≡◌, ◌≢◌, ℕ, suc, ◌*◌, ◌<◌, 
 use Rattle.std.specs.Int.{w32}
 use Rattle.rt_box.specs.declared.interval.Interval.{Interval}
 use Rattle.rt_box.specs.Window.{Allows, Admits}
-use Rattle.rt_box.specs.Operators.{Keeps}
-use Rattle.rt_box.specs.declared.operator.Operator.{Operator as WindowOperator}
-use Rattle.rt_sql_statement.specs.declared.statement.Operator.{Operator}
-use Rattle.rt_sql_statement.specs.declared.statement.Operator.TheVariants.{Ne}
+use Rattle.rt_box.specs.declared.operator.Operator.{Operator}
+use Rattle.rt_box.specs.declared.operator.Operator.TheVariants.{Ne}
 use Rattle.rt_sql_statement.specs.declared.statement.Test.{Test}
 use Rattle.rt_sql_statement.specs.declared.statement.Test.TheVariants.{Compare, IsNull, IsNotNull}
 use Rattle.rt_sql_statement.specs.declared.value.Value.TheVariants.{Int}
@@ -69,7 +67,3 @@ pub record NarrowsTo (old new : List Interval) (coordinate : ℕ) (passes : ℤ 
 pub record NarrowsAt (axes : ℕ) (old new : List Interval) (test : Test × ℕ) : Type 0 where
   pub long : length new ≡ length old
   pub exact : (k : ℕ) (z : ℤ) → k < 2 * axes → (Allows new k z ↔ (Allows old k z × AllowsAtPlace k z test))
-
--- a window's comparison keeps the numbers that pass the test's (own)
-abbrev pub IsSameComparison : Operator → WindowOperator → Type 0
-IsSameComparison op same = (z value : ℤ) → Keeps same z value ↔ ((is_unequal op || compares op (Int z) (Int value)) ≡ true)

@@ -7,8 +7,8 @@ use Rattle.rt_sql_statement.specs.declared.value.Value.TheVariants.{Null, Int, T
 use Rattle.rt_sql_statement.specs.declared.statement.Rule.TheVariants.{Abort, Replace, Ignore}
 use Rattle.rt_sql_statement.specs.declared.statement.Source.{Source}
 use Rattle.rt_sql_statement.specs.declared.statement.Source.TheVariants.{Literal, Plus, Minus}
-use Rattle.rt_sql_statement.specs.declared.statement.Operator.{Operator}
-use Rattle.rt_sql_statement.specs.declared.statement.Operator.TheVariants.{Eq, Ne, Lt, Le, Gt, Ge}
+use Rattle.rt_box.specs.declared.operator.Operator.{Operator}
+use Rattle.rt_box.specs.declared.operator.Operator.TheVariants.{Eq, Ne, Lt, Le, Gt, Ge}
 use Rattle.rt_sql_statement.specs.declared.statement.Test.{Test}
 use Rattle.rt_sql_statement.specs.declared.statement.Test.TheVariants.{Compare, IsNull, IsNotNull}
 use Rattle.rt_sql_statement.specs.declared.statement.ColumnDef.{ColumnDef}

@@ -7,30 +7,16 @@
 ghost use Rattle.std.specs.Prelude.{◌≡◌, ◌*◌, ◌<◌, ◌≤◌, ◌||◌, false};
 ghost use Rattle.rt_sql_statement.specs.declared.value.Value.TheVariants.{Int};
 ghost use Rattle.rt_table_row.specs.Values.{compares};
-ghost use Rattle.rt_table_row.specs.Windows.{is_unequal, is_gap, is_said, allows, IsWindowAt, IsSameComparison, NarrowsTo, NarrowsAt};
+ghost use Rattle.rt_table_row.specs.Windows.{is_unequal, is_gap, is_said, allows, IsWindowAt, NarrowsTo, NarrowsAt};
 
 use crate::values::compares;
-use rt_box::{Operator as WindowOperator, Window};
-use rt_sql_statement::{Operator, Test, Value};
+use rt_box::{Operator, Window};
+use rt_sql_statement::{Test, Value};
 
 fn is_unequal(op: Operator) -> bool
     ensures { result ≡ is_unequal op }
 {
     matches!(op, Operator::Ne)
-}
-
-/// A window's word for the comparison.
-fn same_comparison(op: Operator) -> WindowOperator
-    ensures { IsSameComparison op result }
-{
-    match op {
-        Operator::Eq => WindowOperator::Eq,
-        Operator::Ne => WindowOperator::Ne,
-        Operator::Lt => WindowOperator::Lt,
-        Operator::Le => WindowOperator::Le,
-        Operator::Gt => WindowOperator::Gt,
-        Operator::Ge => WindowOperator::Ge,
-    }
 }
 
 /// Takes every number from the coordinate: none is both 0 and 1.
@@ -39,12 +25,13 @@ fn take_all<const D: usize>(window: &mut Window<D>, coordinate: usize)
     requires within { coordinate < 2 * D }
     ensures { NarrowsTo window.old window.new coordinate (λ z. false) }
 {
-    window.narrow(coordinate, WindowOperator::Eq, 0);
-    window.narrow(coordinate, WindowOperator::Eq, 1);
+    window.narrow(coordinate, Operator::Eq, 0);
+    window.narrow(coordinate, Operator::Eq, 1);
 }
 
 /// Narrows a coordinate by a comparison with a value. What isn't an integer stands to each integer as it stands to 0:
 /// a text or a blob comes after it, and a comparison with NULL doesn't hold.
+#[tactic(auto, using(crate::proofs::Windows::narrowed_by_number))]
 fn narrow_by_value<const D: usize>(
     window: &mut Window<D>,
     coordinate: usize,
@@ -56,7 +43,7 @@ fn narrow_by_value<const D: usize>(
     ensures { NarrowsTo window.old window.new coordinate (λ z. is_unequal op || compares op (Int z) value.now) }
 {
     match value {
-        Value::Int(number) => window.narrow(coordinate, same_comparison(op), *number),
+        Value::Int(number) => window.narrow(coordinate, op, *number),
         Value::Null | Value::Text(_) | Value::Blob(_) => {
             if !is_unequal(op) && !compares(op, &Value::Int(0), value) {
                 take_all(window, coordinate);

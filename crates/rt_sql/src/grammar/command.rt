@@ -3,6 +3,7 @@
 //! The word after the dot is known already; ASCII case doesn't matter in it.
 
 ghost use Rattle.std.specs.Prelude.{◌≡◌};
+ghost use Rattle.rt_sql.specs.Grammar as grammar;
 ghost use Rattle.rt_sql.specs.Number.{number_by};
 ghost use Rattle.rt_sql.specs.Reading as reading;
 ghost use Rattle.rt_sql.specs.Reading.{Reads};
@@ -11,6 +12,7 @@ use crate::grammar::condition::condition;
 use crate::grammar::literals::name;
 use crate::number::Numbers;
 use crate::tokens::Tokens;
+use crate::word::is_among;
 use rt_sql_statement::{Refusal, Stmt};
 use std::alloc::Global;
 
@@ -27,18 +29,15 @@ fn watch(alloc: Global, tokens: &mut Tokens<'_>, numbers: Numbers) -> Result<Stm
 }
 
 /// Whether a dot line of that word is known.
-#[tactic(auto, unfolding(crate::specs::Reading::is_command))]
+#[tactic(auto, unfolding(crate::specs::Grammar::is_command))]
 pub(crate) fn is_command(word: &str) -> bool
-    ensures { result ≡ reading.is_command word.now }
+    ensures { result ≡ grammar.is_command word.now }
 {
-    word.eq_ignore_ascii_case("WATCH")
-        || word.eq_ignore_ascii_case("UNWATCH")
-        || word.eq_ignore_ascii_case("VIEW")
-        || word.eq_ignore_ascii_case("NODES")
+    is_among(word, &["WATCH", "UNWATCH", "VIEW", "NODES"])
 }
 
 /// A dot line of that word that takes one name.
-#[tactic(auto, unfolding(crate::specs::Reading::named_command))]
+#[tactic(auto, unfolding(crate::specs::Reading::named_command, crate::specs::Reading::statement_by))]
 fn named_command(alloc: Global, tokens: &mut Tokens<'_>, word: &str) -> Result<Stmt, Refusal>
     ensures { Reads (reading.named_command word.now tokens.old) result tokens.new }
 {

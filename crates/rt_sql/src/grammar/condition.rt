@@ -6,7 +6,7 @@ ghost use Rattle.rt_sql.specs.Number.{number_by};
 ghost use Rattle.rt_sql.specs.Reading as reading;
 ghost use Rattle.rt_sql.specs.Reading.{Reads};
 
-use crate::grammar::items::{Item, Separator, separated};
+use crate::grammar::items::{Item, Separator, sequence};
 use crate::grammar::literals::name;
 use crate::number::Numbers;
 use crate::token::{Sign, Token};
@@ -88,7 +88,7 @@ pub(crate) fn condition(
     ensures { Reads (reading.condition (number_by numbers) tokens.old) result tokens.new }
 {
     if tokens.eat_word("WHERE") {
-        separated::<Test>(alloc, tokens, numbers, Separator::And)
+        sequence::<Test>(alloc, tokens, numbers, Separator::And)
     } else {
         Ok(Items::new(alloc))
     }

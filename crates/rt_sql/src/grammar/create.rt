@@ -7,7 +7,7 @@ ghost use Rattle.rt_sql.specs.Number.{number_by};
 ghost use Rattle.rt_sql.specs.Reading as reading;
 ghost use Rattle.rt_sql.specs.Reading.{Reads};
 
-use crate::grammar::items::{Item, Separator, separated};
+use crate::grammar::items::{Item, Separator, sequence};
 use crate::grammar::literals::{digits, name};
 use crate::number::Numbers;
 use crate::token::{Sign, Token};
@@ -33,7 +33,7 @@ fn skip_words(tokens: &mut Tokens<'_>)
     }
 }
 
-/// The second number of a size, where a comma comes next.
+/// The second number of a size, if a comma comes next.
 #[tactic(auto, unfolding(crate::specs::Reading::second_size))]
 fn second_size(tokens: &mut Tokens<'_>, numbers: Numbers) -> Result<(), Refusal>
     ensures { Reads (reading.second_size (number_by numbers) tokens.old) result tokens.new }
@@ -56,7 +56,7 @@ fn size_digits(tokens: &mut Tokens<'_>, numbers: Numbers) -> Result<(), Refusal>
     Ok(())
 }
 
-/// The size of a type, where a parenthesis comes next.
+/// The size of a type, if a parenthesis comes next.
 #[tactic(auto, unfolding(crate::specs::Reading::size))]
 fn size(tokens: &mut Tokens<'_>, numbers: Numbers) -> Result<(), Refusal>
     ensures { Reads (reading.size (number_by numbers) tokens.old) result tokens.new }
@@ -68,7 +68,7 @@ fn size(tokens: &mut Tokens<'_>, numbers: Numbers) -> Result<(), Refusal>
     }
 }
 
-/// A column: `+` where it is auxiliary, its name, and a type that means nothing.
+/// A column: `+` if it is auxiliary, its name, and a type that means nothing.
 impl Item for ColumnDef {
     ghost use Rattle.rt_sql.specs.Reading.{column};
 
@@ -99,7 +99,7 @@ fn then_word(tokens: &Tokens<'_>, word: &str) -> bool
     }
 }
 
-/// The name of a table, beside whether `IF` stood before it.
+/// The name of a table, and whether `IF` stood before it.
 #[tactic(auto, unfolding(crate::specs::Reading::table))]
 fn table(alloc: Global, tokens: &mut Tokens<'_>, is_guarded: bool) -> Result<(bool, Name), Refusal>
     ensures { Reads (reading.table is_guarded tokens.old) result tokens.new }
@@ -145,7 +145,7 @@ fn create(alloc: Global, tokens: &mut Tokens<'_>, numbers: Numbers) -> Result<St
     tokens.expect_word("USING")?;
     tokens.expect_word("RTREE_I32")?;
     tokens.expect_sign(Sign::LeftParenthesis)?;
-    let columns = separated::<ColumnDef>(alloc, tokens, numbers, Separator::Comma)?;
+    let columns = sequence::<ColumnDef>(alloc, tokens, numbers, Separator::Comma)?;
     tokens.expect_sign(Sign::RightParenthesis)?;
     Ok(Stmt::Create {
         table,

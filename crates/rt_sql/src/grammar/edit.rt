@@ -8,7 +8,7 @@ ghost use Rattle.rt_sql.specs.Reading as reading;
 ghost use Rattle.rt_sql.specs.Reading.{Reads};
 
 use crate::grammar::condition::condition;
-use crate::grammar::items::{Item, Separator, separated};
+use crate::grammar::items::{Item, Separator, sequence};
 use crate::grammar::literals::{digits, name};
 use crate::number::Numbers;
 use crate::token::{Sign, Token};
@@ -34,7 +34,7 @@ pub(crate) fn rule(tokens: &mut Tokens<'_>) -> Result<Rule, Refusal>
     Ok(Rule::Abort)
 }
 
-/// The columns that an INSERT lists, where a parenthesis comes next.
+/// The columns that an INSERT lists, if a parenthesis comes next.
 #[tactic(auto, using(crate::proofs::Shorter::name_takes), unfolding(crate::specs::Reading::named_columns, crate::specs::Reading::name_list))]
 fn named_columns(
     alloc: Global,
@@ -46,7 +46,7 @@ fn named_columns(
     if !tokens.eat_sign(Sign::LeftParenthesis) {
         return Ok(None);
     }
-    let names = separated::<Name>(alloc, tokens, numbers, Separator::Comma)?;
+    let names = sequence::<Name>(alloc, tokens, numbers, Separator::Comma)?;
     tokens.expect_sign(Sign::RightParenthesis)?;
     Ok(Some(names))
 }
@@ -65,7 +65,7 @@ pub(crate) fn insert(
     let table = name(alloc, tokens)?;
     let columns = named_columns(alloc, tokens, numbers)?;
     tokens.expect_word("VALUES")?;
-    let rows = separated::<Items<Value>>(alloc, tokens, numbers, Separator::Comma)?;
+    let rows = sequence::<Items<Value>>(alloc, tokens, numbers, Separator::Comma)?;
     let edit = Edit::Insert {
         rule,
         columns,
@@ -144,7 +144,7 @@ pub(crate) fn update(
 {
     let table = name(alloc, tokens)?;
     tokens.expect_word("SET")?;
-    let sets = separated::<(Name, Source)>(alloc, tokens, numbers, Separator::Comma)?;
+    let sets = sequence::<(Name, Source)>(alloc, tokens, numbers, Separator::Comma)?;
     let cond = condition(alloc, tokens, numbers)?;
     let edit = Edit::Update { sets, cond };
     Ok(Stmt::Edit { table, edit })

@@ -1,6 +1,6 @@
 //! Lists: items with commas or `AND` between.
 //!
-//! `Item` says how one item of each kind is read, and `separated` is the loop over all kinds.
+//! `Item` says how one item of each kind is read, and `sequence` is the loop over all kinds.
 
 ghost use Rattle.std.specs.Prelude.{◌≡◌, if◌then◌else◌};
 ghost use Rattle.rt_sql.specs.Number.{number_by};
@@ -13,7 +13,7 @@ use crate::tokens::Tokens;
 use rt_sql_statement::{Items, Refusal};
 use std::alloc::Global;
 
-/// How many items a list is given room for at once.
+/// How many items a new list has room for.
 const LIKELY: usize = 8;
 
 /// What lists are of.
@@ -21,7 +21,7 @@ pub(crate) trait Item: Drop {
     // The rule that reads one.
     ghost rule: { Read → Parser Self };
 
-    /// Reads one from the front of the tokens.
+    /// Takes the tokens of one, and returns it.
     fn read(alloc: Global, tokens: &mut Tokens<'_>, numbers: Numbers) -> Result<Self, Refusal>
         ensures { Reads (rule (number_by numbers) tokens.old) result tokens.new };
 }
@@ -29,7 +29,9 @@ pub(crate) trait Item: Drop {
 /// What stands between two items.
 #[derive(Clone, Copy, Debug)]
 pub(crate) enum Separator {
+    /// `,`.
     Comma,
+    /// `AND`.
     And,
 }
 
@@ -44,15 +46,15 @@ fn eat(tokens: &mut Tokens<'_>, separator: Separator) -> bool
     }
 }
 
-/// One item or more, with separators between. No item may be empty, so that the list ends.
-pub(crate) fn separated<T: Item>(
+/// One item or more, with separators between. No item may be empty, so the list ends.
+pub(crate) fn sequence<T: Item>(
     alloc: Global,
     tokens: &mut Tokens<'_>,
     numbers: Numbers,
     separator: Separator,
 ) -> Result<Items<T>, Refusal>
     requires { TakesTokens (T.rule (number_by numbers)) }
-    ensures { Reads (reading.separated (reading.sees separator) (T.rule (number_by numbers)) tokens.old) result tokens.new }
+    ensures { Reads (reading.sequence_by separator (T.rule (number_by numbers)) tokens.old) result tokens.new }
 {
     let mut items = Items::from_vec(Vec::with_capacity(alloc, LIKELY)?);
     'items: loop {

@@ -1,15 +1,15 @@
 //! Names and values, and lists of them.
 //!
-//! A value is read by a rule of its own for numbers: the first reading takes 64 bits, a second one any size, which tells a
-//! number that is too large from tokens that spell nothing.
+//! The first reading takes numbers of 64 bits, and a second one any size: so a number that is too large is told from tokens
+//! that spell nothing.
 
 ghost use Rattle.std.specs.Prelude.{◌≡◌};
 ghost use Rattle.rt_sql.specs.Number.{number_by};
 ghost use Rattle.rt_sql.specs.Reading as reading;
 ghost use Rattle.rt_sql.specs.Reading.{Reads};
 
-use crate::grammar::items::{Item, Separator, separated};
-use crate::literals::{hex_bytes, undoubled};
+use crate::grammar::items::{Item, Separator, sequence};
+use crate::literals::{hex_bytes, undouble};
 use crate::number::{Numbers, number};
 use crate::token::{Sign, Token};
 use crate::tokens::Tokens;
@@ -31,7 +31,7 @@ pub(crate) fn name(alloc: Global, tokens: &mut Tokens<'_>) -> Result<Name, Refus
         Some(Token::Quoted(quoted)) => {
             let quoted = quoted.as_str();
             tokens.skip();
-            Ok(Name::from_string(undoubled(alloc, b'"', quoted)?))
+            Ok(Name::from_string(undouble(alloc, b'"', quoted)?))
         }
         _ => Err(Refusal::SyntaxError),
     }
@@ -88,7 +88,7 @@ fn literal(alloc: Global, tokens: &mut Tokens<'_>) -> Result<Value, Refusal>
         Some(Token::Text(text)) => {
             let text = text.as_str();
             tokens.skip();
-            let text = undoubled(alloc, b'\'', text)?;
+            let text = undouble(alloc, b'\'', text)?;
             Ok(Value::Text(Text::from_string(text)))
         }
         Some(Token::Blob(digits)) => {
@@ -172,7 +172,7 @@ impl Item for Items<Value> {
         numbers: Numbers,
     ) -> Result<Items<Value>, Refusal> {
         tokens.expect_sign(Sign::LeftParenthesis)?;
-        let values = separated::<Value>(alloc, tokens, numbers, Separator::Comma)?;
+        let values = sequence::<Value>(alloc, tokens, numbers, Separator::Comma)?;
         tokens.expect_sign(Sign::RightParenthesis)?;
         Ok(values)
     }
@@ -188,5 +188,5 @@ pub(crate) fn text(alloc: Global, tokens: &mut Tokens<'_>) -> Result<Name, Refus
     };
     let text = text.as_str();
     tokens.skip();
-    Ok(Name::from_string(undoubled(alloc, b'\'', text)?))
+    Ok(Name::from_string(undouble(alloc, b'\'', text)?))
 }

@@ -8,7 +8,7 @@ ghost use Rattle.rt_sql.specs.Reading as reading;
 ghost use Rattle.rt_sql.specs.Reading.{Reads};
 
 use crate::grammar::condition::condition;
-use crate::grammar::items::{Separator, separated};
+use crate::grammar::items::{Separator, sequence};
 use crate::grammar::literals::{name, text};
 use crate::number::Numbers;
 use crate::token::Sign;
@@ -16,7 +16,7 @@ use crate::tokens::Tokens;
 use rt_sql_statement::{Items, Name, Refusal, Stmt};
 use std::alloc::Global;
 
-/// The column that rows are ordered by, where `ORDER` comes next.
+/// The column that rows are ordered by, if `ORDER` comes next.
 #[tactic(auto, unfolding(crate::specs::Reading::order, crate::specs::Reading::order_by))]
 fn order(alloc: Global, tokens: &mut Tokens<'_>) -> Result<Option<Name>, Refusal>
     ensures { Reads (reading.order tokens.old) result tokens.new }
@@ -31,18 +31,18 @@ fn order(alloc: Global, tokens: &mut Tokens<'_>) -> Result<Option<Name>, Refusal
 }
 
 /// The columns that a SELECT shows: all of them at `*`.
-#[tactic(auto, using(crate::proofs::Shorter::name_takes), unfolding(crate::specs::Reading::shown))]
-fn shown(
+#[tactic(auto, using(crate::proofs::Shorter::name_takes), unfolding(crate::specs::Reading::selection))]
+fn selection(
     alloc: Global,
     tokens: &mut Tokens<'_>,
     numbers: Numbers,
 ) -> Result<Option<Items<Name>>, Refusal>
-    ensures { Reads (reading.shown tokens.old) result tokens.new }
+    ensures { Reads (reading.selection tokens.old) result tokens.new }
 {
     if tokens.eat_sign(Sign::Star) {
         Ok(None)
     } else {
-        let names = separated::<Name>(alloc, tokens, numbers, Separator::Comma)?;
+        let names = sequence::<Name>(alloc, tokens, numbers, Separator::Comma)?;
         Ok(Some(names))
     }
 }
@@ -52,7 +52,7 @@ fn shown(
 fn select_rows(alloc: Global, tokens: &mut Tokens<'_>, numbers: Numbers) -> Result<Stmt, Refusal>
     ensures { Reads (reading.select_rows (number_by numbers) tokens.old) result tokens.new }
 {
-    let columns = shown(alloc, tokens, numbers)?;
+    let columns = selection(alloc, tokens, numbers)?;
     tokens.expect_word("FROM")?;
     let table = name(alloc, tokens)?;
     let cond = condition(alloc, tokens, numbers)?;

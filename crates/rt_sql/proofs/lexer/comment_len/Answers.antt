@@ -16,7 +16,7 @@ returns-clause-cut c =
     let two : 2 ≤ length z = has_second z second.0 in
     elim c.if-first-eq45.branch [
       | then-first-eq45 w ↦
-          rw (w.result-is, w.front_len.ensures.value, w.as_bytes.ensures.value, c.range_from-rest.ensures.value)
+          rw (w.result-is, w.prefix_len.ensures.value, w.as_bytes.ensures.value, c.range_from-rest.ensures.value)
           (cut_at_rest 2 z _ two (cut_at_front is_in_line (drop 2 z) ascii_outside_line))
       | else-first-eq45 w ↦ rw w.result-is (cut_at_rest 2 z w.block_len.result two (rw c.range_from-rest.ensures.value at w.block_len.ensures.cut))
     ]

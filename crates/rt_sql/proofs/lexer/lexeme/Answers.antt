@@ -6,17 +6,17 @@ use Rattle.rt_sql.proofs.lexer.lexeme.Goals as goal
 pub digits-requires : goal.digits-requires
 digits-requires c = rw (← c.requires.first) (of_kind c.args.first _ c.in-Digit.ensures).0
 
-pub lettered-requires-clause-letter : goal.lettered-requires-clause-letter
-lettered-requires-clause-letter c = of_kind c.args.first _ c.in-Letter.ensures
+pub letter_lexeme-requires-clause-letter : goal.letter_lexeme-requires-clause-letter
+letter_lexeme-requires-clause-letter c = of_kind c.args.first _ c.in-Letter.ensures
 
-pub marked-requires-clause-word : goal.marked-requires-clause-word
-marked-requires-clause-word c = (no_mark c.args.first _ c.kind_of.ensures c.in-Dollar.is).0
+pub mark_lexeme-requires-clause-word : goal.mark_lexeme-requires-clause-word
+mark_lexeme-requires-clause-word c = (no_mark c.args.first _ c.kind_of.ensures c.in-Dollar.is).0
 
-pub marked-requires-clause-digit : goal.marked-requires-clause-digit
-marked-requires-clause-digit c = (no_mark c.args.first _ c.kind_of.ensures c.in-Dollar.is).1
+pub mark_lexeme-requires-clause-digit : goal.mark_lexeme-requires-clause-digit
+mark_lexeme-requires-clause-digit c = (no_mark c.args.first _ c.kind_of.ensures c.in-Dollar.is).1
 
-pub marked-requires-clause-white : goal.marked-requires-clause-white
-marked-requires-clause-white c = (no_mark c.args.first _ c.kind_of.ensures c.in-Dollar.is).2
+pub mark_lexeme-requires-clause-white : goal.mark_lexeme-requires-clause-white
+mark_lexeme-requires-clause-white c = (no_mark c.args.first _ c.kind_of.ensures c.in-Dollar.is).2
 
 pub returns-in-White-clause-value : goal.returns-in-White-clause-value
 returns-in-White-clause-value c = sym (white_lexeme c.args.first c.args.text.now (of_kind c.args.first _ c.in-White.ensures).0)

@@ -2,8 +2,8 @@ use Rattle.std.proofs.Common.{rules, arith}
 use Rattle.std.proofs.lemmas.Grind.{common_steps}
 use Rattle.rt_sql.specs.Number.{number_by}
 use Rattle.rt_sql.specs.Reading.{sees}
-use Rattle.rt_sql.proofs.Separated.{loop_none, goes_on, ends, comes_nearer}
-use Rattle.rt_sql.proofs.grammar.items.separated.Goals as goal
+use Rattle.rt_sql.proofs.Sequences.{loop_none, goes_on, ends, comes_nearer}
+use Rattle.rt_sql.proofs.grammar.items.sequence.Goals as goal
 
 pub returns-in_err-read : goal.returns-in_err-read
 returns-in_err-read g c =

@@ -1,5 +1,5 @@
 use Rattle.rt_sql.proofs.Cuts.{cut_past_pair}
-use Rattle.rt_sql.proofs.literals.undoubled.Goals as goal
+use Rattle.rt_sql.proofs.literals.undouble.Goals as goal
 
 pub range_from-rest-requires : goal.range_from-rest-requires
 range_from-rest-requires c =

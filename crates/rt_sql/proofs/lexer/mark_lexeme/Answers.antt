@@ -2,7 +2,7 @@ use Rattle.std.proofs.Common.{◌≡◌, ◌≢◌, inl, inr, ⊎_elim, true, fa
 use Rattle.rt_sql.specs.Lex.{begins_comment}
 use Rattle.rt_sql.proofs.Cuts.{cut_past_sign, ascii_before_word}
 use Rattle.rt_sql.proofs.Lexemes.{comment_lexeme, quote_lexeme, sign_lexeme}
-use Rattle.rt_sql.proofs.lexer.marked.Goals as goal
+use Rattle.rt_sql.proofs.lexer.mark_lexeme.Goals as goal
 
 pub returns-then-begins_comment-clause-value : goal.returns-then-begins_comment-clause-value
 returns-then-begins_comment-clause-value c =

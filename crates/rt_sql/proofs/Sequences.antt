@@ -1,7 +1,7 @@
 -- Items with commas between: one turn, and that the number of tokens bounds the turns.
 use Rattle.std.proofs.Common.{◌≡◌, ℕ, zero, suc, ◌-◌, ◌<◌, ◌≤◌, ◌⊎◌, inl, inr, ⊎_elim, Bool, true, false, List, [], ◌∷◌, ◌++◌, length, Option, Some, None, if◌then◌else◌, refl, ap, ◌∙◌, sym, arith}
 use Rattle.rt_sql.specs.declared.token.Token.{Token}
-use Rattle.rt_sql.specs.Reading.{Outcome, Parser, TakesTokens, rest, separated_from}
+use Rattle.rt_sql.specs.Reading.{Outcome, Parser, TakesTokens, rest, sequence_from}
 
 pub option_cases : {X : Type 0} (o : Option X) → (o ≡ None) ⊎ ((x : X) × (o ≡ Some x))
 option_cases None = inl refl
@@ -17,21 +17,21 @@ rest_shorter [] = omega arith
 rest_shorter (t ∷ ts) = omega arith
 
 module _ {A : Type 0} (sees : List Token → Bool) (item : Parser A) where
-  pub turn_none : (n : ℕ) (found : List A) (ts : List Token) → item ts ≡ None → separated_from sees item n found ts ≡ None
-  unfolding separated_from
+  pub turn_none : (n : ℕ) (found : List A) (ts : List Token) → item ts ≡ None → sequence_from sees item n found ts ≡ None
+  unfolding sequence_from
   turn_none zero found ts h = refl
   turn_none (suc n) found ts h = rw h refl
 
-  pub turn_last : (n : ℕ) (found : List A) (ts mid : List Token) (a : A) → item ts ≡ Some (a, mid) → sees mid ≡ false → separated_from sees item (suc n) found ts ≡ Some (found ++ a ∷ [], mid)
-  unfolding separated_from
+  pub turn_last : (n : ℕ) (found : List A) (ts mid : List Token) (a : A) → item ts ≡ Some (a, mid) → sees mid ≡ false → sequence_from sees item (suc n) found ts ≡ Some (found ++ a ∷ [], mid)
+  unfolding sequence_from
   turn_last n found ts mid a h e = rw (h, e) refl
 
-  pub turn_more : (n : ℕ) (found : List A) (ts mid : List Token) (a : A) → item ts ≡ Some (a, mid) → sees mid ≡ true → separated_from sees item (suc n) found ts ≡ separated_from sees item n (found ++ a ∷ []) (rest mid)
-  unfolding separated_from
+  pub turn_more : (n : ℕ) (found : List A) (ts mid : List Token) (a : A) → item ts ≡ Some (a, mid) → sees mid ≡ true → sequence_from sees item (suc n) found ts ≡ sequence_from sees item n (found ++ a ∷ []) (rest mid)
+  unfolding sequence_from
   turn_more n found ts mid a h e = rw (h, e) refl
 
 module _ {A : Type 0} (sees : List Token → Bool) (item : Parser A) (takes : TakesTokens item) where
-  pub turns_enough : (n m : ℕ) (found : List A) (ts : List Token) → length ts ≤ n → length ts ≤ m → separated_from sees item n found ts ≡ separated_from sees item m found ts
+  pub turns_enough : (n m : ℕ) (found : List A) (ts : List Token) → length ts ≤ n → length ts ≤ m → sequence_from sees item n found ts ≡ sequence_from sees item m found ts
   turns_enough zero zero found ts h k = refl
   turns_enough zero (suc m) found ts h k =
       ⊎_elim
@@ -58,19 +58,19 @@ module _ {A : Type 0} (sees : List Token → Bool) (item : Parser A) (takes : Ta
       (bool_cases (sees s.0.1)))
       (option_cases (item ts))
 
-  pub loop_none : (found : List A) (ts : List Token) → item ts ≡ None → separated_from sees item (length ts) found ts ≡ None
+  pub loop_none : (found : List A) (ts : List Token) → item ts ≡ None → sequence_from sees item (length ts) found ts ≡ None
   loop_none found ts h = turn_none sees item (length ts) found ts h
 
   some_turns : (ts mid : List Token) (a : A) → item ts ≡ Some (a, mid) → length ts ≡ suc (length ts - 1)
   some_turns ts mid a h = omega (arith, takes ts a mid h)
 
-  pub loop_last : (found : List A) (ts mid : List Token) (a : A) → item ts ≡ Some (a, mid) → sees mid ≡ false → separated_from sees item (length ts) found ts ≡ Some (found ++ a ∷ [], mid)
+  pub loop_last : (found : List A) (ts mid : List Token) (a : A) → item ts ≡ Some (a, mid) → sees mid ≡ false → sequence_from sees item (length ts) found ts ≡ Some (found ++ a ∷ [], mid)
   loop_last found ts mid a h e =
-      ap (λ n. separated_from sees item n found ts) (some_turns ts mid a h) ∙ turn_last sees item (length ts - 1) found ts mid a h e
+      ap (λ n. sequence_from sees item n found ts) (some_turns ts mid a h) ∙ turn_last sees item (length ts - 1) found ts mid a h e
 
-  pub loop_more : (found : List A) (ts mid : List Token) (a : A) → item ts ≡ Some (a, mid) → sees mid ≡ true → separated_from sees item (length ts) found ts ≡ separated_from sees item (length (rest mid)) (found ++ a ∷ []) (rest mid)
+  pub loop_more : (found : List A) (ts mid : List Token) (a : A) → item ts ≡ Some (a, mid) → sees mid ≡ true → sequence_from sees item (length ts) found ts ≡ sequence_from sees item (length (rest mid)) (found ++ a ∷ []) (rest mid)
   loop_more found ts mid a h e =
-      ap (λ n. separated_from sees item n found ts) (some_turns ts mid a h)
+      ap (λ n. sequence_from sees item n found ts) (some_turns ts mid a h)
       ∙ turn_more sees item (length ts - 1) found ts mid a h e
       ∙ turns_enough (length ts - 1) (length (rest mid)) (found ++ a ∷ []) (rest mid) (omega (arith, takes ts a mid h, rest_shorter mid)) (omega arith)
 
@@ -79,12 +79,12 @@ module _ {A : Type 0} (sees : List Token → Bool) (item : Parser A) (takes : Ta
 
 -- the same for a loop in code, which has read `found` so far, and `next` and what follows it in this turn
 module _ {A : Type 0} (sees : List Token → Bool) (item : Parser A) (takes : TakesTokens item) (found next : List A) (ts mid ts' : List Token) (a : A) where
-  pub goes_on : {whole : Outcome (List A)} → whole ≡ separated_from sees item (length ts) found ts → item ts ≡ Some (a, mid) → next ≡ found ++ a ∷ [] → ts' ≡ (if sees mid then rest mid else mid) → sees mid ≡ true → whole ≡ separated_from sees item (length ts') next ts'
+  pub goes_on : {whole : Outcome (List A)} → whole ≡ sequence_from sees item (length ts) found ts → item ts ≡ Some (a, mid) → next ≡ found ++ a ∷ [] → ts' ≡ (if sees mid then rest mid else mid) → sees mid ≡ true → whole ≡ sequence_from sees item (length ts') next ts'
   goes_on w h n e more =
       let is_rest : ts' ≡ rest mid = e ∙ ap (λ b. if b then rest mid else mid) more in
       rw (is_rest, n) (w ∙ loop_more sees item takes found ts mid a h more)
 
-  pub ends : {whole : Outcome (List A)} → whole ≡ separated_from sees item (length ts) found ts → item ts ≡ Some (a, mid) → next ≡ found ++ a ∷ [] → ts' ≡ (if sees mid then rest mid else mid) → sees mid ≡ false → whole ≡ Some (next, ts')
+  pub ends : {whole : Outcome (List A)} → whole ≡ sequence_from sees item (length ts) found ts → item ts ≡ Some (a, mid) → next ≡ found ++ a ∷ [] → ts' ≡ (if sees mid then rest mid else mid) → sees mid ≡ false → whole ≡ Some (next, ts')
   ends w h n e last =
       let is_mid : ts' ≡ mid = e ∙ ap (λ b. if b then rest mid else mid) last in
       rw (is_mid, n) (w ∙ loop_last sees item takes found ts mid a h last)
