@@ -19,11 +19,14 @@ use Rattle.rt_check_draw.specs.declared.levels.LevelRow.{LevelRow}
 use Rattle.rt_check_draw.specs.Markup.{is_plain, are_attributes, IsContent, nothing, character, IsDocument}
 use Rattle.rt_check_draw.specs.Axes.{axes_of}
 use Rattle.rt_check_draw.specs.Scale.{frame_of, place_of}
-use Rattle.rt_check_draw.specs.Boxes.{together, place_text, word_for, title_text, hue_of, stroke_of, opacity_of, cell_line, cells_on, level_text}
+use Rattle.rt_check_draw.specs.declared.boxes.Title.{Title}
+use Rattle.rt_check_draw.specs.declared.boxes.Title.TheVariants.{Name, Words}
+use Rattle.rt_check_draw.specs.Text.{together}
+use Rattle.rt_check_draw.specs.Boxes.{place_text, word_for, title_words, hue_of, stroke_of, opacity_of, box_line, cells_on, level_text}
 use Rattle.rt_check_draw.specs.Levels.{rows_of, levels_of, leaves_out}
 use Rattle.rt_check_draw.specs.Legend.{row_text, line_at, legend_head, note_text, note_if, legend_text}
-use Rattle.rt_check_draw.specs.Problems.{first_of, problem_words, mark_line, mark_if, marks_in, marks_if, marks_of, marks_text, problem_line, list_text, problems_text}
-use Rattle.rt_check_draw.specs.Picture.{head, shown, upwards, title, range_across_text, range_up_text, if_some, ranges_text, problems_start, height_of, plot_text, picture_on}
+use Rattle.rt_check_draw.specs.Problems.{first_of, mark_if, marks_in, marks_if, marks_of, marks_text, problem_line, list_text, problems_text}
+use Rattle.rt_check_draw.specs.Picture.{head, axis_number, upwards, title, ends_text, range_text, ranges_text, problems_start, height_of, plot_text, picture_on}
 use Rattle.rt_check_draw.specs.Laws.{PictureIsWellFormed}
 use Rattle.rt_check_draw.proofs.Markups.{decimal-plain, signed-plain, content-append, plain-content, flat-content, parts-content, together_then, then-together, is, element_then, whole-content, whole-element, empty-content, then-rest}
 
@@ -55,10 +58,6 @@ either false xs ys p q = q
 three : (parts : List (List ℕ)) (x e : List ℕ) → (together parts ++ x) ++ e ≡ together_then parts (x ++ e)
 three parts x e = append_assoc (together parts) x e ∙ then-together parts (x ++ e)
 
-four : (parts words : List (List ℕ)) (t e : List ℕ) → ((together parts ++ t) ++ together words) ++ e ≡ together_then parts (t ++ together_then words e)
-four parts words t e =
-    append_assoc (together parts ++ t) (together words) e ∙ three parts t (together words ++ e) ∙ ap (λ l. together_then parts (t ++ l)) (then-together words e)
-
 -- a problem in words
 module _ (problem : Problem) where
   abbrev word_parts : List (List ℕ)
@@ -87,25 +86,20 @@ module _ (p : Place) where
   boxed : (inside : List (List ℕ)) → IsContent (together inside) → IsContent (element_then (codes "rect") place_attributes inside (codes "\n"))
   boxed inside h = whole-content (codes "rect") place_attributes refl place-sound inside (codes "\n") h (plain-content (codes "\n") refl)
 
-  abbrev cell_parts : ℕ → ℤ → List (List ℕ)
-  cell_parts level id = codes "<title>" ∷ word_for level ∷ signed_decimal id ∷ codes "</title>" ∷ []
+  box-content : (words : List ℕ) → IsContent words → IsContent (place_text p ++ codes "<title>" ++ words ++ codes "</title></rect>\n")
+  box-content words h =
+      let inside : IsContent (together (codes "<title>" ∷ words ∷ codes "</title>" ∷ [])) =
+      whole-content (codes "title") [] refl refl (words ∷ []) [] (parts-content (words ∷ []) (h, tt)) nothing in
+      let text : ((together place_parts ++ codes "<title>") ++ words) ++ codes "</title></rect>\n" ≡ together_then place_parts (codes "<title>" ++ (words ++ codes "</title></rect>\n")) =
+      append_assoc (together place_parts ++ codes "<title>") words (codes "</title></rect>\n") ∙ three place_parts (codes "<title>") (words ++ codes "</title></rect>\n") in
+      subst IsContent (sym text) (boxed (codes "<title>" ∷ words ∷ codes "</title>" ∷ []) inside)
 
-  cell-content : (level : ℕ) (id : ℤ) → IsContent (place_text p ++ title_text level id)
-  cell-content level id =
-      let words : IsContent (together (word_for level ∷ signed_decimal id ∷ [])) =
-      parts-content (word_for level ∷ signed_decimal id ∷ []) (plain-content (word_for level) (word-plain level), (signed id, tt)) in
-      let titled : IsContent (together (cell_parts level id)) = whole-content (codes "title") [] refl refl (word_for level ∷ signed_decimal id ∷ []) [] words nothing in
-      subst IsContent (sym (then-together place_parts (title_text level id))) (boxed (cell_parts level id) titled)
+titled : (title : Title) (level : ℕ) (number : ℤ) → IsContent (title_words title level number)
+titled Name level id = parts-content (word_for level ∷ signed_decimal id ∷ []) (plain-content (word_for level) (word-plain level), (signed id, tt))
+titled (Words problem) level id = words-content problem
 
-  module _ (problem : Problem) where
-    abbrev mark_parts : List (List ℕ)
-    mark_parts =
-        codes "<title>" ∷ codes "C" ∷ decimal (code_of problem.condition) ∷ codes " node " ∷ signed_decimal problem.node ∷ codes " at " ∷ decimal problem.position ∷ codes "</title>" ∷ []
-
-    mark-content : IsContent (place_text p ++ codes "<title>" ++ problem_words problem ++ codes "</title></rect>\n")
-    mark-content =
-        let titled : IsContent (together mark_parts) = whole-content (codes "title") [] refl refl (word_parts problem) [] (words-content problem) nothing in
-        subst IsContent (sym (four place_parts (word_parts problem) (codes "<title>") (codes "</title></rect>\n"))) (boxed mark_parts titled)
+cell-content : {D : ℕ} (title : Title) (f : Frame) (level : ℕ) (cell : RawCell D) → IsContent (box_line title f level cell)
+cell-content title f level cell = box-content (place_of f level cell) (title_words title level cell.number) (titled title level cell.number)
 
 -- the boxes of a level
 module _ (level hue width : ℕ) where
@@ -131,8 +125,8 @@ module _ (level hue width : ℕ) where
 module _ {D : ℕ} (f : Frame) where
   level-content : (nodes : List (NodeRow D)) (level : ℕ) → IsContent (level_text f nodes level)
   level-content nodes level =
-      group-content level (hue_of level) (stroke_of level) (flat_map (cell_line f level) (cells_on level nodes))
-      (flat-content (cell_line f level) (λ cell. cell-content (place_of f level cell) level cell.number) (cells_on level nodes))
+      group-content level (hue_of level) (stroke_of level) (flat_map (box_line Name f level) (cells_on level nodes))
+      (flat-content (box_line Name f level) (cell-content Name f level) (cells_on level nodes))
 
 -- the legend
 span_at : (x : List ℕ) (inside : List (List ℕ)) (rest : List ℕ) → IsTrue (list_all is_plain x) → IsContent (together inside) → IsContent rest
@@ -213,12 +207,12 @@ legend-content top capacity rows out =
 module _ {D : ℕ} (f : Frame) (problem : Problem) where
   mark-if : (level : ℕ) (cell : Option (RawCell D)) → IsContent (mark_if f problem level cell)
   mark-if level None = nothing
-  mark-if level (Some cell) = mark-content (place_of f level cell) problem
+  mark-if level (Some cell) = cell-content (Words problem) f level cell
 
   marks-in : (node : NodeRow D) → IsContent (marks_in f problem node)
   marks-in node =
       either (code_of problem.condition == 9) _ _ nothing
-      (either (problem.position == 0) _ _ (flat-content (mark_line f problem node.level) (λ cell. mark-content (place_of f node.level cell) problem) node.cells) (mark-if node.level _))
+      (either (problem.position == 0) _ _ (flat-content (box_line (Words problem) f node.level) (cell-content (Words problem) f node.level) node.cells) (mark-if node.level _))
 
   marks-if : (node : Option (NodeRow D)) → IsContent (marks_if f problem node)
   marks-if None = nothing
@@ -257,15 +251,15 @@ module _ {D : ℕ} (f : Frame) (nodes : List (NodeRow D)) (problems : List Probl
 upwards-content : (up : Option ℕ) → IsContent (upwards up)
 upwards-content None = plain-content (codes "the levels") refl
 upwards-content (Some axis) =
-    parts-content (codes "axis " ∷ decimal (shown axis) ∷ []) (plain-content (codes "axis ") refl, (number (shown axis), tt))
+    parts-content (codes "axis " ∷ decimal (axis_number axis) ∷ []) (plain-content (codes "axis ") refl, (number (axis_number axis), tt))
 
 title-content : (rows capacity : ℕ) (axes : Axes) → IsContent (title rows capacity axes)
 title-content rows capacity axes =
     let size_parts : List (List ℕ) =
     codes "<text x=\"10000\" y=\"2500\">Rows: " ∷ decimal rows ∷ codes "; capacity: " ∷ decimal capacity ∷ codes "; to the right: axis "
-    ∷ decimal (shown axes.across) ∷ codes "; upwards: " ∷ [] in
+    ∷ decimal (axis_number axes.across) ∷ codes "; upwards: " ∷ [] in
     let inside : List (List ℕ) =
-    codes "Rows: " ∷ decimal rows ∷ codes "; capacity: " ∷ decimal capacity ∷ codes "; to the right: axis " ∷ decimal (shown axes.across) ∷ codes "; upwards: "
+    codes "Rows: " ∷ decimal rows ∷ codes "; capacity: " ∷ decimal capacity ∷ codes "; to the right: axis " ∷ decimal (axis_number axes.across) ∷ codes "; upwards: "
     ∷ upwards axes.up ∷ [] in
     subst IsContent (sym (three size_parts (upwards axes.up) (codes "</text>\n")))
     (whole-content (codes "text") ((codes "x", codes "10000" ∷ []) ∷ (codes "y", codes "2500" ∷ []) ∷ []) refl refl inside (codes "\n")
@@ -277,7 +271,7 @@ title-content rows capacity axes =
           plain-content (codes "; capacity: ") refl,
           (
             number capacity,
-            (plain-content (codes "; to the right: axis ") refl, (number (shown axes.across), (plain-content (codes "; upwards: ") refl, (upwards-content axes.up, tt)))),
+            (plain-content (codes "; to the right: axis ") refl, (number (axis_number axes.across), (plain-content (codes "; upwards: ") refl, (upwards-content axes.up, tt)))),
           ),
         ),
       ),
@@ -288,14 +282,20 @@ module _ (r : Range) where
   signed-content : (z : ℤ) → IsContent (together (signed_decimal z ∷ []))
   signed-content z = one-part (signed_decimal z) (signed z)
 
-  across-content : IsContent (range_across_text r)
+  abbrev across : List ℕ
+  across = ends_text (codes "<text x=\"10000\" y=\"85700\">") (codes "</text>\n<text x=\"90000\" y=\"85700\" text-anchor=\"end\">") r
+
+  abbrev up : List ℕ
+  up = ends_text (codes "<text x=\"9500\" y=\"84000\" text-anchor=\"end\">") (codes "</text>\n<text x=\"9500\" y=\"5000\" text-anchor=\"end\">") r
+
+  across-content : IsContent across
   across-content =
       whole-content (codes "text") ((codes "x", codes "10000" ∷ []) ∷ (codes "y", codes "85700" ∷ []) ∷ []) refl refl (signed_decimal r.lo ∷ []) _ (signed-content r.lo)
       (character 10 _ refl
       (whole-content (codes "text") ((codes "x", codes "90000" ∷ []) ∷ (codes "y", codes "85700" ∷ []) ∷ (codes "text-anchor", codes "end" ∷ []) ∷ []) refl refl
       (signed_decimal r.hi ∷ []) (codes "\n") (signed-content r.hi) (plain-content (codes "\n") refl)))
 
-  up-content : IsContent (range_up_text r)
+  up-content : IsContent up
   up-content =
       whole-content (codes "text") ((codes "x", codes "9500" ∷ []) ∷ (codes "y", codes "84000" ∷ []) ∷ (codes "text-anchor", codes "end" ∷ []) ∷ []) refl refl
       (signed_decimal r.lo ∷ []) _ (signed-content r.lo)
@@ -303,7 +303,7 @@ module _ (r : Range) where
       (whole-content (codes "text") ((codes "x", codes "9500" ∷ []) ∷ (codes "y", codes "5000" ∷ []) ∷ (codes "text-anchor", codes "end" ∷ []) ∷ []) refl refl
       (signed_decimal r.hi ∷ []) (codes "\n") (signed-content r.hi) (plain-content (codes "\n") refl)))
 
-  if-content : (text : List ℕ) → IsContent text → IsContent (if_some r text)
+  if-content : (text : List ℕ) → IsContent text → IsContent (if int_le r.lo r.hi then text else [])
   if-content text h = either (int_le r.lo r.hi) _ _ h nothing
 
 ranges-content : (f : Frame) → IsContent (ranges_text f)

@@ -6,7 +6,7 @@ use Rattle.std.proofs.lemmas.List.{take_more}
 use Rattle.std.proofs.lemmas.Grind.{flat_map-append}
 use Rattle.rt_check_draw.specs.Levels.{down_from}
 
--- the levels from this one down, where there is one
+-- the levels from this one down, if there is one
 abbrev pub levels_left : Option ℕ → List ℕ
 levels_left None = []
 levels_left (Some n) = down_from n
@@ -20,7 +20,7 @@ appended f start before after xs i d within so_far now =
     ap (flat_map f) (take_more xs i d within) ∙ flat_map-append f (take i xs) (get_or xs i d ∷ []) ∙ ap (λ l. flat_map f (take i xs) ++ l) one in
     now ∙ ap (λ l. l ++ f (get_or xs i d)) so_far ∙ append_assoc start (flat_map f (take i xs)) (f (get_or xs i d)) ∙ ap (λ l. start ++ l) (sym more)
 
--- the same, where the item is known by another name
+-- the same, if the item is known by another name
 pub appended_as : {X : Type 0} (f : X → List ℕ) (start before after : List ℕ) (xs : List X) (i : ℕ) (d y : X) → i < length xs → get_or xs i d ≡ y
     → before ≡ start ++ flat_map f (take i xs) → after ≡ before ++ f y → after ≡ start ++ flat_map f (take (i + 1) xs)
 appended_as f start before after xs i d y within same so_far now =

@@ -4,20 +4,10 @@ use Rattle.std.specs.Prelude.{IsTrue, ◌&&◌}
 use Rattle.std.specs.Fmt.{signed_decimal, digits, digits_onto, digit_glyph}
 use Rattle.std.specs.List.{flat_map, list_all, AllByRecursion}
 use Rattle.std.proofs.Math.Nat.{mod-lt}
+use Rattle.std.proofs.lemmas.Bool.{and_from, and_parts}
 use Rattle.std.proofs.lemmas.Bool.Decides.{nat_tests}
 use Rattle.rt_check_draw.specs.Markup.{is_plain, Attribute, attribute_text, are_attributes, is_name, IsTag, IsElement, IsContent, empty, whole, nothing, character, element}
-use Rattle.rt_check_draw.specs.Boxes.{together}
-
-both : (a b : Bool) → a ≡ true → b ≡ true → (a && b) ≡ true
-both a b p q = rw (p, q)
-
-first : (a b : Bool) → (a && b) ≡ true → a ≡ true
-first true b h = refl
-first false b h = h
-
-second : (a b : Bool) → (a && b) ≡ true → b ≡ true
-second true b h = h
-second false b h = let no : ⊥ = cc in absurd no
+use Rattle.rt_check_draw.specs.Text.{together}
 
 glyph-plain : (d : ℕ) → d < 10 → IsTrue (is_plain (digit_glyph false d))
 glyph-plain d h = grind (arith, nat_tests)
@@ -25,7 +15,7 @@ glyph-plain d h = grind (arith, nat_tests)
 onto-plain : (k n : ℕ) (after : List ℕ) → IsTrue (list_all is_plain after) → IsTrue (list_all is_plain (digits_onto k 10 false n after))
 onto-plain zero n after h = h
 onto-plain (suc k) n after h =
-    let more : IsTrue (list_all is_plain (digit_glyph false (n % 10) ∷ after)) = both _ _ (glyph-plain (n % 10) (mod-lt n (omega arith))) h in
+    let more : IsTrue (list_all is_plain (digit_glyph false (n % 10) ∷ after)) = and_from _ _ (glyph-plain (n % 10) (mod-lt n (omega arith))) h in
     either (n / 10 == 0) _ _ more (onto-plain k (n / 10) _ more)
   where
     either : (b : Bool) (xs ys : List ℕ) → IsTrue (list_all is_plain xs) → IsTrue (list_all is_plain ys) → IsTrue (list_all is_plain (cond b xs ys))
@@ -51,7 +41,7 @@ element-content name text e = subst IsContent (append-nil text) (element name te
 
 pub plain-content : (text : List ℕ) → IsTrue (list_all is_plain text) → IsContent text
 plain-content [] h = nothing
-plain-content (c ∷ others) h = character c others (first _ _ h) (plain-content others (second _ _ h))
+plain-content (c ∷ others) h = character c others (and_parts _ _ h).0 (plain-content others (and_parts _ _ h).1)
 
 pub flat-content : {X : Type 0} (f : X → List ℕ) → ((x : X) → IsContent (f x)) → (xs : List X) → IsContent (flat_map f xs)
 flat-content f each [] = nothing

@@ -25,7 +25,7 @@ abbrev pub picture_status : Option (List ℕ) → Status
 picture_status None = Refused
 picture_status (Some picture) = Clean
 
--- that was written, or after a fault a front of it
+-- that was written, or after a fault a prefix of it
 abbrev pub WritesPicture : {W : Type 0} → WriterMembers W → Option (List ℕ) → W → W → Result Status RunFault → Type 0
 WritesPicture w picture old new (Ok status) =
     WritesAll (w.written old) (w.written new) (w.faults old) (w.faults new) (picture_or_refusal picture) × (status ≡ picture_status picture)
@@ -42,7 +42,7 @@ abbrev pub drawing_status : Choice → Result AnyShadow (ℕ × LineFault) → S
 drawing_status choice (Ok shadow) = picture_status (any_picture choice shadow)
 drawing_status choice (Err fault) = Refused
 
--- that was written, or after a fault a front of it, or nothing for want of memory
+-- that was written, or after a fault a prefix of it, or nothing for want of memory
 abbrev pub WritesDrawing : {W : Type 0} → WriterMembers W → Choice → List ℕ → W → W → Result Status RunFault → Type 0
 WritesDrawing w choice bytes old new (Ok status) =
     WritesAll (w.written old) (w.written new) (w.faults old) (w.faults new) (drawing_of choice (read_text bytes)) × (status ≡ drawing_status choice (read_text bytes))
@@ -59,7 +59,7 @@ pub record DrawsDump (choice : Choice) (old new : Devices) (status : Status) : T
   pub no_read_failed : new.failures ≡ old.failures
   pub no_write_failed : new.faults ≡ old.faults
 
--- the reader held these bytes, and a front of what is written of them was written
+-- the reader held these bytes, and a prefix of what is written of them was written
 pub record FailsToDraw (choice : Choice) (old new : Devices) : Type 0 where
   pub bytes : List ℕ
   pub held : Held old.left bytes

@@ -15,8 +15,8 @@ use Rattle.rt_check_draw.specs.Picture.{picture_of}
 abbrev pub ScaleIsMonotone : Type 0
 ScaleIsMonotone = (r : Range) (a b : ℤ) → a ≤ℤ b → place_in r a ≤ place_in r b
 
--- The ends of two boxes on an axis are in order. Where that axis goes to the right, the one with the greater lower end begins
--- no further left; where it goes upwards, the one with the greater upper end reaches no less high, since an SVG counts downwards.
+-- The ends of two boxes on an axis are in order. If that axis goes to the right, the one with the greater lower end begins
+-- no further left; if it goes upwards, the one with the greater upper end reaches no less high, since an SVG counts downwards.
 abbrev pub SidesKeepDirection : Type 0
 SidesKeepDirection = (r one other : Range) → one.lo ≤ℤ one.hi → other.lo ≤ℤ other.hi →
     (one.lo ≤ℤ other.lo → (side_across r one).start ≤ (side_across r other).start) ×
@@ -50,7 +50,7 @@ abbrev pub times : ℕ → List ℕ → ℕ
 times x [] = 0
 times x (y ∷ ys) = if y == x then suc (times x ys) else times x ys
 
--- each node's level is among those drawn once where it is to be drawn, and else not at all; so each of the node's cells is drawn
+-- each node's level is among those drawn once if it is to be drawn, and else not at all; so each of the node's cells is drawn
 -- once, or not at all
 abbrev pub EachLevelIsDrawnOnce : Type 0
 EachLevelIsDrawnOnce = (D : ℕ) (choice : Choice) (axes : Axes) (s : ShadowLists D) →

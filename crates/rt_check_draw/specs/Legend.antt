@@ -2,13 +2,14 @@
 use Rattle.std.specs.Prelude.{ℕ, ◌+◌, ◌-◌, ◌*◌, ◌/◌, ◌^◌, min, Bool, List, [], ◌∷◌, ◌++◌, codes, decimal, ◌==◌, if◌then◌else◌}
 use Rattle.std.specs.List.{flat_map}
 use Rattle.rt_check_draw.specs.declared.levels.LevelRow.{LevelRow}
-use Rattle.rt_check_draw.specs.Boxes.{together, hue_of}
+use Rattle.rt_check_draw.specs.Text.{together}
+use Rattle.rt_check_draw.specs.Boxes.{hue_of}
 
--- where a line stands that is that many lines below the legend's head
+-- where the line stands that is `line` lines below the legend's head
 abbrev pub line_at : ℕ → ℕ
 line_at line = 89000 + 1800 * line
 
--- how many hundredths of the whole the part is; 0 where the whole is nothing
+-- how many hundredths of the whole the part is; 0 if the whole is nothing
 abbrev pub percent_of : ℕ → ℕ → ℕ
 percent_of part whole = if whole == 0 then 0 else min (part * 100) (2 ^ 128 - 1) / whole
 

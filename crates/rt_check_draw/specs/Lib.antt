@@ -1,3 +1,4 @@
+pub mod Text
 pub mod Axes
 pub mod Scale
 pub mod Boxes

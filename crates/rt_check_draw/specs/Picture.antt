@@ -16,7 +16,8 @@ use Rattle.rt_check_draw.specs.declared.scale.Frame.{Frame}
 use Rattle.rt_check_draw.specs.declared.levels.LevelRow.{LevelRow}
 use Rattle.rt_check_draw.specs.Axes.{axes_of}
 use Rattle.rt_check_draw.specs.Scale.{frame_of}
-use Rattle.rt_check_draw.specs.Boxes.{together, level_text}
+use Rattle.rt_check_draw.specs.Text.{together}
+use Rattle.rt_check_draw.specs.Boxes.{level_text}
 use Rattle.rt_check_draw.specs.Levels.{rows_of, levels_of, leaves_out}
 use Rattle.rt_check_draw.specs.Legend.{line_at, legend_text}
 use Rattle.rt_check_draw.specs.Problems.{most_listed, problems_text}
@@ -29,13 +30,13 @@ head height =
     ∷ codes "<rect x=\"10000\" y=\"4000\" width=\"80000\" height=\"80000\" fill=\"none\" stroke=\"silver\" stroke-width=\"50\"/>\n" ∷ [])
 
 -- an axis counted from 1
-abbrev pub shown : ℕ → ℕ
-shown axis = min (axis + 1) (2 ^ 64 - 1)
+abbrev pub axis_number : ℕ → ℕ
+axis_number axis = min (axis + 1) (2 ^ 64 - 1)
 
 -- what stands upwards
 abbrev pub upwards : Option ℕ → List ℕ
 upwards None = codes "the levels"
-upwards (Some axis) = together (codes "axis " ∷ decimal (shown axis) ∷ [])
+upwards (Some axis) = together (codes "axis " ∷ decimal (axis_number axis) ∷ [])
 
 -- the tree's size, and the axis to the right
 abbrev pub size : ℕ → ℕ → ℕ → List ℕ
@@ -44,23 +45,21 @@ size rows capacity axis =
     ∷ decimal axis ∷ codes "; upwards: " ∷ [])
 
 abbrev pub title : ℕ → ℕ → Axes → List ℕ
-title rows capacity axes = size rows capacity (shown axes.across) ++ upwards axes.up ++ codes "</text>\n"
+title rows capacity axes = size rows capacity (axis_number axes.across) ++ upwards axes.up ++ codes "</text>\n"
+
+-- the ends of a range, each behind its text
+abbrev pub ends_text : List ℕ → List ℕ → Range → List ℕ
+ends_text before_lo before_hi r = together (before_lo ∷ signed_decimal r.lo ∷ before_hi ∷ signed_decimal r.hi ∷ codes "</text>\n" ∷ [])
+
+-- nothing if there is no cell, or no axis upwards
+abbrev pub range_text : List ℕ → List ℕ → Range → List ℕ
+range_text before_lo before_hi r = if int_le r.lo r.hi then ends_text before_lo before_hi r else []
 
 -- the ends of the ranges, each beside its axis
-abbrev pub range_across_text : Range → List ℕ
-range_across_text r =
-    together (codes "<text x=\"10000\" y=\"85700\">" ∷ signed_decimal r.lo ∷ codes "</text>\n<text x=\"90000\" y=\"85700\" text-anchor=\"end\">" ∷ signed_decimal r.hi ∷ codes "</text>\n" ∷ [])
-
-abbrev pub range_up_text : Range → List ℕ
-range_up_text r =
-    together (codes "<text x=\"9500\" y=\"84000\" text-anchor=\"end\">" ∷ signed_decimal r.lo ∷ codes "</text>\n<text x=\"9500\" y=\"5000\" text-anchor=\"end\">" ∷ signed_decimal r.hi ∷ codes "</text>\n" ∷ [])
-
--- nothing where there is no cell, or no axis upwards
-abbrev pub if_some : Range → List ℕ → List ℕ
-if_some r text = if int_le r.lo r.hi then text else []
-
 abbrev pub ranges_text : Frame → List ℕ
-ranges_text f = if_some f.across (range_across_text f.across) ++ if_some f.up (range_up_text f.up)
+ranges_text f =
+    range_text (codes "<text x=\"10000\" y=\"85700\">") (codes "</text>\n<text x=\"90000\" y=\"85700\" text-anchor=\"end\">") f.across
+    ++ range_text (codes "<text x=\"9500\" y=\"84000\" text-anchor=\"end\">") (codes "</text>\n<text x=\"9500\" y=\"5000\" text-anchor=\"end\">") f.up
 
 -- where the problems start in words
 abbrev pub problems_start : ℕ → ℕ
@@ -93,7 +92,7 @@ module _ {D : ℕ} where
   abbrev pub picture_on : Choice → ShadowLists D → Axes → List ℕ
   picture_on choice s axes = picture_from choice s (frame_of s axes) (rows_of axes s) (problems_of s)
 
--- the picture of a shadow, where it has the axes that are asked for
+-- the picture of a shadow, if it has the axes that are asked for
 abbrev pub picture_of : {D : ℕ} → Choice → ShadowLists D → Option (List ℕ)
 picture_of {D} choice s = option_map (picture_on choice s) (axes_of choice D)
 

@@ -7,8 +7,9 @@ use Rattle.rt_check.specs.declared.node.RawCell.{RawCell}
 use Rattle.rt_check.specs.declared.problem.Problem.{Problem}
 use Rattle.rt_check.specs.Conditions.{code_of, node_of}
 use Rattle.rt_check_draw.specs.declared.scale.Frame.{Frame}
-use Rattle.rt_check_draw.specs.Scale.{place_of}
-use Rattle.rt_check_draw.specs.Boxes.{together, place_text}
+use Rattle.rt_check_draw.specs.declared.boxes.Title.TheVariants.{Words}
+use Rattle.rt_check_draw.specs.Text.{together}
+use Rattle.rt_check_draw.specs.Boxes.{problem_words, box_line}
 
 -- how many problems are listed in words
 abbrev pub most_listed : ℕ
@@ -18,32 +19,24 @@ most_listed = 20
 abbrev pub first_of : List Problem → List Problem
 first_of ps = take (min (length ps) most_listed) ps
 
--- as `C6 node 1 at 2`
-abbrev pub problem_words : Problem → List ℕ
-problem_words p =
-    together (codes "C" ∷ decimal (code_of p.condition) ∷ codes " node " ∷ signed_decimal p.node ∷ codes " at " ∷ decimal p.position ∷ [])
-
 -- of a problem of the row entries, C9, the position is none of a cell
 abbrev pub is_of_entries : Problem → Bool
 is_of_entries p = code_of p.condition == 9
 
 module _ {D : ℕ} where
-  -- a box round a cell, with the problem in place of a number
-  abbrev pub mark_line : Frame → Problem → ℕ → RawCell D → List ℕ
-  mark_line f p level cell = place_text (place_of f level cell) ++ codes "<title>" ++ problem_words p ++ codes "</title></rect>\n"
-
+  -- a box round a cell, with the problem in place of its name
   abbrev pub mark_if : Frame → Problem → ℕ → Option (RawCell D) → List ℕ
   mark_if f p level None = []
-  mark_if f p level (Some cell) = mark_line f p level cell
+  mark_if f p level (Some cell) = box_line (Words p) f level cell
 
-  -- the cell at a place of a node, counted from 0, where there is one
+  -- the cell at a place of a node, counted from 0, if there is one
   abbrev pub mark_at : Frame → Problem → NodeRow D → ℕ → List ℕ
   mark_at f p node at = mark_if f p node.level (slice_get node.cells at)
 
-  -- the cells of its node of which a problem speaks: one, or all where it speaks of the node
+  -- the cells of its node of which a problem speaks: one, or all if it speaks of the node
   abbrev pub marks_in : Frame → Problem → NodeRow D → List ℕ
   marks_in f p node =
-      if is_of_entries p then [] else if p.position == 0 then flat_map (mark_line f p node.level) node.cells else mark_at f p node (p.position - 1)
+      if is_of_entries p then [] else if p.position == 0 then flat_map (box_line (Words p) f node.level) node.cells else mark_at f p node (p.position - 1)
 
   abbrev pub marks_if : Frame → Problem → Option (NodeRow D) → List ℕ
   marks_if f p None = []
@@ -69,6 +62,6 @@ abbrev pub list_text : ℕ → List Problem → List ℕ
 list_text start ps = list_head start (length ps) ++ flat_map problem_line (first_of ps) ++ codes "</text>\n"
 
 module _ {D : ℕ} where
-  -- nothing where there are none
+  -- nothing if there are none
   abbrev pub problems_text : Frame → ℕ → List (NodeRow D) → List Problem → List ℕ
   problems_text f start nodes ps = if length ps == 0 then [] else marks_text f nodes ps ++ list_text start ps

@@ -31,7 +31,7 @@ least = 200
 abbrev pub range : ℤ → ℤ → Range
 range lo hi = record { lo = lo; hi = hi }
 
--- hi less lo, or 0 where lo is above hi
+-- hi less lo, or 0 if lo is above hi
 abbrev pub length_of : Range → ℕ
 length_of r = or_zero (r.hi -ℤ r.lo)
 
@@ -47,7 +47,7 @@ common_part a b = range (int_max a.lo b.lo) (int_min a.hi b.hi)
 abbrev pub nothing : Range
 nothing = range (pos 2147483647) (negsuc 2147483647)
 
--- how far a coordinate is from the range's start, where the range is as long as the plot; half way in a range of one number
+-- how far a coordinate is from the start of the range if it is stretched to the length of the plot; half way in a range of one number
 abbrev pub place_in : Range → ℤ → ℕ
 place_in r z = if length_of r == 0 then plot / 2 else min (length_of (range r.lo z) * plot / length_of r) plot
 
@@ -75,7 +75,7 @@ module _ {D : ℕ} where
   abbrev pub frame_of : ShadowLists D → Axes → Frame
   frame_of s axes = record { axes = axes; across = range_of s.nodes axes.across; up = range_up s.nodes axes.up; top = top_of s.nodes }
 
--- a side from one place in the plot to another; where it is lengthened to the least, it ends at the plot's end at the latest
+-- a side from one place in the plot to another; if it is lengthened to the least, it ends at the plot's end at the latest
 abbrev pub side_from : ℕ → ℕ → ℕ → Side
 side_from edge start end = let length = max (end - start) least in record { start = edge + min start (plot - length); length = length }
 

@@ -15,7 +15,7 @@ pub struct Axes {
 /// What of a tree is drawn.
 #[derive(Clone, Copy, PartialEq, Eq, Debug)]
 pub struct Choice {
-    /// The axes; without them the first to the right and, where there is one, the second upwards.
+    /// The axes; without them the first to the right and, if there is one, the second upwards.
     pub axes: Option<Axes>,
     /// The lowest level.
     pub lowest: u8,
@@ -26,7 +26,7 @@ pub struct Choice {
 }
 
 impl Axes {
-    /// Whether a tree with that many axes has these.
+    /// Whether a tree with `count` axes has these.
     fn are_within(self, count: usize) -> bool
         ensures { result ≡ are_within count self }
     {
@@ -36,7 +36,7 @@ impl Axes {
         }
     }
 
-    /// The axes of a tree with that many that are drawn unasked.
+    /// The axes of a tree with `count` axes that are drawn unasked.
     fn first_of(count: usize) -> Axes
         ensures { result ≡ first_of count }
     {
@@ -54,7 +54,7 @@ impl Axes {
     }
 }
 
-/// The axes that are drawn of a tree with that many, where it has them.
+/// The axes that are drawn of a tree with `count` axes, if it has them.
 pub(crate) fn axes_of(choice: &Choice, count: usize) -> Option<Axes>
     ensures { result ≡ axes_of choice.now count }
 {

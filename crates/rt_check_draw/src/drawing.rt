@@ -1,6 +1,6 @@
 //! The run of `rtsh draw`: a dump in, its picture out.
 //!
-//! The whole text is made before any of it is written, so nothing is written where memory runs out.
+//! The whole text is made before any of it is written, so nothing is written if memory runs out.
 
 ghost use Rattle.std.specs.Prelude.{◌≡◌, ◌+◌, ◌^◌, ◌≤◌, IfOk, OnOk, true};
 ghost use Rattle.std.specs.Option.{option_map};
@@ -78,11 +78,11 @@ fn answer<W: ByteWriter>(
     }
 }
 
-/// Draws a dump: reads it whole, and writes the picture of its tree as an SVG; or the line of its first
-/// fault where it is no dump, and `no such axis` where the tree doesn't have the axes chosen, which both are
-/// answered `Refused`. It takes memory for the dump, the tree, its problems and the whole picture; where there
-/// is none it writes nothing. It reads at most 2^40 times, and flushes the writer once, at the end. Numbers and
-/// ids are looked up by `keys`, which are to be random where others choose the bytes.
+/// Draws a dump: reads it whole, and writes the picture of its tree as an SVG. If the text is no dump, it writes the
+/// line of its first fault; if the tree doesn't have the axes chosen, `no such axis`. Both are answered `Refused`.
+/// It takes memory for the dump, the tree, its problems and the whole picture, and writes nothing if there is none.
+/// It reads at most 2^40 times, and flushes the writer once, at the end. Numbers and ids are looked up by `keys`, which
+/// are to be random if others choose the bytes.
 pub fn run_draw<R: ByteReader, W: ByteWriter>(
     alloc: Global,
     keys: RandomState,

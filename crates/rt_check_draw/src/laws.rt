@@ -8,8 +8,8 @@ pub fn scale_is_monotone()
     ensures { ScaleIsMonotone }
 {}
 
-/// Of two boxes the one whose lower end is greater begins no further left, and the one whose upper end is greater reaches no less
-/// high.
+/// Of two boxes, the one whose lower end is greater begins no further left. The one whose upper end is greater reaches no
+/// less high.
 pub fn sides_keep_direction()
     ensures { SidesKeepDirection }
 {}
@@ -29,7 +29,7 @@ pub fn boxes_stay_in_frame()
     ensures { BoxesStayInFrame }
 {}
 
-/// The cells of each node are drawn once where the node's level is to be drawn, and else not at all.
+/// The cells of each node are drawn once if the node's level is to be drawn, and else not at all.
 pub fn each_level_is_drawn_once()
     ensures { EachLevelIsDrawnOnce }
 {}

@@ -1,7 +1,8 @@
 //! The legend of a picture: a line for each level.
 
-ghost use Rattle.std.specs.Prelude.{◌≡◌, ◌++◌, ◌+◌, ◌*◌, ◌-◌, OnOk};
+ghost use Rattle.std.specs.Prelude.{◌≡◌, ◌+◌, ◌*◌, ◌-◌};
 ghost use Rattle.std.specs.List.{flat_map};
+ghost use Rattle.rt_check_draw.specs.Text.{Adds};
 ghost use Rattle.rt_check_draw.specs.Legend.{percent_of, line_at, row_start, row_counts, row_shares, row_text, legend_head, note_text, note_if, legend_text};
 
 use crate::boxes::hue_of;
@@ -15,7 +16,7 @@ const LEGEND: u64 = 89_000;
 
 const LINE: u64 = 1_800;
 
-/// Where a line stands that is that many lines below the legend's head.
+/// Where the line stands that is `line` lines below the legend's head.
 pub(crate) fn line_at(line: u16) -> u64
     ensures { result ≡ line_at line }
 {
@@ -51,7 +52,7 @@ fn line_of(top: u8, row: &LevelRow) -> u64
 
 /// Adds the start of a level's line.
 fn add_row_start(text: &mut Vec<u8>, hue: u64, y: u64) -> Result<(), AllocError>
-    ensures { OnOk result (text.new.items ≡ text.old.items ++ row_start hue y) }
+    ensures { Adds result text.old text.new (row_start hue y) }
 {
     let (mut colour, mut line) = (Buffer::new(), Buffer::new());
     add(
@@ -68,7 +69,7 @@ fn add_row_start(text: &mut Vec<u8>, hue: u64, y: u64) -> Result<(), AllocError>
 
 /// Adds a level's nodes and cells.
 fn add_row_counts(text: &mut Vec<u8>, row: &LevelRow) -> Result<(), AllocError>
-    ensures { OnOk result (text.new.items ≡ text.old.items ++ row_counts row.now) }
+    ensures { Adds result text.old text.new (row_counts row.now) }
 {
     let (mut level, mut nodes, mut cells) = (Buffer::new(), Buffer::new(), Buffer::new());
     add(
@@ -86,7 +87,7 @@ fn add_row_counts(text: &mut Vec<u8>, row: &LevelRow) -> Result<(), AllocError>
 
 /// Adds the mean fill and the overlap.
 fn add_row_shares(text: &mut Vec<u8>, fill: u128, overlap: u128) -> Result<(), AllocError>
-    ensures { OnOk result (text.new.items ≡ text.old.items ++ row_shares fill overlap) }
+    ensures { Adds result text.old text.new (row_shares fill overlap) }
 {
     let (mut filled, mut shared) = (Buffer::new(), Buffer::new());
     add(
@@ -103,7 +104,7 @@ fn add_row_shares(text: &mut Vec<u8>, fill: u128, overlap: u128) -> Result<(), A
 
 /// Adds a level's line.
 fn add_row(text: &mut Vec<u8>, top: u8, capacity: usize, row: &LevelRow) -> Result<(), AllocError>
-    ensures { OnOk result (text.new.items ≡ text.old.items ++ row_text top capacity row.now) }
+    ensures { Adds result text.old text.new (row_text top capacity row.now) }
 {
     let (hue, y) = (hue_of(row.level), line_of(top, row));
     let (fill, overlap) = (fill_of(row, capacity), percent_of(row.shared, row.area));
@@ -118,7 +119,7 @@ fn add_rows(
     capacity: usize,
     rows: &[LevelRow],
 ) -> Result<(), AllocError>
-    ensures { OnOk result (text.new.items ≡ text.old.items ++ flat_map (row_text top capacity) rows.now) }
+    ensures { Adds result text.old text.new (flat_map (row_text top capacity) rows.now) }
 {
     for row in rows {
         add_row(text, top, capacity, row)?;
@@ -128,7 +129,7 @@ fn add_rows(
 
 /// Adds the legend's head.
 fn add_legend_head(text: &mut Vec<u8>) -> Result<(), AllocError>
-    ensures { OnOk result (text.new.items ≡ text.old.items ++ legend_head) }
+    ensures { Adds result text.old text.new legend_head }
 {
     add(
         text,
@@ -141,7 +142,7 @@ fn add_legend_head(text: &mut Vec<u8>) -> Result<(), AllocError>
 
 /// Adds that the leaves' cells are left out.
 fn add_note(text: &mut Vec<u8>, top: u8) -> Result<(), AllocError>
-    ensures { OnOk result (text.new.items ≡ text.old.items ++ note_text top) }
+    ensures { Adds result text.old text.new (note_text top) }
 {
     let mut y = Buffer::new();
     let line = line_at(2 + u16::from(top));
@@ -155,9 +156,9 @@ fn add_note(text: &mut Vec<u8>, top: u8) -> Result<(), AllocError>
     )
 }
 
-/// Adds that the leaves' cells are left out, where they are.
+/// Adds that the leaves' cells are left out, if they are.
 fn add_note_if(text: &mut Vec<u8>, out: bool, top: u8) -> Result<(), AllocError>
-    ensures { OnOk result (text.new.items ≡ text.old.items ++ note_if out top) }
+    ensures { Adds result text.old text.new (note_if out top) }
 {
     if out { add_note(text, top) } else { Ok(()) }
 }
@@ -170,7 +171,7 @@ pub(crate) fn add_legend(
     rows: &[LevelRow],
     out: bool,
 ) -> Result<(), AllocError>
-    ensures { OnOk result (text.new.items ≡ text.old.items ++ legend_text top capacity rows.now out) }
+    ensures { Adds result text.old text.new (legend_text top capacity rows.now out) }
 {
     add_legend_head(text)?;
     add_rows(text, top, capacity, rows)?;

@@ -11,7 +11,7 @@
 //! Stands on `rt_check_report`, `rt_check_dump`, `rt_check` and `rt_bytes`. Definitions: `specs/Picture.antt` (the
 //! text), `Boxes.antt`, `Scale.antt` (where a box stands), `Axes.antt`, `Levels.antt` (which levels are drawn, and what is
 //! said of each), `Legend.antt`, `Problems.antt`, `DrawRun.antt` (what a run does to its reader and its writer),
-//! `Markup.antt` (what well-formed is), `Laws.antt`.
+//! `Markup.antt` (what well-formed is), `Text.antt` (texts that grow), `Laws.antt`.
 #![tactic(auto)]
 
 mod boxes;

@@ -1,9 +1,10 @@
 //! The picture of a tree.
 
-ghost use Rattle.std.specs.Prelude.{◌≡◌, ◌++◌, length, IfOk, OnOk};
+ghost use Rattle.std.specs.Prelude.{◌≡◌, length, IfOk};
 ghost use Rattle.std.specs.Option.{option_map};
 ghost use Rattle.rt_check_draw.specs.Axes.{IsWithin};
-ghost use Rattle.rt_check_draw.specs.Picture.{head, upwards, size, title, range_across_text, range_up_text, if_some, ranges_text, front_text, plot_text, problems_start, height_of, end_text, picture_from, picture_on, picture_of};
+ghost use Rattle.rt_check_draw.specs.Text.{Adds};
+ghost use Rattle.rt_check_draw.specs.Picture.{head, upwards, size, title, ends_text, range_text, ranges_text, front_text, plot_text, problems_start, height_of, end_text, picture_from, picture_on, picture_of};
 
 use crate::boxes::add_levels;
 use crate::choice::{Axes, Choice, axes_of};
@@ -18,7 +19,7 @@ use std::alloc::{AllocError, Global};
 
 /// Adds the size in pixels, a white ground and a frame round the plot.
 fn add_head(text: &mut Vec<u8>, height: u64) -> Result<(), AllocError>
-    ensures { OnOk result (text.new.items ≡ text.old.items ++ head height) }
+    ensures { Adds result text.old text.new (head height) }
 {
     let (mut pixels, mut hundreds) = (Buffer::new(), Buffer::new());
     add(
@@ -36,7 +37,7 @@ fn add_head(text: &mut Vec<u8>, height: u64) -> Result<(), AllocError>
 
 /// Adds what stands upwards.
 fn add_upwards(text: &mut Vec<u8>, up: Option<usize>) -> Result<(), AllocError>
-    ensures { OnOk result (text.new.items ≡ text.old.items ++ upwards up) }
+    ensures { Adds result text.old text.new (upwards up) }
 {
     match up {
         Some(axis) => {
@@ -52,7 +53,7 @@ fn add_upwards(text: &mut Vec<u8>, up: Option<usize>) -> Result<(), AllocError>
 
 /// Adds the tree's size, and the axis to the right, counted from 1.
 fn add_size(text: &mut Vec<u8>, rows: usize, capacity: usize, axis: usize) -> Result<(), AllocError>
-    ensures { OnOk result (text.new.items ≡ text.old.items ++ size rows capacity axis) }
+    ensures { Adds result text.old text.new (size rows capacity axis) }
 {
     let (mut many, mut most, mut across) = (Buffer::new(), Buffer::new(), Buffer::new());
     add(
@@ -70,71 +71,67 @@ fn add_size(text: &mut Vec<u8>, rows: usize, capacity: usize, axis: usize) -> Re
 }
 
 fn add_title(text: &mut Vec<u8>, rows: usize, capacity: usize, axes: Axes) -> Result<(), AllocError>
-    ensures { OnOk result (text.new.items ≡ text.old.items ++ title rows capacity axes) }
+    ensures { Adds result text.old text.new (title rows capacity axes) }
 {
     add_size(text, rows, capacity, axes.across.saturating_add(1))?;
     add_upwards(text, axes.up)?;
     add(text, &[b"</text>\n"])
 }
 
-fn add_range_across(text: &mut Vec<u8>, range: &Range) -> Result<(), AllocError>
-    ensures { OnOk result (text.new.items ≡ text.old.items ++ range_across_text range.now) }
+/// Adds the ends of a range, each behind its text.
+fn add_ends(
+    text: &mut Vec<u8>,
+    before_lo: &[u8],
+    before_hi: &[u8],
+    range: &Range,
+) -> Result<(), AllocError>
+    ensures { Adds result text.old text.new (ends_text before_lo.now before_hi.now range.now) }
 {
     let (mut lo, mut hi) = (Buffer::new(), Buffer::new());
     add(
         text,
         &[
-            b"<text x=\"10000\" y=\"85700\">",
+            before_lo,
             lo.format(range.lo).as_bytes(),
-            b"</text>\n<text x=\"90000\" y=\"85700\" text-anchor=\"end\">",
+            before_hi,
             hi.format(range.hi).as_bytes(),
             b"</text>\n",
         ],
     )
 }
 
-fn add_range_up(text: &mut Vec<u8>, range: &Range) -> Result<(), AllocError>
-    ensures { OnOk result (text.new.items ≡ text.old.items ++ range_up_text range.now) }
-{
-    let (mut lo, mut hi) = (Buffer::new(), Buffer::new());
-    add(
-        text,
-        &[
-            b"<text x=\"9500\" y=\"84000\" text-anchor=\"end\">",
-            lo.format(range.lo).as_bytes(),
-            b"</text>\n<text x=\"9500\" y=\"5000\" text-anchor=\"end\">",
-            hi.format(range.hi).as_bytes(),
-            b"</text>\n",
-        ],
-    )
-}
-
-fn add_across_if(text: &mut Vec<u8>, range: &Range) -> Result<(), AllocError>
-    ensures { OnOk result (text.new.items ≡ text.old.items ++ if_some range.now (range_across_text range.now)) }
+/// Adds the ends of a range, unless it is empty.
+fn add_range(
+    text: &mut Vec<u8>,
+    before_lo: &[u8],
+    before_hi: &[u8],
+    range: &Range,
+) -> Result<(), AllocError>
+    ensures { Adds result text.old text.new (range_text before_lo.now before_hi.now range.now) }
 {
     if range.lo <= range.hi {
-        add_range_across(text, range)
+        add_ends(text, before_lo, before_hi, range)
     } else {
         Ok(())
     }
 }
 
-fn add_up_if(text: &mut Vec<u8>, range: &Range) -> Result<(), AllocError>
-    ensures { OnOk result (text.new.items ≡ text.old.items ++ if_some range.now (range_up_text range.now)) }
-{
-    if range.lo <= range.hi {
-        add_range_up(text, range)
-    } else {
-        Ok(())
-    }
-}
-
-/// Adds the ends of the ranges.
+/// Adds the ends of the ranges, each beside its axis.
 fn add_ranges(text: &mut Vec<u8>, frame: &Frame) -> Result<(), AllocError>
-    ensures { OnOk result (text.new.items ≡ text.old.items ++ ranges_text frame.now) }
+    ensures { Adds result text.old text.new (ranges_text frame.now) }
 {
-    add_across_if(text, &frame.across)?;
-    add_up_if(text, &frame.up)
+    add_range(
+        text,
+        b"<text x=\"10000\" y=\"85700\">",
+        b"</text>\n<text x=\"90000\" y=\"85700\" text-anchor=\"end\">",
+        &frame.across,
+    )?;
+    add_range(
+        text,
+        b"<text x=\"9500\" y=\"84000\" text-anchor=\"end\">",
+        b"</text>\n<text x=\"9500\" y=\"5000\" text-anchor=\"end\">",
+        &frame.up,
+    )
 }
 
 /// Where the problems start in words.
@@ -159,7 +156,7 @@ fn add_front(
     capacity: usize,
     frame: &Frame,
 ) -> Result<(), AllocError>
-    ensures { OnOk result (text.new.items ≡ text.old.items ++ front_text height rows capacity frame.now) }
+    ensures { Adds result text.old text.new (front_text height rows capacity frame.now) }
 {
     add_head(text, height)?;
     add_title(text, rows, capacity, frame.axes)?;
@@ -175,7 +172,7 @@ fn add_end<const D: usize>(
     shadow: &Shadow<D>,
 ) -> Result<(), AllocError>
     requires { IsWithin D frame.now.axes }
-    ensures { OnOk result (text.new.items ≡ text.old.items ++ end_text frame.now start shadow.now.nodes problems.now) }
+    ensures { Adds result text.old text.new (end_text frame.now start shadow.now.nodes problems.now) }
 {
     add_problems(text, frame, start, problems, shadow)?;
     add(text, &[b"</svg>\n"])
@@ -205,7 +202,7 @@ fn add_plot<const D: usize>(
     rows: &[LevelRow],
 ) -> Result<(), AllocError>
     requires { IsWithin D frame.now.axes }
-    ensures { OnOk result (text.new.items ≡ text.old.items ++ plot_text choice.now shadow.now frame.now rows.now) }
+    ensures { Adds result text.old text.new (plot_text choice.now shadow.now frame.now rows.now) }
 {
     let levels = levels_of(alloc, choice, rows)?;
     add_levels(text, frame, &levels, shadow)
@@ -222,7 +219,7 @@ fn add_picture<const D: usize>(
     problems: &[Problem],
 ) -> Result<(), AllocError>
     requires { IsWithin D frame.now.axes }
-    ensures { OnOk result (text.new.items ≡ text.old.items ++ picture_from choice.now shadow.now frame.now rows.now problems.now) }
+    ensures { Adds result text.old text.new (picture_from choice.now shadow.now frame.now rows.now problems.now) }
 {
     let (height, start) = (height_of(frame.top, problems), start_of_problems(frame.top));
     let (count, capacity) = (count_of(shadow), capacity_of(shadow));
@@ -266,7 +263,7 @@ fn draw_on<const D: usize>(
     draw_in(alloc, shadow, &frame, choice, &rows, &problems)
 }
 
-/// The picture of a shadow as the text of an SVG, or `None` where it doesn't have the axes that are chosen.
+/// The picture of a shadow as the text of an SVG, or `None` if it doesn't have the axes that are chosen.
 /// It takes memory for the shadow's problems and for the whole text.
 pub fn draw<const D: usize>(
     alloc: Global,

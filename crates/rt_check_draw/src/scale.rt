@@ -34,7 +34,7 @@ impl Range {
         hi: i32::MIN,
     };
 
-    /// `hi` less `lo`, or 0 where `lo` is above `hi`.
+    /// `hi` less `lo`, or 0 if `lo` is above `hi`.
     pub(crate) fn length(self) -> u64
         ensures value { result ≡ length_of self }
         ensures bound { result < 4294967296 }
@@ -66,7 +66,7 @@ impl Range {
         }
     }
 
-    /// How far a coordinate is from the range's start, where the range is as long as the plot.
+    /// How far a coordinate is from the range's start, if the range is stretched to the plot's length.
     pub(crate) fn place_of(self, coordinate: i32) -> u64
         ensures value { result ≡ place_in self coordinate }
         ensures bound { result ≤ plot }
@@ -153,7 +153,7 @@ pub(crate) fn frame_of<const D: usize>(shadow: &Shadow<D>, axes: Axes) -> Frame
     }
 }
 
-/// From where a box reaches, and how far.
+/// Where a box starts on an axis, and how far it reaches.
 #[derive(Clone, Copy)]
 pub(crate) struct Side {
     pub(crate) start: u64,

@@ -3,7 +3,7 @@ use Rattle.std.proofs.Common.{◌≡◌, ℕ, ◌+◌, ◌-◌, ◌*◌, ◌<◌
 use Rattle.std.proofs.Math.Seq.{drop-cons}
 use Rattle.rt_check_dump.specs.Numbers.{number_after}
 
-number_after-ge : (n : ℕ) (ds : List ℕ) → n ≤ number_after n ds
+pub number_after-ge : (n : ℕ) (ds : List ℕ) → n ≤ number_after n ds
 number_after-ge n [] = omega arith
 number_after-ge n (d ∷ ds) = let rest = number_after-ge (n * 10 + (d - 48)) ds in omega (arith, rest)
 

@@ -8,6 +8,7 @@ use Rattle.std.proofs.lemmas.Fmt.{digits_decimal, digits_value-decimal, decimal_
 use Rattle.std.proofs.lemmas.List.{nil_from_length}
 use Rattle.std.proofs.lemmas.Str.Parse.{IsNumeralModel, numerals_by_fold}
 use Rattle.rt_check_dump.specs.Numbers.{is_digit, is_natural, is_positive, is_number, number_after, number_of}
+use Rattle.rt_check_dump.proofs.Numerals.{number_after-ge}
 
 -- digits by the test of a word, and their number as it is read
 own : IsNumeralModel (λ ds. list_all is_digit ds ≡ true) (number_after 0)
@@ -92,10 +93,6 @@ text-positive [] spelled some small = let no : ⊥ = cc in absurd no
 text-positive (d ∷ ds) spelled some small =
     let other : (d == 48) ≡ false = grind (arith, spelled) in
     text-natural (d ∷ ds) (ap (λ b. cond b (length ds == 0) (list_all is_digit (d ∷ ds))) other ∙ sym (ap (λ b. not b && list_all is_digit (d ∷ ds)) other) ∙ spelled) small
-
-number_after-ge : (n : ℕ) (ds : List ℕ) → n ≤ number_after n ds
-number_after-ge n [] = omega arith
-number_after-ge n (d ∷ ds) = let rest = number_after-ge (n * 10 + (d - 48)) ds in omega (arith, rest)
 
 above-zero : (ds : List ℕ) → is_positive ds ≡ true → 0 < number_after 0 ds
 above-zero [] spelled = let no : ⊥ = cc in absurd no

@@ -4,6 +4,7 @@ use Rattle.std.specs.Prelude.{codes, nat_lt, slice_get, slice_set}
 use Rattle.std.specs.List.{All, flat_map, list_any, IsDistinct, AllByRecursion}
 use Rattle.std.specs.Ordering.{int_eq}
 use Rattle.std.specs.Option.{option_map_or}
+use Rattle.std.proofs.lemmas.Bool.{or_from}
 use Rattle.std.proofs.lemmas.List.Elements.{All-head, All-tail}
 use Rattle.rt_check.specs.declared.node.RawCell.{RawCell}
 use Rattle.rt_check.specs.declared.node.NodeRow.{NodeRow}
@@ -56,10 +57,6 @@ end-read {D} s = λ n.
     ap (λ (k : Option LineKind). at_line {S = ShadowLists D} n (after_spelling p (codes "end" ∷ []) k) (λ q. Ok q.shadow)) (end-kind D)
 
 -- distinct keys: none of those before is the same
-either : (a b : Bool) → a ≡ false → b ≡ false → (a || b) ≡ false
-either true b p q = p
-either false b p q = q
-
 pub apart : (x y : ℤ) → int_eq y x ≡ false → int_eq x y ≡ false
 apart x y other =
     let by_case : (b : Bool) → int_eq x y ≡ b → b ≡ false = elim [
@@ -80,7 +77,7 @@ module _ {X : Type 0} (key : X → ℤ) where
   unfolding IsDistinct
   absent [] x rest distinct = refl
   absent (y ∷ ys) x rest distinct =
-      either (int_eq (key x) (key y)) _ (apart (key x) (key y) (holds-of (λ z. int_eq (key y) z ≡ false) ys x rest distinct.0)) (absent ys x rest distinct.1)
+      or_from (int_eq (key x) (key y)) _ (apart (key x) (key y) (holds-of (λ z. int_eq (key y) z ≡ false) ys x rest distinct.0)) (absent ys x rest distinct.1)
 
 -- the last of a list's elements
 module _ {X : Type 0} where

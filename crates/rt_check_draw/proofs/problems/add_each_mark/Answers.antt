@@ -1,7 +1,7 @@
 use Rattle.std.proofs.Common.{arith}
 use Rattle.rt_check_draw.specs.Problems.{marks_of}
 use Rattle.rt_check_draw.proofs.Drawn.{appended}
-use Rattle.rt_check_draw.proofs.problems.add_boxes.Goals as goal
+use Rattle.rt_check_draw.proofs.problems.add_each_mark.Goals as goal
 
 pub loop-problem-preserved : goal.loop-problem-preserved
 loop-problem-preserved g c =

@@ -4,7 +4,7 @@ use Rattle.std.proofs.Common.{rules}
 use Rattle.std.proofs.lemmas.Int.{to_z-of_z}
 use mir.Syntax.{w32}
 use mir.Val.{SFits}
-use Rattle.rt_check_draw.proofs.picture.add_range_up.Goals as goal
+use Rattle.rt_check_draw.proofs.picture.add_ends.Goals as goal
 
 pub returns : goal.returns
 returns c =
