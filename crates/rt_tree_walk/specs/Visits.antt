@@ -18,6 +18,10 @@ use Rattle.rt_tree_walk.specs.Search.{times, row_of, LeadsInto, AsksAdmitted}
 abbrev pub keys_of : List Reached → List ℕ
 keys_of reached = map (λ d. d.key) reached
 
+-- the keys of the nodes that came last
+abbrev pub AppendsKeys : List ℕ → Vec Reached Global → Vec Reached Global → Type 0
+AppendsKeys keys old new = keys_of new.items ≡ keys_of old.items ++ keys
+
 module _ {D : ℕ} where
   -- a query has its window's reach and core
   pub record IsQuery (query : Query D) : Type 0 where
@@ -82,9 +86,6 @@ module _ {D : ℕ} where
   -- the same of the lists that a search keeps: it takes children, and goes into the next node
   abbrev pub ReachesChildren : Query D → List (Cell D) → Vec Reached Global → Vec Reached Global → Type 0
   ReachesChildren query cells old new = TakesChildren query.window cells (keys_of old.items) (keys_of new.items)
-
-  abbrev pub AppendsKeys : List ℕ → Vec Reached Global → Vec Reached Global → Type 0
-  AppendsKeys keys old new = keys_of new.items ≡ keys_of old.items ++ keys
 
   abbrev pub MarksChildren : Arena D → Query D → Reached → Vec Reached Global → Vec Reached Global → Type 0
   MarksChildren t query next old new = Marks query.window (inner_cells_at t.nodes next.key) old.items new.items
