@@ -13,7 +13,7 @@ use rt_bytes::{ByteReader, ByteWriter, OverRead, OverWrite, RunFault, Status};
 use rt_check_draw::{Axes, Choice, run_draw};
 use rt_check_report::run_check;
 use rt_shell::{Options, run};
-use rtsh_command::{DrawOptions, NoRequest, Request, RunOptions};
+use rtsh_command::{DrawOptions, NoRequest, Request, RunOptions, SCRIPT_HELP};
 use rtsh_terminal::{
     Cause, Fault, PromptReader, ReasonKeeper, TraceReader, TraceWriter, Trail, hint_at_dump,
     is_attended,
@@ -36,19 +36,19 @@ const PAGE_SIZE: usize = 4096;
 
 fn main(rt: HostRuntime) -> ExitCode {
     let Ok(words) = words(&rt) else {
-        return failed(&rt, Fault::Run(RunFault::Memory));
+        return report(&rt, Fault::Run(RunFault::Memory));
     };
     if !grow_stack() {
-        return failed(&rt, Fault::Run(RunFault::Memory));
+        return report(&rt, Fault::Run(RunFault::Memory));
     }
     match start(&rt, words.as_slice()) {
         Ok(code) => code,
-        Err(fault) => failed(&rt, fault),
+        Err(fault) => report(&rt, fault),
     }
 }
 
-/// Takes the memory of the stack. If memory is limited, the stack can't grow once all is taken, and the system would end
-/// the process. Says whether what was written there can be read.
+/// Takes the memory of the stack, and says whether what was written there can be read. If memory is limited, the stack can't
+/// grow once all is taken, and the system would end the process.
 #[inline(never)]
 fn grow_stack() -> bool {
     let mut pages = [[0; PAGE_SIZE]; PAGES];
@@ -63,7 +63,7 @@ fn is_filled(pages: &mut [[u8; PAGE_SIZE]]) -> bool {
 }
 
 /// Prints why the program failed.
-fn failed(rt: &HostRuntime, fault: Fault<'_>) -> ExitCode {
+fn report(rt: &HostRuntime, fault: Fault<'_>) -> ExitCode {
     let _ = eprintln!(rt; "rtsh: {fault}");
     ExitCode::from(3)
 }
@@ -118,7 +118,7 @@ fn read_input<'a>(rt: &HostRuntime, request: &Request<'a>) -> Result<Status, Fau
     }
     match request {
         Request::Run(_, _) => {
-            let reader = PromptReader::new(rt.alloc(), reader, rt)?;
+            let reader = PromptReader::new(rt.alloc(), reader, rt, SCRIPT_HELP)?;
             read_traced(rt, reader, name, None, request, false)
         }
         Request::Check(_) | Request::Draw(_, _) => {
@@ -204,7 +204,7 @@ fn is_unbuffered(request: &Request<'_>) -> bool {
     matches!(request, Request::Run(options, _) if options.is_unbuffered)
 }
 
-/// Carries out the request, beside a trail if there is one. Hands the writer back.
+/// Carries out the request, with a trail if there is one. Hands the writer back.
 fn read_and_trace<'a, 't, R: Read + Drop, W: Write + Drop>(
     rt: &'t HostRuntime,
     keys: RandomState,

@@ -1,7 +1,7 @@
 //! The command line of `rtsh`.
 //!
 //! `read` returns what its words ask for, as a `Request`. If they ask for help, or are wrong, it prints the help or what is
-//! wrong, and returns a `NoRequest`. `clap` parses the words.
+//! wrong, and returns a `NoRequest`. `clap` parses the words. `SCRIPT_HELP` is the help that a terminal prints too.
 //!
 //! Stands on `rt_box` alone, so that it is proved beside the tree. So it has its own type for what is drawn, which `rtsh`
 //! converts to that of `rt_check_draw`. Only safety and termination are proved.
@@ -75,25 +75,33 @@ const VERSION: &str = "0.1.0";
 
 const ABOUT: &str = "Tables of boxes, as SQLite's rtree_i32 keeps them: the shell of Juicedelta";
 
-const RUN_HELP: &str = "A script is statements, each ended by `;`, and lines that begin with `.`:
+/// What a script may have: for `rtsh run --help`, and for `.help` at a terminal.
+pub const SCRIPT_HELP: &str = "Statements may take several lines, and end with ;
+  CREATE VIRTUAL TABLE [IF NOT EXISTS] T USING rtree_i32(id, min, max, ..);
+  DROP TABLE [IF EXISTS] T;
+  INSERT [OR IGNORE | OR REPLACE] INTO T[(COLUMN, ..)] VALUES (VALUE, ..), ..;
+  UPDATE T SET COLUMN = VALUE, COLUMN = COLUMN + 1, .. [WHERE ..];
+  DELETE FROM T [WHERE ..];
+  SELECT * FROM T [WHERE ..];         or SELECT COLUMN, .. FROM T [WHERE ..];
+  SELECT rtreecheck('T');             checks the table's tree
+WHERE takes tests with AND between them: west <= 20 AND name IS NOT NULL
 
-  CREATE VIRTUAL TABLE shops USING rtree_i32(id, west, east, +name);
-  INSERT INTO shops VALUES(7, -3, 10, 'baker');
-  SELECT * FROM shops WHERE west <= 5 AND east >= 0;
+Dot lines end with the line
+  .watch V FROM T [WHERE ..]          names a view, and prints its changes
+  .view V                             prints the rows of a view
+  .unwatch V                          forgets a view
+  .nodes T                            prints the table's tree as a dump, for `rtsh check`
 
-A statement that is refused prints `refused N CODE: TEXT`, N its number in the script, and changes
-nothing. The dot commands are
+A refused statement prints `refused N CODE: TEXT`, N its number in the script, and changes nothing
 
-  .watch NAME FROM TABLE [WHERE ..]  names a view, and prints each change in it
-  .view NAME                         prints the rows of a view
-  .unwatch NAME                      forgets a view
-  .nodes TABLE                       prints the dump of a table's tree, which `rtsh check` reads
-
-At a terminal the error output has a prompt, which shows an open quote or comment. There .help
-lists the statements, and .quit, .exit or Ctrl-D on an empty line ends the input.";
+Only at a terminal, whose prompt shows an open quote or comment; alone on a line, also inside a
+statement
+  .help                               prints this
+  .quit or .exit                      ends, as Ctrl-D on an empty line does
+`rlwrap rtsh run` gives history and editing";
 
 const CHECK_HELP: &str =
-    "A dump is what `.nodes TABLE` prints. Its tree is sound where nine conditions hold:
+    "A dump is what `.nodes TABLE` prints. Its tree is sound if nine conditions hold:
 
   C1  the root is listed, and has no parent
   C2  each other node has a listed parent one level up, and exactly one cell names it
@@ -129,7 +137,7 @@ const STATUS_HELP: &str = "Exit status:
 /// # Errors
 ///
 /// `Helped` if help or the version is printed, `Refused` if what is wrong is printed, `Write` if the help
-/// couldn't be printed, and `OutOfMemory`.
+/// couldn't be printed, and `OutOfMemory` if no memory is left.
 pub fn read<'a>(rt: &HostRuntime, words: &'a [String]) -> Result<Request<'a>, NoRequest> {
     let parsed = program(rt.alloc())?.try_get_matches_from(words);
     let matches = match parsed {
@@ -214,7 +222,7 @@ fn run<'a>(alloc: Global) -> Result<Command<'a>, AllocError> {
     Ok(
         Command::new(alloc, "run")
             .about("Runs a script, and prints what it gives")
-            .after_help(RUN_HELP)
+            .after_help(SCRIPT_HELP)
             .arg(capacity)?
             .arg(bail)?
             .arg(echo)?

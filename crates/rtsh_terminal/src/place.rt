@@ -9,11 +9,14 @@ const MOST_SHOWN: usize = 40;
 /// A line, and a character in it, from 1 on.
 #[derive(Clone, Copy)]
 pub(crate) struct Place {
+    /// The line.
     pub(crate) line: u64,
+    /// The character in it.
     pub(crate) column: u64,
 }
 
 impl Place {
+    /// The first character of a script.
     pub(crate) const START: Place = Place { line: 1, column: 1 };
 
     /// The place after these bytes, which begin here.
@@ -57,7 +60,7 @@ pub(crate) struct Word<'a> {
 pub(crate) fn word_at(text: &[u8], length: usize) -> Option<Word<'_>> {
     let (token, rest) = text.split_at(length.min(text.len()));
     let tail = match token {
-        [first, ..] if first.is_ascii_digit() => front_len(rest),
+        [first, ..] if first.is_ascii_digit() => prefix_len(rest),
         _ => 0,
     };
     let end = token.len().saturating_add(tail).min(text.len());
@@ -65,8 +68,8 @@ pub(crate) fn word_at(text: &[u8], length: usize) -> Option<Word<'_>> {
     Some(Word { text })
 }
 
-/// How many bytes at the start a word may hold.
-fn front_len(bytes: &[u8]) -> usize {
+/// The length of the prefix that a word may hold.
+fn prefix_len(bytes: &[u8]) -> usize {
     bytes
         .iter()
         .take_while(|byte| byte.is_ascii_alphanumeric() || matches!(**byte, b'_' | b'$' | 0x80..))

@@ -1,6 +1,6 @@
 //! A person at a terminal: a hint at the start, a prompt before each line, lines that only a terminal takes, and a hint after
-//! a line of another shell. All of it goes to the error output, and nothing of it is there unless input, output and error
-//! output are all terminals.
+//! a line of another shell. All of it goes to the error output. Nothing is printed unless input, output and error output are
+//! all terminals.
 
 use rt_sql::{Refusal, parse};
 use rt_sql_cut::{Cutter, Piece};
@@ -10,27 +10,6 @@ use std::io::{self, IsTerminal, Read};
 const SCRIPT_HINT: &str = "rtsh: End statements with ;. Enter .help for help. Ctrl-D exits.";
 
 const COMMAND_HINT: &str = "rtsh: Enter .help for help, or .quit to end.";
-
-const HELP: &str = "Statements may take several lines, and end with ;
-  CREATE VIRTUAL TABLE [IF NOT EXISTS] T USING rtree_i32(id, min, max, ..);
-  DROP TABLE [IF EXISTS] T;
-  INSERT [OR IGNORE | OR REPLACE] INTO T[(COLUMN, ..)] VALUES (VALUE, ..), ..;
-  UPDATE T SET COLUMN = VALUE, COLUMN = COLUMN + 1, .. [WHERE ..];
-  DELETE FROM T [WHERE ..];
-  SELECT * FROM T [WHERE ..];         or SELECT COLUMN, .. FROM T [WHERE ..];
-  SELECT rtreecheck('T');             checks the table's tree
-WHERE takes tests with AND between them: west <= 20 AND name IS NOT NULL
-
-Dot lines end with the line
-  .watch V FROM T [WHERE ..]          names a view, and prints its changes
-  .view V                             prints the rows of a view
-  .unwatch V                          forgets a view
-  .nodes T                            prints the table's tree as a dump
-
-Only at a terminal, alone on a line, also inside a statement
-  .help                               prints this
-  .quit or .exit                      ends, as Ctrl-D on an empty line does
-`rlwrap rtsh run` gives history and editing";
 
 const DUMP_HINT: &str = "rtsh: End the dump with the line `end`. Ctrl-D exits.";
 
@@ -77,7 +56,9 @@ impl Spot {
 /// A line that only a terminal takes, and that is no part of the script.
 #[derive(Clone, Copy, PartialEq, Eq)]
 enum Command {
+    /// `.help`.
     Help,
+    /// `.quit` or `.exit`.
     Quit,
 }
 
@@ -116,17 +97,28 @@ pub struct PromptReader<'a, R, E> {
     alloc: Global,
     inner: R,
     rt: &'a E,
+    /// What `.help` prints.
+    help: &'a str,
     /// Stands where the bytes so far stop.
     cutter: Cutter,
-    /// The bytes since the last place between pieces. If memory runs out some lack, and a prompt may be wrong.
+    /// The bytes since the last place between pieces. If no memory is left, some are missing, and a prompt may be wrong.
     pending: Vec<u8>,
     /// The last line was one of another shell.
     is_lost: bool,
 }
 
 impl<'a, R: Read, E: Eprint> PromptReader<'a, R, E> {
-    /// Prints how a statement and the input are ended.
-    pub fn new(alloc: Global, inner: R, rt: &'a E) -> Result<PromptReader<'a, R, E>, AllocError>
+    /// Prints how a statement and the input are ended. `.help` will print that help.
+    ///
+    /// # Errors
+    ///
+    /// `AllocError` if no memory is left.
+    pub fn new(
+        alloc: Global,
+        inner: R,
+        rt: &'a E,
+        help: &'a str,
+    ) -> Result<PromptReader<'a, R, E>, AllocError>
     where
         R: Drop,
     {
@@ -136,6 +128,7 @@ impl<'a, R: Read, E: Eprint> PromptReader<'a, R, E> {
             alloc,
             inner,
             rt,
+            help,
             cutter,
             pending: Vec::new(alloc),
             is_lost: false,
@@ -151,7 +144,7 @@ impl<'a, R: Read, E: Eprint> PromptReader<'a, R, E> {
         ends
     }
 
-    /// Where the next line begins: bytes that would close it, and end a piece then, tell.
+    /// Where the next line begins: the bytes that would end a piece there tell.
     fn spot(&mut self) -> Spot {
         if self.ends_in(b"\n") {
             Spot::Line
@@ -216,7 +209,7 @@ impl<'a, R: Read, E: Eprint> Read for PromptReader<'a, R, E> {
             match command_of(line).filter(|_| takes_commands) {
                 Some(Command::Quit) => return Ok(0),
                 Some(Command::Help) => {
-                    let _ = eprintln!(self.rt; "{HELP}");
+                    let _ = eprintln!(self.rt; "{}", self.help);
                 }
                 None => {
                     if count == 0 {

@@ -1,7 +1,7 @@
 //! What the error output shows of a script: where each refused piece stands, and how much of a long file is read.
 //!
 //! `TraceReader` gives the script up to the end of one piece at a time, so whatever is written before the next read answers that
-//! piece. `TraceWriter` looks at how that begins: no answer but a refusal begins with `refused`. Both share one `Trail`.
+//! piece. `TraceWriter` looks at how the answer begins: only a refusal begins with `refused`. Both share one `Trail`.
 
 use crate::place::{Place, Word, word_at};
 use rt_sql::refused_at;
@@ -133,7 +133,7 @@ pub struct TraceReader<'a, 'n, R: Read + Drop, E> {
     number: u64,
     /// Where it begins, or where it ends if it is too long.
     begun: Place,
-    /// What was read behind it, or the end of that, and where this begins.
+    /// The last bytes that were read behind it, and where they begin.
     recent: Vec<u8>,
     front: Place,
     /// How many bytes were read.
@@ -185,7 +185,7 @@ impl<'a, 'n, R: Read + Drop, E: Eprint> TraceReader<'a, 'n, R, E> {
         };
     }
 
-    /// The word of the last piece that no statement goes on with, and its place, if the piece was refused for that.
+    /// The word of the last piece at which no statement goes on, and its place, if the piece was refused for that.
     fn stop(&self) -> Option<(Place, Word<'_>)> {
         let piece = self.cutter.ready()?;
         let at = refused_at(self.alloc, &piece)?;
@@ -194,13 +194,13 @@ impl<'a, 'n, R: Read + Drop, E: Eprint> TraceReader<'a, 'n, R, E> {
         Some((self.begun.after(before), word))
     }
 
-    /// The length of the text of the piece that has ended, if one has.
+    /// The length of the text of the piece that has ended, if one did.
     fn ended_len(&self) -> Option<usize> {
         let piece = self.cutter.ready()?;
         Some(piece.text().len())
     }
 
-    /// Keeps these bytes, and notes the piece whose end they are, if it has come.
+    /// Keeps these bytes, and notes the piece that ends with them, if one does.
     fn note(&mut self, bytes: &[u8]) {
         let _ = self.recent.extend_from_slice(bytes);
         let Some(length) = self.ended_len() else {

@@ -1,6 +1,6 @@
 //! What is taken and what is refused, and with which number.
 //!
-//! A text stands beside the number of its refusal, which is 0 where it is a statement.
+//! A text stands beside the number of its refusal, which is 0 if it is a statement.
 
 use rt_sql::{Edit, Refusal, Rule, Stmt, Value, parse};
 use rt_sql_cut::{Ending, Piece};

@@ -196,7 +196,7 @@ const RESERVED: [&str; 21] = [
 ];
 
 /// The text with each other character in upper case.
-fn mixed(alloc: Global, text: &str) -> Result<String, AllocError> {
+fn mix_case(alloc: Global, text: &str) -> Result<String, AllocError> {
     let mut mixed = String::new(alloc);
     let mut is_upper = false;
     for c in text.chars() {
@@ -207,7 +207,7 @@ fn mixed(alloc: Global, text: &str) -> Result<String, AllocError> {
 }
 
 /// The tokens with this between them.
-fn spelled(alloc: Global, tokens: &[&str], between: &str) -> Result<String, AllocError> {
+fn join(alloc: Global, tokens: &[&str], between: &str) -> Result<String, AllocError> {
     let mut text = String::new(alloc);
     for token in tokens {
         if !text.is_empty() {
@@ -218,7 +218,7 @@ fn spelled(alloc: Global, tokens: &[&str], between: &str) -> Result<String, Allo
     Ok(text)
 }
 
-/// What `Debug` prints, where `<t>` stands for the name t, `[..]` for `Items` and `⟨..⟩` for a blob's bytes.
+/// What `Debug` prints: `<t>` stands for the name t, `[..]` for `Items` and `⟨..⟩` for a blob's bytes.
 fn in_full(alloc: Global, statement: &str) -> Result<String, AllocError> {
     let mut full = String::new(alloc);
     for c in statement.chars() {
@@ -235,21 +235,22 @@ fn in_full(alloc: Global, statement: &str) -> Result<String, AllocError> {
     Ok(full)
 }
 
-fn parsed(alloc: Global, text: &str) -> Result<String, Refusal> {
+/// What `Debug` prints of the statement that the text spells.
+fn debug_text(alloc: Global, text: &str) -> Result<String, Refusal> {
     let stmt = parse(alloc, &Piece::new(text.as_bytes(), Ending::Whole))?;
     Ok(format!(in alloc; "{stmt:?}")?)
 }
 
-/// Each form is its statement, plainly spelled, in mixed case, and with this between its tokens.
+/// Each form is its statement: with spaces between its tokens, in mixed case, and with this between them.
 fn expect(rt: &(impl Abort + AllocGlobal), forms: &[Form], between: &str) -> Result<(), Refusal> {
     let alloc = rt.alloc();
     for (tokens, statement) in forms {
         let full = in_full(alloc, statement)?;
-        let plain = spelled(alloc, tokens, " ")?;
-        let spaced = spelled(alloc, tokens, between)?;
-        assert!(rt; parsed(alloc, plain.as_str())? == full);
-        assert!(rt; parsed(alloc, spaced.as_str())? == full);
-        let other = parsed(alloc, mixed(alloc, plain.as_str())?.as_str())?;
+        let plain = join(alloc, tokens, " ")?;
+        let spaced = join(alloc, tokens, between)?;
+        assert!(rt; debug_text(alloc, plain.as_str())? == full);
+        assert!(rt; debug_text(alloc, spaced.as_str())? == full);
+        let other = debug_text(alloc, mix_case(alloc, plain.as_str())?.as_str())?;
         assert!(rt;
             other.as_str().eq_ignore_ascii_case(full.as_str()),
             "{other}"
@@ -268,14 +269,14 @@ fn each_form_is_its_statement(rt: HostRuntime) -> Result<(), Refusal> {
     Ok(())
 }
 
-/// The word is a name where it is quoted, and only there.
+/// The word is a name if it is quoted, and only then.
 fn expect_reserved(rt: &(impl Abort + AllocGlobal), word: &str) -> Result<(), Refusal> {
     let plain = format!(in rt.alloc(); "drop table {word};")?;
     let quoted = format!(in rt.alloc(); "drop table \"{word}\";")?;
     let short = format!(in rt.alloc(); "Drop {{ table: <{word}>, if_there: false }}")?;
     let full = in_full(rt.alloc(), short.as_str())?;
-    assert!(rt; parsed(rt.alloc(), plain.as_str()) == Err(Refusal::SyntaxError));
-    assert!(rt; parsed(rt.alloc(), quoted.as_str())? == full);
+    assert!(rt; debug_text(rt.alloc(), plain.as_str()) == Err(Refusal::SyntaxError));
+    assert!(rt; debug_text(rt.alloc(), quoted.as_str())? == full);
     Ok(())
 }
 
@@ -283,7 +284,7 @@ fn expect_reserved(rt: &(impl Abort + AllocGlobal), word: &str) -> Result<(), Re
 fn a_reserved_word_is_a_name_only_in_quotes(rt: HostRuntime) -> Result<(), Refusal> {
     for word in RESERVED {
         expect_reserved(&rt, word)?;
-        let mixed = mixed(rt.alloc(), word)?;
+        let mixed = mix_case(rt.alloc(), word)?;
         expect_reserved(&rt, mixed.as_str())?;
     }
     Ok(())
