@@ -4,3 +4,5 @@ pub mod Picking
 pub mod Moves
 pub mod Ranked
 pub mod StoreInside
+pub mod Steps
+pub mod Laws

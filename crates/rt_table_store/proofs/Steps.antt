@@ -22,8 +22,8 @@ use Rattle.rt_table_row.specs.Rows.{TableRow, values_of, AreRising, has_id, with
 use Rattle.rt_table_row.specs.Edits.{Step, Leaves, Comes, Becomes, Steps, after_step, outcome, and_then, Setting, row_of, put_taken, put_at, id_or_new, unless_ignored, put, put_all, steps_and, arranged, listed_columns, insert, delete, update, steps_of, update_all, update_row, becomes, become_candidate, new_values, is_summable, sum_fits, columns_read}
 use Rattle.rt_table_store.proofs.Order.{eq_same, eq_below}
 use Rattle.rt_table_store.proofs.Sorted.{at_key-taken, at_key-placed, Rises, rises}
-use Rattle.rt_table_apply.specs.Applying.{ApplyInTurn, ApplyTo, FitsColumns}
-use Rattle.rt_table_apply.specs.Laws.{StepsApply}
+use Rattle.rt_table_store.specs.Steps.{ApplyInTurn, ApplyTo, FitsColumns}
+use Rattle.rt_table_store.specs.Laws.{StepsApply}
 
 -- ---- which ids there are
 
