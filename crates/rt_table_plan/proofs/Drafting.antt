@@ -13,9 +13,9 @@ use Rattle.rt_table_row.specs.Columns.{Columns}
 use Rattle.rt_table_row.specs.Conditions.{holds}
 use Rattle.rt_table_row.specs.Filters.{Placed, admits, IsFilterOf}
 use Rattle.rt_table_row.specs.Rows.{TableRow, AreRising, values_of, row_at, has_id, with_row, without_id}
-use Rattle.rt_table_row.specs.Candidates.{Candidate, is_integer, id_value, coordinate_values, candidate_of}
+use Rattle.rt_table_row.specs.NewRows.{Candidate, is_integer, id_value, coordinate_values, candidate_of}
 use Rattle.rt_table_row.specs.Edits.{Setting, Step, Steps, new_values, is_summable, sum_fits, become_candidate, update_row, update_all, update, Leaves, Comes, Becomes, after_step, outcome, and_then, steps_and}
-use Rattle.rt_table_row.specs.Settings.{LookedUp, reads_integer, reading_fits, IsSettingsOf}
+use Rattle.rt_table_row.specs.Settings.{ColumnReadings, reads_integer, reading_fits, IsSettingsOf}
 use Rattle.rt_table_store.proofs.Order.{eq_same, eq_from}
 use Rattle.rt_table_store.specs.Trees.{leaf_row}
 use Rattle.rt_table_store.proofs.Sorted.{at_key-taken, at_key-placed}
@@ -111,7 +111,7 @@ left_some f found i d y h e =
     at_drop_more (filter_map f) found i d h ∙ first
 
 -- a step more
-pub set_more : (axes : ℕ) (sets : LookedUp) (rows : List TableRow) (whole : Steps) (done next : List Step) (step : Step) (row : TableRow) (left later : List TableRow) →
+pub set_more : (axes : ℕ) (sets : ColumnReadings) (rows : List TableRow) (whole : Steps) (done next : List Step) (step : Step) (row : TableRow) (left later : List TableRow) →
     whole ≡ steps_and done (all_set axes sets (outcome rows done) left) → left ≡ row ∷ later → row_set axes sets (outcome rows done) row ≡ Ok (step ∷ []) →
     next ≡ done ++ step ∷ [] → whole ≡ steps_and next (all_set axes sets (outcome rows next) later)
 set_more axes sets rows whole done next step row left later is more one grown =
@@ -122,7 +122,7 @@ set_more axes sets rows whole done next step row left later is more one grown =
     ∙ ap (λ (l : List Step). steps_and l (all_set axes sets (outcome rows l) later)) (sym grown)
 
 -- a row that refuses the whole
-pub set_refused : (axes : ℕ) (sets : LookedUp) (rows : List TableRow) (whole : Steps) (done : List Step) (refusal : Refusal) (row : TableRow) (left later : List TableRow) →
+pub set_refused : (axes : ℕ) (sets : ColumnReadings) (rows : List TableRow) (whole : Steps) (done : List Step) (refusal : Refusal) (row : TableRow) (left later : List TableRow) →
     whole ≡ steps_and done (all_set axes sets (outcome rows done) left) → left ≡ row ∷ later →
     (row_set axes sets (outcome rows done) row ≡ Err refusal) ⊎ (refusal ≡ OutOfMemory) → (whole ≡ Err refusal) ⊎ (refusal ≡ OutOfMemory)
 set_refused axes sets rows whole done refusal row left later is more (inl one) =
@@ -130,18 +130,18 @@ set_refused axes sets rows whole done refusal row left later is more (inl one) =
     ∙ ap (λ (s : Steps). steps_and done (and_then s (λ steps. steps_and steps (all_set axes sets (outcome (outcome rows done) steps) later)))) one)
 set_refused axes sets rows whole done refusal row left later is more (inr memory) = inr memory
 
-pub set_all_done : (axes : ℕ) (sets : LookedUp) (rows : List TableRow) (whole : Steps) (done : List Step) (left : List TableRow) →
+pub set_all_done : (axes : ℕ) (sets : ColumnReadings) (rows : List TableRow) (whole : Steps) (done : List Step) (left : List TableRow) →
     whole ≡ steps_and done (all_set axes sets (outcome rows done) left) → left ≡ [] → whole ≡ Ok done
 set_all_done axes sets rows whole done left is none =
     is ∙ ap (λ (l : List TableRow). steps_and done (all_set axes sets (outcome rows done) l)) none
     ∙ ap (λ (l : List Step). let r : Steps = Ok l in r) (append-nil done)
 
 -- a single row
-pub set_one : (axes : ℕ) (sets : LookedUp) (rows found : List TableRow) (row : TableRow) (step : Step) → found ≡ row ∷ [] → row_set axes sets rows row ≡ Ok (step ∷ []) →
+pub set_one : (axes : ℕ) (sets : ColumnReadings) (rows found : List TableRow) (row : TableRow) (step : Step) → found ≡ row ∷ [] → row_set axes sets rows row ≡ Ok (step ∷ []) →
     all_set axes sets rows found ≡ Ok (step ∷ [])
 set_one axes sets rows found row step is one = rw (is, one) refl
 
-pub set_one_refused : (axes : ℕ) (sets : LookedUp) (rows found : List TableRow) (row : TableRow) (refusal : Refusal) → found ≡ row ∷ [] →
+pub set_one_refused : (axes : ℕ) (sets : ColumnReadings) (rows found : List TableRow) (row : TableRow) (refusal : Refusal) → found ≡ row ∷ [] →
     (row_set axes sets rows row ≡ Err refusal) ⊎ (refusal ≡ OutOfMemory) → (all_set axes sets rows found ≡ Err refusal) ⊎ (refusal ≡ OutOfMemory)
 set_one_refused axes sets rows found row refusal is (inl one) = inl (rw (is, one) refl)
 set_one_refused axes sets rows found row refusal is (inr memory) = inr memory
@@ -155,7 +155,7 @@ then_after true true false e f g x next = refl
 then_after true false c e f g x next = refl
 then_after false b c e f g x next = refl
 
-row_same : (columns : Columns) (sets : List Setting) (found : LookedUp) (now : List TableRow) (row : TableRow) → IsSettingsOf columns sets found →
+row_same : (columns : Columns) (sets : List Setting) (found : ColumnReadings) (now : List TableRow) (row : TableRow) → IsSettingsOf columns sets found →
     row_set columns.axes found now row ≡ update_row columns now sets row
 row_same columns sets found now row is =
     let old = values_of row in
@@ -177,7 +177,7 @@ later_same : (first : Steps) (f g : List Step → Steps) → ((steps : List Step
 later_same (Ok steps) f g same = same steps
 later_same (Err refusal) f g same = refl
 
-pub all_same : (columns : Columns) (sets : List Setting) (found : LookedUp) (now : List TableRow) (rows : List TableRow) → IsSettingsOf columns sets found →
+pub all_same : (columns : Columns) (sets : List Setting) (found : ColumnReadings) (now : List TableRow) (rows : List TableRow) → IsSettingsOf columns sets found →
     all_set columns.axes found now rows ≡ update_all columns now sets rows
 all_same columns sets found now [] is = refl
 all_same columns sets found now (row ∷ rows) is =
@@ -187,7 +187,7 @@ all_same columns sets found now (row ∷ rows) is =
 
 -- what an UPDATE does, when its columns are known
 module _ (D : ℕ) where
-  pub updates : (columns : Columns) (rows : List TableRow) (sets : List Setting) (found : LookedUp) (cond : List Test) (placed : Placed) (picked : List (Row D)) → AreRising rows →
+  pub updates : (columns : Columns) (rows : List TableRow) (sets : List Setting) (found : ColumnReadings) (cond : List Test) (placed : Placed) (picked : List (Row D)) → AreRising rows →
       IsSettingsOf columns sets found → IsFilterOf columns cond placed → picked ≡ map leaf_row (filter (admits placed) rows) →
       all_set columns.axes found rows (filter_map (row_of rows) picked) ≡ update columns rows sets cond
   updates columns rows sets found cond placed picked rising set picks picked_are =
@@ -196,7 +196,7 @@ module _ (D : ℕ) where
       ∙ all_same columns sets found rows (filter (holds columns cond) rows) set
       ∙ sym (rw (set.distinct, set.known, picks.known))
 
-  pub updates_on : (columns : Columns) (rows : List TableRow) (sets : List Setting) (found : LookedUp) (cond : List Test) (placed : Placed) (picked : List (Row D)) →
+  pub updates_on : (columns : Columns) (rows : List TableRow) (sets : List Setting) (found : ColumnReadings) (cond : List Test) (placed : Placed) (picked : List (Row D)) →
       columns.axes ≡ D → AreRising rows → IsSettingsOf columns sets found → IsFilterOf columns cond placed → picked ≡ map leaf_row (filter (admits placed) rows) →
       all_set D found rows (filter_map (row_of rows) picked) ≡ update columns rows sets cond
   updates_on columns rows sets found cond placed picked same rising set picks picked_are =

@@ -9,10 +9,10 @@ use Rattle.rt_sql_statement.specs.declared.statement.Rule.TheVariants.{Abort, Re
 use Rattle.rt_sql_statement.specs.declared.refusal.Refusal.{Refusal}
 use Rattle.rt_sql_statement.specs.declared.refusal.Refusal.TheVariants.{WrongNumberOfValues, IdAlreadyTaken, MinimumAboveMaximum, TableFull, OutOfMemory}
 use Rattle.rt_table_row.specs.Columns.{Columns}
-use Rattle.rt_table_row.specs.Arrangements.{Arranged, rearranged, IsArrangementOf}
+use Rattle.rt_table_row.specs.Arrangements.{ColumnPlaces, row_values, IsArrangementOf}
 use Rattle.rt_table_row.specs.Rows.{TableRow, has_id}
-use Rattle.rt_table_row.specs.Candidates.{Candidate, candidate_of}
-use Rattle.rt_table_row.specs.Edits.{Step, Steps, Comes, Becomes, outcome, and_then, steps_and, most_rows, row_of, id_or_new, put_taken, put_at, unless_ignored, put, put_all, arranged, listed_columns, insert}
+use Rattle.rt_table_row.specs.NewRows.{Candidate, candidate_of}
+use Rattle.rt_table_row.specs.Edits.{Step, Steps, Comes, Becomes, outcome, and_then, steps_and, most_rows, row_of, id_or_new, put_taken, put_at, unless_ignored, put, put_all, column_values, listed_columns, insert}
 use Rattle.rt_table_plan.specs.Counts.{Counts, Inserts, largest_after, room_after}
 use Rattle.rt_table_plan.proofs.Drafting.{outcome-append, steps_and-append}
 use Rattle.rt_table_plan.proofs.Counting.{counts_more}
@@ -94,25 +94,25 @@ left_more f lists i item values h is e =
 
 -- ---- the columns that are listed
 
-lists_same : (columns : Columns) (names : List (List ℕ)) (found : Arranged) (lists : List (List Value)) → IsArrangementOf columns names found →
-    map (rearranged found) lists ≡ map (arranged columns.names names) lists
+lists_same : (columns : Columns) (names : List (List ℕ)) (found : ColumnPlaces) (lists : List (List Value)) → IsArrangementOf columns names found →
+    map (row_values found) lists ≡ map (column_values columns.names names) lists
 lists_same columns names found [] is = refl
 lists_same columns names found (values ∷ lists) is = rw (is.same values, lists_same columns names found lists is)
 
 wide_same : (width other : ℕ) (lists : List (List Value)) → width ≡ other → list_all (λ (values : List Value). length values == width) lists ≡ list_all (λ (values : List Value). length values == other) lists
 wide_same width other lists e = ap (λ (n : ℕ). list_all (λ (values : List Value). length values == n) lists) e
 
-pub inserts : (axes : ℕ) (columns : Columns) (rows : List TableRow) (rule : Rule) (listed : Option (List (List ℕ))) (lists : List (List Value)) (found : Arranged) → columns.axes ≡ axes →
+pub inserts : (axes : ℕ) (columns : Columns) (rows : List TableRow) (rule : Rule) (listed : Option (List (List ℕ))) (lists : List (List Value)) (found : ColumnPlaces) → columns.axes ≡ axes →
     IsArrangementOf columns (listed_columns columns listed) found → list_all (λ (values : List Value). length values == found.width) lists ≡ true →
-    put_all axes rule rows (map (rearranged found) lists) ≡ insert columns rows rule listed lists
+    put_all axes rule rows (map (row_values found) lists) ≡ insert columns rows rule listed lists
 inserts axes columns rows rule listed lists found same is wide =
     let names = listed_columns columns listed in
     let long : list_all (λ (values : List Value). length values == length names) lists ≡ true = sym (wide_same found.width (length names) lists is.width_is) ∙ wide in
-    ap (λ (n : ℕ). put_all n rule rows (map (rearranged found) lists)) (sym same)
+    ap (λ (n : ℕ). put_all n rule rows (map (row_values found) lists)) (sym same)
     ∙ ap (λ (l : List (List Value)). put_all columns.axes rule rows l) (lists_same columns names found lists is)
     ∙ sym (rw (is.distinct, is.known, long))
 
-pub inserts_not : (columns : Columns) (rows : List TableRow) (rule : Rule) (listed : Option (List (List ℕ))) (lists : List (List Value)) (found : Arranged) →
+pub inserts_not : (columns : Columns) (rows : List TableRow) (rule : Rule) (listed : Option (List (List ℕ))) (lists : List (List Value)) (found : ColumnPlaces) →
     IsArrangementOf columns (listed_columns columns listed) found → list_all (λ (values : List Value). length values == found.width) lists ≡ false →
     insert columns rows rule listed lists ≡ Err WrongNumberOfValues
 inserts_not columns rows rule listed lists found is wide =

@@ -10,7 +10,7 @@ use Rattle.rt_table_row.specs.Rows.{TableRow, values_of, row_at, has_id}
 use Rattle.rt_table_row.specs.declared.entry.Step as declared
 use Rattle.rt_table_row.specs.Entries.{step_of}
 use Rattle.rt_table_row.specs.Edits.{Step, Steps, Leaves, Comes, Becomes, outcome, and_then, steps_and, become_candidate}
-use Rattle.rt_table_row.specs.Settings.{LookedUp, candidate_set}
+use Rattle.rt_table_row.specs.Settings.{ColumnReadings, candidate_set}
 
 -- whether the id has a row: what the steps left of it, or else what was there before them
 abbrev pub is_there : List TableRow → (ℤ → Option Bool) → ℤ → Bool
@@ -52,10 +52,10 @@ step_given (Some step) = step_of step ∷ []
 abbrev pub row_of : {D : ℕ} → List TableRow → Row D → Option TableRow
 row_of rows found = row_at rows found.id
 
-abbrev pub row_set : ℕ → LookedUp → List TableRow → TableRow → Steps
+abbrev pub row_set : ℕ → ColumnReadings → List TableRow → TableRow → Steps
 row_set axes sets now row = and_then (candidate_set axes sets (values_of row)) (λ c. become_candidate now row.id c c.id)
 
 -- one row after the other, each among the rows as they then are
-abbrev pub all_set : ℕ → LookedUp → List TableRow → List TableRow → Steps
+abbrev pub all_set : ℕ → ColumnReadings → List TableRow → List TableRow → Steps
 all_set axes sets now [] = Ok []
 all_set axes sets now (row ∷ later) = and_then (row_set axes sets now row) (λ steps. steps_and steps (all_set axes sets (outcome now steps) later))

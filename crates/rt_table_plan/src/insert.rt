@@ -6,8 +6,8 @@
 ghost use Rattle.std.specs.Prelude.{◌≡◌, ◌≤◌, ◌+◌, ◌*◌, length, map, List, MatchResult};
 ghost use Rattle.std.specs.Option.{option_copied};
 ghost use Rattle.rt_table_row.specs.Answers.{GivesAs};
-ghost use Rattle.rt_table_row.specs.Arrangements.{IsArrangementOf, IsBadList, rearranged};
-ghost use Rattle.rt_table_row.specs.Candidates.{candidate_of};
+ghost use Rattle.rt_table_row.specs.Arrangements.{IsArrangementOf, IsBadList, row_values};
+ghost use Rattle.rt_table_row.specs.NewRows.{candidate_of};
 ghost use Rattle.rt_table_row.specs.Rows.{TableRow};
 ghost use Rattle.rt_table_row.specs.Edits.{and_then, id_or_new, put_taken, put_at, put, put_all, listed_columns, insert};
 ghost use Rattle.rt_table_row.specs.Entries.{step_of, candidate_as};
@@ -86,7 +86,7 @@ fn row_step<const D: usize>(
     requires few { D ≤ 3 }
     requires long { 1 + 2 * D ≤ length arrangement.now.places }
     ensures { (now : List TableRow) → Knows store.now.rows (known_of draft.now) now → Counts now count.now.largest count.now.room
-        → GivesAs one_step (and_then (candidate_of D (rearranged arrangement.now values.now)) (λ c. put_at rule now c (id_or_new now c.id))) result }
+        → GivesAs one_step (and_then (candidate_of D (row_values arrangement.now values.now)) (λ c. put_at rule now c (id_or_new now c.id))) result }
 {
     let candidate = arrangement.candidate(alloc, values)?;
     placing(store, draft, count, rule, candidate)
@@ -106,7 +106,7 @@ fn step_or_none<const D: usize>(
     requires few { D ≤ 3 }
     requires long { 1 + 2 * D ≤ length arrangement.now.places }
     ensures { (now : List TableRow) → Knows store.now.rows (known_of draft.now) now → Counts now count.now.largest count.now.room
-        → GivesAs step_given (put D rule now (rearranged arrangement.now values.now)) result }
+        → GivesAs step_given (put D rule now (row_values arrangement.now values.now)) result }
 {
     match row_step(alloc, store, draft, count, rule, arrangement, values) {
         Ok(step) => Ok(Some(step)),
@@ -131,7 +131,7 @@ fn all_steps<const D: usize>(
     requires some { 1 ≤ D }
     requires few { D ≤ 3 }
     requires long { 1 + 2 * D ≤ length arrangement.now.places }
-    ensures { GivesAs (λ steps. map step_of steps.items) (put_all D rule store.now.rows (map (rearranged arrangement.now) lists.now)) result }
+    ensures { GivesAs (λ steps. map step_of steps.items) (put_all D rule store.now.rows (map (row_values arrangement.now) lists.now)) result }
 {
     store.facts();
     let mut draft = Draft::new(alloc, keys);

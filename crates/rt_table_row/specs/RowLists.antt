@@ -19,7 +19,7 @@ row_in numbers values place = map Int (part numbers place.numbers) ++ part value
 abbrev pub rows_in : Inside → Lists
 rows_in list = map (row_in list.numbers.items list.values.items) list.places.items
 
--- a part ends at its start or behind it, and within the items
+-- a part doesn't end before its start, and ends within the items
 abbrev pub IsWithin : {A : Type 0} → List A → Span → Type 0
 IsWithin items span = (span.start ≤ span.end) × (span.end ≤ length items)
 

@@ -36,7 +36,7 @@ pub enum Field<'a> {
 }
 
 impl Field<'_> {
-    /// A copy of the value; NULL where there is no column.
+    /// A copy of the value; NULL if there is no column.
     pub fn try_clone(self, alloc: Global) -> Result<Value, AllocError>
         ensures { IfOk result (λ value. value ≡ field_value self.entry) }
     {

@@ -1,4 +1,4 @@
-//! Rows one behind the other.
+//! Rows in two lists.
 //!
 //! A row is two spans: one in the list of all numbers, one in the list of all auxiliary values. Contracts see a list
 //! of rows (`specs/RowLists.antt`).
@@ -34,7 +34,7 @@ pub struct RowList {
     places: Vec<Place>,
 }
 
-// By hand, since a derived drop is written out, field by field, wherever such a value ends.
+// By hand, since a derived drop is written out, field by field, in each place in which such a value ends.
 impl Drop for RowList {
     fn drop(self) {
         let RowList {

@@ -7,6 +7,7 @@ use Rattle.std.proofs.lemmas.Bool.{leb-false}
 use Rattle.std.proofs.lemmas.List.{length-map, length-drop}
 use Rattle.std.proofs.lemmas.List.Elements.{All-from_recursion}
 use Rattle.std.proofs.lemmas.Result.{IfOk-weaker}
+use Rattle.rt_box.specs.declared.interval.Interval.{Interval}
 use Rattle.rt_sql_statement.specs.declared.value.Value.{Value}
 use Rattle.rt_sql_statement.specs.declared.statement.Edit.TheVariants.{Insert, Update, Delete}
 use Rattle.rt_sql_statement.specs.declared.statement.Edit.{Edit}
@@ -17,9 +18,9 @@ use Rattle.rt_sql_statement.specs.declared.refusal.Refusal.{Refusal}
 use Rattle.rt_sql_statement.specs.declared.refusal.Refusal.TheVariants.{BadColumnList, NoSuchColumn, WrongNumberOfValues, WrongType, IntegerOutOfRange, IdAlreadyTaken, MinimumAboveMaximum, TableFull}
 use Rattle.rt_table_row.specs.Columns.{Columns, has_name, are_distinct}
 use Rattle.rt_table_row.specs.Conditions.{has_columns, holds, picked}
-use Rattle.rt_table_row.specs.Candidates.{Candidate, candidate_of, is_id, is_integer, id_in, number_in, fits_bits, id_value, coordinate_values, box_of, is_ordered}
+use Rattle.rt_table_row.specs.NewRows.{is_id, is_integer, number_in, fits_bits, id_value, given_id, coordinate_values, box_of, is_ordered, row_of_id, row_from}
 use Rattle.rt_table_row.specs.Rows.{TableRow, values_of, AreRising, has_id, with_row, without_id}
-use Rattle.rt_table_row.specs.Edits.{Step, Leaves, Comes, Becomes, Steps, after_step, outcome, and_then, Setting, row_of, put_taken, put_at, id_or_new, unless_ignored, put, put_all, steps_and, arranged, listed_columns, insert, delete, update, steps_of, update_all, update_row, becomes, become_candidate, new_values, is_summable, sum_fits, columns_read}
+use Rattle.rt_table_row.specs.Edits.{Step, Leaves, Comes, Becomes, Steps, after_step, outcome, and_then, Setting, put_over, put_row, id_or_new, unless_ignored, put, put_all, steps_and, column_values, listed_columns, insert, delete, update, steps_of, update_all, update_row, replace_row, new_values, is_summable, sum_fits, columns_read}
 use Rattle.rt_table_store.proofs.Order.{eq_same, eq_below}
 use Rattle.rt_table_store.proofs.Sorted.{at_key-taken, at_key-placed, Rises, rises}
 use Rattle.rt_table_store.specs.Steps.{ApplyInTurn, ApplyTo, FitsColumns}
@@ -79,17 +80,16 @@ always (Err refusal) = tt
 
 -- ---- INSERT
 
-apply-put_taken : (rule : Rule) (rows : List TableRow) (id : ℤ) (c : Candidate) → has_id rows id ≡ true → IfOk (put_taken rule id c) (ApplyInTurn rows)
-apply-put_taken Replace rows id c there = ((there, gone rows id), tt)
-apply-put_taken Abort rows id c there = tt
-apply-put_taken Ignore rows id c there = tt
+apply-put_over : (rule : Rule) (rows : List TableRow) (row : TableRow) → has_id rows row.id ≡ true → IfOk (put_over rule row) (ApplyInTurn rows)
+apply-put_over Replace rows row there = ((there, gone rows row.id), tt)
+apply-put_over Abort rows row there = tt
+apply-put_over Ignore rows row there = tt
 
-apply-put_at : (rule : Rule) (rows : List TableRow) (c : Candidate) (id : Option ℤ) → IfOk (put_at rule rows c id) (ApplyInTurn rows)
-apply-put_at rule rows c None = tt
-apply-put_at rule rows c (Some id) =
-    of_choice (ApplyInTurn rows) (has_id rows id) (put_taken rule id c) (if nat_le 1048576 (length rows) then Err TableFull else Ok (Comes (row_of id c) ∷ []))
-    (λ there. apply-put_taken rule rows id c there)
-    (λ new. of_choice (ApplyInTurn rows) (nat_le 1048576 (length rows)) (Err TableFull) (Ok (Comes (row_of id c) ∷ [])) (λ full. tt) (λ room. ((new, leb-false 1048576 (length rows) room), tt)))
+apply-put_row : (rule : Rule) (rows : List TableRow) (row : TableRow) → IfOk (put_row rule rows row) (ApplyInTurn rows)
+apply-put_row rule rows row =
+    of_choice (ApplyInTurn rows) (has_id rows row.id) (put_over rule row) (if nat_le 1048576 (length rows) then Err TableFull else Ok (Comes row ∷ []))
+    (λ there. apply-put_over rule rows row there)
+    (λ new. of_choice (ApplyInTurn rows) (nat_le 1048576 (length rows)) (Err TableFull) (Ok (Comes row ∷ [])) (λ full. tt) (λ room. ((new, leb-false 1048576 (length rows) room), tt)))
 
 apply-unless_ignored : (rule : Rule) (rows : List TableRow) (steps : Steps) → IfOk steps (ApplyInTurn rows) → IfOk (unless_ignored rule steps) (ApplyInTurn rows)
 apply-unless_ignored Abort rows (Ok steps) apply = apply
@@ -103,9 +103,9 @@ apply-unless_ignored Ignore rows (Err _) apply = tt
 
 apply-put : (axes : ℕ) (rule : Rule) (rows : List TableRow) (values : List Value) → IfOk (put axes rule rows values) (ApplyInTurn rows)
 apply-put axes rule rows values =
-    apply-unless_ignored rule rows (and_then (candidate_of axes values) (λ c. put_at rule rows c (id_or_new rows c.id)))
-    (of_next Always (ApplyInTurn rows) (candidate_of axes values) (λ c. put_at rule rows c (id_or_new rows c.id)) (always (candidate_of axes values))
-    (λ c of. apply-put_at rule rows c (id_or_new rows c.id)))
+    let made : Result TableRow Refusal = row_from axes (id_or_new rows (given_id values)) values in
+    apply-unless_ignored rule rows (and_then made (put_row rule rows))
+    (of_next Always (ApplyInTurn rows) made (put_row rule rows) (always made) (λ row of. apply-put_row rule rows row))
 
 apply-put_all : (axes : ℕ) (rule : Rule) (rows : List TableRow) (lists : List (List Value)) → IfOk (put_all axes rule rows lists) (ApplyInTurn rows)
 apply-put_all axes rule rows [] = tt
@@ -117,13 +117,13 @@ apply-put_all axes rule rows (values ∷ lists) =
 apply-insert : (columns : Columns) (rows : List TableRow) (rule : Rule) (listed : Option (List (List ℕ))) (lists : List (List Value)) → IfOk (insert columns rows rule listed lists) (ApplyInTurn rows)
 apply-insert columns rows rule listed lists =
     let names = listed_columns columns listed in
-    let steps : Steps = put_all columns.axes rule rows (map (arranged columns.names names) lists) in
+    let steps : Steps = put_all columns.axes rule rows (map (column_values columns.names names) lists) in
     let long : Steps = if not (list_all (λ values. length values == length names) lists) then Err WrongNumberOfValues else steps in
     let known : Steps = if not (list_all (has_name columns.names) names) then Err NoSuchColumn else long in
     of_choice (ApplyInTurn rows) (not (are_distinct names)) (Err BadColumnList) known (λ wrong. tt)
     (λ right. of_choice (ApplyInTurn rows) (not (list_all (has_name columns.names) names)) (Err NoSuchColumn) long (λ wrong. tt)
     (λ right. of_choice (ApplyInTurn rows) (not (list_all (λ values. length values == length names) lists)) (Err WrongNumberOfValues) steps (λ wrong. tt)
-    (λ right. apply-put_all columns.axes rule rows (map (arranged columns.names names) lists))))
+    (λ right. apply-put_all columns.axes rule rows (map (column_values columns.names names) lists))))
 
 -- ---- rows that are there, each under an id of its own
 
@@ -198,27 +198,23 @@ free rows old new none = has-without rows old new ∙ none
 abbrev StillStand : List TableRow → List TableRow → List Step → Type 0
 StillStand now rows steps = ApplyInTurn now steps × Stand (outcome now steps) rows
 
-apply-becomes : (now rows : List TableRow) (row new : TableRow) → Stand now (row ∷ rows) → IfOk (becomes now row.id new) (StillStand now rows)
-apply-becomes now rows row new stand =
+apply-replace_row : (now rows : List TableRow) (row new : TableRow) → Stand now (row ∷ rows) → IfOk (replace_row now row.id new) (StillStand now rows)
+apply-replace_row now rows row new stand =
     of_choice (StillStand now rows) (not (int_eq row.id new.id) && has_id now new.id) (Err IdAlreadyTaken) (Ok (Becomes row.id new ∷ [])) (λ taken. tt)
     (λ none. (((stand.0, free now row.id new.id none), tt), stand-with (without_id now row.id) rows new (stand-without now rows row.id stand.1.0 stand.1.1)))
-
-apply-become_candidate : (now rows : List TableRow) (row : TableRow) (c : Candidate) (id : Option ℤ) → Stand now (row ∷ rows) → IfOk (become_candidate now row.id c id) (StillStand now rows)
-apply-become_candidate now rows row c None stand = tt
-apply-become_candidate now rows row c (Some id) stand = apply-becomes now rows row (row_of id c) stand
 
 apply-update_row : (columns : Columns) (now rows : List TableRow) (sets : List Setting) (row : TableRow) → Stand now (row ∷ rows) → IfOk (update_row columns now sets row) (StillStand now rows)
 apply-update_row columns now rows sets row stand =
     let old = values_of row in
     let new = new_values columns.names old sets in
-    let done : Steps = and_then (candidate_of columns.axes new) (λ c. become_candidate now row.id c c.id) in
+    let made : Result TableRow Refusal = row_from columns.axes (given_id new) new in
+    let done : Steps = and_then made (replace_row now row.id) in
     let summed : Steps = if not (list_all (λ set. sum_fits columns.names old set.1) sets) then Err IntegerOutOfRange else done in
     let typed : Steps = if not (is_integer (id_value new) && list_all is_integer (coordinate_values columns.axes new)) then Err WrongType else summed in
     of_choice (StillStand now rows) (not (list_all (λ set. is_summable columns.names old set.1) sets)) (Err WrongType) typed (λ wrong. tt)
     (λ right. of_choice (StillStand now rows) (not (is_integer (id_value new) && list_all is_integer (coordinate_values columns.axes new))) (Err WrongType) summed (λ wrong. tt)
     (λ right. of_choice (StillStand now rows) (not (list_all (λ set. sum_fits columns.names old set.1) sets)) (Err IntegerOutOfRange) done (λ wrong. tt)
-    (λ right. of_next Always (StillStand now rows) (candidate_of columns.axes new) (λ c. become_candidate now row.id c c.id) (always (candidate_of columns.axes new))
-    (λ c of. apply-become_candidate now rows row c c.id stand))))
+    (λ right. of_next Always (StillStand now rows) made (replace_row now row.id) (always made) (λ next of. apply-replace_row now rows row next stand))))
 
 apply-update_all : (columns : Columns) (now : List TableRow) (sets : List Setting) (rows : List TableRow) → Stand now rows → IfOk (update_all columns now sets rows) (ApplyInTurn now)
 apply-update_all columns now sets [] stand = tt
@@ -249,15 +245,20 @@ in_turn columns rows rise (Delete cond) = apply-delete columns rows cond rise
 abbrev Fit : Columns → List Step → Type 0
 Fit columns steps = AllByRecursion (FitsColumns columns) steps
 
-candidate_auxiliary : (axes : ℕ) (values : List Value) → IfOk (candidate_of axes values) (λ c. c.auxiliary ≡ drop (1 + 2 * axes) values)
-candidate_auxiliary axes values =
+of_id_auxiliary : (id : Option ℤ) (box : List Interval) (auxiliary : List Value) → IfOk (row_of_id id box auxiliary) (λ row. row.auxiliary ≡ auxiliary)
+of_id_auxiliary None box auxiliary = tt
+of_id_auxiliary (Some id) box auxiliary = refl
+
+row_auxiliary : (axes : ℕ) (id : Option ℤ) (values : List Value) → IfOk (row_from axes id values) (λ row. row.auxiliary ≡ drop (1 + 2 * axes) values)
+row_auxiliary axes id values =
     let numbers = map number_in (coordinate_values axes values) in
-    let made : Result Candidate Refusal = Ok (record { id = id_in (id_value values); box = box_of numbers; auxiliary = drop (1 + 2 * axes) values }) in
-    let ordered : Result Candidate Refusal = if not (is_ordered (box_of numbers)) then Err MinimumAboveMaximum else made in
-    let fitting : Result Candidate Refusal = if not (list_all (fits_bits 31) numbers) then Err IntegerOutOfRange else ordered in
-    of_choice (λ (c : Candidate). c.auxiliary ≡ drop (1 + 2 * axes) values) (not (is_id (id_value values) && list_all is_integer (coordinate_values axes values))) (Err WrongType) fitting (λ wrong. tt)
-    (λ right. of_choice (λ (c : Candidate). c.auxiliary ≡ drop (1 + 2 * axes) values) (not (list_all (fits_bits 31) numbers)) (Err IntegerOutOfRange) ordered (λ wrong. tt)
-    (λ right. of_choice (λ (c : Candidate). c.auxiliary ≡ drop (1 + 2 * axes) values) (not (is_ordered (box_of numbers))) (Err MinimumAboveMaximum) made (λ wrong. tt) (λ right. refl)))
+    let made : Result TableRow Refusal = row_of_id id (box_of numbers) (drop (1 + 2 * axes) values) in
+    let ordered : Result TableRow Refusal = if not (is_ordered (box_of numbers)) then Err MinimumAboveMaximum else made in
+    let fitting : Result TableRow Refusal = if not (list_all (fits_bits 31) numbers) then Err IntegerOutOfRange else ordered in
+    of_choice (λ (row : TableRow). row.auxiliary ≡ drop (1 + 2 * axes) values) (not (is_id (id_value values) && list_all is_integer (coordinate_values axes values))) (Err WrongType) fitting (λ wrong. tt)
+    (λ right. of_choice (λ (row : TableRow). row.auxiliary ≡ drop (1 + 2 * axes) values) (not (list_all (fits_bits 31) numbers)) (Err IntegerOutOfRange) ordered (λ wrong. tt)
+    (λ right. of_choice (λ (row : TableRow). row.auxiliary ≡ drop (1 + 2 * axes) values) (not (is_ordered (box_of numbers))) (Err MinimumAboveMaximum) made (λ wrong. tt)
+    (λ right. of_id_auxiliary id (box_of numbers) (drop (1 + 2 * axes) values))))
 
 fit_both : (columns : Columns) (steps more : List Step) → Fit columns steps → Fit columns more → Fit columns (steps ++ more)
 fit_both columns [] more first later = later
@@ -268,23 +269,22 @@ module _ (columns : Columns) where
   auxiliary_long values = length values ≡ length (drop (1 + 2 * columns.axes) columns.names)
 
   -- as many values as columns, and so as many auxiliary ones as auxiliary columns
-  candidate_fits : (values : List Value) → length values ≡ length columns.names → IfOk (candidate_of columns.axes values) (λ c. auxiliary_long c.auxiliary)
-  candidate_fits values long =
-      IfOk-weaker (candidate_of columns.axes values) (λ (c : Candidate). c.auxiliary ≡ drop (1 + 2 * columns.axes) values) (λ (c : Candidate). auxiliary_long c.auxiliary)
-      (λ c is. ap length is ∙ length-drop (1 + 2 * columns.axes) values ∙ ap (λ (n : ℕ). n - (1 + 2 * columns.axes)) long ∙ sym (length-drop (1 + 2 * columns.axes) columns.names))
-      (candidate_auxiliary columns.axes values)
+  row_fits : (id : Option ℤ) (values : List Value) → length values ≡ length columns.names → IfOk (row_from columns.axes id values) (λ row. auxiliary_long row.auxiliary)
+  row_fits id values long =
+      IfOk-weaker (row_from columns.axes id values) (λ (row : TableRow). row.auxiliary ≡ drop (1 + 2 * columns.axes) values) (λ (row : TableRow). auxiliary_long row.auxiliary)
+      (λ row is. ap length is ∙ length-drop (1 + 2 * columns.axes) values ∙ ap (λ (n : ℕ). n - (1 + 2 * columns.axes)) long ∙ sym (length-drop (1 + 2 * columns.axes) columns.names))
+      (row_auxiliary columns.axes id values)
 
-  fit-put_taken : (rule : Rule) (id : ℤ) (c : Candidate) → auxiliary_long c.auxiliary → IfOk (put_taken rule id c) (Fit columns)
-  fit-put_taken Replace id c fits = (fits, tt)
-  fit-put_taken Abort id c fits = tt
-  fit-put_taken Ignore id c fits = tt
+  fit-put_over : (rule : Rule) (row : TableRow) → auxiliary_long row.auxiliary → IfOk (put_over rule row) (Fit columns)
+  fit-put_over Replace row fits = (fits, tt)
+  fit-put_over Abort row fits = tt
+  fit-put_over Ignore row fits = tt
 
-  fit-put_at : (rule : Rule) (rows : List TableRow) (c : Candidate) (id : Option ℤ) → auxiliary_long c.auxiliary → IfOk (put_at rule rows c id) (Fit columns)
-  fit-put_at rule rows c None fits = tt
-  fit-put_at rule rows c (Some id) fits =
-      of_choice (Fit columns) (has_id rows id) (put_taken rule id c) (if nat_le 1048576 (length rows) then Err TableFull else Ok (Comes (row_of id c) ∷ []))
-      (λ there. fit-put_taken rule id c fits)
-      (λ new. of_choice (Fit columns) (nat_le 1048576 (length rows)) (Err TableFull) (Ok (Comes (row_of id c) ∷ [])) (λ full. tt) (λ room. (fits, tt)))
+  fit-put_row : (rule : Rule) (rows : List TableRow) (row : TableRow) → auxiliary_long row.auxiliary → IfOk (put_row rule rows row) (Fit columns)
+  fit-put_row rule rows row fits =
+      of_choice (Fit columns) (has_id rows row.id) (put_over rule row) (if nat_le 1048576 (length rows) then Err TableFull else Ok (Comes row ∷ []))
+      (λ there. fit-put_over rule row fits)
+      (λ new. of_choice (Fit columns) (nat_le 1048576 (length rows)) (Err TableFull) (Ok (Comes row ∷ [])) (λ full. tt) (λ room. (fits, tt)))
 
   fit-unless_ignored : (rule : Rule) (steps : Steps) → IfOk steps (Fit columns) → IfOk (unless_ignored rule steps) (Fit columns)
   fit-unless_ignored Abort (Ok steps) fit = fit
@@ -298,9 +298,10 @@ module _ (columns : Columns) where
 
   fit-put : (rule : Rule) (rows : List TableRow) (values : List Value) → length values ≡ length columns.names → IfOk (put columns.axes rule rows values) (Fit columns)
   fit-put rule rows values long =
-      fit-unless_ignored rule (and_then (candidate_of columns.axes values) (λ c. put_at rule rows c (id_or_new rows c.id)))
-      (of_next (λ (c : Candidate). auxiliary_long c.auxiliary) (Fit columns) (candidate_of columns.axes values) (λ c. put_at rule rows c (id_or_new rows c.id)) (candidate_fits values long)
-      (λ c fits. fit-put_at rule rows c (id_or_new rows c.id) fits))
+      let id = id_or_new rows (given_id values) in
+      fit-unless_ignored rule (and_then (row_from columns.axes id values) (put_row rule rows))
+      (of_next (λ (row : TableRow). auxiliary_long row.auxiliary) (Fit columns) (row_from columns.axes id values) (put_row rule rows) (row_fits id values long)
+      (λ row fits. fit-put_row rule rows row fits))
 
   fit-put_all : (rule : Rule) (rows : List TableRow) (lists : List (List Value)) → AllByRecursion (λ (values : List Value). length values ≡ length columns.names) lists
       → IfOk (put_all columns.axes rule rows lists) (Fit columns)
@@ -310,42 +311,42 @@ module _ (columns : Columns) where
       (λ steps fit. of_next (Fit columns) (Fit columns) (put_all columns.axes rule (outcome rows steps) lists) (λ more. Ok (steps ++ more)) (fit-put_all rule (outcome rows steps) lists long.1)
       (λ more later. fit_both columns steps more fit later))
 
-  arranged_long : (names : List (List ℕ)) (lists : List (List Value)) → AllByRecursion (λ (values : List Value). length values ≡ length columns.names) (map (arranged columns.names names) lists)
+  arranged_long : (names : List (List ℕ)) (lists : List (List Value)) → AllByRecursion (λ (values : List Value). length values ≡ length columns.names) (map (column_values columns.names names) lists)
   arranged_long names [] = tt
   arranged_long names (values ∷ lists) = (length-map _ _, arranged_long names lists)
 
   fit-insert : (rows : List TableRow) (rule : Rule) (listed : Option (List (List ℕ))) (lists : List (List Value)) → IfOk (insert columns rows rule listed lists) (Fit columns)
   fit-insert rows rule listed lists =
       let names = listed_columns columns listed in
-      let steps : Steps = put_all columns.axes rule rows (map (arranged columns.names names) lists) in
+      let steps : Steps = put_all columns.axes rule rows (map (column_values columns.names names) lists) in
       let long : Steps = if not (list_all (λ values. length values == length names) lists) then Err WrongNumberOfValues else steps in
       let known : Steps = if not (list_all (has_name columns.names) names) then Err NoSuchColumn else long in
       of_choice (Fit columns) (not (are_distinct names)) (Err BadColumnList) known (λ wrong. tt)
       (λ right. of_choice (Fit columns) (not (list_all (has_name columns.names) names)) (Err NoSuchColumn) long (λ wrong. tt)
       (λ right. of_choice (Fit columns) (not (list_all (λ values. length values == length names) lists)) (Err WrongNumberOfValues) steps (λ wrong. tt)
-      (λ right. fit-put_all rule rows (map (arranged columns.names names) lists) (arranged_long names lists))))
+      (λ right. fit-put_all rule rows (map (column_values columns.names names) lists) (arranged_long names lists))))
 
   fit-leaves : (rows : List TableRow) → Fit columns (map (λ row. Leaves row.id) rows)
   fit-leaves [] = tt
   fit-leaves (row ∷ rows) = (tt, fit-leaves rows)
 
-  fit-become_candidate : (now : List TableRow) (old : ℤ) (c : Candidate) (id : Option ℤ) → auxiliary_long c.auxiliary → IfOk (become_candidate now old c id) (Fit columns)
-  fit-become_candidate now old c None fits = tt
-  fit-become_candidate now old c (Some id) fits =
-      of_choice (Fit columns) (not (int_eq old id) && has_id now id) (Err IdAlreadyTaken) (Ok (Becomes old (row_of id c) ∷ [])) (λ taken. tt) (λ none. (fits, tt))
+  fit-replace_row : (now : List TableRow) (old : ℤ) (row : TableRow) → auxiliary_long row.auxiliary → IfOk (replace_row now old row) (Fit columns)
+  fit-replace_row now old row fits =
+      of_choice (Fit columns) (not (int_eq old row.id) && has_id now row.id) (Err IdAlreadyTaken) (Ok (Becomes old row ∷ [])) (λ taken. tt) (λ none. (fits, tt))
 
   fit-update_row : (now : List TableRow) (sets : List Setting) (row : TableRow) → IfOk (update_row columns now sets row) (Fit columns)
   fit-update_row now sets row =
       let old = values_of row in
       let new = new_values columns.names old sets in
-      let done : Steps = and_then (candidate_of columns.axes new) (λ c. become_candidate now row.id c c.id) in
+      let made : Result TableRow Refusal = row_from columns.axes (given_id new) new in
+      let done : Steps = and_then made (replace_row now row.id) in
       let summed : Steps = if not (list_all (λ set. sum_fits columns.names old set.1) sets) then Err IntegerOutOfRange else done in
       let typed : Steps = if not (is_integer (id_value new) && list_all is_integer (coordinate_values columns.axes new)) then Err WrongType else summed in
       of_choice (Fit columns) (not (list_all (λ set. is_summable columns.names old set.1) sets)) (Err WrongType) typed (λ wrong. tt)
       (λ right. of_choice (Fit columns) (not (is_integer (id_value new) && list_all is_integer (coordinate_values columns.axes new))) (Err WrongType) summed (λ wrong. tt)
       (λ right. of_choice (Fit columns) (not (list_all (λ set. sum_fits columns.names old set.1) sets)) (Err IntegerOutOfRange) done (λ wrong. tt)
-      (λ right. of_next (λ (c : Candidate). auxiliary_long c.auxiliary) (Fit columns) (candidate_of columns.axes new) (λ c. become_candidate now row.id c c.id) (candidate_fits new (length-map _ _))
-      (λ c fits. fit-become_candidate now row.id c c.id fits))))
+      (λ right. of_next (λ (next : TableRow). auxiliary_long next.auxiliary) (Fit columns) made (replace_row now row.id) (row_fits (given_id new) new (length-map _ _))
+      (λ next fits. fit-replace_row now row.id next fits))))
 
   fit-update_all : (now : List TableRow) (sets : List Setting) (rows : List TableRow) → IfOk (update_all columns now sets rows) (Fit columns)
   fit-update_all now sets [] = tt

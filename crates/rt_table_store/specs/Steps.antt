@@ -16,7 +16,7 @@ abbrev pub ApplyInTurn : List TableRow → List Step → Type 0
 ApplyInTurn rows [] = Unit {0}
 ApplyInTurn rows (step ∷ steps) = Applies rows step × ApplyInTurn (after_step rows step) steps
 
--- the row that a step inserts has a value for each auxiliary column, which stand behind the id and the coordinates
+-- the row that a step inserts has a value for each auxiliary column, which follow the id and the coordinates
 abbrev pub FitsColumns : Columns → Step → Type 0
 FitsColumns columns (Leaves id) = Unit {0}
 FitsColumns columns (Comes row) = length row.auxiliary ≡ length (drop (1 + 2 * columns.axes) columns.names)

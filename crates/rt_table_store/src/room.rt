@@ -30,7 +30,7 @@ pub fn inserts_all<const D: usize>(plan: &[Step<D>]) -> usize
     count
 }
 
-/// 1 where the row has auxiliary values, else 0.
+/// 1 if the row has auxiliary values, else 0.
 fn auxiliary_rows<const D: usize>(row: &Entry<D>) -> usize
     ensures { result ≡ auxiliary_rows (row_of row.now) }
 {

@@ -19,7 +19,7 @@ fn apply_step<const D: usize>(store: &mut Store<D>, step: Step<D>)
     ensures tree { TakesStep store.old.rows (step_of step.entry) store.old.tree store.new.tree }
     ensures capacity { store.new.tree.capacity ≡ store.old.tree.capacity }
     ensures room { store.old.room ≤ store.new.room + inserts (step_of step.entry) }
-    ensures auxiliary_room { store.old.auxiliary_room ≤ store.new.auxiliary_room + auxiliary_rows_of (step_of step.entry) }
+    ensures auxiliary { store.old.auxiliary_room ≤ store.new.auxiliary_room + auxiliary_rows_of (step_of step.entry) }
 {
     store.facts();
     match step {

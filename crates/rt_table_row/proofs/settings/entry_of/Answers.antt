@@ -5,12 +5,12 @@ use Rattle.rt_sql_statement.specs.declared.value.Value.{Value}
 use Rattle.rt_sql_statement.specs.declared.value.Value.TheVariants.{Null}
 use Rattle.rt_table_row.specs.Rows.{values_of}
 use Rattle.rt_table_row.specs.Entries.{view_row}
-use Rattle.rt_table_row.specs.Candidates.{is_integer, number_in}
+use Rattle.rt_table_row.specs.NewRows.{is_integer, number_in}
 use Rattle.rt_table_row.specs.declared.settings.Reading.{Reading}
 use Rattle.rt_table_row.specs.declared.settings.Reading.TheVariants.{Literal}
 use Rattle.rt_table_row.specs.Settings.{read, reads_integer, reading_fits}
-use Rattle.rt_table_row.proofs.Setting.{front_integers, set_type, set_sum, set_all, candidate_read}
-use Rattle.rt_table_row.proofs.settings.candidate.Goals as goal
+use Rattle.rt_table_row.proofs.Setting.{front_integers, set_type, set_sum, set_all, row_read}
+use Rattle.rt_table_row.proofs.settings.entry_of.Goals as goal
 
 pub returns-then-not-are_integers : goal.returns-then-not-are_integers
 returns-then-not-are_integers g c =
@@ -40,7 +40,7 @@ returns g c =
     let front : list_all (λ (x : Reading). is_integer (read old x)) (take (1 + 2 * g.row.D) readings) ≡ true = ap (list_all (λ (x : Reading). is_integer (read old x))) (sym c.split_at.ensures.front) ∙ plain in
     let fits : list_all (reading_fits old) readings ≡ true = search rules in
     let e = set_all g.row.D readings old summable (sym (front_integers g.row.D (read old) readings c.requires.long) ∙ front) fits in
-    let made = candidate_read g.row.D (read old) readings c.split_at.result.0.now c.split_at.result.1.now c.requires.long c.split_at.ensures.front c.split_at.ensures.back front in
+    let made = row_read g.row.D (read old) readings c.split_at.result.0.now c.split_at.result.1.now c.requires.long c.split_at.ensures.front c.split_at.ensures.back front in
     let id : FitsSigned w64 c.number_read-id.result = search rules in
     let new = rw (to_z-of_z id, c.from_vec.ensures) at c.from_numbers.ensures in
     let first : c.index-plain-0.result ≡ get_or c.split_at.result.0.now 0 (Literal Null) = get_or_read c.split_at.result.0.now 0 c.index-plain-0.result (omega arith) c.index-plain-0.is (Literal Null) in

@@ -7,13 +7,8 @@ use Rattle.rt_box.specs.Interval.{interval}
 use Rattle.rt_sql_statement.specs.declared.value.Value.{Value}
 use Rattle.rt_sql_statement.specs.declared.value.Value.TheVariants.{Null, Int, Text, Blob}
 use Rattle.rt_sql_statement.specs.declared.refusal.Refusal.{Refusal}
-use Rattle.rt_sql_statement.specs.declared.refusal.Refusal.TheVariants.{WrongType, IntegerOutOfRange, MinimumAboveMaximum}
-
--- what a new row will be: its id, or none where a new one is asked for, its box, and its auxiliary values
-pub record Candidate : Type 0 where
-  pub id : Option ℤ
-  pub box : List Interval
-  pub auxiliary : List Value
+use Rattle.rt_sql_statement.specs.declared.refusal.Refusal.TheVariants.{WrongType, IntegerOutOfRange, MinimumAboveMaximum, NoIdLeft}
+use Rattle.rt_table_row.specs.Rows.{TableRow}
 
 -- an id is an integer, or NULL for a new one
 abbrev pub is_id : Value → Bool
@@ -40,14 +35,18 @@ number_in (Int n) = n
 number_in (Text t) = pos 0
 number_in (Blob b) = pos 0
 
--- an integer of so many bits less one, with its sign
+-- an integer of `bits` bits and a sign
 abbrev pub fits_bits : ℕ → ℤ → Bool
 fits_bits bits n = int_lt n (pos (2 ^ bits)) && int_le (negsuc (2 ^ bits - 1)) n
 
 abbrev pub id_value : List Value → Value
 id_value values = slice_index_or values 0 Null
 
--- the values of the coordinates, behind the id
+-- the id that the values give; none if it is NULL
+abbrev pub given_id : List Value → Option ℤ
+given_id values = id_in (id_value values)
+
+-- the values of the coordinates, which follow the id
 abbrev pub coordinate_values : ℕ → List Value → List Value
 coordinate_values axes values = take (2 * axes) (drop 1 values)
 
@@ -59,16 +58,21 @@ box_of _ = []
 abbrev pub is_ordered : List Interval → Bool
 is_ordered box = list_all (λ i. int_le i.lo i.hi) box
 
--- the candidate of an id, or none, of coordinates, and of auxiliary values, or the first thing that is wrong with the
--- coordinates: one of more than 32 bits, a minimum above its maximum
-abbrev pub candidate_with : Option ℤ → List ℤ → List Value → Result Candidate Refusal
-candidate_with id numbers auxiliary =
+-- the row of an id, if there is one
+abbrev pub row_of_id : Option ℤ → List Interval → List Value → Result TableRow Refusal
+row_of_id None box auxiliary = Err NoIdLeft
+row_of_id (Some id) box auxiliary = Ok (record { id = id; box = box; auxiliary = auxiliary })
+
+-- the row of an id, of coordinates, and of auxiliary values, or the first thing that is wrong: a coordinate of more than
+-- 32 bits, a minimum above its maximum, no id
+abbrev pub row_with : Option ℤ → List ℤ → List Value → Result TableRow Refusal
+row_with id numbers auxiliary =
     if not (list_all (fits_bits 31) numbers) then Err IntegerOutOfRange
     else (if not (is_ordered (box_of numbers)) then Err MinimumAboveMaximum
-    else Ok (record { id = id; box = box_of numbers; auxiliary = auxiliary }))
+    else row_of_id id (box_of numbers) auxiliary)
 
--- the candidate that the values are; before all else, each has its type
-abbrev pub candidate_of : ℕ → List Value → Result Candidate Refusal
-candidate_of axes values =
+-- the row of that id that the values are; before all else, each has its type
+abbrev pub row_from : ℕ → Option ℤ → List Value → Result TableRow Refusal
+row_from axes id values =
     if not (is_id (id_value values) && list_all is_integer (coordinate_values axes values)) then Err WrongType
-    else candidate_with (id_in (id_value values)) (map number_in (coordinate_values axes values)) (drop (1 + 2 * axes) values)
+    else row_with id (map number_in (coordinate_values axes values)) (drop (1 + 2 * axes) values)

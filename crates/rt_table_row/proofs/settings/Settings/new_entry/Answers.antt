@@ -1,9 +1,9 @@
 use Rattle.std.proofs.Common.{rules}
 use Rattle.rt_table_row.proofs.Setting.{length-own_fills}
-use Rattle.rt_table_row.proofs.settings.Settings.candidate.Goals as goal
+use Rattle.rt_table_row.proofs.settings.Settings.new_entry.Goals as goal
 
-pub candidate-requires : goal.candidate-requires
-candidate-requires g c =
+pub entry_of-requires : goal.entry_of-requires
+entry_of-requires g c =
     let long = rw (← c.self.view_is, length-own_fills 0 c.self.inside.readings.items) at c.requires.long in (
       search rules,
       (
@@ -19,4 +19,4 @@ candidate-requires g c =
     )
 
 pub returns : goal.returns
-returns g c = rw (← c.self.view_is, ← c.as_slice.ensures.value) c.candidate.ensures
+returns g c = rw (← c.self.view_is, ← c.as_slice.ensures.value) c.entry_of.ensures

@@ -1,9 +1,9 @@
 use Rattle.std.proofs.Common.{rules, arith, ◌≡◌, length, FitsSigned, w32, to_z-of_z}
 use Rattle.std.proofs.lemmas.List.{length-map, length-set}
 use Rattle.rt_box.specs.Rect.{los, his}
-use Rattle.rt_table_row.specs.Candidates.{box_of}
+use Rattle.rt_table_row.specs.NewRows.{box_of}
 use Rattle.rt_table_row.proofs.Boxes.{more_lo, more_hi, all_ends, made, length-box_of}
-use Rattle.rt_table_row.proofs.candidate.rect_of.Goals as goal
+use Rattle.rt_table_row.proofs.new_row.rect_of.Goals as goal
 
 pub loop-axis-preserved : goal.loop-axis-preserved
 loop-axis-preserved g c =

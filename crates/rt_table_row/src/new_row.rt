@@ -1,15 +1,15 @@
 //! What the values of a new row have to be.
 //!
 //! INSERT and UPDATE both make their rows here, so types, ranges and the order of minimum and maximum are tested
-//! in one place. Nothing is converted (`specs/Candidates.antt`).
+//! in one place. Nothing is converted (`specs/NewRows.antt`).
 
 ghost use Rattle.std.specs.Prelude.{◌≡◌, ◌*◌, ◌+◌, ◌≤◌, ◌<◌, ◌++◌, IfOk, pos, true, map, length, Some, None, if◌then◌else◌, slice_index_or};
 ghost use Rattle.std.specs.List.{list_all};
-ghost use Rattle.rt_table_row.specs.Candidates.{is_id, is_integer, id_in, number_in, fits_bits, box_of, is_ordered, candidate_of, candidate_with};
+ghost use Rattle.rt_table_row.specs.NewRows.{is_id, is_integer, id_in, number_in, fits_bits, box_of, is_ordered, row_from, row_with};
 ghost use Rattle.rt_table_row.specs.Answers.{GivesAs};
-ghost use Rattle.rt_table_row.specs.Entries.{candidate_as};
+ghost use Rattle.rt_table_row.specs.Entries.{row_of};
 
-use crate::entry::push_copies;
+use crate::entry::{Entry, push_copies};
 use arrayvec::ArrayVec;
 use rt_box::Rect;
 use rt_sql_statement::{Items, Refusal, Value};
@@ -31,7 +31,8 @@ pub(crate) fn is_integer(value: &Value) -> bool
     matches!(value, Value::Int(_))
 }
 
-fn id_in(value: &Value) -> Option<i64>
+/// The id that the value gives; none if it is no integer.
+pub(crate) fn id_in(value: &Value) -> Option<i64>
     ensures { result ≡ id_in value.now }
 {
     match value {
@@ -40,7 +41,7 @@ fn id_in(value: &Value) -> Option<i64>
     }
 }
 
-/// The value's number; 0 where it is no integer.
+/// The value's number; 0 if it is no integer.
 pub(crate) fn number_in(value: &Value) -> i64
     ensures { result ≡ number_in value.now }
 {
@@ -90,7 +91,7 @@ fn coordinate(numbers: &[i64], place: usize) -> i32
     numbers[place] as i32
 }
 
-/// The box from each axis' minimum to its maximum, where none is above it.
+/// The box from each axis' minimum to its maximum; none if a minimum is above its maximum.
 fn rect_of<const D: usize>(numbers: &[i64]) -> Option<Rect<D>>
     requires some { 1 ≤ D }
     requires few { D ≤ 3 }
@@ -116,71 +117,64 @@ fn copies(alloc: Global, auxiliary: &[Value]) -> Result<Items<Value>, AllocError
     Ok(Items::from_vec(values))
 }
 
-/// What a new row will be, of a table with `D` axes: its id, or none where it asks for a new one, its
-/// box, and the values of its auxiliary columns.
-#[derive(Debug, Drop)]
-pub struct Candidate<const D: usize> {
-    /// The id, or `None` where the value was NULL.
-    pub id: Option<i64>,
-    /// The box.
-    pub rect: Rect<D>,
-    /// The auxiliary values, in the order of their columns.
-    pub auxiliary: Items<Value>,
-}
-
-impl<const D: usize> Candidate<D> {
-    /// The candidate with that id, coordinates and auxiliary values; with no id it asks for a new one.
+impl<const D: usize> Entry<D> {
+    /// The row of that id, with these coordinates and auxiliary values.
     pub(crate) fn from_numbers(
         id: Option<i64>,
         coordinates: &[i64],
         auxiliary: Items<Value>,
-    ) -> Result<Candidate<D>, Refusal>
+    ) -> Result<Entry<D>, Refusal>
         requires some { 1 ≤ D }
         requires few { D ≤ 3 }
         requires long { length coordinates.now ≡ 2 * D }
-        ensures { GivesAs candidate_as (candidate_with id coordinates.now auxiliary) result }
+        ensures { GivesAs row_of (row_with id coordinates.now auxiliary) result }
     {
         if !are_short(coordinates) {
             return Err(Refusal::IntegerOutOfRange);
         }
-        match rect_of(coordinates) {
-            None => Err(Refusal::MinimumAboveMaximum),
-            Some(rect) => Ok(Candidate {
+        let Some(rect) = rect_of(coordinates) else {
+            return Err(Refusal::MinimumAboveMaximum);
+        };
+        match id {
+            Some(id) => Ok(Entry {
                 id,
                 rect,
                 auxiliary,
             }),
+            None => Err(Refusal::NoIdLeft),
         }
     }
 
-    /// The candidate that an id or NULL, the coordinates, and auxiliary values are.
-    fn with(plain: &[Value], auxiliary: Items<Value>) -> Result<Candidate<D>, Refusal>
+    /// The row of that id, with the coordinates that follow the first of these values.
+    fn with(id: Option<i64>, plain: &[Value], auxiliary: Items<Value>) -> Result<Entry<D>, Refusal>
         requires some { 1 ≤ D }
         requires few { D ≤ 3 }
         requires long { length plain.now ≡ 1 + 2 * D }
-        ensures { GivesAs candidate_as (candidate_of D (plain.now ++ auxiliary)) result }
+        ensures { GivesAs row_of (row_from D id (plain.now ++ auxiliary)) result }
     {
         if !is_id(&plain[0]) || !are_integers(&plain[1..]) {
             return Err(Refusal::WrongType);
         }
         let coordinates = numbers_in(&plain[1..]);
-        Candidate::from_numbers(id_in(&plain[0]), coordinates.as_slice(), auxiliary)
+        Entry::from_numbers(id, coordinates.as_slice(), auxiliary)
     }
 
-    /// The candidate that the values are: an id or NULL, the coordinates, and then the auxiliary values.
+    /// The row of that id that the values are: an id or NULL, the coordinates, and then the auxiliary values. Of the first
+    /// value only the type is tested.
     ///
     /// # Errors
     ///
-    /// The first of these that holds: `WrongType` where the id or a coordinate is of another type,
-    /// `IntegerOutOfRange` where a coordinate has more than 32 bits, `MinimumAboveMaximum`; or `OutOfMemory`.
-    pub fn new(mut values: Vec<Value>) -> Result<Candidate<D>, Refusal>
+    /// The first of these that holds: `WrongType` if the first value or a coordinate is of another type,
+    /// `IntegerOutOfRange` if a coordinate has more than 32 bits, `MinimumAboveMaximum`, `NoIdLeft` if there is no id; or
+    /// `OutOfMemory` if no memory is left.
+    pub fn new(id: Option<i64>, mut values: Vec<Value>) -> Result<Entry<D>, Refusal>
         requires some { 1 ≤ D }
         requires few { D ≤ 3 }
         requires long { 1 + 2 * D ≤ length values.items }
-        ensures { GivesAs candidate_as (candidate_of D values.items) result }
+        ensures { GivesAs row_of (row_from D id values.items) result }
     {
         let auxiliary = values.split_off(1 + 2 * D)?;
-        Candidate::with(&values, Items::from_vec(auxiliary))
+        Entry::with(id, &values, Items::from_vec(auxiliary))
     }
 
     /// The same of values that stay where they are: of these only the auxiliary ones are copied.
@@ -188,14 +182,14 @@ impl<const D: usize> Candidate<D> {
     /// # Errors
     ///
     /// Those of `new`.
-    pub fn from_slice(alloc: Global, values: &[Value]) -> Result<Candidate<D>, Refusal>
+    pub fn from_slice(alloc: Global, id: Option<i64>, values: &[Value]) -> Result<Entry<D>, Refusal>
         requires some { 1 ≤ D }
         requires few { D ≤ 3 }
         requires long { 1 + 2 * D ≤ length values.now }
-        ensures { GivesAs candidate_as (candidate_of D values.now) result }
+        ensures { GivesAs row_of (row_from D id values.now) result }
     {
         let (plain, auxiliary) = values.split_at(1 + 2 * D);
         let auxiliary = copies(alloc, auxiliary)?;
-        Candidate::with(plain, auxiliary)
+        Entry::with(id, plain, auxiliary)
     }
 }

@@ -1,7 +1,7 @@
 use Rattle.std.proofs.Common.{◌≡◌, length, take}
 use Rattle.rt_box.specs.Rect.{los, his}
-use Rattle.rt_table_row.specs.Candidates.{box_of}
-use Rattle.rt_table_row.proofs.candidate.rect_of.Given as goal
+use Rattle.rt_table_row.specs.NewRows.{box_of}
+use Rattle.rt_table_row.proofs.new_row.rect_of.Given as goal
 
 abbrev pub invariant-loop-axis : goal.invariant-loop-axis
 invariant-loop-axis g l = record {
