@@ -19,4 +19,4 @@ pub mod Windows
 pub mod Bare
 pub mod StepCounts
 pub mod StepTrees
-pub mod Steps
+pub mod StepLaws

@@ -1,4 +1,4 @@
-use Rattle.rt_table_store.proofs.Steps.{steps_apply}
+use Rattle.rt_table_store.proofs.StepLaws.{steps_apply}
 use Rattle.rt_table_store.proofs.laws.steps_apply.Goals as goal
 
 pub returns : goal.returns
