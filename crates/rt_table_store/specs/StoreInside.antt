@@ -1,5 +1,5 @@
 -- How a store keeps its rows: the boxes in a tree, the auxiliary values in a map by id.
-use Rattle.std.specs.Prelude.{◌≡◌, ℕ, ◌≤◌, ℤ, List, [], map, length, is_some, IsSome}
+use Rattle.std.specs.Prelude.{ℕ, ◌≤◌, ℤ, List, [], map, length, is_some, IsSome}
 use Rattle.std.specs.Option.{unwrap_or}
 use Rattle.std.specs.Ordering.{int_eq}
 use Rattle.indexmap.specs.IndexMap.{IndexMap, get, spare}

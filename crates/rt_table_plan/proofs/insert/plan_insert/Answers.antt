@@ -34,5 +34,5 @@ returns g c =
     let wide : list_all (λ (values : List Value). length values == found.width) c.args.lists.now ≡ true = search rules in
     let rows = c.args.store.now.rows in
     plans_made (insert c.args.schema.now rows c.args.rule c.args.listed.now c.args.lists.now) (put_all g.row.D c.args.rule rows (map (row_values found) c.args.lists.now))
-    (map step_of c.in_ok-steps.steps.items) c.of.result
-    (inserts g.row.D c.args.schema.now rows c.args.rule c.args.listed.now c.args.lists.now found c.requires is wide) c.in_ok-steps.ensures c.of.ensures
+    (map step_of c.in_ok-steps.steps.items) c.from_steps.result
+    (inserts g.row.D c.args.schema.now rows c.args.rule c.args.listed.now c.args.lists.now found c.requires is wide) c.in_ok-steps.ensures c.from_steps.ensures
