@@ -5,7 +5,7 @@ use Rattle.rt_sql_statement.specs.declared.value.Value.{Value}
 use Rattle.rt_table_row.specs.Columns.{Columns}
 use Rattle.rt_table_row.specs.Rows.{TableRow, AreRising, values_of}
 use Rattle.rt_table_row.specs.Conditions.{picked}
-use Rattle.rt_table_row.specs.Candidates.{number_in, id_value}
+use Rattle.rt_table_row.specs.NewRows.{number_in, id_value}
 use Rattle.rt_table_row.specs.Edits.{Step, outcome}
 use Rattle.rt_table_row.specs.Views.{View, ViewChange, delta}
 

@@ -14,7 +14,7 @@ use Rattle.rt_table_row.specs.Conditions.{has_columns, holds, picked}
 use Rattle.rt_table_row.specs.Tables.{TableLists, edited}
 use Rattle.rt_table_row.proofs.Filters.{first}
 use Rattle.rt_table_row.specs.Views.{View, ViewChange, deltas}
-use Rattle.rt_table_store.specs.Stored.{Stored}
+use Rattle.rt_table_store.specs.StoreLists.{StoreLists}
 use Rattle.rt_table_store.specs.Trees.{IsTreeOf}
 use Rattle.rt_table_store.specs.Moves.{FollowsSteps}
 use Rattle.rt_table_store.proofs.Moved.{has-row}
@@ -25,14 +25,14 @@ pub none_mapped : {X Y : Type 0} (f : X → Y) (xs : List X) → map f xs ≡ []
 none_mapped f [] none = refl
 none_mapped f (x ∷ xs) none = cc
 
-module _ {D : ℕ} {X : Type 0} (row : X → TableRow) (id : ℤ) (old new : Stored D) where
+module _ {D : ℕ} {X : Type 0} (row : X → TableRow) (id : ℤ) (old new : StoreLists D) where
   there : (found : Option X) → option_map row found ≡ row_at old.rows id → has_id old.rows id ≡ is_some (option_map row found)
   there found e = has-row old.rows id ∙ ap is_some (sym e)
 
   -- the rows that are left
   pub left-rows : (found : Option X) → option_map row found ≡ row_at old.rows id → IfNone found (new ≡ old) → IfSome found (λ _. new.rows ≡ without_id old.rows id)
       → new.rows ≡ outcome old.rows (leaving old.rows id)
-  left-rows None e none some = rw (there None e) (ap (λ (s : Stored D). s.rows) none)
+  left-rows None e none some = rw (there None e) (ap (λ (s : StoreLists D). s.rows) none)
   left-rows (Some x) e none some = rw (there (Some x) e) some
 
   -- the tree follows
@@ -41,8 +41,8 @@ module _ {D : ℕ} {X : Type 0} (row : X → TableRow) (id : ℤ) (old new : Sto
       → FollowsSteps old.rows (leaving old.rows id) old.tree new.tree
   left-tree rect None e none rows_are some capacity stands =
       rw (there None e) (record {
-        stands = subst (λ (rs : List TableRow). IsTreeOf rs new.tree) (ap (λ (s : Stored D). s.rows) none) stands;
-        takes = ap (λ (s : Stored D). s.tree) none;
+        stands = subst (λ (rs : List TableRow). IsTreeOf rs new.tree) (ap (λ (s : StoreLists D). s.rows) none) stands;
+        takes = ap (λ (s : StoreLists D). s.tree) none;
         capacity = capacity;
       })
   left-tree rect (Some x) e none rows_are some capacity stands =

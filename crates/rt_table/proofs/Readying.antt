@@ -9,7 +9,7 @@ use Rattle.rt_table_row.specs.Views.{View, deltas}
 use Rattle.rt_reply.specs.declared.change.Change.{Change}
 use Rattle.rt_table_view.specs.declared.watched.Watched.{Watched}
 use Rattle.rt_table_view.specs.Watching.{Awaited, view_of, change_of, awaited_of}
-use Rattle.rt_table_apply.specs.Applying.{ApplyTo, inserts_all, auxiliary_rows_all}
+use Rattle.rt_table_store.specs.Steps.{ApplyTo, inserts_all, auxiliary_rows_all}
 use Rattle.rt_table_view.specs.Preparing.{IsAwaited}
 use Rattle.rt_table.specs.Held.{Held}
 use Rattle.rt_table.specs.Ready.{IsReady}

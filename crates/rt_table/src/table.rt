@@ -13,7 +13,7 @@ use rt_box::Capacity;
 use rt_check::{Problem, Shadow, check};
 use rt_reply::{Change, Rows};
 use rt_sql_statement::{Cond, Edit, Name, Refusal};
-use rt_table_apply::{apply, auxiliary_rows_all, inserts_all};
+use rt_table_store::{apply, auxiliary_rows_all, inserts_all};
 use rt_table_plan::Plan;
 use rt_table_row::{Filter, Schema, Step, lone_id};
 use rt_table_store::Store;
@@ -90,7 +90,7 @@ impl<const D: usize> Table<D> {
     ghost use Rattle.rt_table_plan.specs.Plans.{Plans};
     ghost use Rattle.rt_table.specs.Replies.{Refuses, Shows};
     ghost use Rattle.rt_reply.specs.AnyRows.{values_of_rows};
-    ghost use Rattle.rt_table_apply.specs.Applying.{ApplyTo};
+    ghost use Rattle.rt_table_store.specs.Steps.{ApplyTo};
     ghost use Rattle.rt_table.specs.Ready.{IsReady};
     ghost use Rattle.rt_table_view.specs.Watching.{change_of};
     ghost use Rattle.rt_table_row.specs.Windows.{IsWindowOf};

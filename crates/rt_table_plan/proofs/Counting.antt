@@ -1,5 +1,5 @@
 -- The largest id and the number of the rows, after a step of an INSERT.
-use Rattle.std.proofs.Common.{◌≡◌, ℕ, suc, ◌+◌, ◌-◌, ◌<ℤ◌, ℤ, Bool, true, false, cond, not, List, [], ◌∷◌, ◌++◌, ◌||◌, map, filter, length, Option, Some, inl, inr, refl, sym, ap, subst, ◌∙◌, arith}
+use Rattle.std.proofs.Common.{◌≡◌, ℕ, suc, ◌+◌, ◌-◌, ◌<ℤ◌, ℤ, Bool, true, false, cond, not, List, [], ◌∷◌, ◌++◌, ◌||◌, map, filter, length, Option, Some, None, inl, inr, refl, sym, ap, subst, ◌∙◌, arith}
 use Rattle.std.specs.Prelude.{int_lt, slice_get}
 use Rattle.std.specs.List.{AllByRecursion}
 use Rattle.std.specs.Option.{option_map}
@@ -7,10 +7,10 @@ use Rattle.std.specs.Ordering.{int_eq}
 use Rattle.std.proofs.lemmas.List.{length-append, length-map}
 use Rattle.std.proofs.lemmas.Option.{slice_get-map}
 use Rattle.rt_table_row.specs.Rows.{TableRow, has_id, with_row, without_id, largest_id}
-use Rattle.rt_table_row.specs.Edits.{Step, Leaves, Comes, Becomes, after_step, most_rows}
+use Rattle.rt_table_row.specs.Edits.{Step, Leaves, Comes, Becomes, after_step, most_rows, id_or_new}
 use Rattle.rt_table_store.proofs.Order.{lt_from, lt_true, lt_above, lt_same, lt_trans, three_ways, eq_same, eq_below, eq_above}
 use Rattle.rt_table_store.proofs.Sorted.{Rises, rises, rising, rises-placed, rises-taken}
-use Rattle.rt_table_plan.specs.Counts.{Counts, Inserts, larger, largest_after, room_after}
+use Rattle.rt_table_plan.specs.Counts.{Counts, Inserts, larger, largest_after, room_after, id_after, id_or_after}
 
 abbrev id_of : TableRow → ℤ
 id_of r = r.id
@@ -205,3 +205,8 @@ counts_more now largest room (Becomes id row) counts fits =
       largest_is = counts.largest_is ∙ sym (same_largest (with_row (without_id now id) row) now ids);
       room_is = counts.room_is ∙ ap (λ (n : ℕ). most_rows - n) (sym (same_length (with_row (without_id now id) row) now ids));
     }
+
+-- the id that a new row gets
+pub id_counted : (now : List TableRow) (largest : Option ℤ) (room : ℕ) (own : Option ℤ) → Counts now largest room → id_or_after largest own ≡ id_or_new now own
+id_counted now largest room None counts = ap id_after counts.largest_is
+id_counted now largest room (Some id) counts = refl

@@ -13,15 +13,15 @@ use Rattle.rt_table_row.specs.Columns.{Columns}
 use Rattle.rt_table_row.specs.Conditions.{holds}
 use Rattle.rt_table_row.specs.Filters.{Placed, admits, IsFilterOf}
 use Rattle.rt_table_row.specs.Rows.{TableRow, AreRising, values_of, row_at, has_id, with_row, without_id}
-use Rattle.rt_table_row.specs.Candidates.{Candidate, is_integer, id_value, coordinate_values, candidate_of}
-use Rattle.rt_table_row.specs.Edits.{Setting, Step, Steps, new_values, is_summable, sum_fits, become_candidate, update_row, update_all, update, Leaves, Comes, Becomes, after_step, outcome, and_then, steps_and}
-use Rattle.rt_table_row.specs.Settings.{LookedUp, reads_integer, reading_fits, IsSettingsOf}
+use Rattle.rt_table_row.specs.NewRows.{is_integer, id_value, given_id, coordinate_values, row_from}
+use Rattle.rt_table_row.specs.Edits.{Setting, Step, Steps, new_values, is_summable, sum_fits, replace_row, update_row, update_all, update, Leaves, Comes, Becomes, after_step, outcome, and_then, steps_and}
+use Rattle.rt_table_row.specs.Settings.{ColumnReadings, reads_integer, reading_fits, IsSettingsOf}
 use Rattle.rt_table_store.proofs.Order.{eq_same, eq_from}
 use Rattle.rt_table_store.specs.Trees.{leaf_row}
 use Rattle.rt_table_store.proofs.Sorted.{at_key-taken, at_key-placed}
 use Rattle.rt_table_store.proofs.Standing.{found_up}
 use Rattle.rt_table_store.proofs.Moved.{has-row}
-use Rattle.rt_table_plan.specs.Drafts.{Knows, touched_by, row_of, row_set, all_set}
+use Rattle.rt_table_plan.specs.Drafts.{Knows, touched_by, row_of, set_row, set_all}
 use Rattle.rt_table_plan.specs.Plans.{Plans}
 use Rattle.rt_table_plan.proofs.Ids.{filter_same}
 
@@ -89,7 +89,7 @@ pub steps_and-append : (a b : List Step) (later : Steps) → steps_and (a ++ b) 
 steps_and-append a b (Ok more) = ap (λ (l : List Step). let r : Steps = Ok l in r) (append_assoc a b more)
 steps_and-append a b (Err refusal) = refl
 
--- where no step was made, what is known is what was there
+-- if no step was made, what is known is what was there
 pub knows_none : (rows : List TableRow) (touched : ℤ → Option Bool) → ((id : ℤ) → touched id ≡ None) → Knows rows touched rows
 knows_none rows touched none = λ id. sym (ap (λ (t : Option Bool). option_map_or (λ (there : Bool). there) t (has_id rows id)) (none id))
 
@@ -111,38 +111,38 @@ left_some f found i d y h e =
     at_drop_more (filter_map f) found i d h ∙ first
 
 -- a step more
-pub set_more : (axes : ℕ) (sets : LookedUp) (rows : List TableRow) (whole : Steps) (done next : List Step) (step : Step) (row : TableRow) (left later : List TableRow) →
-    whole ≡ steps_and done (all_set axes sets (outcome rows done) left) → left ≡ row ∷ later → row_set axes sets (outcome rows done) row ≡ Ok (step ∷ []) →
-    next ≡ done ++ step ∷ [] → whole ≡ steps_and next (all_set axes sets (outcome rows next) later)
+pub set_more : (axes : ℕ) (sets : ColumnReadings) (rows : List TableRow) (whole : Steps) (done next : List Step) (step : Step) (row : TableRow) (left later : List TableRow) →
+    whole ≡ steps_and done (set_all axes sets (outcome rows done) left) → left ≡ row ∷ later → set_row axes sets (outcome rows done) row ≡ Ok (step ∷ []) →
+    next ≡ done ++ step ∷ [] → whole ≡ steps_and next (set_all axes sets (outcome rows next) later)
 set_more axes sets rows whole done next step row left later is more one grown =
-    is ∙ ap (λ (l : List TableRow). steps_and done (all_set axes sets (outcome rows done) l)) more
-    ∙ ap (λ (s : Steps). steps_and done (and_then s (λ steps. steps_and steps (all_set axes sets (outcome (outcome rows done) steps) later)))) one
-    ∙ sym (steps_and-append done (step ∷ []) (all_set axes sets (outcome (outcome rows done) (step ∷ [])) later))
-    ∙ ap (λ (r : List TableRow). steps_and (done ++ step ∷ []) (all_set axes sets r later)) (sym (outcome-append rows done (step ∷ [])))
-    ∙ ap (λ (l : List Step). steps_and l (all_set axes sets (outcome rows l) later)) (sym grown)
+    is ∙ ap (λ (l : List TableRow). steps_and done (set_all axes sets (outcome rows done) l)) more
+    ∙ ap (λ (s : Steps). steps_and done (and_then s (λ steps. steps_and steps (set_all axes sets (outcome (outcome rows done) steps) later)))) one
+    ∙ sym (steps_and-append done (step ∷ []) (set_all axes sets (outcome (outcome rows done) (step ∷ [])) later))
+    ∙ ap (λ (r : List TableRow). steps_and (done ++ step ∷ []) (set_all axes sets r later)) (sym (outcome-append rows done (step ∷ [])))
+    ∙ ap (λ (l : List Step). steps_and l (set_all axes sets (outcome rows l) later)) (sym grown)
 
 -- a row that refuses the whole
-pub set_refused : (axes : ℕ) (sets : LookedUp) (rows : List TableRow) (whole : Steps) (done : List Step) (refusal : Refusal) (row : TableRow) (left later : List TableRow) →
-    whole ≡ steps_and done (all_set axes sets (outcome rows done) left) → left ≡ row ∷ later →
-    (row_set axes sets (outcome rows done) row ≡ Err refusal) ⊎ (refusal ≡ OutOfMemory) → (whole ≡ Err refusal) ⊎ (refusal ≡ OutOfMemory)
+pub set_refused : (axes : ℕ) (sets : ColumnReadings) (rows : List TableRow) (whole : Steps) (done : List Step) (refusal : Refusal) (row : TableRow) (left later : List TableRow) →
+    whole ≡ steps_and done (set_all axes sets (outcome rows done) left) → left ≡ row ∷ later →
+    (set_row axes sets (outcome rows done) row ≡ Err refusal) ⊎ (refusal ≡ OutOfMemory) → (whole ≡ Err refusal) ⊎ (refusal ≡ OutOfMemory)
 set_refused axes sets rows whole done refusal row left later is more (inl one) =
-    inl (is ∙ ap (λ (l : List TableRow). steps_and done (all_set axes sets (outcome rows done) l)) more
-    ∙ ap (λ (s : Steps). steps_and done (and_then s (λ steps. steps_and steps (all_set axes sets (outcome (outcome rows done) steps) later)))) one)
+    inl (is ∙ ap (λ (l : List TableRow). steps_and done (set_all axes sets (outcome rows done) l)) more
+    ∙ ap (λ (s : Steps). steps_and done (and_then s (λ steps. steps_and steps (set_all axes sets (outcome (outcome rows done) steps) later)))) one)
 set_refused axes sets rows whole done refusal row left later is more (inr memory) = inr memory
 
-pub set_all_done : (axes : ℕ) (sets : LookedUp) (rows : List TableRow) (whole : Steps) (done : List Step) (left : List TableRow) →
-    whole ≡ steps_and done (all_set axes sets (outcome rows done) left) → left ≡ [] → whole ≡ Ok done
+pub set_all_done : (axes : ℕ) (sets : ColumnReadings) (rows : List TableRow) (whole : Steps) (done : List Step) (left : List TableRow) →
+    whole ≡ steps_and done (set_all axes sets (outcome rows done) left) → left ≡ [] → whole ≡ Ok done
 set_all_done axes sets rows whole done left is none =
-    is ∙ ap (λ (l : List TableRow). steps_and done (all_set axes sets (outcome rows done) l)) none
+    is ∙ ap (λ (l : List TableRow). steps_and done (set_all axes sets (outcome rows done) l)) none
     ∙ ap (λ (l : List Step). let r : Steps = Ok l in r) (append-nil done)
 
 -- a single row
-pub set_one : (axes : ℕ) (sets : LookedUp) (rows found : List TableRow) (row : TableRow) (step : Step) → found ≡ row ∷ [] → row_set axes sets rows row ≡ Ok (step ∷ []) →
-    all_set axes sets rows found ≡ Ok (step ∷ [])
+pub set_one : (axes : ℕ) (sets : ColumnReadings) (rows found : List TableRow) (row : TableRow) (step : Step) → found ≡ row ∷ [] → set_row axes sets rows row ≡ Ok (step ∷ []) →
+    set_all axes sets rows found ≡ Ok (step ∷ [])
 set_one axes sets rows found row step is one = rw (is, one) refl
 
-pub set_one_refused : (axes : ℕ) (sets : LookedUp) (rows found : List TableRow) (row : TableRow) (refusal : Refusal) → found ≡ row ∷ [] →
-    (row_set axes sets rows row ≡ Err refusal) ⊎ (refusal ≡ OutOfMemory) → (all_set axes sets rows found ≡ Err refusal) ⊎ (refusal ≡ OutOfMemory)
+pub set_one_refused : (axes : ℕ) (sets : ColumnReadings) (rows found : List TableRow) (row : TableRow) (refusal : Refusal) → found ≡ row ∷ [] →
+    (set_row axes sets rows row ≡ Err refusal) ⊎ (refusal ≡ OutOfMemory) → (set_all axes sets rows found ≡ Err refusal) ⊎ (refusal ≡ OutOfMemory)
 set_one_refused axes sets rows found row refusal is (inl one) = inl (rw (is, one) refl)
 set_one_refused axes sets rows found row refusal is (inr memory) = inr memory
 
@@ -155,54 +155,54 @@ then_after true true false e f g x next = refl
 then_after true false c e f g x next = refl
 then_after false b c e f g x next = refl
 
-row_same : (columns : Columns) (sets : List Setting) (found : LookedUp) (now : List TableRow) (row : TableRow) → IsSettingsOf columns sets found →
-    row_set columns.axes found now row ≡ update_row columns now sets row
+row_same : (columns : Columns) (sets : List Setting) (found : ColumnReadings) (now : List TableRow) (row : TableRow) → IsSettingsOf columns sets found →
+    set_row columns.axes found now row ≡ update_row columns now sets row
 row_same columns sets found now row is =
     let old = values_of row in
     let new = new_values columns.names old sets in
-    let next : Candidate → Steps = λ c. become_candidate now row.id c c.id in
+    let next : TableRow → Steps = replace_row now row.id in
     ap (λ (v : List Value). and_then (if not (list_all (reads_integer old) found.readings) then Err WrongType
     else (if not (is_integer (id_value v) && list_all is_integer (coordinate_values columns.axes v)) then Err WrongType
-    else (if not (list_all (reading_fits old) found.readings) then Err IntegerOutOfRange else candidate_of columns.axes v))) next) (is.same old)
+    else (if not (list_all (reading_fits old) found.readings) then Err IntegerOutOfRange else row_from columns.axes (given_id v) v))) next) (is.same old)
     ∙ ap (λ (b : Bool). and_then (if not b then Err WrongType
     else (if not (is_integer (id_value new) && list_all is_integer (coordinate_values columns.axes new)) then Err WrongType
-    else (if not (list_all (reading_fits old) found.readings) then Err IntegerOutOfRange else candidate_of columns.axes new))) next) (is.summable old)
+    else (if not (list_all (reading_fits old) found.readings) then Err IntegerOutOfRange else row_from columns.axes (given_id new) new))) next) (is.summable old)
     ∙ ap (λ (b : Bool). and_then (if not (list_all (λ (set : Setting). is_summable columns.names old set.1) sets) then Err WrongType
     else (if not (is_integer (id_value new) && list_all is_integer (coordinate_values columns.axes new)) then Err WrongType
-    else (if not b then Err IntegerOutOfRange else candidate_of columns.axes new))) next) (is.fits old)
+    else (if not b then Err IntegerOutOfRange else row_from columns.axes (given_id new) new))) next) (is.fits old)
     ∙ then_after (list_all (λ (set : Setting). is_summable columns.names old set.1) sets) (is_integer (id_value new) && list_all is_integer (coordinate_values columns.axes new))
-    (list_all (λ (set : Setting). sum_fits columns.names old set.1) sets) WrongType WrongType IntegerOutOfRange (candidate_of columns.axes new) next
+    (list_all (λ (set : Setting). sum_fits columns.names old set.1) sets) WrongType WrongType IntegerOutOfRange (row_from columns.axes (given_id new) new) next
 
 later_same : (first : Steps) (f g : List Step → Steps) → ((steps : List Step) → f steps ≡ g steps) → and_then first f ≡ and_then first g
 later_same (Ok steps) f g same = same steps
 later_same (Err refusal) f g same = refl
 
-pub all_same : (columns : Columns) (sets : List Setting) (found : LookedUp) (now : List TableRow) (rows : List TableRow) → IsSettingsOf columns sets found →
-    all_set columns.axes found now rows ≡ update_all columns now sets rows
+pub all_same : (columns : Columns) (sets : List Setting) (found : ColumnReadings) (now : List TableRow) (rows : List TableRow) → IsSettingsOf columns sets found →
+    set_all columns.axes found now rows ≡ update_all columns now sets rows
 all_same columns sets found now [] is = refl
 all_same columns sets found now (row ∷ rows) is =
-    ap (λ (s : Steps). and_then s (λ steps. steps_and steps (all_set columns.axes found (outcome now steps) rows))) (row_same columns sets found now row is)
-    ∙ later_same (update_row columns now sets row) (λ steps. steps_and steps (all_set columns.axes found (outcome now steps) rows)) (λ steps. steps_and steps (update_all columns (outcome now steps) sets rows))
+    ap (λ (s : Steps). and_then s (λ steps. steps_and steps (set_all columns.axes found (outcome now steps) rows))) (row_same columns sets found now row is)
+    ∙ later_same (update_row columns now sets row) (λ steps. steps_and steps (set_all columns.axes found (outcome now steps) rows)) (λ steps. steps_and steps (update_all columns (outcome now steps) sets rows))
     (λ steps. ap (steps_and steps) (all_same columns sets found (outcome now steps) rows is))
 
 -- what an UPDATE does, when its columns are known
 module _ (D : ℕ) where
-  pub updates : (columns : Columns) (rows : List TableRow) (sets : List Setting) (found : LookedUp) (cond : List Test) (placed : Placed) (picked : List (Row D)) → AreRising rows →
+  pub updates : (columns : Columns) (rows : List TableRow) (sets : List Setting) (found : ColumnReadings) (cond : List Test) (placed : Placed) (picked : List (Row D)) → AreRising rows →
       IsSettingsOf columns sets found → IsFilterOf columns cond placed → picked ≡ map leaf_row (filter (admits placed) rows) →
-      all_set columns.axes found rows (filter_map (row_of rows) picked) ≡ update columns rows sets cond
+      set_all columns.axes found rows (filter_map (row_of rows) picked) ≡ update columns rows sets cond
   updates columns rows sets found cond placed picked rising set picks picked_are =
-      ap (λ (l : List TableRow). all_set columns.axes found rows l)
+      ap (λ (l : List TableRow). set_all columns.axes found rows l)
       (found_up D (admits placed) rows picked rising picked_are ∙ filter_same (admits placed) (holds columns cond) rows picks.same)
       ∙ all_same columns sets found rows (filter (holds columns cond) rows) set
       ∙ sym (rw (set.distinct, set.known, picks.known))
 
-  pub updates_on : (columns : Columns) (rows : List TableRow) (sets : List Setting) (found : LookedUp) (cond : List Test) (placed : Placed) (picked : List (Row D)) →
+  pub updates_on : (columns : Columns) (rows : List TableRow) (sets : List Setting) (found : ColumnReadings) (cond : List Test) (placed : Placed) (picked : List (Row D)) →
       columns.axes ≡ D → AreRising rows → IsSettingsOf columns sets found → IsFilterOf columns cond placed → picked ≡ map leaf_row (filter (admits placed) rows) →
-      all_set D found rows (filter_map (row_of rows) picked) ≡ update columns rows sets cond
+      set_all D found rows (filter_map (row_of rows) picked) ≡ update columns rows sets cond
   updates_on columns rows sets found cond placed picked same rising set picks picked_are =
-      ap (λ (n : ℕ). all_set n found rows (filter_map (row_of rows) picked)) (sym same) ∙ updates columns rows sets found cond placed picked rising set picks picked_are
+      ap (λ (n : ℕ). set_all n found rows (filter_map (row_of rows) picked)) (sym same) ∙ updates columns rows sets found cond placed picked rising set picks picked_are
 
--- ---- what a plan answers, where the same steps were planned by looked-up columns
+-- ---- what a plan answers, if the same steps were planned by looked-up columns
 
 pub plans_refused : (wanted other : Steps) (refusal given : Refusal) (result : Result (List Step) Refusal) → result ≡ Err given → given ≡ refusal → other ≡ wanted →
     (other ≡ Err refusal) ⊎ (refusal ≡ OutOfMemory) → Plans wanted result

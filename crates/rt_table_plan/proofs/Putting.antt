@@ -9,10 +9,10 @@ use Rattle.rt_sql_statement.specs.declared.statement.Rule.TheVariants.{Abort, Re
 use Rattle.rt_sql_statement.specs.declared.refusal.Refusal.{Refusal}
 use Rattle.rt_sql_statement.specs.declared.refusal.Refusal.TheVariants.{WrongNumberOfValues, IdAlreadyTaken, MinimumAboveMaximum, TableFull, OutOfMemory}
 use Rattle.rt_table_row.specs.Columns.{Columns}
-use Rattle.rt_table_row.specs.Arrangements.{Arranged, rearranged, IsArrangementOf}
+use Rattle.rt_table_row.specs.Arrangements.{ColumnPlaces, row_values, IsArrangementOf}
 use Rattle.rt_table_row.specs.Rows.{TableRow, has_id}
-use Rattle.rt_table_row.specs.Candidates.{Candidate, candidate_of}
-use Rattle.rt_table_row.specs.Edits.{Step, Steps, Comes, Becomes, outcome, and_then, steps_and, most_rows, row_of, id_or_new, put_taken, put_at, unless_ignored, put, put_all, arranged, listed_columns, insert}
+use Rattle.rt_table_row.specs.NewRows.{given_id, row_from}
+use Rattle.rt_table_row.specs.Edits.{Step, Steps, Comes, Becomes, outcome, and_then, steps_and, most_rows, id_or_new, put_over, put_row, unless_ignored, put, put_all, column_values, listed_columns, insert}
 use Rattle.rt_table_plan.specs.Counts.{Counts, Inserts, largest_after, room_after}
 use Rattle.rt_table_plan.proofs.Drafting.{outcome-append, steps_and-append}
 use Rattle.rt_table_plan.proofs.Counting.{counts_more}
@@ -32,33 +32,29 @@ not_ignored Ignore (Err IdAlreadyTaken) step e = cc
 not_ignored Ignore (Err MinimumAboveMaximum) step e = cc
 not_ignored Ignore (Err refusal) step e = e
 
-taken_fits : (rule : Rule) (now : List TableRow) (id : ℤ) (c : Candidate) (step : Step) → has_id now id ≡ true → put_taken rule id c ≡ Ok (step ∷ []) → Inserts now step
-taken_fits Replace now id c step there e = subst (Inserts now) (one_of (Becomes id (row_of id c)) step e) (refl, there)
-taken_fits Abort now id c step there e = cc
-taken_fits Ignore now id c step there e = cc
+over_fits : (rule : Rule) (now : List TableRow) (row : TableRow) (step : Step) → has_id now row.id ≡ true → put_over rule row ≡ Ok (step ∷ []) → Inserts now step
+over_fits Replace now row step there e = subst (Inserts now) (one_of (Becomes row.id row) step e) (refl, there)
+over_fits Abort now row step there e = cc
+over_fits Ignore now row step there e = cc
 
-coming_fits : (full : Bool) (now : List TableRow) (id : ℤ) (c : Candidate) (step : Step) → has_id now id ≡ false →
-    (let r : Steps = cond full (Err TableFull) (Ok (Comes (row_of id c) ∷ [])) in r) ≡ Ok (step ∷ []) → Inserts now step
-coming_fits true now id c step there e = cc
-coming_fits false now id c step there e = subst (Inserts now) (one_of (Comes (row_of id c)) step e) there
+coming_fits : (full : Bool) (now : List TableRow) (row : TableRow) (step : Step) → has_id now row.id ≡ false →
+    (let r : Steps = cond full (Err TableFull) (Ok (Comes row ∷ [])) in r) ≡ Ok (step ∷ []) → Inserts now step
+coming_fits true now row step there e = cc
+coming_fits false now row step there e = subst (Inserts now) (one_of (Comes row) step e) there
 
-placed_fits : (rule : Rule) (now : List TableRow) (id : ℤ) (c : Candidate) (step : Step) (b : Bool) → has_id now id ≡ b →
-    (let r : Steps = cond b (put_taken rule id c) (cond (nat_le most_rows (length now)) (Err TableFull) (Ok (Comes (row_of id c) ∷ []))) in r) ≡ Ok (step ∷ []) → Inserts now step
-placed_fits rule now id c step true there e = taken_fits rule now id c step there e
-placed_fits rule now id c step false there e = coming_fits (nat_le most_rows (length now)) now id c step there e
+placed_fits : (rule : Rule) (now : List TableRow) (row : TableRow) (step : Step) (b : Bool) → has_id now row.id ≡ b →
+    (let r : Steps = cond b (put_over rule row) (cond (nat_le most_rows (length now)) (Err TableFull) (Ok (Comes row ∷ []))) in r) ≡ Ok (step ∷ []) → Inserts now step
+placed_fits rule now row step true there e = over_fits rule now row step there e
+placed_fits rule now row step false there e = coming_fits (nat_le most_rows (length now)) now row step there e
 
-at_fits : (rule : Rule) (now : List TableRow) (c : Candidate) (id : Option ℤ) (step : Step) → put_at rule now c id ≡ Ok (step ∷ []) → Inserts now step
-at_fits rule now c None step e = cc
-at_fits rule now c (Some id) step e = placed_fits rule now id c step (has_id now id) refl e
-
-made_fits : (rule : Rule) (now : List TableRow) (made : Result Candidate Refusal) (step : Step) →
-    and_then made (λ c. put_at rule now c (id_or_new now c.id)) ≡ Ok (step ∷ []) → Inserts now step
-made_fits rule now (Ok c) step e = at_fits rule now c (id_or_new now c.id) step e
+made_fits : (rule : Rule) (now : List TableRow) (made : Result TableRow Refusal) (step : Step) → and_then made (put_row rule now) ≡ Ok (step ∷ []) → Inserts now step
+made_fits rule now (Ok row) step e = placed_fits rule now row step (has_id now row.id) refl e
 made_fits rule now (Err refusal) step e = cc
 
 pub put_fits : (axes : ℕ) (rule : Rule) (now : List TableRow) (values : List Value) (step : Step) → put axes rule now values ≡ Ok (step ∷ []) → Inserts now step
 put_fits axes rule now values step e =
-    made_fits rule now (candidate_of axes values) step (not_ignored rule (and_then (candidate_of axes values) (λ c. put_at rule now c (id_or_new now c.id))) step e)
+    let made : Result TableRow Refusal = row_from axes (id_or_new now (given_id values)) values in
+    made_fits rule now made step (not_ignored rule (and_then made (put_row rule now)) step e)
 
 -- ---- one list more
 
@@ -94,25 +90,25 @@ left_more f lists i item values h is e =
 
 -- ---- the columns that are listed
 
-lists_same : (columns : Columns) (names : List (List ℕ)) (found : Arranged) (lists : List (List Value)) → IsArrangementOf columns names found →
-    map (rearranged found) lists ≡ map (arranged columns.names names) lists
+lists_same : (columns : Columns) (names : List (List ℕ)) (found : ColumnPlaces) (lists : List (List Value)) → IsArrangementOf columns names found →
+    map (row_values found) lists ≡ map (column_values columns.names names) lists
 lists_same columns names found [] is = refl
 lists_same columns names found (values ∷ lists) is = rw (is.same values, lists_same columns names found lists is)
 
 wide_same : (width other : ℕ) (lists : List (List Value)) → width ≡ other → list_all (λ (values : List Value). length values == width) lists ≡ list_all (λ (values : List Value). length values == other) lists
 wide_same width other lists e = ap (λ (n : ℕ). list_all (λ (values : List Value). length values == n) lists) e
 
-pub inserts : (axes : ℕ) (columns : Columns) (rows : List TableRow) (rule : Rule) (listed : Option (List (List ℕ))) (lists : List (List Value)) (found : Arranged) → columns.axes ≡ axes →
+pub inserts : (axes : ℕ) (columns : Columns) (rows : List TableRow) (rule : Rule) (listed : Option (List (List ℕ))) (lists : List (List Value)) (found : ColumnPlaces) → columns.axes ≡ axes →
     IsArrangementOf columns (listed_columns columns listed) found → list_all (λ (values : List Value). length values == found.width) lists ≡ true →
-    put_all axes rule rows (map (rearranged found) lists) ≡ insert columns rows rule listed lists
+    put_all axes rule rows (map (row_values found) lists) ≡ insert columns rows rule listed lists
 inserts axes columns rows rule listed lists found same is wide =
     let names = listed_columns columns listed in
     let long : list_all (λ (values : List Value). length values == length names) lists ≡ true = sym (wide_same found.width (length names) lists is.width_is) ∙ wide in
-    ap (λ (n : ℕ). put_all n rule rows (map (rearranged found) lists)) (sym same)
+    ap (λ (n : ℕ). put_all n rule rows (map (row_values found) lists)) (sym same)
     ∙ ap (λ (l : List (List Value)). put_all columns.axes rule rows l) (lists_same columns names found lists is)
     ∙ sym (rw (is.distinct, is.known, long))
 
-pub inserts_not : (columns : Columns) (rows : List TableRow) (rule : Rule) (listed : Option (List (List ℕ))) (lists : List (List Value)) (found : Arranged) →
+pub inserts_not : (columns : Columns) (rows : List TableRow) (rule : Rule) (listed : Option (List (List ℕ))) (lists : List (List Value)) (found : ColumnPlaces) →
     IsArrangementOf columns (listed_columns columns listed) found → list_all (λ (values : List Value). length values == found.width) lists ≡ false →
     insert columns rows rule listed lists ≡ Err WrongNumberOfValues
 inserts_not columns rows rule listed lists found is wide =

@@ -1,5 +1,5 @@
 -- What is known of the rows while an INSERT is planned: the largest id, and for how many more there is room. Source: own.
-use Rattle.std.specs.Prelude.{◌≡◌, ℕ, ◌-◌, ℤ, pos, ◌+ℤ◌, Bool, true, false, int_lt, if◌then◌else◌, List, length, Option, Some, None}
+use Rattle.std.specs.Prelude.{◌≡◌, ℕ, ◌-◌, ℤ, pos, ◌+ℤ◌, Bool, true, false, int_lt, if◌then◌else◌, List, length, Option, Some, None, Result}
 use Rattle.std.specs.Option.{option_map_or}
 use Rattle.std.specs.Ordering.{int_eq}
 use Rattle.rt_sql_statement.specs.declared.refusal.Refusal.{Refusal}
@@ -7,7 +7,14 @@ use Rattle.rt_sql_statement.specs.declared.refusal.Refusal.TheVariants.{IdAlread
 use Rattle.rt_sql_statement.specs.declared.statement.Rule.{Rule}
 use Rattle.rt_sql_statement.specs.declared.statement.Rule.TheVariants.{Ignore}
 use Rattle.rt_table_row.specs.Rows.{TableRow, AreRising, has_id, largest_id}
-use Rattle.rt_table_row.specs.Edits.{Step, Leaves, Comes, Becomes, largest_integer, most_rows}
+use Rattle.rt_sql_statement.specs.declared.value.Value.{Value}
+use Rattle.rt_table_row.specs.NewRows.{given_id, row_from}
+use Rattle.rt_table_row.specs.Edits.{Step, Steps, Leaves, Comes, Becomes, largest_integer, most_rows, and_then, id_or_new, put_row}
+use Rattle.rt_table_row.specs.Answers.{GivesAs}
+use Rattle.rt_table_plan.specs.declared.count.Count.{Count}
+use Rattle.rt_table_plan.specs.declared.draft.Draft.{Draft}
+use Rattle.rt_table_row.specs.declared.entry.Step as declared
+use Rattle.rt_table_plan.specs.Drafts.{Knows, known_of, one_step}
 
 -- one more than the largest id, 1 in an empty table; none beside the largest integer
 abbrev pub id_after : Option ℤ → Option ℤ
@@ -36,6 +43,19 @@ pub record Counts (rows : List TableRow) (largest : Option ℤ) (room : ℕ) : T
   pub rising : AreRising rows
   pub largest_is : largest ≡ largest_id rows
   pub room_is : room ≡ most_rows - length rows
+
+-- the answer that is due among the rows as the draft's steps leave them, which are counted
+abbrev pub GivesCounted : {D : _} {B : Type 0} → List TableRow → Draft D → Count → (B → List Step) → (List TableRow → Steps) → Result B Refusal → Type 0
+GivesCounted rows draft count view wanted result =
+    (now : List TableRow) → Knows rows (known_of draft) now → Counts now count.largest count.room → GivesAs view (wanted now) result
+
+-- the same of a step
+abbrev pub GivesStepCounted : {D : _} → List TableRow → Draft D → Count → (List TableRow → Steps) → Result (declared.Step D) Refusal → Type 0
+GivesStepCounted rows draft count wanted result = GivesCounted rows draft count one_step wanted result
+
+-- a row of these values is put among the rows, whatever is passed over
+abbrev pub put_values : ℕ → Rule → List TableRow → List Value → Steps
+put_values axes rule rows values = and_then (row_from axes (id_or_new rows (given_id values)) values) (put_row rule rows)
 
 -- an INSERT's step: a row comes whose id no row has, or stands in the place of the one that has its id
 abbrev pub Inserts : List TableRow → Step → Type 0

@@ -3,13 +3,17 @@
 //! While an INSERT is planned, two numbers stand for the rows: the largest id, and how many more rows there is
 //! room for (`specs/Counts.antt`).
 
-ghost use Rattle.std.specs.Prelude.{◌≡◌};
+ghost use Rattle.std.specs.Prelude.{◌≡◌, ◌-◌};
+ghost use Rattle.rt_table_row.specs.Edits.{most_rows};
 ghost use Rattle.rt_table_row.specs.Entries.{step_of};
 ghost use Rattle.rt_table_plan.specs.Counts.{id_after, larger, largest_after, room_after};
 
 use rt_table_row::Step;
 
-/// The id one above the largest, 1 where there is none; none above the largest integer.
+/// The most rows that a table may have. The limit is own.
+const MOST_ROWS: usize = 1_048_576;
+
+/// The id one above the largest, 1 if there is none; none above the largest integer.
 fn id_after(largest: &Option<i64>) -> Option<i64>
     ensures { result ≡ id_after largest.now }
 {
@@ -39,7 +43,18 @@ pub(crate) struct Count {
 impl Count {
     ghost use Rattle.rt_table_plan.specs.Counts.{id_or_after};
 
-    /// The id, or a new one where none is given.
+    /// The count of rows of which this id is the largest, and of which there are `rows`.
+    pub(crate) fn new(largest: Option<i64>, rows: usize) -> Count
+        ensures largest { result.largest ≡ largest }
+        ensures room { result.room ≡ most_rows - rows }
+    {
+        Count {
+            largest,
+            room: MOST_ROWS.saturating_sub(rows),
+        }
+    }
+
+    /// The id, or a new one if none is given.
     pub(crate) fn id_or_new(&self, id: &Option<i64>) -> Option<i64>
         ensures { result ≡ id_or_after self.now.largest id.now }
     {

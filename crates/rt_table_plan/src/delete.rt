@@ -1,12 +1,10 @@
 //! What a DELETE does.
 //!
-//! A row can always leave, so a DELETE is refused only for a column of its condition, or for want of memory.
+//! A row can always leave, so a DELETE is refused only if its condition looks at an unknown column or memory ran out.
 
-ghost use Rattle.std.specs.Prelude.{◌≡◌, map, filter, IfOk};
-ghost use Rattle.rt_table_row.specs.Edits.{Leaves, delete};
-ghost use Rattle.rt_table_row.specs.Entries.{step_of};
-ghost use Rattle.rt_table_row.specs.Filters.{admits};
-ghost use Rattle.rt_table_store.specs.Trees.{leaf_row};
+ghost use Rattle.std.specs.Prelude.{◌≡◌, IfOk};
+ghost use Rattle.rt_table_row.specs.Edits.{delete};
+ghost use Rattle.rt_table_plan.specs.Drafts.{step_list, leaf_rows, leave_steps};
 ghost use Rattle.rt_table_plan.specs.Plans.{Plans};
 
 use crate::plan::Plan;
@@ -17,8 +15,8 @@ use rt_tree::Row;
 use std::alloc::{AllocError, Global};
 
 /// A step for each row that goes.
-fn leaving<const D: usize>(alloc: Global, rows: &[Row<D>]) -> Result<Vec<Step<D>>, AllocError>
-    ensures { IfOk result (λ steps. map step_of steps.items ≡ map (λ row. Leaves row.id) rows.now) }
+fn leave_steps<const D: usize>(alloc: Global, rows: &[Row<D>]) -> Result<Vec<Step<D>>, AllocError>
+    ensures { IfOk result (λ steps. step_list steps ≡ leave_steps rows.now) }
 {
     let mut steps = Vec::with_capacity(alloc, rows.len())?;
     for row in rows {
@@ -28,17 +26,17 @@ fn leaving<const D: usize>(alloc: Global, rows: &[Row<D>]) -> Result<Vec<Step<D>
 }
 
 /// A step for each row of which the condition holds.
-fn picked_leaving<const D: usize>(
+fn picked_steps<const D: usize>(
     alloc: Global,
     store: &Store<D>,
     condition: &Filter,
 ) -> Result<Vec<Step<D>>, AllocError>
-    ensures { IfOk result (λ steps. map step_of steps.items ≡ map (λ row. Leaves row.id) (map (leaf_row {D = D}) (filter (admits condition.now) store.now.rows))) }
+    ensures { IfOk result (λ steps. step_list steps ≡ leave_steps (leaf_rows D condition.now store.now.rows)) }
 {
     // There are one to three axes.
     store.facts();
     let rows = store.picked_rows(alloc, condition)?;
-    leaving(alloc, rows.as_slice())
+    leave_steps(alloc, rows.as_slice())
 }
 
 /// The plan of a DELETE: the rows of which the condition holds go, by rising id.
@@ -52,5 +50,5 @@ pub(crate) fn plan_delete<const D: usize>(
 {
     store.facts();
     let condition = Filter::new(alloc, schema, cond)?;
-    Ok(Plan::of(picked_leaving(alloc, store, &condition)?))
+    Ok(Plan::from_steps(picked_steps(alloc, store, &condition)?))
 }

@@ -3,15 +3,14 @@
 //! The rows aren't copied. Of each id that the steps touched, a draft knows whether a row has it after them; of
 //! every other id the store knows (`specs/Drafts.antt`).
 
-ghost use Rattle.std.specs.Prelude.{◌≡◌, ◌≤◌, ◌∷◌, ◌++◌, ℤ, Bool, Option, [], None, map, IfOk, OnOk};
+ghost use Rattle.std.specs.Prelude.{◌≡◌, ◌≤◌, ◌∷◌, ◌++◌, ℤ, [], None, OnOk};
 ghost use Rattle.std.specs.Ordering.{int_eq};
 ghost use Rattle.indexmap.specs.IndexMap.{get};
-ghost use Rattle.rt_table_row.specs.Edits.{row_of as row_from};
-ghost use Rattle.rt_table_row.specs.Entries.{row_of, step_of, candidate_as};
-ghost use Rattle.rt_table_plan.specs.Drafts.{is_there, touched_by, known, known_of};
+ghost use Rattle.rt_table_row.specs.Entries.{step_of};
+ghost use Rattle.rt_table_plan.specs.Drafts.{is_there, known, known_of, IsTouchedBy, KnowsStep, step_list};
 
 use indexmap::IndexMap;
-use rt_table_row::{Candidate, Entry, Step};
+use rt_table_row::Step;
 use rt_table_store::Store;
 use std::alloc::{AllocError, Global};
 use std::hash::RandomState;
@@ -21,7 +20,7 @@ use std::hash::RandomState;
 type Touched = IndexMap<i64, bool, RandomState>;
 
 /// The id that the last step left without a row, and the one that it gave a row. They go to the other ids that were
-/// touched where another step follows, so that a single step is planned without a map.
+/// touched if another step follows, so that a single step is planned without a map.
 #[derive(Clone, Copy)]
 pub(crate) struct Latest {
     left: Option<i64>,
@@ -38,7 +37,7 @@ impl Latest {
 
     /// What a step touches.
     fn of<const D: usize>(step: &Step<D>) -> Latest
-        ensures { (before : ℤ → Option Bool) (id : ℤ) → known before result id ≡ touched_by before (step_of step.now) id }
+        ensures { IsTouchedBy (step_of step.now) result }
     {
         match step {
             Step::Leaves(id) => Latest::new(Some(*id), None),
@@ -48,7 +47,7 @@ impl Latest {
     }
 }
 
-/// What the steps so far left of the id, where they touched it.
+/// Whether the steps so far left the id a row, if they touched it.
 fn known(touched: &Touched, latest: &Latest, id: &i64) -> Option<bool>
     ensures { result ≡ known (get int_eq touched.now) latest.now id.now }
 {
@@ -59,17 +58,6 @@ fn known(touched: &Touched, latest: &Latest, id: &i64) -> Option<bool>
         return Some(false);
     }
     touched.get(id).copied()
-}
-
-/// Whether a row has the id after the steps so far: the ids that they touched are looked at before the store.
-fn is_there<const D: usize>(store: &Store<D>, draft: &Draft<D>, id: &i64) -> bool
-    ensures { result ≡ is_there store.now.rows (known_of draft.now) id.now }
-{
-    store.facts();
-    match known(&draft.touched, &draft.latest, id) {
-        Some(there) => there,
-        None => store.contains(id),
-    }
 }
 
 /// Inserts the ids of the last step, with what it did to them.
@@ -107,34 +95,26 @@ impl<const D: usize> Draft<D> {
         }
     }
 
-    /// Whether a row has the id after the steps.
-    pub(crate) fn has(&self, store: &Store<D>, id: &i64) -> bool
+    /// Whether a row has the id after the steps: the ids that they touched are looked at before the store.
+    pub(crate) fn is_there(&self, store: &Store<D>, id: &i64) -> bool
         ensures { result ≡ is_there store.now.rows (known_of self.now) id.now }
     {
-        is_there(store, self, id)
+        store.facts();
+        match known(&self.touched, &self.latest, id) {
+            Some(there) => there,
+            None => store.contains(id),
+        }
     }
 
     /// Appends a step.
     pub(crate) fn push(&mut self, step: Step<D>) -> Result<(), AllocError>
         requires { D ≤ 3 }
-        ensures steps { OnOk result (map step_of self.new.steps.items ≡ map step_of self.old.steps.items ++ step_of step.entry ∷ []) }
-        ensures known { OnOk result ((id : ℤ) → known_of self.new id ≡ touched_by (known_of self.old) (step_of step.entry) id) }
+        ensures steps { OnOk result (step_list self.new.steps ≡ step_list self.old.steps ++ step_of step.entry ∷ []) }
+        ensures known { OnOk result (KnowsStep self.old self.new (step_of step.entry)) }
     {
         insert_latest(&mut self.touched, &self.latest)?;
         self.latest = Latest::of(&step);
         self.steps.push(step)?;
         Ok(())
-    }
-}
-
-/// The row of that id that the candidate becomes.
-pub(crate) fn entry_of<const D: usize>(id: &i64, candidate: Candidate<D>) -> Entry<D>
-    requires { D ≤ 3 }
-    ensures { row_of result ≡ row_from id.now (candidate_as candidate.entry) }
-{
-    Entry {
-        id: *id,
-        rect: candidate.rect,
-        auxiliary: candidate.auxiliary,
     }
 }

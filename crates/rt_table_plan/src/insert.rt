@@ -3,29 +3,24 @@
 //! Each list of values is planned among the rows as the lists before it leave them (`put_all` in
 //! `specs/Edits.antt` of `rt_table_row`).
 
-ghost use Rattle.std.specs.Prelude.{◌≡◌, ◌≤◌, ◌+◌, ◌*◌, length, map, List, MatchResult};
+ghost use Rattle.std.specs.Prelude.{◌≡◌, ◌≤◌, ◌+◌, ◌*◌, length, map};
 ghost use Rattle.std.specs.Option.{option_copied};
 ghost use Rattle.rt_table_row.specs.Answers.{GivesAs};
-ghost use Rattle.rt_table_row.specs.Arrangements.{IsArrangementOf, IsBadList, rearranged};
-ghost use Rattle.rt_table_row.specs.Candidates.{candidate_of};
-ghost use Rattle.rt_table_row.specs.Rows.{TableRow};
-ghost use Rattle.rt_table_row.specs.Edits.{and_then, id_or_new, put_taken, put_at, put, put_all, listed_columns, insert};
-ghost use Rattle.rt_table_row.specs.Entries.{step_of, candidate_as};
-ghost use Rattle.rt_table_plan.specs.Counts.{Counts, is_ignored};
-ghost use Rattle.rt_table_plan.specs.Drafts.{Knows, known_of, one_step, step_given};
-ghost use Rattle.rt_table_plan.specs.Plans.{Plans};
+ghost use Rattle.rt_table_row.specs.Arrangements.{row_values};
+ghost use Rattle.rt_table_row.specs.Edits.{put_over, put_row, put, put_all, insert};
+ghost use Rattle.rt_table_row.specs.Entries.{row_of};
+ghost use Rattle.rt_table_plan.specs.Counts.{GivesCounted, GivesStepCounted, put_values, is_ignored};
+ghost use Rattle.rt_table_plan.specs.Drafts.{one_step, step_given, step_list};
+ghost use Rattle.rt_table_plan.specs.Plans.{Plans, ArrangesListed};
 
 use crate::count::Count;
-use crate::draft::{Draft, entry_of};
+use crate::draft::Draft;
 use crate::plan::Plan;
 use rt_sql_statement::{Items, Name, Refusal, Rule, Value};
-use rt_table_row::{Arrangement, Candidate, Schema, Step};
+use rt_table_row::{Arrangement, Entry, Schema, Step};
 use rt_table_store::Store;
 use std::alloc::Global;
 use std::hash::RandomState;
-
-/// How many rows a table has at most. The limit is own.
-const MOST_ROWS_OF_A_TABLE: usize = 1_048_576;
 
 /// Whether the refusal of a row is passed over.
 fn is_ignored(rule: Rule, refusal: &Refusal) -> bool
@@ -37,43 +32,39 @@ fn is_ignored(rule: Rule, refusal: &Refusal) -> bool
     }
 }
 
-/// The step of a row whose id is taken.
-fn taking<const D: usize>(rule: Rule, id: &i64, candidate: Candidate<D>) -> Result<Step<D>, Refusal>
+/// The step of a row whose id another row has.
+fn put_over<const D: usize>(rule: Rule, row: Entry<D>) -> Result<Step<D>, Refusal>
     requires { D ≤ 3 }
-    ensures { GivesAs one_step (put_taken rule id.now (candidate_as candidate.entry)) result }
+    ensures { GivesAs one_step (put_over rule (row_of row.entry)) result }
 {
     match rule {
-        Rule::Replace => Ok(Step::Becomes(*id, entry_of(id, candidate))),
+        Rule::Replace => Ok(Step::Becomes(row.id, row)),
         Rule::Abort | Rule::Ignore => Err(Refusal::IdAlreadyTaken),
     }
 }
 
-/// The step of a candidate.
-fn placing<const D: usize>(
+/// The step of a new row.
+fn put_row<const D: usize>(
     store: &Store<D>,
     draft: &Draft<D>,
     count: &Count,
     rule: Rule,
-    candidate: Candidate<D>,
+    row: Entry<D>,
 ) -> Result<Step<D>, Refusal>
     requires { D ≤ 3 }
-    ensures { (now : List TableRow) → Knows store.now.rows (known_of draft.now) now → Counts now count.now.largest count.now.room
-        → GivesAs one_step (put_at rule now (candidate_as candidate.entry) (id_or_new now candidate.entry.id)) result }
+    ensures { GivesStepCounted store.now.rows draft.now count.now (λ now. put_row rule now (row_of row.entry)) result }
 {
-    let Some(id) = count.id_or_new(&candidate.id) else {
-        return Err(Refusal::NoIdLeft);
-    };
-    if draft.has(store, &id) {
-        return taking(rule, &id, candidate);
+    if draft.is_there(store, &row.id) {
+        return put_over(rule, row);
     }
     if count.room == 0 {
         return Err(Refusal::TableFull);
     }
-    Ok(Step::Comes(entry_of(&id, candidate)))
+    Ok(Step::Comes(row))
 }
 
 /// The step of a row of these values, as the arrangement has them.
-fn row_step<const D: usize>(
+fn put_values<const D: usize>(
     alloc: Global,
     store: &Store<D>,
     draft: &Draft<D>,
@@ -85,14 +76,15 @@ fn row_step<const D: usize>(
     requires some { 1 ≤ D }
     requires few { D ≤ 3 }
     requires long { 1 + 2 * D ≤ length arrangement.now.places }
-    ensures { (now : List TableRow) → Knows store.now.rows (known_of draft.now) now → Counts now count.now.largest count.now.room
-        → GivesAs one_step (and_then (candidate_of D (rearranged arrangement.now values.now)) (λ c. put_at rule now c (id_or_new now c.id))) result }
+    ensures { GivesStepCounted store.now.rows draft.now count.now
+        (λ now. put_values D rule now (row_values arrangement.now values.now)) result }
 {
-    let candidate = arrangement.candidate(alloc, values)?;
-    placing(store, draft, count, rule, candidate)
+    let id = count.id_or_new(&arrangement.given_id(values));
+    let row = arrangement.new_entry(alloc, id, values)?;
+    put_row(store, draft, count, rule, row)
 }
 
-/// The step of a row of these values, or none where it is passed over.
+/// The step of a row of these values, or none if it is passed over.
 fn step_or_none<const D: usize>(
     alloc: Global,
     store: &Store<D>,
@@ -105,10 +97,10 @@ fn step_or_none<const D: usize>(
     requires some { 1 ≤ D }
     requires few { D ≤ 3 }
     requires long { 1 + 2 * D ≤ length arrangement.now.places }
-    ensures { (now : List TableRow) → Knows store.now.rows (known_of draft.now) now → Counts now count.now.largest count.now.room
-        → GivesAs step_given (put D rule now (rearranged arrangement.now values.now)) result }
+    ensures { GivesCounted store.now.rows draft.now count.now step_given
+        (λ now. put D rule now (row_values arrangement.now values.now)) result }
 {
-    match row_step(alloc, store, draft, count, rule, arrangement, values) {
+    match put_values(alloc, store, draft, count, rule, arrangement, values) {
         Ok(step) => Ok(Some(step)),
         Err(refusal) => {
             if is_ignored(rule, &refusal) {
@@ -131,14 +123,11 @@ fn all_steps<const D: usize>(
     requires some { 1 ≤ D }
     requires few { D ≤ 3 }
     requires long { 1 + 2 * D ≤ length arrangement.now.places }
-    ensures { GivesAs (λ steps. map step_of steps.items) (put_all D rule store.now.rows (map (rearranged arrangement.now) lists.now)) result }
+    ensures { GivesAs step_list (put_all D rule store.now.rows (map (row_values arrangement.now) lists.now)) result }
 {
     store.facts();
     let mut draft = Draft::new(alloc, keys);
-    let mut count = Count {
-        largest: store.largest(),
-        room: MOST_ROWS_OF_A_TABLE.saturating_sub(store.len()),
-    };
+    let mut count = Count::new(store.largest(), store.len());
     for list in lists {
         let values = list.as_slice();
         let step = step_or_none(alloc, store, &draft, &count, rule, arrangement, values)?;
@@ -157,7 +146,7 @@ fn arrangement_of(
     schema: &Schema,
     listed: &Option<Items<Name>>,
 ) -> Result<Arrangement, Refusal>
-    ensures { MatchResult result (IsArrangementOf schema.now (listed_columns schema.now listed.now)) (IsBadList schema.now (listed_columns schema.now listed.now)) }
+    ensures { ArrangesListed schema.now listed.now result }
 {
     match listed {
         None => Ok(Arrangement::whole(schema)),
@@ -166,8 +155,8 @@ fn arrangement_of(
 }
 
 /// The plan of an INSERT: a row for each list of values, one after the other. A column that isn't listed gets NULL,
-/// and a NULL id one more than the largest. A row whose id is taken goes into the place of the old one under
-/// `Replace`; under `Ignore` it is passed over, as one whose minimum is above its maximum is.
+/// and a NULL id one more than the largest. A row whose id is taken replaces the old one under `Replace`; under `Ignore`
+/// it is passed over, as one whose minimum is above its maximum is.
 pub(crate) fn plan_insert<const D: usize>(
     alloc: Global,
     keys: RandomState,
@@ -188,5 +177,5 @@ pub(crate) fn plan_insert<const D: usize>(
         return Err(Refusal::WrongNumberOfValues);
     }
     let steps = all_steps(alloc, keys, store, rule, &arrangement, lists)?;
-    Ok(Plan::of(steps))
+    Ok(Plan::from_steps(steps))
 }

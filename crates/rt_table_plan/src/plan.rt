@@ -38,15 +38,14 @@ impl<const D: usize> Plan<D> {
     ///
     /// # Errors
     ///
-    /// - Of an INSERT: `BadColumnList` where a column is listed twice; else `NoSuchColumn`, and then
-    ///   `WrongNumberOfValues` where a list has more or fewer values than columns are listed. Then for the first row that
-    ///   can't be put there the first of `WrongType`, `IntegerOutOfRange`, `MinimumAboveMaximum`, `NoIdLeft`,
-    ///   `IdAlreadyTaken` and `TableFull`.
-    /// - Of an UPDATE: `BadColumnList` where a column is set twice; `NoSuchColumn` where a column is set, read or looked
-    ///   at that the table hasn't; then for the first row that can't be what it is to be the first of `WrongType`,
-    ///   `IntegerOutOfRange`, `MinimumAboveMaximum`, and `IdAlreadyTaken` where another row then has the new id.
-    /// - Of a DELETE: `NoSuchColumn` where the condition looks at a column that the table hasn't.
-    /// - Of any: `OutOfMemory`.
+    /// - Of an INSERT: `BadColumnList` if a column is listed twice; else `NoSuchColumn`, and then `WrongNumberOfValues` if a
+    ///   list has more or fewer values than columns are listed. Then for the first row that can't be put there the first of
+    ///   `WrongType`, `IntegerOutOfRange`, `MinimumAboveMaximum`, `NoIdLeft`, `IdAlreadyTaken` and `TableFull`.
+    /// - Of an UPDATE: `BadColumnList` if a column is set twice; `NoSuchColumn` if a column is set, read or looked at that
+    ///   the table hasn't; then for the first row that can't be what it is to be the first of `WrongType`,
+    ///   `IntegerOutOfRange`, `MinimumAboveMaximum`, and `IdAlreadyTaken` if another row then has the new id.
+    /// - Of a DELETE: `NoSuchColumn` if the condition looks at a column that the table hasn't.
+    /// - Of any: `OutOfMemory` if no memory is left.
     pub fn new(
         alloc: Global,
         keys: RandomState,
@@ -76,7 +75,7 @@ impl<const D: usize> Plan<D> {
     }
 
     /// The plan of these steps.
-    pub(crate) fn of(steps: Vec<Step<D>>) -> Plan<D>
+    pub(crate) fn from_steps(steps: Vec<Step<D>>) -> Plan<D>
         ensures { result ≡ map step_of steps.entry.items }
     {
         Plan { steps }

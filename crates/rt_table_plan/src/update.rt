@@ -3,50 +3,41 @@
 //! The rows are picked at the start, and then change one after the other. So an id is taken while a row has it,
 //! even if that row gets another id later.
 
-ghost use Rattle.std.specs.Prelude.{◌≡◌, ◌≤◌, ◌+◌, ◌*◌, All, [], ◌∷◌, length, map, filter, List};
-ghost use Rattle.std.specs.List.{filter_map};
+ghost use Rattle.std.specs.Prelude.{◌≡◌, ◌≤◌, ◌+◌, ◌*◌, All, [], ◌∷◌, length};
 ghost use Rattle.rt_table_row.specs.Answers.{GivesAs};
-ghost use Rattle.rt_table_row.specs.Rows.{TableRow};
-ghost use Rattle.rt_table_row.specs.Edits.{become_candidate, update};
-ghost use Rattle.rt_table_row.specs.Entries.{view_row, step_of, candidate_as};
-ghost use Rattle.rt_table_row.specs.Filters.{admits};
+ghost use Rattle.rt_table_row.specs.Edits.{replace_row, update};
+ghost use Rattle.rt_table_row.specs.Entries.{row_of, view_row};
 ghost use Rattle.rt_table_store.specs.Picking.{Stands};
-ghost use Rattle.rt_table_store.specs.Trees.{leaf_row};
-ghost use Rattle.rt_table_plan.specs.Drafts.{Knows, known_of, one_step, row_of, row_set, all_set};
+ghost use Rattle.rt_table_plan.specs.Drafts.{GivesStep, step_list, set_row, set_found, set_picked};
 ghost use Rattle.rt_table_plan.specs.Plans.{Plans};
 
-use crate::draft::{Draft, entry_of};
+use crate::draft::Draft;
 use crate::plan::Plan;
 use rt_sql_statement::{Cond, Name, Refusal, Source};
-use rt_table_row::{Candidate, Filter, RowView, Schema, Settings, Step};
+use rt_table_row::{Entry, Filter, RowView, Schema, Settings, Step};
 use rt_table_store::Store;
 use rt_tree::Row;
 use std::alloc::Global;
 use std::hash::RandomState;
 
-/// The row of the old id becomes the candidate, unless another row has its id now.
-fn becoming<const D: usize>(
+/// The row of the old id is now this one, unless another row has its id now.
+fn replace_row<const D: usize>(
     store: &Store<D>,
     draft: &Draft<D>,
     old: &i64,
-    candidate: Candidate<D>,
+    row: Entry<D>,
 ) -> Result<Step<D>, Refusal>
     requires { D ≤ 3 }
-    ensures { (now : List TableRow) → Knows store.now.rows (known_of draft.now) now
-        → GivesAs one_step (become_candidate now old.now (candidate_as candidate.entry) candidate.entry.id) result }
+    ensures { GivesStep store.now.rows draft.now (λ now. replace_row now old.now (row_of row.entry)) result }
 {
-    let Some(id) = &candidate.id else {
-        return Err(Refusal::WrongType);
-    };
-    let id = *id;
-    if *old != id && draft.has(store, &id) {
+    if *old != row.id && draft.is_there(store, &row.id) {
         return Err(Refusal::IdAlreadyTaken);
     }
-    Ok(Step::Becomes(*old, entry_of(&id, candidate)))
+    Ok(Step::Becomes(*old, row))
 }
 
 /// The step of one row, which stands in the store.
-fn row_step<const D: usize>(
+fn set_row<const D: usize>(
     alloc: Global,
     store: &Store<D>,
     draft: &Draft<D>,
@@ -56,11 +47,10 @@ fn row_step<const D: usize>(
     requires some { 1 ≤ D }
     requires few { D ≤ 3 }
     requires long { 1 + 2 * D ≤ length settings.now.fills }
-    ensures { (now : List TableRow) → Knows store.now.rows (known_of draft.now) now
-        → GivesAs one_step (row_set D settings.now now (view_row row.now)) result }
+    ensures { GivesStep store.now.rows draft.now (λ now. set_row D settings.now now (view_row row.now)) result }
 {
-    let candidate = settings.candidate(alloc, row)?;
-    becoming(store, draft, &row.id, candidate)
+    let new = settings.new_entry(alloc, row)?;
+    replace_row(store, draft, &row.id, new)
 }
 
 /// The steps of rows that stand in the table, each planned among the rows as they are after those before it.
@@ -75,11 +65,11 @@ fn all_steps<const D: usize>(
     requires few { D ≤ 3 }
     requires long { 1 + 2 * D ≤ length settings.now.fills }
     requires stand { All (Stands store.now.rows) rows.now }
-    ensures { GivesAs (λ steps. map step_of steps.items) (all_set D settings.now store.now.rows (filter_map (row_of store.now.rows) rows.now)) result }
+    ensures { GivesAs step_list (set_found D settings.now store.now.rows rows.now) result }
 {
     let mut draft = Draft::new(alloc, keys);
     for row in rows {
-        let step = row_step(alloc, store, &draft, settings, &store.view(row))?;
+        let step = set_row(alloc, store, &draft, settings, &store.view(row))?;
         draft.push(step)?;
     }
     Ok(draft.steps)
@@ -97,17 +87,17 @@ fn lone_step<const D: usize>(
     requires few { D ≤ 3 }
     requires long { 1 + 2 * D ≤ length settings.now.fills }
     requires stands { Stands store.now.rows row.now }
-    ensures { GivesAs (λ steps. map step_of steps.items) (all_set D settings.now store.now.rows (filter_map (row_of store.now.rows) (row.now ∷ []))) result }
+    ensures { GivesAs step_list (set_found D settings.now store.now.rows (row.now ∷ [])) result }
 {
     let draft = Draft::new(alloc, keys);
-    let step = row_step(alloc, store, &draft, settings, &store.view(row))?;
+    let step = set_row(alloc, store, &draft, settings, &store.view(row))?;
     let mut steps = Vec::with_capacity(alloc, 1)?;
     steps.push_reserved(step);
     Ok(steps)
 }
 
-/// The steps of the rows of which the condition holds. Where it fixes an id, that is one row at most, and no list of rows
-/// is made.
+/// The steps of the rows of which the condition holds. If it fixes an id, that is one row at most, and no list of rows is
+/// made.
 fn picked_steps<const D: usize>(
     alloc: Global,
     keys: RandomState,
@@ -118,7 +108,7 @@ fn picked_steps<const D: usize>(
     requires some { 1 ≤ D }
     requires few { D ≤ 3 }
     requires long { 1 + 2 * D ≤ length settings.now.fills }
-    ensures { GivesAs (λ steps. map step_of steps.items) (all_set D settings.now store.now.rows (filter_map (row_of {D = D} store.now.rows) (map leaf_row (filter (admits condition.now) store.now.rows)))) result }
+    ensures { GivesAs step_list (set_picked D settings.now condition.now store.now.rows) result }
 {
     // The rows rise by id.
     store.facts();
@@ -150,5 +140,5 @@ pub(crate) fn plan_update<const D: usize>(
     schema.facts();
     let settings = Settings::new(alloc, schema, sets)?;
     let condition = Filter::new(alloc, schema, cond)?;
-    Ok(Plan::of(picked_steps(alloc, keys, store, &settings, &condition)?))
+    Ok(Plan::from_steps(picked_steps(alloc, keys, store, &settings, &condition)?))
 }

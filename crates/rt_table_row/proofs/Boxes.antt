@@ -6,7 +6,7 @@ use Rattle.std.proofs.lemmas.List.{take_more, take_more_set, take_all, length-ma
 use Rattle.std.specs.Prelude.{int_le}
 use Rattle.rt_box.specs.declared.interval.Interval.{Interval}
 use Rattle.rt_box.specs.Rect.{los, his}
-use Rattle.rt_table_row.specs.Candidates.{box_of, is_ordered}
+use Rattle.rt_table_row.specs.NewRows.{box_of, is_ordered}
 
 pub head : (a b : Bool) → (a && b) ≡ true → a ≡ true
 head true b e = refl

@@ -16,8 +16,8 @@ use Rattle.rt_table_row.specs.declared.settings.Reading.{Reading}
 use Rattle.rt_table_row.specs.declared.settings.Reading.TheVariants.{Literal, Column}
 use Rattle.rt_table_row.specs.Columns.{Columns, place_of, has_name, are_distinct}
 use Rattle.rt_table_row.specs.Conditions.{value_in}
-use Rattle.rt_table_row.specs.Edits.{Setting, columns_read, given, is_summable, sum_fits, new_value, new_values}
-use Rattle.rt_table_row.specs.Settings.{set_names, read, reads_integer, reading_fits, values_set, has_set_columns, reading_of, are_known, has_set, AreReadings, looked_up}
+use Rattle.rt_table_row.specs.Edits.{Setting, columns_read, source_value, is_summable, sum_fits, new_value, new_values}
+use Rattle.rt_table_row.specs.Settings.{set_names, read, reads_integer, reading_fits, values_after, has_set_columns, reading_of, are_known, has_set, AreReadings, column_readings}
 use Rattle.rt_table_row.proofs.Filters.{present, absent, value_there}
 use Rattle.rt_table_row.proofs.Names.{neither, denied, same_laws, fails_each, own_place}
 use Rattle.rt_table_row.proofs.Boxes.{head, tail}
@@ -146,9 +146,9 @@ or_none (Some x) = refl
 
 module _ (names : List (List ℕ)) (values : List Value) (sets : List Setting) (s : Setting) (name : List ℕ) where
   abbrev of_set : Option Setting → Value
-  of_set found = option_map_or (λ (set : Setting). given names values set.1) found (value_in names values name)
+  of_set found = option_map_or (λ (set : Setting). source_value names values set.1) found (value_in names values name)
 
-  value_set : has_set sets name ≡ false → same_name name s.0 ≡ true → new_value names values (sets ++ s ∷ []) name ≡ given names values s.1
+  value_set : has_set sets name ≡ false → same_name name s.0 ≡ true → new_value names values (sets ++ s ∷ []) name ≡ source_value names values s.1
   value_set none same =
       ap of_set (find-append (λ (set : Setting). same_name name set.0) sets (s ∷ [])) ∙ rw (none_found (λ (set : Setting). same_name name set.0) sets none, same) refl
 
@@ -249,6 +249,6 @@ known_columns columns sets =
     all_both (λ (set : Setting). has_name columns.names set.0) reads sets ∙ ap (λ (b : Bool). b && list_all reads sets) (sets_among columns.names sets)
 
 pub settings_same : (names : List (List ℕ)) (values : List Value) (sets : List Setting) (readings : List Reading) → AreReadings names sets readings →
-    values_set (looked_up readings) values ≡ new_values names values sets
+    values_after (column_readings readings) values ≡ new_values names values sets
 settings_same names values sets readings is =
     values_read values readings ∙ same_maps (read values) (new_value names values sets) readings names (Literal Null) [] is.each (is.same values)

@@ -1,5 +1,5 @@
 -- What a row becomes by its looked-up sets.
-use Rattle.std.proofs.Common.{◌≡◌, ℕ, suc, ◌+◌, ◌*◌, ◌≤◌, ◌-◌, ◌+ℤ◌, ◌-ℤ◌, Bool, true, false, ◌&&◌, ◌||◌, List, [], ◌∷◌, ◌++◌, append_assoc, get_or, map, length, take, drop, Option, Some, None, Err, arith, refl, sym, ap, subst, ◌∙◌}
+use Rattle.std.proofs.Common.{◌≡◌, ℕ, suc, ◌+◌, ◌*◌, ◌≤◌, ◌-◌, ◌+ℤ◌, ◌-ℤ◌, ℤ, Bool, true, false, ◌&&◌, ◌||◌, List, [], ◌∷◌, ◌++◌, append_assoc, get_or, map, length, take, drop, Option, Some, None, Err, arith, refl, sym, ap, subst, ◌∙◌}
 use Rattle.std.specs.List.{list_all, list_any}
 use Rattle.std.specs.Option.{option_map}
 use Rattle.std.proofs.lemmas.List.{take-map, take_all, drop-map, get_or_at, length_push}
@@ -15,10 +15,10 @@ use Rattle.rt_sql_statement.specs.declared.statement.Source.{Source}
 use Rattle.rt_sql_statement.specs.declared.statement.Source.TheVariants as source
 use Rattle.rt_table_row.specs.declared.settings.Reading.{Reading}
 use Rattle.rt_table_row.specs.declared.settings.Reading.TheVariants.{Literal, Column, Plus, Minus}
-use Rattle.rt_table_row.specs.Candidates.{is_id, is_integer, id_in, number_in, fits_bits, id_value, coordinate_values, candidate_of, candidate_with}
+use Rattle.rt_table_row.specs.NewRows.{is_id, is_integer, id_in, number_in, fits_bits, id_value, given_id, coordinate_values, row_from, row_with}
 use Rattle.rt_table_row.specs.Columns.{place_of, has_name}
-use Rattle.rt_table_row.specs.Edits.{Setting, columns_read, given, is_summable, sum_fits}
-use Rattle.rt_table_row.specs.Settings.{set_names, read, reads_integer, reading_fits, filled, values_set, candidate_set, reading_of, own_fills, looked_up}
+use Rattle.rt_table_row.specs.Edits.{Setting, columns_read, source_value, is_summable, sum_fits}
+use Rattle.rt_table_row.specs.Settings.{set_names, read, reads_integer, reading_fits, fill_value, values_after, new_row, reading_of, own_fills, column_readings}
 use Rattle.rt_table_row.proofs.Filters.{absent, present, value_there}
 use Rattle.rt_table_row.proofs.Boxes.{head, tail}
 
@@ -29,14 +29,14 @@ length-own_fills place [] = refl
 length-own_fills place (r ∷ rs) = ap suc (length-own_fills (suc place) rs)
 
 own_values : (values : List Value) (before readings all : List Reading) (place : ℕ) → all ≡ before ++ readings → length before ≡ place →
-    map (filled all values) (own_fills place readings) ≡ map (read values) readings
+    map (fill_value all values) (own_fills place readings) ≡ map (read values) readings
 own_values values before [] all place is long = refl
 own_values values before (r ∷ rs) all place is long =
     let here : read values (get_or all place (Literal Null)) ≡ read values r = rw (is, get_or_at before r rs (Literal Null) place long) refl in
     let more : length (before ++ r ∷ []) ≡ suc place = omega (arith, length_push before r) in
     rw (here, own_values values (before ++ r ∷ []) rs all (suc place) (is ∙ sym (append_assoc before (r ∷ []) rs)) more) refl
 
-pub values_read : (values : List Value) (readings : List Reading) → values_set (looked_up readings) values ≡ map (read values) readings
+pub values_read : (values : List Value) (readings : List Reading) → values_after (column_readings readings) values ≡ map (read values) readings
 values_read values readings = own_values values [] readings readings 0 refl refl
 
 -- ---- what is wrong with a row, or isn't
@@ -52,17 +52,17 @@ front_integers n f (x ∷ readings) h =
 
 pub set_type : (axes : ℕ) (readings : List Reading) (old : List Value) → list_all (reads_integer old) readings ≡ true →
     (is_integer (id_value (map (read old) readings)) && list_all is_integer (coordinate_values axes (map (read old) readings))) ≡ false →
-    candidate_set axes (looked_up readings) old ≡ Err WrongType
+    new_row axes (column_readings readings) old ≡ Err WrongType
 set_type axes readings old summable types = rw (summable, values_read old readings, types)
 
 pub set_sum : (axes : ℕ) (readings : List Reading) (old : List Value) → list_all (reads_integer old) readings ≡ true →
     (is_integer (id_value (map (read old) readings)) && list_all is_integer (coordinate_values axes (map (read old) readings))) ≡ true →
-    list_all (reading_fits old) readings ≡ false → candidate_set axes (looked_up readings) old ≡ Err IntegerOutOfRange
+    list_all (reading_fits old) readings ≡ false → new_row axes (column_readings readings) old ≡ Err IntegerOutOfRange
 set_sum axes readings old summable types fits = rw (summable, values_read old readings, types, fits)
 
 pub set_all : (axes : ℕ) (readings : List Reading) (old : List Value) → list_all (reads_integer old) readings ≡ true →
     (is_integer (id_value (map (read old) readings)) && list_all is_integer (coordinate_values axes (map (read old) readings))) ≡ true →
-    list_all (reading_fits old) readings ≡ true → candidate_set axes (looked_up readings) old ≡ candidate_of axes (map (read old) readings)
+    list_all (reading_fits old) readings ≡ true → new_row axes (column_readings readings) old ≡ row_from axes (given_id (map (read old) readings)) (map (read old) readings)
 set_all axes readings old summable types fits = rw (summable, values_read old readings, types, fits)
 
 -- ---- its numbers
@@ -79,17 +79,17 @@ integer_in (Int z) e = refl
 integer_in (Text t) e = cc
 integer_in (Blob b) e = cc
 
-candidate_parts : (axes : ℕ) (values : List Value) → is_id (id_value values) ≡ true → list_all is_integer (coordinate_values axes values) ≡ true →
-    candidate_of axes values ≡ candidate_with (id_in (id_value values)) (map number_in (coordinate_values axes values)) (drop (1 + 2 * axes) values)
-candidate_parts axes values id integers = rw (id, integers)
+row_parts : (axes : ℕ) (id : Option ℤ) (values : List Value) → is_id (id_value values) ≡ true → list_all is_integer (coordinate_values axes values) ≡ true →
+    row_from axes id values ≡ row_with id (map number_in (coordinate_values axes values)) (drop (1 + 2 * axes) values)
+row_parts axes id values typed integers = rw (typed, integers)
 
--- where the id and the coordinates are integers, the candidate is that of their numbers
-pub candidate_read : (n : ℕ) (f : Reading → Value) (readings plain rest : List Reading) → 1 + 2 * n ≤ length readings →
+-- if the id and the coordinates are integers, the row is that of their numbers
+pub row_read : (n : ℕ) (f : Reading → Value) (readings plain rest : List Reading) → 1 + 2 * n ≤ length readings →
     plain ≡ take (1 + 2 * n) readings → rest ≡ drop (1 + 2 * n) readings →
     list_all (λ (x : Reading). is_integer (f x)) (take (1 + 2 * n) readings) ≡ true →
-    candidate_of n (map f readings) ≡ candidate_with (Some (number_in (f (get_or plain 0 (Literal Null))))) (map (λ (x : Reading). number_in (f x)) (take (length plain - 1) (drop 1 plain))) (map f rest)
-candidate_read n f [] plain rest h p r ints = absurd (omega arith)
-candidate_read n f (x ∷ readings) plain rest h p r ints =
+    row_from n (given_id (map f readings)) (map f readings) ≡ row_with (Some (number_in (f (get_or plain 0 (Literal Null))))) (map (λ (x : Reading). number_in (f x)) (take (length plain - 1) (drop 1 plain))) (map f rest)
+row_read n f [] plain rest h p r ints = absurd (omega arith)
+row_read n f (x ∷ readings) plain rest h p r ints =
     let one : 1 + 2 * n ≡ suc (2 * n) = omega arith in
     let plain_is : plain ≡ x ∷ take (2 * n) readings = p ∙ rw one refl in
     let first_is : get_or plain 0 (Literal Null) ≡ x = rw plain_is refl in
@@ -102,7 +102,7 @@ candidate_read n f (x ∷ readings) plain rest h p r ints =
     let numbers : map number_in (take (2 * n) (map f readings)) ≡ map (λ (y : Reading). number_in (f y)) (take (length plain - 1) (drop 1 plain)) = rw (behind, take-map) (map-map number_in f (take (2 * n) readings)) in
     let auxiliary : drop (1 + 2 * n) (f x ∷ map f readings) ≡ map f rest = rw r (drop-map f (1 + 2 * n) (x ∷ readings)) in
     let id : id_in (f x) ≡ Some (number_in (f (get_or plain 0 (Literal Null)))) = rw first_is (integer_in (f x) here) in
-    candidate_parts n (f x ∷ map f readings) (integer_is_id (f x) here) integers
+    row_parts n (given_id (f x ∷ map f readings)) (f x ∷ map f readings) (integer_is_id (f x) here) integers
     ∙ rw (id, numbers, auxiliary) refl
 
 -- ---- how they are looked up
@@ -127,7 +127,7 @@ place_in None f r e = cc
 place_in (Some p) f r e = (p, refl, cc)
 
 -- what a set reads gives what its source gives
-pub reads_same : (names : List (List ℕ)) (values : List Value) (s : Source) (r : Reading) → reading_of names s ≡ Some r → read values r ≡ given names values s
+pub reads_same : (names : List (List ℕ)) (values : List Value) (s : Source) (r : Reading) → reading_of names s ≡ Some r → read values r ≡ source_value names values s
 reads_same names values (source.Literal v) r e = let same : r ≡ Literal v = cc in rw same
 reads_same names values (source.Column name) r e =
     let found = place_in (place_of names name) (λ place. Column place) r e in

@@ -7,7 +7,7 @@ use Rattle.rt_sql_statement.specs.declared.refusal.Refusal.TheVariants.{OutOfMem
 abbrev pub Gives : {A : Type 0} → Result A Refusal → Result A Refusal → Type 0
 Gives wanted result = (result ≡ wanted) ⊎ (result ≡ Err OutOfMemory)
 
--- the same where what is given stands for what is wanted, as a view tells
+-- the same if what is given stands for what is wanted, as a view tells
 abbrev pub GivesAs : {A B : Type 0} → (B → A) → Result A Refusal → Result B Refusal → Type 0
 GivesAs view wanted (Ok given) = wanted ≡ Ok (view given)
 GivesAs view wanted (Err refusal) = (wanted ≡ Err refusal) ⊎ (refusal ≡ OutOfMemory)

@@ -1,7 +1,8 @@
 -- The columns of a table. Source: SQLite's documentation (The SQLite R*Tree Module, sections 3.1 and 4); one to
 -- three axes, and 100 columns with the auxiliary ones, are own.
-use Rattle.std.specs.Prelude.{ℕ, ◌/◌, Bool, true, not, ◌&&◌, ◌||◌, ◌==◌, nat_le, if◌then◌else◌, List, [], ◌∷◌, length, map, filter, drop, position, Option, Result, Ok, Err}
+use Rattle.std.specs.Prelude.{◌≡◌, ℕ, ◌+◌, ◌*◌, ◌/◌, ◌≤◌, Bool, true, not, ◌&&◌, ◌||◌, ◌==◌, nat_le, if◌then◌else◌, List, [], ◌∷◌, length, map, filter, drop, position, Option, Result, Ok, Err}
 use Rattle.std.specs.List.{list_any, list_all}
+use Rattle.std.specs.Str.{str_to_ascii_lowercase}
 use Rattle.rt_sql_statement.specs.Name.{same_name}
 use Rattle.rt_sql_statement.specs.declared.statement.ColumnDef.{ColumnDef}
 use Rattle.rt_sql_statement.specs.declared.refusal.Refusal.{Refusal}
@@ -43,3 +44,12 @@ columns_of columns =
     if is_column_list columns
     then Ok (record { axes = length (plain_columns columns) / 2; names = map (λ c. c.name) columns })
     else Err BadColumnList
+
+-- one to three axes; columns enough for an id and two coordinates of each axis; no two of one name
+abbrev pub AreColumns : ℕ → List (List ℕ) → Type 0
+AreColumns axes names = (1 ≤ axes) × (axes ≤ 3) × (1 + 2 * axes ≤ length names) × (are_distinct names ≡ true)
+
+-- a set of names in lower case has one name more
+abbrev pub AddsName : List ℕ → (List ℕ → Bool) → (List ℕ → Bool) → Type 0
+AddsName name before after =
+    (other : List ℕ) → after (str_to_ascii_lowercase other) ≡ (same_name name other || before (str_to_ascii_lowercase other))

@@ -16,11 +16,11 @@ use Rattle.rt_sql_statement.specs.declared.statement.Test.{Test}
 use Rattle.rt_sql_statement.specs.declared.statement.Edit.{Edit}
 use Rattle.rt_sql_statement.specs.declared.statement.Edit.TheVariants.{Insert, Update, Delete}
 use Rattle.rt_sql_statement.specs.declared.refusal.Refusal.{Refusal}
-use Rattle.rt_sql_statement.specs.declared.refusal.Refusal.TheVariants.{BadColumnList, NoSuchColumn, WrongNumberOfValues, WrongType, IntegerOutOfRange, IdAlreadyTaken, MinimumAboveMaximum, TableFull, NoIdLeft}
+use Rattle.rt_sql_statement.specs.declared.refusal.Refusal.TheVariants.{BadColumnList, NoSuchColumn, WrongNumberOfValues, WrongType, IntegerOutOfRange, IdAlreadyTaken, MinimumAboveMaximum, TableFull}
 use Rattle.rt_table_row.specs.Columns.{Columns, has_name, are_distinct}
 use Rattle.rt_table_row.specs.Rows.{TableRow, values_of, has_id, with_row, without_id, largest_id}
 use Rattle.rt_table_row.specs.Conditions.{value_in, has_columns, picked}
-use Rattle.rt_table_row.specs.Candidates.{Candidate, is_integer, number_in, fits_bits, id_value, coordinate_values, candidate_of}
+use Rattle.rt_table_row.specs.NewRows.{is_integer, number_in, fits_bits, id_value, given_id, coordinate_values, row_from}
 
 -- one change of the rows: the row of an id goes, a row comes, or another row stands in the place of the one of an id
 pub data Step : Type 0 where
@@ -66,21 +66,17 @@ abbrev pub id_or_new : List TableRow → Option ℤ → Option ℤ
 id_or_new rows None = new_id rows
 id_or_new rows (Some id) = Some id
 
-abbrev pub row_of : ℤ → Candidate → TableRow
-row_of id c = record { id = id; box = c.box; auxiliary = c.auxiliary }
+-- a row whose id another row has
+abbrev pub put_over : Rule → TableRow → Steps
+put_over Replace row = Ok (Becomes row.id row ∷ [])
+put_over Abort row = Err IdAlreadyTaken
+put_over Ignore row = Err IdAlreadyTaken
 
--- a row whose id is taken
-abbrev pub put_taken : Rule → ℤ → Candidate → Steps
-put_taken Replace id c = Ok (Becomes id (row_of id c) ∷ [])
-put_taken Abort id c = Err IdAlreadyTaken
-put_taken Ignore id c = Err IdAlreadyTaken
-
-abbrev pub put_at : Rule → List TableRow → Candidate → Option ℤ → Steps
-put_at rule rows c None = Err NoIdLeft
-put_at rule rows c (Some id) =
-    if has_id rows id then put_taken rule id c
+abbrev pub put_row : Rule → List TableRow → TableRow → Steps
+put_row rule rows row =
+    if has_id rows row.id then put_over rule row
     else (if nat_le most_rows (length rows) then Err TableFull
-    else Ok (Comes (row_of id c) ∷ []))
+    else Ok (Comes row ∷ []))
 
 -- OR IGNORE skips a row whose id is taken or whose minimum is above its maximum
 abbrev pub unless_ignored : Rule → Steps → Steps
@@ -94,7 +90,7 @@ unless_ignored Ignore (Err refusal) = Err refusal
 -- a row of these values is put among the rows
 abbrev pub put : ℕ → Rule → List TableRow → List Value → Steps
 put axes rule rows values =
-    unless_ignored rule (and_then (candidate_of axes values) (λ c. put_at rule rows c (id_or_new rows c.id)))
+    unless_ignored rule (and_then (row_from axes (id_or_new rows (given_id values)) values) (put_row rule rows))
 
 -- one row after the other, each among the rows as they then are
 abbrev pub put_all : ℕ → Rule → List TableRow → List (List Value) → Steps
@@ -103,8 +99,8 @@ put_all axes rule rows (values ∷ lists) =
     and_then (put axes rule rows values) (λ steps. steps_and steps (put_all axes rule (outcome rows steps) lists))
 
 -- the values in the order of the table's columns; a column that isn't listed gets NULL
-abbrev pub arranged : List (List ℕ) → List (List ℕ) → List Value → List Value
-arranged names listed values = map (value_in listed values) names
+abbrev pub column_values : List (List ℕ) → List (List ℕ) → List Value → List Value
+column_values names listed values = map (value_in listed values) names
 
 -- the columns that an INSERT lists, or all of them
 abbrev pub listed_columns : Columns → Option (List (List ℕ)) → List (List ℕ)
@@ -117,7 +113,7 @@ insert columns rows rule listed lists =
     if not (are_distinct names) then Err BadColumnList
     else (if not (list_all (has_name columns.names) names) then Err NoSuchColumn
     else (if not (list_all (λ values. length values == length names) lists) then Err WrongNumberOfValues
-    else put_all columns.axes rule rows (map (arranged columns.names names) lists)))
+    else put_all columns.axes rule rows (map (column_values columns.names names) lists)))
 
 -- ---- DELETE
 
@@ -126,7 +122,7 @@ delete columns rows cond =
     if not (has_columns columns cond) then Err NoSuchColumn
     else Ok (map (λ row. Leaves row.id) (picked columns cond rows))
 
--- the steps in which the row of an id goes, where there is one
+-- the steps in which the row of an id goes, if there is one
 abbrev pub leaving : List TableRow → ℤ → List Step
 leaving rows id = if has_id rows id then Leaves id ∷ [] else []
 
@@ -144,11 +140,11 @@ columns_read (Plus name number) = name ∷ []
 columns_read (Minus name number) = name ∷ []
 
 -- what a source gives, from the values that the row had; sums are of whole numbers without bounds
-abbrev pub given : List (List ℕ) → List Value → Source → Value
-given names values (Literal value) = value
-given names values (Column name) = value_in names values name
-given names values (Plus name number) = Int (number_in (value_in names values name) +ℤ number)
-given names values (Minus name number) = Int (number_in (value_in names values name) -ℤ number)
+abbrev pub source_value : List (List ℕ) → List Value → Source → Value
+source_value names values (Literal value) = value
+source_value names values (Column name) = value_in names values name
+source_value names values (Plus name number) = Int (number_in (value_in names values name) +ℤ number)
+source_value names values (Minus name number) = Int (number_in (value_in names values name) -ℤ number)
 
 -- a sum is of an integer
 abbrev pub is_summable : List (List ℕ) → List Value → Source → Bool
@@ -167,20 +163,16 @@ sum_fits names values (Minus name number) = fits_bits 63 (number_in (value_in na
 -- what a column holds afterwards
 abbrev pub new_value : List (List ℕ) → List Value → List Setting → List ℕ → Value
 new_value names values sets name =
-    option_map_or (λ set. given names values set.1) (find (λ set. same_name name set.0) sets) (value_in names values name)
+    option_map_or (λ set. source_value names values set.1) (find (λ set. same_name name set.0) sets) (value_in names values name)
 
 abbrev pub new_values : List (List ℕ) → List Value → List Setting → List Value
 new_values names values sets = map (new_value names values sets) names
 
 -- the row of the old id is now this one, unless another row has the new id
-abbrev pub becomes : List TableRow → ℤ → TableRow → Steps
-becomes rows old row =
+abbrev pub replace_row : List TableRow → ℤ → TableRow → Steps
+replace_row rows old row =
     if not (int_eq old row.id) && has_id rows row.id then Err IdAlreadyTaken
     else Ok (Becomes old row ∷ [])
-
-abbrev pub become_candidate : List TableRow → ℤ → Candidate → Option ℤ → Steps
-become_candidate rows old c None = Err WrongType
-become_candidate rows old c (Some id) = becomes rows old (row_of id c)
 
 -- the step of one row, or the first thing that is wrong, each over all columns before the next: a type, an integer
 -- out of range, a minimum above its maximum, an id that another row has
@@ -191,7 +183,7 @@ update_row columns rows sets row =
     if not (list_all (λ set. is_summable columns.names old set.1) sets) then Err WrongType
     else (if not (is_integer (id_value new) && list_all is_integer (coordinate_values columns.axes new)) then Err WrongType
     else (if not (list_all (λ set. sum_fits columns.names old set.1) sets) then Err IntegerOutOfRange
-    else and_then (candidate_of columns.axes new) (λ c. become_candidate rows row.id c c.id)))
+    else and_then (row_from columns.axes (given_id new) new) (replace_row rows row.id)))
 
 -- one row after the other, each among the rows as they then are
 abbrev pub update_all : Columns → List TableRow → List Setting → List TableRow → Steps

@@ -7,11 +7,9 @@ use Rattle.rt_table_row.specs.declared.entry.RowView.{RowView}
 use Rattle.rt_table_row.specs.declared.entry.ListedRow.{ListedRow}
 use Rattle.rt_table_row.specs.declared.entry.Step as declared
 use Rattle.rt_table_row.specs.declared.entry.Step.TheVariants as step
-use Rattle.rt_table_row.specs.declared.candidate.Candidate as made
 use Rattle.rt_table_row.specs.declared.entry.Field.{Field}
 use Rattle.rt_table_row.specs.declared.entry.Field.TheVariants.{Number, Auxiliary, Missing}
 use Rattle.rt_table_row.specs.Rows.{TableRow}
-use Rattle.rt_table_row.specs.Candidates.{Candidate}
 use Rattle.rt_table_row.specs.Edits.{Step, Leaves, Comes, Becomes}
 
 -- the row that an entry is
@@ -26,17 +24,13 @@ view_row view = record { id = view.id; box = view.rect; auxiliary = view.auxilia
 abbrev pub listed_values : ListedRow → List Value
 listed_values row = map Int row.numbers.now ++ row.auxiliary.now
 
--- the candidate that a candidate with a box of axes is
-abbrev pub candidate_as : {D : _} → made.Candidate D → Candidate
-candidate_as candidate = record { id = candidate.id; box = candidate.rect; auxiliary = candidate.auxiliary }
-
 -- the step that a step of entries is
 abbrev pub step_of : {D : _} → declared.Step D → Step
 step_of (step.Leaves id) = Leaves id
 step_of (step.Comes entry) = Comes (row_of entry)
 step_of (step.Becomes id entry) = Becomes id (row_of entry)
 
--- the value that is looked at; NULL where no column has that place
+-- the value that is looked at; NULL if no column has that place
 abbrev pub field_value : Field → Value
 field_value (Number n) = Int n
 field_value (Auxiliary value) = value.now

@@ -1,5 +1,5 @@
 -- A condition whose columns were looked up: each test has the place of the column that it looks at. Source: own.
-use Rattle.std.specs.Prelude.{◌≡◌, ◌⊎◌, ℕ, ◌==◌, Bool, true, false, not, ◌&&◌, List, [], ◌∷◌, map, zip, Some, slice_index_or}
+use Rattle.std.specs.Prelude.{◌≡◌, ◌⊎◌, ℕ, ℤ, ◌==◌, Bool, true, false, not, ◌&&◌, List, [], ◌∷◌, map, zip, Some, slice_index_or}
 use Rattle.std.specs.List.{list_all}
 use Rattle.std.specs.Option.{option_map_or}
 use Rattle.rt_sql_statement.specs.declared.value.Value.{Value}
@@ -15,7 +15,7 @@ use Rattle.rt_table_row.specs.declared.filter.TestPlaces.TheVariants.{One, Many}
 use Rattle.rt_table_row.specs.Values.{is_null, compares}
 use Rattle.rt_table_row.specs.Columns.{Columns, place_of}
 use Rattle.rt_table_row.specs.Conditions.{column_of, has_columns, holds}
-use Rattle.rt_table_row.specs.Candidates.{is_integer}
+use Rattle.rt_table_row.specs.NewRows.{is_integer}
 use Rattle.rt_table_row.specs.Rows.{TableRow, values_of}
 
 pub record Placed : Type 0 where
@@ -44,6 +44,10 @@ admits filter row = list_all (passes_at row) (zip filter.cond filter.places)
 abbrev pub ArePlaces : List (List ℕ) → List Test → List ℕ → Type 0
 ArePlaces names cond places = map (λ (test : Test). place_of names (column_of test)) cond ≡ map Some places
 
+-- the same of places wherever they stand
+abbrev pub HavePlaces : Columns → List Test → TestPlaces → Type 0
+HavePlaces columns cond places = ArePlaces columns.names cond (places_at places)
+
 -- The filter picks the rows that the condition picks, and each test looks at a column of the table.
 pub record IsFilterOf (columns : Columns) (cond : List Test) (filter : Placed) : Type 0 where
   pub known : has_columns columns cond ≡ true
@@ -68,6 +72,10 @@ is_integer_equality (IsNotNull name) = false
 -- and of the id: its column stands first
 abbrev pub fixes_id : Test × ℕ → Bool
 fixes_id test = test.1 == 0 && is_integer_equality test.0
+
+-- each row that passes all of the tests has the id
+abbrev pub FixesId : List Test → List ℕ → ℤ → Type 0
+FixesId tests places id = (row : TableRow) → list_all (passes_at row) (zip tests places) ≡ true → row.id ≡ id
 
 -- the condition is one such test
 abbrev pub is_by_id : Columns → List Test → Bool

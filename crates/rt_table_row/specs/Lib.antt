@@ -3,7 +3,7 @@ pub mod Columns
 pub mod Rows
 pub mod RowLists
 pub mod Conditions
-pub mod Candidates
+pub mod NewRows
 pub mod Edits
 pub mod Views
 pub mod Tables

@@ -1,6 +1,6 @@
 -- Rows whose numbers stand in one list, and their auxiliary values in another: where those of each row begin and end.
 -- Source: own.
-use Rattle.std.specs.Prelude.{ℤ, ◌≤◌, List, ◌++◌, map, length, All, slice_range}
+use Rattle.std.specs.Prelude.{◌≡◌, ℤ, ◌≤◌, List, ◌++◌, map, length, All, take, slice_range}
 use Rattle.rt_sql_statement.specs.declared.value.Value.{Value}
 use Rattle.rt_sql_statement.specs.declared.value.Value.TheVariants.{Int}
 use Rattle.rt_table_row.specs.declared.row_list.Span.{Span}
@@ -19,9 +19,13 @@ row_in numbers values place = map Int (part numbers place.numbers) ++ part value
 abbrev pub rows_in : Inside → Lists
 rows_in list = map (row_in list.numbers.items list.values.items) list.places.items
 
--- a part ends at its start or behind it, and within the items
+-- a part doesn't end before its start, and ends within the items
 abbrev pub IsWithin : {A : Type 0} → List A → Span → Type 0
 IsWithin items span = (span.start ≤ span.end) × (span.end ≤ length items)
 
 abbrev pub AreWithin : Inside → Type 0
 AreWithin list = All (λ place. IsWithin list.numbers.items place.numbers × IsWithin list.values.items place.auxiliary) list.places.items
+
+-- the items begin with the prefix
+abbrev pub IsPrefix : {A : Type 0} → List A → List A → Type 0
+IsPrefix prefix items = take (length prefix) items ≡ prefix

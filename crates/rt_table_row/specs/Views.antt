@@ -38,7 +38,7 @@ left view row = record { view = view; came = false; row = values_of row }
 abbrev pub came : List ℕ → TableRow → ViewChange
 came view row = record { view = view; came = true; row = values_of row }
 
--- at one id: nothing where the rows are equal, else the row that left and then the row that came
+-- at one id: nothing if the rows are equal, else the row that left and then the row that came
 abbrev pub change_at : List ℕ → Option TableRow → Option TableRow → List ViewChange
 change_at view None None = []
 change_at view (Some old) None = left view old ∷ []

@@ -25,7 +25,7 @@ allows (Compare c) z = is_unequal c.op || compares c.op (Int z) c.value
 allows (IsNull name) z = false
 allows (IsNotNull name) z = true
 
--- where the test looks at that coordinate, it allows it the number; the id's column stands before the coordinates
+-- if the test looks at that coordinate, it allows it the number; the id's column stands before the coordinates
 abbrev pub AllowsAt : List (List ℕ) → ℕ → ℤ → Test → Type 0
 AllowsAt names coordinate z test = place_of names (column_of test) ≡ Some (suc coordinate) → allows test z ≡ true
 
@@ -44,7 +44,7 @@ pub record IsWindowAt (axes : ℕ) (filter : Placed) (window : List Interval) : 
   pub exact : (coordinate : ℕ) (z : ℤ) → coordinate < 2 * axes
       → (Allows window coordinate z ↔ (FitsSigned w32 z × All (AllowsAtPlace coordinate z) (zip filter.cond filter.places)))
 
--- the test is one of so many coordinates, and no `<>`: the window says all that it asks (own)
+-- the test is one of `coordinates` coordinates, and no `<>`: the window says all that it asks (own)
 abbrev pub is_gap : Test → Bool
 is_gap (Compare c) = is_unequal c.op
 is_gap (IsNull name) = false
@@ -63,7 +63,7 @@ pub record NarrowsTo (old new : List Interval) (coordinate : ℕ) (passes : ℤ 
   pub taken : (z : ℤ) → Allows new coordinate z ↔ (Allows old coordinate z × (passes z ≡ true))
   pub others : (k : ℕ) (z : ℤ) → k ≢ coordinate → (Allows new k z ↔ Allows old k z)
 
--- of the numbers that the coordinates of so many axes were allowed, those stay that the test allows (own)
+-- of the numbers that the coordinates of `axes` axes were allowed, those stay that the test allows (own)
 pub record NarrowsAt (axes : ℕ) (old new : List Interval) (test : Test × ℕ) : Type 0 where
   pub long : length new ≡ length old
   pub exact : (k : ℕ) (z : ℤ) → k < 2 * axes → (Allows new k z ↔ (Allows old k z × AllowsAtPlace k z test))

@@ -9,10 +9,11 @@ ghost use Rattle.std.specs.Option.{option_copied};
 ghost use Rattle.rt_table_row.specs.Columns.{place_of, has_name};
 ghost use Rattle.rt_table_row.specs.Arrangements.{value_at, own_places};
 ghost use Rattle.rt_table_row.specs.Answers.{GivesAs};
-ghost use Rattle.rt_table_row.specs.Candidates.{candidate_of};
-ghost use Rattle.rt_table_row.specs.Entries.{candidate_as};
+ghost use Rattle.rt_table_row.specs.NewRows.{id_in, given_id, row_from};
+ghost use Rattle.rt_table_row.specs.Entries.{row_of};
 
-use crate::candidate::Candidate;
+use crate::entry::Entry;
+use crate::new_row::id_in;
 use crate::schema::{Schema, are_listed_once, has_name, place_of};
 use rt_sql_statement::{Items, Name, Refusal, Value};
 use std::alloc::{AllocError, Global};
@@ -54,10 +55,20 @@ fn copy_at(alloc: Global, values: &[Value], place: Option<usize>) -> Result<Valu
     }
 }
 
+/// The id at that place; none if no integer stands there.
+fn id_at(values: &[Value], place: Option<usize>) -> Option<i64>
+    ensures { result ≡ id_in (value_at values.now place) }
+{
+    match place {
+        Some(place) if place < values.len() => id_in(&values[place]),
+        _ => None,
+    }
+}
+
 /// Where the values of the columns stand in a list.
 #[derive(Debug, Drop)]
 enum Places {
-    /// In the order of the columns, of which there are so many.
+    /// In the order of the columns, of which this is the number.
     Own(usize),
     /// At these places, or nowhere.
     Listed(Vec<Option<usize>>),
@@ -71,9 +82,9 @@ pub struct Arrangement {
 }
 
 impl Model for Arrangement {
-    ghost use Rattle.rt_table_row.specs.Arrangements.{Arranged};
+    ghost use Rattle.rt_table_row.specs.Arrangements.{ColumnPlaces};
 
-    ghost Value = { Arranged };
+    ghost Value = { ColumnPlaces };
 
     ghost use Rattle.rt_table_row.specs.Arrangements.{places_in};
 
@@ -82,14 +93,14 @@ impl Model for Arrangement {
 
 impl Arrangement {
     ghost use Rattle.std.specs.Prelude.{MatchResult};
-    ghost use Rattle.rt_table_row.specs.Arrangements.{IsArrangementOf, IsBadList, rearranged};
+    ghost use Rattle.rt_table_row.specs.Arrangements.{IsArrangementOf, IsBadList, row_values};
 
     /// The arrangement of values for the columns of these names.
     ///
     /// # Errors
     ///
-    /// `BadColumnList` where two names are one, else `NoSuchColumn` where the table hasn't one of them, and
-    /// `OutOfMemory`.
+    /// `BadColumnList` if two names are one; else `NoSuchColumn` if the table hasn't one of them; `OutOfMemory` if no memory
+    /// is left.
     pub fn new(alloc: Global, schema: &Schema, names: &[Name]) -> Result<Arrangement, Refusal>
         ensures { MatchResult result (IsArrangementOf schema.now names.now) (IsBadList schema.now names.now) }
     {
@@ -126,59 +137,72 @@ impl Arrangement {
         are_wide(lists, self.width)
     }
 
-    /// The candidate that the values are in the order of the table's columns; a column that isn't listed gets NULL.
-    /// Values that stand in that order aren't copied, but for auxiliary ones.
+    /// The id that the values give; none if it is NULL or isn't listed.
+    pub fn given_id(&self, list: &[Value]) -> Option<i64>
+        requires { 1 ≤ length self.now.places }
+        ensures { result ≡ given_id (row_values self.now list.now) }
+    {
+        match &self.places {
+            Places::Own(_) => id_at(list, Some(0)),
+            Places::Listed(places) => id_at(list, places[0]),
+        }
+    }
+
+    /// The row of that id that the values are in the order of the table's columns; a column that isn't listed gets NULL.
+    /// Of values that stand in that order only the auxiliary ones are copied.
     ///
     /// # Errors
     ///
-    /// Those of `Candidate::new`.
-    pub fn candidate<const D: usize>(
+    /// Those of `Entry::new`.
+    pub fn new_entry<const D: usize>(
         &self,
         alloc: Global,
+        id: Option<i64>,
         list: &[Value],
-    ) -> Result<Candidate<D>, Refusal>
+    ) -> Result<Entry<D>, Refusal>
         requires some { 1 ≤ D }
         requires few { D ≤ 3 }
         requires long { 1 + 2 * D ≤ length self.now.places }
-        ensures { GivesAs candidate_as (candidate_of D (rearranged self.now list.now)) result }
+        ensures { GivesAs row_of (row_from D id (row_values self.now list.now)) result }
     {
         match &self.places {
             Places::Own(count) => {
                 own_places_facts(*count);
-                own_candidate(alloc, *count, list)
+                own_entry(alloc, *count, id, list)
             }
             Places::Listed(places) => {
-                let values = rearranged(alloc, places.as_slice(), list)?;
-                Candidate::new(values)
+                let values = row_values(alloc, places.as_slice(), list)?;
+                Entry::new(id, values)
             }
         }
     }
 }
 
-/// A law: so many columns have so many places. The call does nothing.
+/// A law: `count` columns have `count` places. The call does nothing.
 fn own_places_facts(count: usize)
     ensures { length (own_places count) ≡ count }
 {}
 
-/// The candidate of values in the order of the columns.
-fn own_candidate<const D: usize>(
+/// The row of that id, of values in the order of the columns.
+fn own_entry<const D: usize>(
     alloc: Global,
     count: usize,
+    id: Option<i64>,
     list: &[Value],
-) -> Result<Candidate<D>, Refusal>
+) -> Result<Entry<D>, Refusal>
     requires some { 1 ≤ D }
     requires few { D ≤ 3 }
     requires long { 1 + 2 * D ≤ count }
-    ensures { GivesAs candidate_as (candidate_of D (map (value_at list.now) (own_places count))) result }
+    ensures { GivesAs row_of (row_from D id (map (value_at list.now) (own_places count))) result }
 {
     if list.len() == count {
-        return Candidate::from_slice(alloc, list);
+        return Entry::from_slice(alloc, id, list);
     }
     let values = in_order(alloc, count, list)?;
-    Candidate::new(values)
+    Entry::new(id, values)
 }
 
-/// So many values of a list in its order; NULL past its end.
+/// The first `count` values of a list; NULL past its end.
 fn in_order(alloc: Global, count: usize, list: &[Value]) -> Result<Vec<Value>, AllocError>
     ensures value { IfOk result (λ values. values.items ≡ map (value_at list.now) (own_places count)) }
     ensures each { IfOk result (λ values. length values.items ≡ count) }
@@ -196,7 +220,7 @@ fn are_wide(lists: &[Items<Value>], width: usize) -> bool
     lists.iter().all(|values| values.len() == width)
 }
 
-fn rearranged(
+fn row_values(
     alloc: Global,
     places: &[Option<usize>],
     list: &[Value],

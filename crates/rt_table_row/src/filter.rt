@@ -7,7 +7,7 @@ ghost use Rattle.std.specs.Prelude.{◌≡◌, zip, true, false, IfSome, IfNone,
 ghost use Rattle.std.specs.List.{list_all, list_any};
 ghost use Rattle.std.specs.Ordering.{int_eq};
 ghost use Rattle.rt_table_row.specs.Conditions.{column_of, has_columns, holds};
-ghost use Rattle.rt_table_row.specs.Filters.{value_passes, passes_at, fixes_id, is_by_id, places_at, ArePlaces, IsFilterOf, IsUnknown};
+ghost use Rattle.rt_table_row.specs.Filters.{value_passes, passes_at, fixes_id, FixesId, is_by_id, places_at, ArePlaces, HavePlaces, IsFilterOf, IsUnknown};
 ghost use Rattle.rt_table_row.specs.Windows.{is_said};
 ghost use Rattle.rt_table_row.specs.Entries.{view_row, field_value};
 ghost use Rattle.rt_table_row.specs.Rows.{TableRow};
@@ -110,7 +110,7 @@ fn id_at(test: &Test, place: usize) -> Option<i64>
 
 /// The id that each row has that passes all of the tests.
 fn id_among(tests: &[Test], places: &[usize]) -> Option<i64>
-    ensures fixed { IfSome result (λ id. (row : TableRow) → list_all (passes_at row) (zip tests.now places.now) ≡ true → row.id ≡ id) }
+    ensures fixed { IfSome result (FixesId tests.now places.now) }
     ensures none { IfNone result (list_any fixes_id (zip tests.now places.now) ≡ false) }
 {
     for (test, place) in tests.iter().zip(places) {
@@ -121,7 +121,7 @@ fn id_among(tests: &[Test], places: &[usize]) -> Option<i64>
     None
 }
 
-/// Whether a window says all that each of the tests asks.
+/// Whether a window of `coordinates` coordinates says all that each of the tests asks.
 fn are_said(coordinates: usize, tests: &[Test], places: &[usize]) -> bool
     ensures { result ≡ list_all (is_said coordinates) (zip tests.now places.now) }
 {
@@ -153,9 +153,9 @@ impl TestPlaces {
     }
 }
 
-/// The places one behind the other, in a list.
+/// The places, in a list.
 fn list_of(alloc: Global, schema: &Schema, cond: &[Test]) -> Result<Vec<usize>, Refusal>
-    ensures { MatchResult result (λ places. ArePlaces schema.now.names cond.now places.items) (λ refusal. IsUnknown schema.now cond.now refusal) }
+    ensures { MatchResult result (λ p. ArePlaces schema.now.names cond.now p.items) (IsUnknown schema.now cond.now) }
 {
     let mut places = Vec::with_capacity(alloc, cond.len())?;
     for test in cond {
@@ -169,7 +169,7 @@ fn list_of(alloc: Global, schema: &Schema, cond: &[Test]) -> Result<Vec<usize>, 
 
 /// The places of the columns that the tests look at.
 fn places_of(alloc: Global, schema: &Schema, cond: &[Test]) -> Result<TestPlaces, Refusal>
-    ensures { MatchResult result (λ places. ArePlaces schema.now.names cond.now (places_at places)) (λ refusal. IsUnknown schema.now cond.now refusal) }
+    ensures { MatchResult result (HavePlaces schema.now cond.now) (IsUnknown schema.now cond.now) }
 {
     if let [test] = cond {
         return match schema.place_of(column_of(test)) {
@@ -187,7 +187,7 @@ pub struct Filter {
     places: TestPlaces,
 }
 
-// By hand, since a derived drop is written out, field by field, wherever such a value ends.
+// By hand, since a derived drop is written out, field by field, in each place in which such a value ends.
 impl Drop for Filter {
     fn drop(self) {
         let Filter { cond: _, places: _ } = self;
@@ -211,7 +211,7 @@ impl Filter {
     ///
     /// # Errors
     ///
-    /// `NoSuchColumn` where a test looks at a column that the table hasn't, and `OutOfMemory`.
+    /// `NoSuchColumn` if a test looks at a column that the table hasn't; `OutOfMemory` if no memory is left.
     pub fn new(alloc: Global, schema: &Schema, cond: Cond) -> Result<Filter, Refusal>
         ensures { MatchResult result (IsFilterOf schema.now cond) (IsUnknown schema.now cond) }
     {
@@ -244,8 +244,8 @@ impl Filter {
         are_said(2 * D, self.cond.as_slice(), self.places.as_slice())
     }
 
-    /// The id that each row has that the condition picks, where a test compares the id with an
-    /// integer by `=`; `None` only where no test does.
+    /// The id of each row that the condition picks, if a test compares the id with an integer by `=`; `None` only if no
+    /// test does.
     pub fn id(&self) -> Option<i64>
         ensures fixed { IfSome result (λ id. (row : TableRow) → admits self.now row ≡ true → row.id ≡ id) }
         ensures none { IfNone result (list_any fixes_id (zip self.now.cond self.now.places) ≡ false) }
@@ -254,8 +254,8 @@ impl Filter {
     }
 }
 
-/// The id that is all a condition over these columns asks for, where its only test compares the id with an integer by `=`. The
-/// condition then holds of the row that has the id, and of no other.
+/// The id that is all a condition over these columns asks for, if its only test compares the id with an integer by `=`.
+/// The condition then holds of the row that has the id, and of no other.
 pub fn lone_id(schema: &Schema, cond: &Cond) -> Option<i64>
     ensures known { IfSome result (λ _. has_columns schema.now cond.now ≡ true) }
     ensures exact { IfSome result (λ id. (row : TableRow) → holds schema.now cond.now row ≡ int_eq row.id id) }

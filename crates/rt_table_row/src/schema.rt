@@ -3,12 +3,11 @@
 //! Columns have a fixed order: the id, a minimum and a maximum for each axis, and then the auxiliary columns. So
 //! the place of a column says what it holds (`specs/Columns.antt`).
 
-ghost use Rattle.std.specs.Prelude.{◌≡◌, ◌≤◌, ◌+◌, ◌*◌, ◌||◌, ℕ, List, true, not, length, map, IfOk, OnOk};
+ghost use Rattle.std.specs.Prelude.{◌≡◌, ◌≤◌, ◌+◌, ◌*◌, true, not, length, map, IfOk, OnOk};
 ghost use Rattle.std.specs.List.{list_all};
 ghost use Rattle.std.specs.BTreeSet.{contains_text};
 ghost use Rattle.std.specs.Str.{str_to_ascii_lowercase};
-ghost use Rattle.rt_sql_statement.specs.Name.{same_name};
-ghost use Rattle.rt_table_row.specs.Columns.{has_name, place_of, are_distinct, plain_columns, is_column_list, columns_of};
+ghost use Rattle.rt_table_row.specs.Columns.{has_name, place_of, are_distinct, plain_columns, is_column_list, columns_of, AddsName};
 ghost use Rattle.rt_table_row.specs.Answers.{Gives};
 
 use rt_sql_statement::{ColumnDef, Name, Refusal};
@@ -19,10 +18,10 @@ use std::marker::Model;
 /// The most columns that a table may have.
 const MOST_COLUMNS: usize = 100;
 
-/// Up to so many names are compared each with each, which needs no memory.
+/// Up to this many names are compared each with each, which needs no memory.
 pub(crate) const FEW_NAMES: usize = 16;
 
-/// Where the name stands among the names; ASCII case doesn't matter.
+/// The place of the name among the names; ASCII case doesn't matter.
 pub(crate) fn place_of(names: &[Name], name: &Name) -> Option<usize>
     ensures { result ≡ place_of names.now name.now }
 {
@@ -53,13 +52,13 @@ fn are_distinct(names: &[Name]) -> bool
 /// Adds a name to the texts of those before it, which are in lower case. Says whether it is new among them.
 fn add_name(alloc: Global, texts: &mut BTreeSet<String>, name: &Name) -> Result<bool, AllocError>
     ensures new { IfOk result (λ new. new ≡ not (contains_text texts.old (str_to_ascii_lowercase name.now))) }
-    ensures added { OnOk result ((q : List ℕ) → contains_text texts.new (str_to_ascii_lowercase q) ≡ (same_name name.now q || contains_text texts.old (str_to_ascii_lowercase q))) }
+    ensures added { OnOk result (AddsName name.now (contains_text texts.old) (contains_text texts.new)) }
 {
     let new = texts.insert(name.as_str().to_ascii_lowercase(alloc)?)?;
     Ok(new)
 }
 
-/// The same for a long list, where it doesn't compare each name with each.
+/// The same for a long list: it doesn't compare each name with each.
 fn are_many_distinct(alloc: Global, names: &[Name]) -> Result<bool, AllocError>
     ensures { IfOk result (λ distinct. distinct ≡ are_distinct names.now) }
 {
@@ -125,7 +124,7 @@ pub struct Schema {
     names: Vec<Name>,
 }
 
-// By hand, since a derived drop is written out, field by field, wherever such a value ends.
+// By hand, since a derived drop is written out, field by field, in each place in which such a value ends.
 impl Drop for Schema {
     fn drop(self) {
         let Schema { axes: _, names: _ } = self;
@@ -133,14 +132,13 @@ impl Drop for Schema {
 }
 
 impl Model for Schema {
-    ghost use Rattle.std.specs.Prelude.{◌≡◌, ◌+◌, ◌*◌, ◌≤◌, true, length};
-    ghost use Rattle.rt_table_row.specs.Columns.{Columns, are_distinct};
+    ghost use Rattle.rt_table_row.specs.Columns.{Columns, AreColumns};
 
     ghost Value = { Columns };
 
     ghost view = { λ schema. record { axes = schema.axes; names = schema.names.items } };
 
-    ghost invariant = { λ schema. (1 ≤ schema.axes) × (schema.axes ≤ 3) × (1 + 2 * schema.axes ≤ length schema.names.items) × (are_distinct schema.names.items ≡ true) };
+    ghost invariant = { λ schema. AreColumns schema.axes schema.names.items };
 }
 
 impl Schema {
@@ -148,7 +146,7 @@ impl Schema {
     ///
     /// # Errors
     ///
-    /// `BadColumnList` where no table may have these columns, and `OutOfMemory`.
+    /// `BadColumnList` if no table may have these columns; `OutOfMemory` if no memory is left.
     pub fn new(alloc: Global, columns: &[ColumnDef]) -> Result<Schema, Refusal>
         ensures { Gives (columns_of columns.now) result }
     {
@@ -200,7 +198,7 @@ impl Schema {
         self.names.as_slice()
     }
 
-    /// Where the column of that name stands; ASCII case doesn't matter.
+    /// The place of the column of that name; ASCII case doesn't matter.
     pub fn place_of(&self, name: &Name) -> Option<usize>
         ensures { result ≡ place_of self.now.names name.now }
     {

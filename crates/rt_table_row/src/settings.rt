@@ -3,19 +3,19 @@
 //! Each column has a `Reading`, which gives its new value; a column that isn't set reads itself. Each refusal is looked
 //! for over all columns before the next (`update_row` in `specs/Edits.antt`; `specs/Settings.antt`).
 
-ghost use Rattle.std.specs.Prelude.{◌≡◌, ◌⊎◌, ◌≤◌, ◌+◌, ◌*◌, [], true, false, length, map, IfOk, MatchResult};
+ghost use Rattle.std.specs.Prelude.{◌≡◌, ◌≤◌, ◌+◌, ◌*◌, [], true, false, length, map, IfOk, MatchResult};
 ghost use Rattle.std.specs.List.{list_all, list_any};
 ghost use Rattle.rt_sql_statement.specs.declared.value.Value.TheVariants.{Null};
 ghost use Rattle.rt_table_row.specs.Rows.{values_of};
-ghost use Rattle.rt_table_row.specs.Entries.{view_row, field_value, candidate_as};
-ghost use Rattle.rt_table_row.specs.Candidates.{is_integer, number_in, id_value, coordinate_values};
+ghost use Rattle.rt_table_row.specs.Entries.{row_of, view_row, field_value};
+ghost use Rattle.rt_table_row.specs.NewRows.{is_integer, number_in, id_value, coordinate_values};
 ghost use Rattle.rt_table_row.specs.Columns.{are_distinct, has_name};
-ghost use Rattle.rt_table_row.specs.Settings.{read, reads_integer, reading_fits, candidate_set, set_names, reading_of, are_known, AreReadings, looked_up};
+ghost use Rattle.rt_table_row.specs.Settings.{read, reads_integer, reading_fits, new_row, set_names, reading_of, AreReadings, IsUnknownSet, column_readings};
 ghost use Rattle.rt_sql_statement.specs.Name.{same_name};
 ghost use Rattle.rt_table_row.specs.Answers.{GivesAs};
 
-use crate::candidate::{Candidate, MOST_COORDINATES, is_integer, number_in};
-use crate::entry::{Field, RowView};
+use crate::entry::{Entry, Field, RowView};
+use crate::new_row::{MOST_COORDINATES, is_integer, number_in};
 use crate::schema::{FEW_NAMES, Schema, are_listed_once, place_of};
 use arrayvec::ArrayVec;
 use rt_sql_statement::{Items, Name, Refusal, Source, Value};
@@ -81,7 +81,7 @@ fn are_set_once(alloc: Global, sets: &[(Name, Source)]) -> Result<bool, AllocErr
     are_listed_once(alloc, names.as_slice())
 }
 
-/// What a set gives; none where it reads no column of the table.
+/// What a set gives; none if it reads a column that the table hasn't.
 fn reading_of(
     alloc: Global,
     columns: &[Name],
@@ -101,7 +101,7 @@ fn reading_of(
     })
 }
 
-/// Where no column is set, each reads itself. No two have one name, so a column's own place is that of its name.
+/// If no column is set, each reads itself. No two have one name, so a column's own place is that of its name.
 fn own_readings(alloc: Global, columns: &[Name]) -> Result<Vec<Reading>, AllocError>
     requires { are_distinct columns.now ≡ true }
     ensures { IfOk result (λ readings. AreReadings columns.now [] readings.items) }
@@ -121,8 +121,7 @@ fn readings_of(
 ) -> Result<Vec<Reading>, Refusal>
     requires columns { are_distinct columns.now ≡ true }
     requires sets { are_distinct (set_names sets.now) ≡ true }
-    ensures { MatchResult result (λ readings. AreReadings columns.now sets.now readings.items)
-        (λ refusal. ((refusal ≡ Refusal.NoSuchColumn) × (are_known columns.now sets.now ≡ false)) ⊎ (refusal ≡ Refusal.OutOfMemory)) }
+    ensures { MatchResult result (λ r. AreReadings columns.now sets.now r.items) (IsUnknownSet columns.now sets.now) }
 {
     let mut readings = own_readings(alloc, columns)?;
     for set in sets {
@@ -288,15 +287,15 @@ fn numbers_read<const D: usize>(
 }
 
 /// What a row becomes.
-fn candidate<const D: usize>(
+fn entry_of<const D: usize>(
     alloc: Global,
     row: &RowView<'_, D>,
     readings: &[Reading],
-) -> Result<Candidate<D>, Refusal>
+) -> Result<Entry<D>, Refusal>
     requires some { 1 ≤ D }
     requires few { D ≤ 3 }
     requires long { 1 + 2 * D ≤ length readings.now }
-    ensures { GivesAs candidate_as (candidate_set D (looked_up readings.now) (values_of (view_row row.now))) result }
+    ensures { GivesAs row_of (new_row D (column_readings readings.now) (values_of (view_row row.now))) result }
 {
     if !are_summable(row, readings) {
         return Err(Refusal::WrongType);
@@ -311,7 +310,7 @@ fn candidate<const D: usize>(
     let id = number_read(row, &plain[0]);
     let coordinates = numbers_read(row, &plain[1..]);
     let auxiliary = all_read(alloc, row, auxiliary)?;
-    Candidate::from_numbers(Some(id), coordinates.as_slice(), Items::from_vec(auxiliary))
+    Entry::from_numbers(Some(id), coordinates.as_slice(), Items::from_vec(auxiliary))
 }
 
 /// What an UPDATE sets, with its columns looked up once, so that no name is compared for a row.
@@ -322,11 +321,11 @@ pub struct Settings {
 }
 
 impl Model for Settings {
-    ghost use Rattle.rt_table_row.specs.Settings.{LookedUp, looked_up};
+    ghost use Rattle.rt_table_row.specs.Settings.{ColumnReadings, column_readings};
 
-    ghost Value = { LookedUp };
+    ghost Value = { ColumnReadings };
 
-    ghost view = { λ settings. looked_up settings.readings.items };
+    ghost view = { λ settings. column_readings settings.readings.items };
 }
 
 impl Settings {
@@ -336,8 +335,8 @@ impl Settings {
     ///
     /// # Errors
     ///
-    /// `BadColumnList` where two sets are of one column, else `NoSuchColumn` where a set is of or reads a
-    /// column that the table hasn't, and `OutOfMemory`.
+    /// `BadColumnList` if two sets are of one column; else `NoSuchColumn` if a set is of a column that the table hasn't, or
+    /// reads one; `OutOfMemory` if no memory is left.
     pub fn new(alloc: Global, schema: &Schema, sets: &[(Name, Source)]) -> Result<Settings, Refusal>
         ensures { MatchResult result (IsSettingsOf schema.now sets.now) (IsBadSettings schema.now sets.now) }
     {
@@ -354,20 +353,20 @@ impl Settings {
     ///
     /// # Errors
     ///
-    /// The first of these that holds: `WrongType` where a sum is of no integer, or an id or a coordinate is
-    /// none; `IntegerOutOfRange` where a sum has more than 64 bits, or a coordinate more than 32;
-    /// `MinimumAboveMaximum`; or `OutOfMemory`.
+    /// The first of these that holds: `WrongType` if a sum is of no integer, or an id or a coordinate is none;
+    /// `IntegerOutOfRange` if a sum has more than 64 bits, or a coordinate more than 32; `MinimumAboveMaximum`; or
+    /// `OutOfMemory` if no memory is left.
     #[inline(always)]
-    pub fn candidate<const D: usize>(
+    pub fn new_entry<const D: usize>(
         &self,
         alloc: Global,
         row: &RowView<'_, D>,
-    ) -> Result<Candidate<D>, Refusal>
+    ) -> Result<Entry<D>, Refusal>
         requires some { 1 ≤ D }
         requires few { D ≤ 3 }
         requires long { 1 + 2 * D ≤ length self.now.fills }
-        ensures { GivesAs candidate_as (candidate_set D self.now (values_of (view_row row.now))) result }
+        ensures { GivesAs row_of (new_row D self.now (values_of (view_row row.now))) result }
     {
-        candidate(alloc, row, self.readings.as_slice())
+        entry_of(alloc, row, self.readings.as_slice())
     }
 }

@@ -77,15 +77,15 @@ fn is_gap(test: &Test) -> bool
     }
 }
 
-/// Whether a window of so many coordinates says all that a test of the column at that place asks.
+/// Whether a window of `coordinates` coordinates says all that a test of the column at that place asks.
 pub(crate) fn is_said(coordinates: usize, test: &Test, place: usize) -> bool
     ensures { result ≡ is_said coordinates (test.now, place) }
 {
     place >= 1 && place <= coordinates && !is_gap(test)
 }
 
-/// Narrows a window by a test of the column at that place, where a coordinate stands there: the id stands at 0, and
-/// the auxiliary values behind the coordinates.
+/// Narrows a window by a test of the column at that place, if a coordinate stands there: the id stands at 0, and the
+/// auxiliary values follow the coordinates.
 fn narrow_at<const D: usize>(window: &mut Window<D>, place: usize, test: &Test)
     requires { D ≤ 3 }
     ensures { NarrowsAt D window.old window.new (test.now, place) }

@@ -15,7 +15,7 @@ use Rattle.std.proofs.lemmas.List.Folds.{list_any-append}
 use Rattle.std.proofs.lemmas.List.Sorted.{sorted_far, ranks_by, searchable_from_sorted}
 use Rattle.std.proofs.lemmas.Map.Views.{Contains-from_any, list_any-from_Contains}
 use Rattle.indexmap.proofs.SortedLemmas.{sorted_insert}
-use Rattle.rt_table_store.specs.Ranked.{IsTop, IsUpward, Ranks}
+use Rattle.rt_table_store.specs.GreatestIds.{IsTop, IsUpward, Ranks}
 use Rattle.rt_table_store.proofs.Order.{eq_same, eq_from, three_ways}
 
 not_less : (x y : ℤ) → is_lt (int_cmp x y) ≡ false → y ≤ℤ x

@@ -11,7 +11,7 @@ use Rattle.rt_sql_statement.specs.declared.value.Value.{Value}
 use Rattle.rt_table_row.specs.Rows.{TableRow, row_at, largest_id}
 use Rattle.rt_tree.specs.Lists.{IsInShape}
 use Rattle.rt_tree.specs.Rows.{box_of}
-use Rattle.rt_table_store.specs.Ranked.{IsTop, Ranks}
+use Rattle.rt_table_store.specs.GreatestIds.{IsTop, Ranks}
 use Rattle.rt_table_store.specs.StoreInside.{rows_in}
 use Rattle.rt_table_store.proofs.Ranking.{ranks-same}
 use Rattle.rt_table_store.proofs.Order.{three_ways, eq_same, eq_above, eq_from}

@@ -1,6 +1,8 @@
-pub mod Stored
+pub mod StoreLists
 pub mod Trees
 pub mod Picking
 pub mod Moves
-pub mod Ranked
+pub mod GreatestIds
 pub mod StoreInside
+pub mod Steps
+pub mod Laws

@@ -21,7 +21,7 @@ module _ {D : ℕ} where
     pub shape : IsInShape tree
     pub each : (test : Row D → Bool) → count_by test (rows_of tree) ≡ count_by test (map leaf_row rows)
 
-  -- so many nodes are reached by the window: each of them is counted once, and no other
+  -- the window reaches `visited` nodes: each of them is counted once, and no other
   pub record Visits (tree : ShadowLists D) (window : List Interval) (visited : ℕ) : Type 0 where
     pub numbers : List ℤ
     pub once : (number : ℤ) → IsReachedIn tree window number → count_by (int_eq number) numbers ≡ 1

@@ -1,19 +1,18 @@
 //! The largest id.
 //!
 //! The greatest ids stand in a list, the largest last; it has room for `MOST_IDS`, and all others are in the tree alone.
-//! An id whose row has left stays in the list until it comes to its end (`specs/Ranked.antt`).
+//! An id whose row has left stays in the list until it comes to its end (`specs/GreatestIds.antt`).
 //!
-//! Nothing here takes memory but `new`. Only where the rows of all listed ids have left is the list filled anew, from
-//! all ids of the tree. Between two such fillings half of `MOST_IDS` rows leave at least, or as many rows come as there
-//! are then. So a row that leaves pays for a thousand ids at most, as where a script deletes a million rows from the top
-//! down; one that comes pays for one.
+//! Only `new` takes memory. The list is filled anew, from all ids of the tree, only if the rows of all listed ids have
+//! left. Between two such fillings at least half of `MOST_IDS` rows leave, or as many rows come as there are then. So a
+//! row that leaves pays for at most a thousand ids, as if a script deletes a million rows from the top down; one that
+//! comes pays for one.
 
-ghost use Rattle.std.specs.Prelude.{◌≡◌, ◌≢◌, ◌≤◌, ◌<◌, ◌≤ℤ◌, ◌<ℤ◌, ◌+◌, ◌||◌, ℤ, Bool, [], true, false, length, is_some, vec_len, vec_capacity, insert, drop, IfOk};
+ghost use Rattle.std.specs.Prelude.{◌≡◌, ◌≤◌, ◌<◌, ◌<ℤ◌, ◌+◌, ℤ, Bool, [], true, false, length, vec_len, vec_capacity, insert, drop, IfOk};
 ghost use Rattle.std.specs.List.{list_any};
 ghost use Rattle.std.specs.List.Sorted.{IsSorted};
 ghost use Rattle.std.specs.Ordering.{int_cmp, int_eq};
-ghost use Rattle.rt_tree.specs.Rows.{box_of};
-ghost use Rattle.rt_table_store.specs.Ranked.{IsTop, IsUpward, Ranks};
+ghost use Rattle.rt_table_store.specs.GreatestIds.{IsTop, IsUpward, Ranks, HasUpTo, AddsId, RanksAfterId, RanksAfterIds, is_in, RanksAfterLeaving, RanksAfterLeft};
 
 use rt_tree::Tree;
 use std::alloc::{AllocError, Global};
@@ -26,8 +25,8 @@ const MOST_IDS: usize = 2048;
 fn drop_gone<const D: usize>(ids: &mut Vec<i64>, tree: &Tree<D>)
     requires few { D ≤ 3 }
     requires order { IsSorted int_cmp ids.old.items }
-    ensures upward { IsUpward (λ id. is_some (box_of tree.now.lists id)) ids.old.items → IsUpward (λ id. is_some (box_of tree.now.lists id)) ids.new.items }
-    ensures top { (id : ℤ) → IsTop ids.new.items (Some id) → is_some (box_of tree.now.lists id) ≡ true }
+    ensures upward { IsUpward (is_in tree.now.lists) ids.old.items → IsUpward (is_in tree.now.lists) ids.new.items }
+    ensures top { (id : ℤ) → IsTop ids.new.items (Some id) → is_in tree.now.lists id ≡ true }
     ensures order { IsSorted int_cmp ids.new.items }
     ensures capacity { vec_capacity ids.new ≡ vec_capacity ids.old }
 {
@@ -56,7 +55,7 @@ fn is_below(ids: &[i64], id: &i64) -> bool
     requires { IsSorted int_cmp ids.now }
     ensures some { result ≡ true → 0 < length ids.now }
     ensures below { result ≡ true → (other : ℤ) → list_any (int_eq other) ids.now ≡ true → id.now <ℤ other }
-    ensures not { result ≡ false → 0 < length ids.now → (other : ℤ) × (list_any (int_eq other) ids.now ≡ true) × (other ≤ℤ id.now) }
+    ensures not { result ≡ false → 0 < length ids.now → HasUpTo ids.now id.now }
 {
     match ids.first() {
         Some(first) => *id < *first,
@@ -68,7 +67,7 @@ fn is_below(ids: &[i64], id: &i64) -> bool
 fn put(ids: &mut Vec<i64>, id: &i64)
     requires order { IsSorted int_cmp ids.old.items }
     requires room { vec_len ids.old < vec_capacity ids.old }
-    ensures ids { (other : ℤ) → list_any (int_eq other) ids.new.items ≡ (int_eq other id.now || list_any (int_eq other) ids.old.items) }
+    ensures ids { AddsId id.now ids.old.items ids.new.items }
     ensures order { IsSorted int_cmp ids.new.items }
     ensures capacity { vec_capacity ids.old ≤ vec_capacity ids.new }
 {
@@ -76,7 +75,7 @@ fn put(ids: &mut Vec<i64>, id: &i64)
     let _ = ids.insert(place, *id);
 }
 
-/// Drops so many of the first ids.
+/// Drops the first `count` ids.
 fn drop_first(ids: &mut Vec<i64>, count: usize)
     requires { count ≤ vec_len ids.old }
     ensures items { ids.new.items ≡ drop count ids.old.items }
@@ -104,7 +103,7 @@ fn make_room(ids: &mut Vec<i64>)
 fn add(ids: &mut Vec<i64>, id: &i64)
     requires order { IsSorted int_cmp ids.old.items }
     requires two { 2 ≤ vec_capacity ids.old }
-    ensures ranks { (there : ℤ → Bool) → Ranks there ids.old.items → Ranks (λ other. int_eq other id.now || there other) ids.new.items }
+    ensures ranks { RanksAfterId id.now ids.old.items ids.new.items }
     ensures order { IsSorted int_cmp ids.new.items }
     ensures capacity { vec_capacity ids.old ≤ vec_capacity ids.new }
 {
@@ -119,7 +118,7 @@ fn add(ids: &mut Vec<i64>, id: &i64)
 fn add_all(ids: &mut Vec<i64>, more: &[i64])
     requires order { IsSorted int_cmp ids.old.items }
     requires two { 2 ≤ vec_capacity ids.old }
-    ensures ranks { (there : ℤ → Bool) → Ranks there ids.old.items → Ranks (λ id. list_any (int_eq id) more.now || there id) ids.new.items }
+    ensures ranks { RanksAfterIds more.now ids.old.items ids.new.items }
     ensures order { IsSorted int_cmp ids.new.items }
     ensures capacity { vec_capacity ids.old ≤ vec_capacity ids.new }
 {
@@ -140,8 +139,8 @@ fn fill(ids: &mut Vec<i64>, more: &[i64])
     ids.sort_unstable();
 }
 
-/// Fills an empty list with the greatest ones of all ids. Those behind go first: where ids rise as they came, all
-/// others are below them.
+/// Fills an empty list with the greatest ones of all ids. The last ones go first: if ids rise as they came, all others
+/// are below them.
 fn refill(ids: &mut Vec<i64>, all: &[i64])
     requires empty { ids.old.items ≡ [] }
     requires two { 2 ≤ vec_capacity ids.old }
@@ -191,7 +190,7 @@ impl Largest {
 
     /// A row of that id came. It takes no memory.
     pub(crate) fn push(&mut self, id: &i64)
-        ensures { (there : ℤ → Bool) → Ranks there self.old → Ranks (λ other. int_eq other id.now || there other) self.new }
+        ensures { RanksAfterId id.now self.old self.new }
     {
         add(&mut self.ids, id);
     }
@@ -199,8 +198,7 @@ impl Largest {
     /// Rows left, and these are in the tree. It takes no memory.
     fn settle<const D: usize>(&mut self, tree: &Tree<D>)
         requires { D ≤ 3 }
-        ensures { (there : ℤ → Bool) → Ranks there self.old → ((id : ℤ) → is_some (box_of tree.now.lists id) ≡ true → there id ≡ true)
-            → Ranks (λ id. is_some (box_of tree.now.lists id)) self.new }
+        ensures { RanksAfterLeaving tree.now.lists self.old self.new }
     {
         drop_gone(&mut self.ids, tree);
         if self.ids.is_empty() {
@@ -211,9 +209,7 @@ impl Largest {
     /// The row of that id left, and the others are in the tree. It takes no memory.
     pub(crate) fn remove<const D: usize>(&mut self, id: &i64, tree: &Tree<D>)
         requires { D ≤ 3 }
-        ensures { (there : ℤ → Bool) → Ranks there self.old → ((other : ℤ) → is_some (box_of tree.now.lists other) ≡ true → there other ≡ true)
-            → ((other : ℤ) → other ≢ id.now → there other ≡ true → is_some (box_of tree.now.lists other) ≡ true)
-            → Ranks (λ other. is_some (box_of tree.now.lists other)) self.new }
+        ensures { RanksAfterLeft tree.now.lists id.now self.old self.new }
     {
         // Most rows aren't the one of the largest id, which stays then.
         if self.get() == Some(*id) {

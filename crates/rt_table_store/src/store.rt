@@ -33,20 +33,17 @@ pub struct Store<const D: usize> {
     pub(crate) tree: Tree<D>,
     auxiliary: IndexMap<i64, Items<Value>, RandomState>,
     largest: Largest,
-    // No auxiliary values.
-    nothing: Items<Value>,
     // A row without auxiliary values is removed with an empty list.
     alloc: Global,
 }
 
-// By hand, since a derived drop is written out, field by field, wherever such a value ends.
+// By hand, since a derived drop is written out, field by field, in each place in which such a value ends.
 impl<const D: usize> Drop for Store<D> {
     fn drop(self) {
         let Store {
             tree: _,
             auxiliary: _,
             largest: _,
-            nothing: _,
             alloc: _,
         } = self;
     }
@@ -55,19 +52,17 @@ impl<const D: usize> Drop for Store<D> {
 /// The auxiliary values of the row of that id.
 fn auxiliary_of<'a>(
     auxiliary: &'a IndexMap<i64, Items<Value>, RandomState>,
-    nothing: &'a Items<Value>,
     id: &i64,
 ) -> &'a [Value]
-    requires { nothing.now ≡ [] }
     ensures { result.now ≡ unwrap_or (get int_eq auxiliary.now id.now) [] }
 {
-    // Most tables keep none, and no id is hashed for nothing.
+    // Most tables keep none: then no id is hashed.
     if auxiliary.is_empty() {
-        return nothing.as_slice();
+        return &[];
     }
     match auxiliary.get(id) {
         Some(auxiliary) => auxiliary.as_slice(),
-        None => nothing.as_slice(),
+        None => &[],
     }
 }
 
@@ -114,9 +109,9 @@ fn take_auxiliary(
 }
 
 impl<const D: usize> Model for Store<D> {
-    ghost use Rattle.rt_table_store.specs.Stored.{Stored};
+    ghost use Rattle.rt_table_store.specs.StoreLists.{StoreLists};
 
-    ghost Value = { Stored D };
+    ghost Value = { StoreLists D };
 
     ghost use Rattle.rt_table_store.specs.StoreInside.{stored, IsJoined};
 
@@ -127,11 +122,11 @@ impl<const D: usize> Model for Store<D> {
 
 impl<const D: usize> Store<D> {
     /// No rows. The tree's nodes have at most `capacity` cells. Look-ups by id hash by `keys`, which are to be random
-    /// where others choose the ids.
+    /// if others choose the ids.
     ///
     /// # Errors
     ///
-    /// `AllocError` where no memory is left.
+    /// `AllocError` if no memory is left.
     pub fn new(alloc: Global, keys: RandomState, capacity: Capacity) -> Result<Store<D>, AllocError>
         requires some { 1 ≤ D }
         requires few { D ≤ 3 }
@@ -143,7 +138,6 @@ impl<const D: usize> Store<D> {
             tree,
             auxiliary: IndexMap::with_hasher(alloc, keys),
             largest: Largest::new(alloc)?,
-            nothing: Items::new(alloc),
             alloc,
         })
     }
@@ -187,7 +181,7 @@ impl<const D: usize> Store<D> {
         Some(RowView {
             id: *id,
             rect,
-            auxiliary: auxiliary_of(&self.auxiliary, &self.nothing, id),
+            auxiliary: auxiliary_of(&self.auxiliary, id),
         })
     }
 
@@ -200,11 +194,11 @@ impl<const D: usize> Store<D> {
         RowView {
             id: row.id,
             rect: row.rect,
-            auxiliary: auxiliary_of(&self.auxiliary, &self.nothing, &row.id),
+            auxiliary: auxiliary_of(&self.auxiliary, &row.id),
         }
     }
 
-    /// Whether a row may have auxiliary values: where none has, its id and its box are all of it.
+    /// Whether a row may have auxiliary values. If none has, its id and its box are all of it.
     pub fn has_auxiliary(&self) -> bool
         ensures { result ≡ false → All (λ row. row.auxiliary ≡ []) self.now.rows }
     {
@@ -223,19 +217,19 @@ impl<const D: usize> Store<D> {
     ///
     /// # Errors
     ///
-    /// `AllocError` where no memory is left.
+    /// `AllocError` if no memory is left.
     pub fn shadow(&self, alloc: Global, keys: RandomState) -> Result<Shadow<D>, AllocError>
         ensures { IfOk result (λ shadow. shadow ≡ self.now.tree) }
     {
         self.tree.shadow(alloc, keys)
     }
 
-    /// Makes room for so many more rows, and for so many with auxiliary values. The rows and the tree stay, also after a
-    /// refusal.
+    /// Makes room for `rows` more rows, and for `auxiliary` of them with auxiliary values. The rows and the tree stay, also
+    /// after a refusal.
     ///
     /// # Errors
     ///
-    /// `AllocError` where no memory is left.
+    /// `AllocError` if no memory is left.
     pub fn reserve(&mut self, rows: usize, auxiliary: usize) -> Result<(), AllocError>
         ensures rows { self.new.rows ≡ self.old.rows }
         ensures tree { self.new.tree ≡ self.old.tree }
@@ -279,7 +273,7 @@ impl<const D: usize> Store<D> {
         set_auxiliary(&mut self.auxiliary, &id, auxiliary);
     }
 
-    /// Takes out the row of that id. Where there is none, the store stays. It takes no memory.
+    /// Takes out the row of that id. If there is none, the store stays. It takes no memory.
     pub fn take(&mut self, id: &i64) -> Option<Entry<D>>
         ensures row { option_map row_of result ≡ row_at self.old.rows id.now }
         ensures none { IfNone result (self.new ≡ self.old) }
@@ -340,8 +334,8 @@ impl<const D: usize> Store<D> {
         set_auxiliary(&mut self.auxiliary, id, auxiliary);
     }
 
-    /// Replaces the row of that id by another. Where id and box stay, the tree is left alone, and where the id stays,
-    /// so does what is known of the largest. It takes no memory.
+    /// Replaces the row of that id by another. If id and box stay, the tree is left alone; if the id stays, so does what is
+    /// known of the largest. It takes no memory.
     pub fn replace(&mut self, id: &i64, row: Entry<D>)
         requires there { has_id self.old.rows id.now ≡ true }
         requires absent { has_id (without_id self.old.rows id.now) row.id ≡ false }

@@ -1,7 +1,7 @@
 use Rattle.std.proofs.Common.{arith, ◌≡◌, Ok, ◌+◌, ◌<◌, [], ◌∷◌, map, length, drop, append-nil, sym, ap, ◌∙◌}
 use Rattle.std.proofs.lemmas.List.{at_drop_all}
 use Rattle.std.proofs.lemmas.Result.{err_from_is_err_and}
-use Rattle.rt_table_row.specs.Arrangements.{rearranged}
+use Rattle.rt_table_row.specs.Arrangements.{row_values}
 use Rattle.rt_table_row.specs.Edits.{outcome, put_all, steps_and}
 use Rattle.rt_table_row.specs.Entries.{step_of}
 use Rattle.rt_table_plan.specs.Drafts.{known_of, step_given}
@@ -13,7 +13,7 @@ pub returns-in_err-step : goal.returns-in_err-step
 returns-in_err-step g c =
     let rows = c.args.store.now.rows in
     let lists = c.args.lists.now in
-    let f = rearranged c.args.arrangement.now in
+    let f = row_values c.args.arrangement.now in
     let done = map step_of c.loop-list.draft.steps.items in
     let within : c.loop-list.list-index < length lists = omega arith in
     let p = err_from_is_err_and c.from_residual.result c.from_residual.ensures.1 in
@@ -27,7 +27,7 @@ pub loop-list-preserved-in_default : goal.loop-list-preserved-in_default
 loop-list-preserved-in_default g c =
     let rows = c.args.store.now.rows in
     let lists = c.args.lists.now in
-    let f = rearranged c.args.arrangement.now in
+    let f = row_values c.args.arrangement.now in
     let done = map step_of c.loop-list.draft.steps.items in
     let within : c.loop-list.list-index < length lists = omega arith in
     record {
@@ -44,7 +44,7 @@ pub loop-list-preserved : goal.loop-list-preserved
 loop-list-preserved g c =
     let rows = c.args.store.now.rows in
     let lists = c.args.lists.now in
-    let f = rearranged c.args.arrangement.now in
+    let f = row_values c.args.arrangement.now in
     let done = map step_of c.loop-list.draft.steps.items in
     let next = map step_of c.push.new.self.steps.items in
     let step = step_of c.in-Some.step in
@@ -64,7 +64,7 @@ pub returns : goal.returns
 returns g c =
     let rows = c.args.store.now.rows in
     let lists = c.args.lists.now in
-    let f = rearranged c.args.arrangement.now in
+    let f = row_values c.args.arrangement.now in
     let done = map step_of c.loop-list.draft.steps.items in
     let left : map f (drop c.loop-list.list-index lists) ≡ [] = at_drop_all (map f) lists c.loop-list.list-index (omega arith) in
     c.loop-list.invariant.rest ∙ ap (λ ls. steps_and done (put_all g.row.D c.args.rule (outcome rows done) ls)) left ∙ ap Ok (append-nil done)

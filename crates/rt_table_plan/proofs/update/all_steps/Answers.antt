@@ -6,7 +6,7 @@ use Rattle.rt_tree_walk.specs.declared.searching.Row.{Row}
 use Rattle.rt_table_row.specs.Edits.{outcome}
 use Rattle.rt_table_row.specs.Entries.{step_of, view_row}
 use Rattle.rt_table_store.specs.Picking.{Stands}
-use Rattle.rt_table_plan.specs.Drafts.{known_of, row_of, all_set}
+use Rattle.rt_table_plan.specs.Drafts.{known_of, row_of, set_all}
 use Rattle.rt_table_plan.proofs.Drafting.{knows_more, left_some, set_more, set_refused, set_all_done}
 use Rattle.rt_table_plan.proofs.update.all_steps.Goals as goal
 
@@ -30,7 +30,7 @@ returns-in_err-step g c =
     let within : at < length found = omega arith in
     let p = err_from_is_err_and c.from_residual.result c.from_residual.ensures.1 in
     rw (p.1, p.2)
-    (set_refused g.row.D c.args.settings.now rows (all_set g.row.D c.args.settings.now rows (filter_map (row_of rows) found)) (map step_of c.loop-row.draft.steps.items) c.in_err-step.field-0.0
+    (set_refused g.row.D c.args.settings.now rows (set_all g.row.D c.args.settings.now rows (filter_map (row_of rows) found)) (map step_of c.loop-row.draft.steps.items) c.in_err-step.field-0.0
     (view_row c.view.result) (filter_map (row_of rows) (drop at found)) (filter_map (row_of rows) (drop (at + 1) found)) c.loop-row.invariant.rest
     (left_some (row_of rows) found at c.row-item.result (view_row c.view.result) within (subst (λ (r : Row g.row.D). row_of rows r ≡ Some (view_row c.view.result)) c.row-item.is (sym c.view.ensures)))
     (c.in_err-step.ensures (outcome rows (map step_of c.loop-row.draft.steps.items)) c.loop-row.invariant.knows))
@@ -44,7 +44,7 @@ loop-row-preserved g c =
     record {
       knows = knows_more rows (known_of c.loop-row.draft) (known_of c.push.new.self) (map step_of c.loop-row.draft.steps.items)
           (map step_of c.push.new.self.steps.items) (step_of c.in_ok-step.step) c.loop-row.invariant.knows c.in_ok-push.ensures.steps c.in_ok-push.ensures.known;
-      rest = set_more g.row.D c.args.settings.now rows (all_set g.row.D c.args.settings.now rows (filter_map (row_of rows) found)) (map step_of c.loop-row.draft.steps.items)
+      rest = set_more g.row.D c.args.settings.now rows (set_all g.row.D c.args.settings.now rows (filter_map (row_of rows) found)) (map step_of c.loop-row.draft.steps.items)
           (map step_of c.push.new.self.steps.items) (step_of c.in_ok-step.step) (view_row c.view.result) (filter_map (row_of rows) (drop at found))
           (filter_map (row_of rows) (drop (at + 1) found)) c.loop-row.invariant.rest
           (left_some (row_of rows) found at c.row-item.result (view_row c.view.result) within (subst (λ (r : Row g.row.D). row_of rows r ≡ Some (view_row c.view.result)) c.row-item.is (sym c.view.ensures)))
@@ -55,5 +55,5 @@ pub returns : goal.returns
 returns g c =
     let rows = c.args.store.now.rows in
     let found = c.args.rows.now in
-    set_all_done g.row.D c.args.settings.now rows (all_set g.row.D c.args.settings.now rows (filter_map (row_of rows) found)) (map step_of c.loop-row.draft.steps.items)
+    set_all_done g.row.D c.args.settings.now rows (set_all g.row.D c.args.settings.now rows (filter_map (row_of rows) found)) (map step_of c.loop-row.draft.steps.items)
     (filter_map (row_of rows) (drop c.loop-row.row-index found)) c.loop-row.invariant.rest (at_drop_all (filter_map (row_of rows)) found c.loop-row.row-index (omega arith))

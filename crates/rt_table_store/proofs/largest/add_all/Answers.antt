@@ -2,7 +2,7 @@ use Rattle.std.proofs.Common.{◌||◌, ℤ, List, rules, sym, ap, ◌∙◌, su
 use Rattle.std.specs.List.{list_any}
 use Rattle.std.specs.Ordering.{int_eq}
 use Rattle.std.proofs.lemmas.List.{take_more, take_all}
-use Rattle.rt_table_store.specs.Ranked.{Ranks}
+use Rattle.rt_table_store.specs.GreatestIds.{Ranks}
 use Rattle.rt_table_store.proofs.Ranking.{ranks-same, behind}
 use Rattle.rt_table_store.proofs.largest.add_all.Goals as goal
 

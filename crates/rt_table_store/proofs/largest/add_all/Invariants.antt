@@ -2,7 +2,7 @@ use Rattle.std.proofs.Common.{◌≤◌, ◌||◌, ℤ, Bool, take, vec_capacity
 use Rattle.std.specs.List.{list_any}
 use Rattle.std.specs.List.Sorted.{IsSorted}
 use Rattle.std.specs.Ordering.{int_cmp, int_eq}
-use Rattle.rt_table_store.specs.Ranked.{Ranks}
+use Rattle.rt_table_store.specs.GreatestIds.{Ranks}
 use Rattle.rt_table_store.proofs.largest.add_all.Given as goal
 
 abbrev pub invariant-loop-id : goal.invariant-loop-id

@@ -3,7 +3,7 @@ use Rattle.std.specs.Prelude.{is_some}
 use Rattle.std.specs.List.Sorted.{IsSorted}
 use Rattle.std.specs.Ordering.{int_cmp}
 use Rattle.rt_tree.specs.Rows.{box_of}
-use Rattle.rt_table_store.specs.Ranked.{IsUpward}
+use Rattle.rt_table_store.specs.GreatestIds.{IsUpward}
 use Rattle.rt_table_store.proofs.largest.drop_gone.Given as goal
 
 abbrev pub invariant-loop-id : goal.invariant-loop-id

@@ -1,7 +1,7 @@
 use Rattle.std.proofs.Common.{◌<◌, ◌/◌, List, ℤ, length, arith, sym, subst}
 use Rattle.std.specs.List.Sorted.{IsSorted}
 use Rattle.std.specs.Ordering.{int_cmp}
-use Rattle.rt_table_store.specs.Ranked.{Ranks}
+use Rattle.rt_table_store.specs.GreatestIds.{Ranks}
 use Rattle.rt_table_store.proofs.Ranking.{ranks-dropped, sorted-dropped}
 use Rattle.rt_table_store.proofs.largest.make_room.Goals as goal
 

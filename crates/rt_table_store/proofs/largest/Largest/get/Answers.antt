@@ -1,6 +1,6 @@
 use Rattle.std.proofs.Common.{ℤ, List, rules, subst}
 use Rattle.std.specs.Option.{option_copied}
-use Rattle.rt_table_store.specs.Ranked.{IsTop}
+use Rattle.rt_table_store.specs.GreatestIds.{IsTop}
 use Rattle.rt_table_store.proofs.Ranking.{last-is-top}
 use Rattle.rt_table_store.proofs.largest.Largest.get.Goals as goal
 

@@ -1,5 +1,5 @@
 use Rattle.std.proofs.Common.{ℤ, List, sym, subst}
-use Rattle.rt_table_store.specs.Ranked.{Ranks}
+use Rattle.rt_table_store.specs.GreatestIds.{Ranks}
 use Rattle.rt_table_store.proofs.largest.Largest.push.Goals as goal
 
 pub returns : goal.returns

@@ -2,7 +2,7 @@ use Rattle.std.proofs.Common.{sym, ap, ◌∙◌}
 use Rattle.std.specs.Option.{is_some}
 use Rattle.rt_tree.specs.Rows.{box_of}
 use Rattle.rt_table_row.specs.Rows.{has_id}
-use Rattle.rt_table_store.specs.Stored.{Stored}
+use Rattle.rt_table_store.specs.StoreLists.{StoreLists}
 use Rattle.rt_table_store.specs.StoreInside.{rows_in}
 use Rattle.rt_table_store.proofs.Joined.{boxed, row-at}
 use Rattle.rt_table_store.proofs.Moved.{has-row, mapped}
@@ -17,4 +17,4 @@ returns g c =
     ∙ sym (mapped (boxed tree c.is_in_shape.ensures auxiliary id) (box_of tree id))
     ∙ ap is_some (sym (row-at tree c.is_in_shape.ensures auxiliary id))
     ∙ sym (has-row (rows_in tree auxiliary) id)
-    ∙ ap (λ (v : Stored g.row.D). has_id v.rows id) c.self.view_is
+    ∙ ap (λ (v : StoreLists g.row.D). has_id v.rows id) c.self.view_is

@@ -5,7 +5,7 @@ use Rattle.rt_sql_statement.specs.declared.value.Value.{Value}
 use Rattle.rt_tree.specs.Rows.{box_of}
 use Rattle.rt_table_row.specs.Rows.{TableRow, row_at}
 use Rattle.rt_table_row.specs.Entries.{view_row}
-use Rattle.rt_table_store.specs.Stored.{Stored}
+use Rattle.rt_table_store.specs.StoreLists.{StoreLists}
 use Rattle.rt_table_store.proofs.Joined.{boxed, row-at}
 use Rattle.rt_table_store.proofs.store.Store.get.Goals as goal
 
@@ -16,7 +16,7 @@ returns-in_err-rect g c =
     ap (option_map view_row) c.from_residual.ensures
     ∙ sym (ap (option_map (boxed tree c.is_in_shape.ensures c.self.inside.auxiliary c.args.id.now)) none)
     ∙ sym (row-at tree c.is_in_shape.ensures c.self.inside.auxiliary c.args.id.now)
-    ∙ ap (λ (v : Stored g.row.D). row_at v.rows c.args.id.now) c.self.view_is
+    ∙ ap (λ (v : StoreLists g.row.D). row_at v.rows c.args.id.now) c.self.view_is
 
 pub returns : goal.returns
 returns g c =
@@ -28,5 +28,5 @@ returns g c =
     ap (λ values. Some (with_values values)) c.auxiliary_of.ensures
     ∙ sym (ap (option_map (boxed tree c.is_in_shape.ensures c.self.inside.auxiliary c.args.id.now)) some)
     ∙ sym (row-at tree c.is_in_shape.ensures c.self.inside.auxiliary c.args.id.now)
-    ∙ ap (λ (v : Stored g.row.D). row_at v.rows c.args.id.now) c.self.view_is
+    ∙ ap (λ (v : StoreLists g.row.D). row_at v.rows c.args.id.now) c.self.view_is
     )

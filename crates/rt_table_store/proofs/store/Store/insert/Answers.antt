@@ -9,8 +9,8 @@ use Rattle.rt_tree.specs.Rows.{box_of, GainsRow}
 use Rattle.rt_check.specs.declared.node.RowEntry.{RowEntry}
 use Rattle.rt_table_row.specs.Rows.{has_id, with_row}
 use Rattle.rt_table_row.specs.Entries.{row_of}
-use Rattle.rt_table_store.specs.Ranked.{Ranks}
-use Rattle.rt_table_store.specs.Stored.{Stored}
+use Rattle.rt_table_store.specs.GreatestIds.{Ranks}
+use Rattle.rt_table_store.specs.StoreLists.{StoreLists}
 use Rattle.rt_table_store.specs.StoreInside.{joined}
 use Rattle.rt_table_store.proofs.Moved.{no-box, rows-inserted}
 use Rattle.rt_table_store.proofs.Kept.{auxiliary-kept, there-inserted, longer}
@@ -23,10 +23,10 @@ insert-requires g c =
     let d : g.row.D ≤ 3 = c.self.invariant.few in
     let fits : FitsSigned w64 c.args.row.id = search rules in
     let absent : box_of i.tree.lists c.args.row.id ≡ None =
-    no-box i.tree.lists c.is_in_shape.ensures i.auxiliary c.args.row.id (subst (λ (v : Stored g.row.D). has_id v.rows c.args.row.id ≡ false) (sym c.self.view_is) c.requires.absent) in
-    let long = ap (λ (v : Stored g.row.D). length v.rows) c.self.view_is in
+    no-box i.tree.lists c.is_in_shape.ensures i.auxiliary c.args.row.id (subst (λ (v : StoreLists g.row.D). has_id v.rows c.args.row.id ≡ false) (sym c.self.view_is) c.requires.absent) in
+    let long = ap (λ (v : StoreLists g.row.D). length v.rows) c.self.view_is in
     let few : length i.tree.lists.rows < 2 ^ 20 = omega (arith, long, c.requires.few, length-map i.tree.lists.rows (λ (e : RowEntry). joined i.tree.lists i.auxiliary e.id)) in
-    let some : 1 ≤ i.tree.spare = subst (λ (v : Stored g.row.D). 1 ≤ v.room) (sym c.self.view_is) c.requires.room in
+    let some : 1 ≤ i.tree.spare = subst (λ (v : StoreLists g.row.D). 1 ≤ v.room) (sym c.self.view_is) c.requires.room in
     rw (to_z-of_z w64 c.args.row.id fits) (search rules)
 
 pub invariant_of-self : goal.invariant_of-self
@@ -43,14 +43,13 @@ invariant_of-self g c =
     let values = subst (λ (z : ℤ). (other : ℤ) → other ≢ z → get int_eq c.set_auxiliary.new.auxiliary other ≡ get int_eq i.auxiliary other) same c.set_auxiliary.ensures.others in
     let came : Ranks (λ other. int_eq other id || is_some (box_of old other)) c.push.new.self =
     subst (λ (z : ℤ). Ranks (λ other. int_eq other z || is_some (box_of old other)) c.push.new.self) same (c.push.ensures _ k.ranks) in
-    let long = ap (λ (v : Stored g.row.D). length v.rows) c.self.view_is in
+    let long = ap (λ (v : StoreLists g.row.D). length v.rows) c.self.view_is in
     record {
       some = k.some;
       few = k.few;
       most = omega (arith, longer old new c.is_in_shape.ensures c.is_in_shape-2.ensures i.auxiliary id c.args.row.rect gains, long, c.requires.few, length-map old.rows (λ (e : RowEntry). joined old i.auxiliary e.id));
       auxiliary = auxiliary-kept old new id gains.others i.auxiliary c.set_auxiliary.new.auxiliary values (λ some. here) k.auxiliary;
       ranks = ranks-same _ c.push.new.self _ (there-inserted old new id gains.others here) came;
-      nothing = k.nothing;
     }
 
 pub returns-clause-rows : goal.returns-clause-rows
@@ -65,4 +64,4 @@ returns-clause-rows g c =
     let values = subst (λ (z : ℤ). (other : ℤ) → other ≢ z → get int_eq c.set_auxiliary.new.auxiliary other ≡ get int_eq i.auxiliary other) same c.set_auxiliary.ensures.others in
     let more = subst (λ (z : ℤ). unwrap_or (get int_eq c.set_auxiliary.new.auxiliary z) [] ≡ c.args.row.auxiliary) same c.set_auxiliary.ensures.here in
     rows-inserted old new c.is_in_shape.ensures c.is_in_shape-2.ensures i.auxiliary c.set_auxiliary.new.auxiliary (row_of c.args.row) (gains.others, values) gains.here more
-    ∙ ap (λ (v : Stored g.row.D). with_row v.rows (row_of c.args.row)) c.self.view_is
+    ∙ ap (λ (v : StoreLists g.row.D). with_row v.rows (row_of c.args.row)) c.self.view_is

@@ -3,7 +3,7 @@ use Rattle.std.specs.Prelude.{is_some}
 use Rattle.rt_check.specs.Shadow.{ShadowLists}
 use Rattle.rt_tree.specs.Lists.{empty_lists}
 use Rattle.rt_tree.specs.Rows.{box_of}
-use Rattle.rt_table_store.specs.Ranked.{Ranks}
+use Rattle.rt_table_store.specs.GreatestIds.{Ranks}
 use Rattle.rt_table_store.proofs.Ranking.{ranks-all}
 use Rattle.rt_table_store.proofs.store.Store.new.Goals as goal
 
@@ -18,5 +18,4 @@ invariant_of-result g c =
       most = search rules;
       auxiliary = search rules;
       ranks = subst (λ (s : ShadowLists g.row.D). Ranks (λ id. is_some (box_of s id)) c.in_ok-new.field-0) (sym tree) (subst (λ (ids : List ℤ). Ranks (λ id. is_some (box_of (empty_lists {D = g.row.D} c.args.capacity) id)) ids) (sym none) ranks);
-      nothing = search rules;
     }

@@ -7,13 +7,13 @@ use Rattle.rt_tree_walk.specs.declared.searching.Row.{Row}
 use Rattle.rt_tree.specs.Boxes.{HasBoxes}
 use Rattle.rt_tree.specs.Search.{FindsIn}
 use Rattle.rt_table_row.specs.Filters.{admits}
-use Rattle.rt_table_store.specs.Stored.{Stored}
+use Rattle.rt_table_store.specs.StoreLists.{StoreLists}
 use Rattle.rt_table_store.proofs.Found.{all_stand, sorted_are, window_loses_none}
 use Rattle.rt_table_store.proofs.store.Store.select_by_window.Goals as goal
 
 pub tested_rows-requires : goal.tested_rows-requires
 tested_rows-requires g c =
-    let tree : c.self.inside.tree.lists ≡ c.args.self.now.tree = ap (λ (v : Stored g.row.D). v.tree) c.self.view_is in
+    let tree : c.self.inside.tree.lists ≡ c.args.self.now.tree = ap (λ (v : StoreLists g.row.D). v.tree) c.self.view_is in
     let finds : FindsIn c.args.self.now.tree c.args.window.now c.in_ok-found.field-0.rows.items c.in_ok-found.field-0.visited =
     subst (λ (t : ShadowLists g.row.D). FindsIn t c.args.window.now c.in_ok-found.field-0.rows.items c.in_ok-found.field-0.visited) tree c.in_ok-found.ensures in (
       search rules,
@@ -37,7 +37,7 @@ tested_rows-requires g c =
 
 pub returns-clause-rows : goal.returns-clause-rows
 returns-clause-rows g c =
-    let tree : c.self.inside.tree.lists ≡ c.args.self.now.tree = ap (λ (v : Stored g.row.D). v.tree) c.self.view_is in
+    let tree : c.self.inside.tree.lists ≡ c.args.self.now.tree = ap (λ (v : StoreLists g.row.D). v.tree) c.self.view_is in
     let boxes : HasBoxes c.args.self.now.tree = subst (λ (t : ShadowLists g.row.D). HasBoxes t) tree c.has_boxes.ensures in
     let finds : FindsIn c.args.self.now.tree c.args.window.now c.in_ok-found.field-0.rows.items c.in_ok-found.field-0.visited =
     subst (λ (t : ShadowLists g.row.D). FindsIn t c.args.window.now c.in_ok-found.field-0.rows.items c.in_ok-found.field-0.visited) tree c.in_ok-found.ensures in
@@ -53,7 +53,7 @@ returns-clause-rows g c =
 
 pub returns-clause-visited : goal.returns-clause-visited
 returns-clause-visited g c =
-    let tree : c.self.inside.tree.lists ≡ c.args.self.now.tree = ap (λ (v : Stored g.row.D). v.tree) c.self.view_is in
+    let tree : c.self.inside.tree.lists ≡ c.args.self.now.tree = ap (λ (v : StoreLists g.row.D). v.tree) c.self.view_is in
     let finds : FindsIn c.args.self.now.tree c.args.window.now c.in_ok-found.field-0.rows.items c.in_ok-found.field-0.visited =
     subst (λ (t : ShadowLists g.row.D). FindsIn t c.args.window.now c.in_ok-found.field-0.rows.items c.in_ok-found.field-0.visited) tree c.in_ok-found.ensures in
     record {

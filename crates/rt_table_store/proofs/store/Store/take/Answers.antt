@@ -7,7 +7,7 @@ use Rattle.indexmap.specs.IndexMap.{get}
 use Rattle.rt_sql_statement.specs.declared.value.Value.{Value}
 use Rattle.rt_tree.specs.Rows.{box_of}
 use Rattle.rt_table_row.specs.Rows.{TableRow, row_at, without_id}
-use Rattle.rt_table_store.specs.Stored.{Stored}
+use Rattle.rt_table_store.specs.StoreLists.{StoreLists}
 use Rattle.rt_table_store.proofs.Joined.{boxed, row-at}
 use Rattle.rt_table_store.proofs.Moved.{rows-removed}
 use Rattle.rt_table_store.proofs.Kept.{not-both, auxiliary-kept, there-removed, one-fewer}
@@ -20,7 +20,7 @@ returns-in_err-rect-clause-row g c =
     rw c.from_residual.ensures (
     sym (ap (option_map (boxed i.tree.lists c.is_in_shape.ensures i.auxiliary id)) c.in_err-rect.ensures.none)
     ∙ sym (row-at i.tree.lists c.is_in_shape.ensures i.auxiliary id)
-    ∙ ap (λ (v : Stored g.row.D). row_at v.rows id) c.self.view_is
+    ∙ ap (λ (v : StoreLists g.row.D). row_at v.rows id) c.self.view_is
     )
 
 pub invariant_of-self : goal.invariant_of-self
@@ -43,7 +43,6 @@ invariant_of-self-2 g c =
       auxiliary = auxiliary-kept old new id loses.others i.auxiliary c.take_auxiliary-auxiliary.new.auxiliary c.take_auxiliary-auxiliary.ensures.others (λ some. not-both (IsSome (box_of new id)) (get int_eq c.take_auxiliary-auxiliary.new.auxiliary id) c.take_auxiliary-auxiliary.ensures.gone some) k.auxiliary;
       ranks = c.remove.ensures _ k.ranks (there-removed old new id loses.others loses.gone)
           (λ other ne t. ap is_some (loses.others other ne) ∙ t);
-      nothing = k.nothing;
     }
 
 pub returns-clause-row : goal.returns-clause-row
@@ -56,7 +55,7 @@ returns-clause-row g c =
     ap (λ values. Some (with_values values)) c.take_auxiliary-auxiliary.ensures.value
     ∙ sym (ap (option_map (boxed i.tree.lists c.is_in_shape.ensures i.auxiliary id)) c.in_ok-rect.ensures.rows.was)
     ∙ sym (row-at i.tree.lists c.is_in_shape.ensures i.auxiliary id)
-    ∙ ap (λ (v : Stored g.row.D). row_at v.rows id) c.self.view_is
+    ∙ ap (λ (v : StoreLists g.row.D). row_at v.rows id) c.self.view_is
     )
 
 pub returns-clause-rows : goal.returns-clause-rows
@@ -65,4 +64,4 @@ returns-clause-rows g c =
     let loses = c.in_ok-rect.ensures.rows in
     rows-removed i.tree.lists c.take.new.self.lists c.is_in_shape.ensures c.is_in_shape-2.ensures i.auxiliary c.take_auxiliary-auxiliary.new.auxiliary c.args.id.now
     (loses.others, c.take_auxiliary-auxiliary.ensures.others) loses.gone
-    ∙ ap (λ (v : Stored g.row.D). without_id v.rows c.args.id.now) c.self.view_is
+    ∙ ap (λ (v : StoreLists g.row.D). without_id v.rows c.args.id.now) c.self.view_is

@@ -6,7 +6,7 @@ use Rattle.rt_tree.specs.Rows.{box_of}
 use Rattle.rt_table_row.specs.Rows.{has_id, with_row, without_id}
 use Rattle.rt_table_row.specs.Edits.{Becomes}
 use Rattle.rt_table_row.specs.Entries.{row_of}
-use Rattle.rt_table_store.specs.Stored.{Stored}
+use Rattle.rt_table_store.specs.StoreLists.{StoreLists}
 use Rattle.rt_table_store.specs.StoreInside.{rows_in}
 use Rattle.rt_table_store.specs.Moves.{TakesStep}
 use Rattle.rt_table_store.proofs.Moved.{a-box, rows-replaced}
@@ -20,8 +20,8 @@ replace-requires g c =
     let i = c.self.inside in
     let d : g.row.D ≤ 3 = c.self.invariant.few in
     let there : IsSome (box_of i.tree.lists c.args.id.now) =
-    a-box i.tree.lists c.is_in_shape.ensures i.auxiliary c.args.id.now (subst (λ (v : Stored g.row.D). has_id v.rows c.args.id.now ≡ true) (sym c.self.view_is) c.requires.there) in
-    let room : 1 ≤ i.tree.spare = subst (λ (v : Stored g.row.D). 1 ≤ v.room) (sym c.self.view_is) c.requires.room in
+    a-box i.tree.lists c.is_in_shape.ensures i.auxiliary c.args.id.now (subst (λ (v : StoreLists g.row.D). has_id v.rows c.args.id.now ≡ true) (sym c.self.view_is) c.requires.there) in
+    let room : 1 ≤ i.tree.spare = subst (λ (v : StoreLists g.row.D). 1 ≤ v.room) (sym c.self.view_is) c.requires.room in
     search rules
 
 pub invariant_of-self : goal.invariant_of-self
@@ -34,7 +34,7 @@ invariant_of-self g c =
     let new = c.replace.new.self.lists in
     let r = c.replace.ensures in
     let boxes = boxes-kept old new id row r.same r.other in
-    let was : IsSome (box_of old id) = a-box old c.is_in_shape.ensures i.auxiliary id (subst (λ (v : Stored g.row.D). has_id v.rows id ≡ true) (sym c.self.view_is) c.requires.there) in
+    let was : IsSome (box_of old id) = a-box old c.is_in_shape.ensures i.auxiliary id (subst (λ (v : StoreLists g.row.D). has_id v.rows id ≡ true) (sym c.self.view_is) c.requires.there) in
     let here : IsSome (box_of new id) = subst IsSome (sym (box-here old new id row r.same r.other)) refl in
     record {
       some = k.some;
@@ -42,7 +42,6 @@ invariant_of-self g c =
       most = omega (arith, k.most, as-many old new id row r.same r.other c.is_in_shape.ensures i.auxiliary c.is_in_shape-2.ensures);
       auxiliary = auxiliary-kept old new id boxes i.auxiliary c.set_auxiliary.new.auxiliary c.set_auxiliary.ensures.others (λ some. here) k.auxiliary;
       ranks = ranks-same _ i.largest _ (there-replaced old new id boxes was here) k.ranks;
-      nothing = k.nothing;
     }
 
 pub returns-clause-rows : goal.returns-clause-rows
@@ -61,7 +60,7 @@ returns-clause-rows g c =
     let values : unwrap_or (get int_eq c.set_auxiliary.new.auxiliary row.id) [] ≡ row.auxiliary = ap (λ (z : ℤ). unwrap_or (get int_eq c.set_auxiliary.new.auxiliary z) []) same ∙ c.set_auxiliary.ensures.here in
     rows-replaced old new c.is_in_shape.ensures c.is_in_shape-2.ensures i.auxiliary c.set_auxiliary.new.auxiliary row (boxes, others) here values
     ∙ ap (λ (z : ℤ). with_row (without_id (rows_in old i.auxiliary) z) row) same
-    ∙ ap (λ (v : Stored g.row.D). with_row (without_id v.rows id) row) c.self.view_is
+    ∙ ap (λ (v : StoreLists g.row.D). with_row (without_id v.rows id) row) c.self.view_is
 
 pub returns-clause-tree : goal.returns-clause-tree
 returns-clause-tree g c =
@@ -69,5 +68,5 @@ returns-clause-tree g c =
     let row = row_of c.args.row in
     let new = c.replace.new.self.lists in
     let r = c.replace.ensures in
-    subst (λ (v : Stored g.row.D). TakesStep v.rows (Becomes c.args.id.now row) v.tree new) c.self.view_is
+    subst (λ (v : StoreLists g.row.D). TakesStep v.rows (Becomes c.args.id.now row) v.tree new) c.self.view_is
     (takes-step i.tree.lists new c.args.id.now row r.same r.other c.is_in_shape.ensures i.auxiliary c.requires.same)

@@ -1,5 +1,0 @@
-use Rattle.rt_table_row.proofs.Arranging.{own_values}
-use Rattle.rt_table_row.proofs.arrangement.own_candidate.Goals as goal
-
-pub returns-then-list-count : goal.returns-then-list-count
-returns-then-list-count g c = rw (own_values c.args.list.now c.args.count c.if-list-count.true) c.from_slice.ensures
