@@ -10,7 +10,7 @@ pub returns-in_default : goal.returns-in_default
 returns-in_default c =
     let place = placed (λ (n : Named). same_name c.args.name.now n.name) c.self.inside.tables.items _ _ _ c.as_slice.ensures.value c.place_of.ensures c.in_default.is in
     let none : table_of c.args.self.now c.args.name.now ≡ None = missing c.args.self.now _ _ c.self.view_is (is_named c.args.name.now) place in
-    (refl, λ other. rw none refl)
+    λ other. rw none refl
 
 pub returns : goal.returns
 returns c =
