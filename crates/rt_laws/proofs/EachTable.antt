@@ -235,7 +235,7 @@ module _ (capacity : ℕ) (P : NamedTable → Type 0)
   after-holds state statement (Err refusal) answers holds = holds
 
   led-holds : (state : State) (statements : List Stmt) (new : State) → LeadTo state statements new → Holds capacity P state → Holds capacity P new
-  led-holds state [] new same holds = subst Holds capacity P (sym same) holds
+  led-holds state [] new same holds = subst (Holds capacity P) (sym same) holds
   led-holds state (statement ∷ statements) new (outcome, answers, more) holds =
       led-holds (state_after state outcome) statements new more (after-holds state statement outcome answers holds)
 

@@ -1,4 +1,4 @@
--- What two runs of one script print, is equal but for dumps, and over plain lists there is a transcript for all marks.
+-- What two runs of one script print is equal except for dumps, and over plain lists there is a transcript for all marks.
 use Rattle.std.proofs.Common.{◌≡◌, ◌∙◌, ◌⊎◌, inl, inr, ℕ, ◌+◌, ◌≤◌, Bool, true, false, List, [], ◌∷◌, ◌++◌, Option, Some, None, Result, Ok, Err, length, arith, refl, sym, ap, subst}
 use Rattle.std.specs.Prelude.{◌&&◌, ◌||◌, if◌then◌else◌}
 use Rattle.std.specs.Bool.{MatchBool}
@@ -27,11 +27,11 @@ use Rattle.rt_laws.proofs.Standing.{IsStanding, found_stands, empty_stands, stan
 
 -- ---- the lines of answers
 
--- as far, with the same tables but for their trees
+-- as far, with tables that differ in their trees alone
 abbrev pub SameProgress : Progress → Progress → Type 0
 SameProgress p q = SameTables p.state q.state × (q.pieces ≡ p.pieces) × (q.refused ≡ p.refused)
 
--- what is printed from a piece on that has this outcome, where the later pieces print by a rule
+-- what is printed from a piece on that has this outcome, if the later pieces print by a rule
 abbrev pub PrintsFrom : (List (List ℕ) → Status → Type 0) → Options → Progress → PieceText → Outcome → List (List ℕ) → Status → Type 0
 PrintsFrom Rest options p piece outcome parts status =
     (later : List (List ℕ)) × (parts ≡ part_of options (p.pieces + 1) piece outcome ∷ later)
@@ -41,7 +41,7 @@ no_lines : (T : AnyShadow → AnyShadow → Type 0) (options : Options) → (one
 no_lines T options one other is are = subst (λ ls. EqualButDumps T options ls other) (sym is) (subst (λ ls. EqualButDumps T options [] ls) (sym are) tt)
 
 module _ (T : AnyShadow → AnyShadow → Type 0) where
-  -- equal but for dumps, and the status is one
+  -- equal except for dumps, and the status is one
   abbrev pub PrintSame : Options → List (List ℕ) → List (List ℕ) → Status → Status → Type 0
   PrintSame options one other first second = EqualButDumps T options one other × (first ≡ second)
 
@@ -113,9 +113,9 @@ answered old statement (Err refusal) is = (no_tree, is no_tree)
 same_refusal : (T : AnyShadow → AnyShadow → Type 0) (refusal : Refusal) (o a : Outcome) → o ≡ Err refusal → a ≡ Err refusal → SameAnswer T o a
 same_refusal T refusal o a is are = subst (λ x. SameAnswer T x a) (sym is) (subst (λ x. SameAnswer T (Err refusal) x) (sym are) refl)
 
--- ---- only one, but for dumps
+-- ---- only one, except for dumps
 
--- two sessions of the same tables but for their trees, each of which is a tree of the table's rows
+-- two sessions whose tables differ in their trees alone, each of which is a tree of the table's rows
 pub record AreTwins (capacity : ℕ) (s u : State) : Type 0 where
   pub same : SameTables s u
   pub stands : IsStanding capacity s

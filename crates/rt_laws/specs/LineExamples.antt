@@ -110,7 +110,7 @@ echo-comment_inside = refl
 echo-dot_line : echo_of true (record { text = codes ".view v ;"; ending = Whole }) ≡ codes ".view v ;\n"
 echo-dot_line = refl
 
--- the script ends behind a line feed
+-- the script ends after a line feed
 echo-incomplete : echo_of true (record { text = codes "SELECT\n"; ending = Incomplete }) ≡ codes "SELECT\n\n"
 echo-incomplete = refl
 

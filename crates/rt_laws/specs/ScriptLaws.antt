@@ -57,8 +57,8 @@ abbrev pub IsTranscriptSoFarByPieces : Options → Marks → List ℕ → List (
 IsTranscriptSoFarByPieces options marks read parts =
     (pieces : List PieceText) × EndedPieces read pieces × (status : Status) × Prints options marks (start options) pieces parts status
 
--- whoever reads or is fed the same bytes, in whatever parts, prints one thing at most of each piece but for dumps, as far as
--- memory refuses the same pieces
+-- whoever reads or is fed the same bytes, in whatever parts, prints one thing at most of each piece, except for dumps, as
+-- far as memory refuses the same pieces
 abbrev pub TranscriptSoFarIsDetermined : Type 0
 TranscriptSoFarIsDetermined =
     (options : Options) (marks others : Marks) (read : List ℕ) (one other : List (List ℕ))
@@ -98,7 +98,7 @@ abbrev pub AnyTrees : AnyShadow → AnyShadow → Type 0
 AnyTrees tree given = Unit {0}
 
 -- Whichever pieces memory refuses, a script prints something over plain lists, and whatever a run prints is equal to it,
--- piece by piece, but for dumps.
+-- piece by piece, except for dumps.
 abbrev pub EveryScriptHasAPlainTranscript : Type 0
 EveryScriptHasAPlainTranscript =
     (options : Options) (marks : Marks) (script : List ℕ)

@@ -24,6 +24,7 @@ use Rattle.rt_table_view.specs.Watching.{change_of as view_change}
 use Rattle.rt_table.specs.Replies.{Refuses, Shows}
 use Rattle.rt_sql_statement.specs.declared.statement.Edit.{Edit}
 use Rattle.rt_reply.specs.declared.change.Change.{Change}
+use Rattle.rt_reply.specs.declared.reply.Reply.{Reply}
 use Rattle.rt_reply.specs.declared.reply.Reply.TheVariants.{Nothing, Rows, Changes}
 use Rattle.rt_session.specs.declared.tables.Named.{Named}
 use Rattle.rt_session.specs.Session.{State, NamedTable, is_named, table_of, with_table, with_tree, without_table, create_outcome, drop_outcome, is_watched, count_views, watched_by, watch_outcome, view_reply, edit_outcome, on_table, change_of}
@@ -138,7 +139,7 @@ any_found p (x ∷ xs) =
       | false ↦ any_found p xs
     ]
 
--- a place is there where something is found
+-- there is a place if something is found
 place_found : {X : Type 0} (p : X → Bool) (xs : List X) → is_some (find p xs) ≡ is_some (position p xs)
 place_found p xs = sym (any_found p xs) ∙ any_position p xs ∙ sym (some_choice _ (position_or_len p xs))
 
@@ -243,6 +244,12 @@ no_view_more state name table cond there new many =
       | None ↦ λ no_table. absurd (let none : ⊥ = cc in none)
       | Some t ↦ λ _. rw (new, many) refl
     ] there
+
+-- ---- questions
+
+-- what a reply comes to, which leaves the state
+pub leaves_state : (state : State) (reply given : Result Reply Refusal) → reply ≡ given → and_then reply (λ r. Ok (r, state)) ≡ and_then given (λ r. Ok (r, state))
+leaves_state state reply given same = ap (λ (answer : Result Reply Refusal). and_then answer (λ r. Ok (r, state))) same
 
 -- ---- edits
 

@@ -209,7 +209,7 @@ abbrev pub Answers : State → Stmt → Outcome → Type 0
 Answers old statement (Ok given) = (tree : AnyShadow) × (answer tree old statement ≡ Ok given) × MayChoose old statement tree
 Answers old statement (Err refusal) = (tree : AnyShadow) → answer tree old statement ≡ Err refusal
 
--- Ok is an outcome with the new state. A refusal leaves the state, and is an outcome or want of memory.
+-- Ok is an outcome with the new state. A refusal leaves the state, and is an outcome or `OutOfMemory`.
 abbrev pub CarriesOut : State → Stmt → Result Reply Refusal → State → Type 0
 CarriesOut old statement (Ok reply) new = Answers old statement (Ok (reply, new))
 CarriesOut old statement (Err refusal) new = (new ≡ old) × (refusal ≢ OutOfMemory → Answers old statement (Err refusal))

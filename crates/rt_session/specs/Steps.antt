@@ -3,21 +3,15 @@ use Rattle.std.specs.Prelude.{◌≡◌, ◌≢◌, List, map, Result, Ok, Err, 
 use Rattle.rt_sql_statement.specs.declared.refusal.Refusal.{Refusal}
 use Rattle.rt_sql_statement.specs.declared.refusal.Refusal.TheVariants.{OutOfMemory}
 use Rattle.rt_sql_statement.specs.declared.statement.Edit.{Edit}
-use Rattle.rt_sql_statement.specs.declared.statement.Stmt.{Stmt}
 use Rattle.rt_sql_statement.specs.declared.value.Value.{Value}
 use Rattle.rt_table_row.specs.Edits.{and_then, steps_of}
 use Rattle.rt_table_row.specs.Tables.{TableLists, edited}
 use Rattle.rt_reply.specs.declared.change.Change.{Change}
 use Rattle.rt_reply.specs.declared.reply.Reply.{Reply}
 use Rattle.rt_reply.specs.declared.reply.Reply.TheVariants.{Rows}
-use Rattle.rt_session.specs.Session.{State, change_of, reply_to}
+use Rattle.rt_session.specs.Session.{change_of}
 
--- Ok is the reply to the question. A refusal is the one to it or want of memory.
-abbrev pub Replies : State → Stmt → Result Reply Refusal → Type 0
-Replies state question r =
-    MatchResult r (λ reply. reply_to state question ≡ Ok reply) (λ refusal. refusal ≢ OutOfMemory → reply_to state question ≡ Err refusal)
-
--- Ok is the rows of the reply that was expected. A refusal is the one expected or want of memory.
+-- Ok is the rows of the reply that was expected. A refusal is the one expected or `OutOfMemory`.
 abbrev pub ShowsRows : Result Reply Refusal → Result (List (List Value)) Refusal → Type 0
 ShowsRows expected r =
     MatchResult r (λ rows. expected ≡ Ok (Rows rows)) (λ refusal. refusal ≢ OutOfMemory → expected ≡ Err refusal)

@@ -6,7 +6,6 @@
 ghost use Rattle.std.specs.Prelude.{◌≡◌};
 ghost use Rattle.rt_sql_statement.specs.declared.statement.Stmt.TheVariants.{Create, Drop, Edit as Edits, Select, Watch, Unwatch, View, Check, Nodes};
 ghost use Rattle.rt_session.specs.Session.{empty, CarriesOut};
-ghost use Rattle.rt_session.specs.Steps.{Replies};
 
 use crate::selecting::select;
 use crate::tables::{Named, have_views, place_of, place_of_view};
@@ -61,8 +60,8 @@ impl Model for Session {
 }
 
 impl Session {
-    /// A session with no table, which takes no memory. The capacity is that of each table's nodes; the keys are those
-    /// of the hashes of ids.
+    /// A session with no table. It allocates nothing. The capacity is that of each table's nodes; the keys are those of
+    /// the hashes of ids.
     pub fn new(alloc: Global, keys: RandomState, capacity: Capacity) -> Session
         ensures { result ≡ empty capacity }
     {
@@ -187,7 +186,7 @@ impl Session {
 
     #[inline(never)]
     fn view(&self, view: &Name) -> Result<Reply, Refusal>
-        ensures { Replies self.now (View view.now) result }
+        ensures { CarriesOut self.now (View view.now) result self.now }
     {
         let Some(at) = place_of_view(self.tables.as_slice(), view) else {
             return Err(Refusal::NoSuchView);
@@ -204,7 +203,7 @@ impl Session {
         cond: Cond,
         order: &Option<Name>,
     ) -> Result<Reply, Refusal>
-        ensures { Replies self.now (Select columns.now name.now cond order.now) result }
+        ensures { CarriesOut self.now (Select columns.now name.now cond order.now) result self.now }
     {
         let Some(at) = place_of(self.tables.as_slice(), name) else {
             return Err(Refusal::NoSuchTable);
@@ -215,7 +214,7 @@ impl Session {
 
     #[inline(never)]
     fn check(&self, name: &Name) -> Result<Reply, Refusal>
-        ensures { Replies self.now (Check name.now) result }
+        ensures { CarriesOut self.now (Check name.now) result self.now }
     {
         let Some(at) = place_of(self.tables.as_slice(), name) else {
             return Err(Refusal::NoSuchTable);
@@ -226,7 +225,7 @@ impl Session {
 
     #[inline(never)]
     fn nodes(&self, name: &Name) -> Result<Reply, Refusal>
-        ensures { Replies self.now (Nodes name.now) result }
+        ensures { CarriesOut self.now (Nodes name.now) result self.now }
     {
         let Some(at) = place_of(self.tables.as_slice(), name) else {
             return Err(Refusal::NoSuchTable);
