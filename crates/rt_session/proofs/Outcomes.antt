@@ -248,8 +248,9 @@ no_view_more state name table cond there new many =
 -- ---- questions
 
 -- what a reply comes to, which leaves the state
-pub leaves_state : (state : State) (reply given : Result Reply Refusal) → reply ≡ given → and_then reply (λ r. Ok (r, state)) ≡ and_then given (λ r. Ok (r, state))
-leaves_state state reply given same = ap (λ (answer : Result Reply Refusal). and_then answer (λ r. Ok (r, state))) same
+pub leaves_state : (state : State) (reply given : Result Reply Refusal) → reply ≡ given
+    → and_then {B = Reply × State} reply (λ r. Ok (r, state)) ≡ and_then {B = Reply × State} given (λ r. Ok (r, state))
+leaves_state state reply given same = ap (λ (answer : Result Reply Refusal). and_then {B = Reply × State} answer (λ r. Ok (r, state))) same
 
 -- ---- edits
 
