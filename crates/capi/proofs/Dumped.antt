@@ -4,14 +4,14 @@ use Rattle.rt_check.specs.Shadow.{ShadowLists}
 use Rattle.rt_check.specs.Conditions.{IsSound}
 use Rattle.rt_check_dump.specs.declared.dump.AnyShadow.{AnyShadow}
 use Rattle.rt_check_dump.specs.Faults.{IsTextOf}
-use Rattle.rt_handle.specs.declared.object.Kept.{Kept}
+use Rattle.rt_handle.specs.declared.object.HeldTree.{HeldTree}
 use Rattle.capi.specs.declared.code.Code.{Code}
 use Rattle.capi.specs.declared.code.Code.TheVariants.{Done, Closed, OtherKind, AlreadyOpen, BadCapacity, BadBox, IdTaken, IdMissing, BufferTooSmall, OutOfMemory, TreeFull, Ended, TooLong, BadDump}
 use Rattle.capi.specs.Loading.{ReadsText, Loads, IsOfKind, LoadsDump}
 
 module _ {D : ℕ} (of_kind : ShadowLists D → AnyShadow) (text : List ℕ) where
   -- what is loaded of the shadow is loaded of its text
-  pub loads-text : (any : AnyShadow) (s : ShadowLists D) → ReadsText text (Ok any) → IsOfKind of_kind any (Some s) → (result : Result (Kept D) Code) → Loads s result → LoadsDump of_kind text result
+  pub loads-text : (any : AnyShadow) (s : ShadowLists D) → ReadsText text (Ok any) → IsOfKind of_kind any (Some s) → (result : Result (HeldTree D) Code) → Loads s result → LoadsDump of_kind text result
   loads-text any s read is (Ok kept) h = (s, (subst (λ (a : AnyShadow). IsTextOf a text) is.0 read.0, h.0), h.1)
   loads-text any s read is (Err BadDump) h = λ other dump. h (subst IsSound (is.1 other (read.1 (of_kind other) dump.0)) dump.1)
   loads-text any s read is (Err TreeFull) h = (s, (subst (λ (a : AnyShadow). IsTextOf a text) is.0 read.0, h.0), h.1)

@@ -42,7 +42,7 @@ pub length-his : (b : List Interval) → length (his b) ≡ length b
 length-his [] = refl
 length-his (x ∷ b) = omega (arith, length-his b)
 
--- where the box reaches on the first axes
+-- the box reaches on each of the first axes
 pub record ReachesBelow (n : ℕ) (min max : List ℤ) (rect : List Interval) : Type 0 where
   pub lo : (k : ℕ) → k < n → get_or (los rect) k (pos 0) ≤ℤ get_or max k (pos 0)
   pub hi : (k : ℕ) → k < n → get_or min k (pos 0) ≤ℤ get_or (his rect) k (pos 0)

@@ -3,7 +3,7 @@ use Rattle.std.specs.Prelude.{◌≡◌, ◌<◌, ◌≤◌, ℕ, List, ◌++◌
 use Rattle.capi.specs.declared.code.Code.{Code}
 use Rattle.capi.specs.declared.code.Code.TheVariants.{Done, BufferTooSmall, OutOfMemory}
 
--- the items are the buffer's first, and those behind stay; or the buffer is shorter, and unchanged
+-- the items are the buffer's first, and those after them stay; or the buffer is shorter, and unchanged
 abbrev pub Copies : {X : Type 0} → List X → List X → List X → Code → Type 0
 Copies items before after Done = (length items ≤ length before) × (after ≡ items ++ drop (length items) before)
 Copies items before after BufferTooSmall = (length before < length items) × (after ≡ before)

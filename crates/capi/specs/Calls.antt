@@ -3,7 +3,7 @@ use Rattle.std.specs.Prelude.{◌≡◌, ℤ, Option, Some, None}
 use Rattle.rt_tree.specs.Lists.{TreeLists}
 use Rattle.rt_handle.specs.declared.object.Object.{Object}
 use Rattle.rt_handle.specs.declared.object.Object.TheVariants.{Script as AScript, Line, Plane, Space}
-use Rattle.rt_handle.specs.declared.object.Kept.{Kept}
+use Rattle.rt_handle.specs.declared.object.HeldTree.{HeldTree}
 use Rattle.rt_handle.specs.declared.object.Script.{Script}
 use Rattle.capi.specs.declared.code.Code.{Code}
 use Rattle.capi.specs.declared.code.Code.TheVariants.{Done, Closed, OtherKind, AlreadyOpen, OutOfMemory}
@@ -31,33 +31,33 @@ Closes None new number = (number ≡ number_of Closed) × (new ≡ None)
 Closes (Some object) new number = (number ≡ number_of Done) × (new ≡ None)
 
 -- of a handle that holds a tree of two axes the call says this, and leaves the tree so; else the handle is as before
-abbrev pub OnPlane : Option Object → Option Object → (Kept 2 → TreeLists 2 → Code → Type 0) → ℤ → Type 0
+abbrev pub OnPlane : Option Object → Option Object → (HeldTree 2 → TreeLists 2 → Code → Type 0) → ℤ → Type 0
 OnPlane None new says number = (number ≡ number_of Closed) × (new ≡ None)
 OnPlane (Some (Plane old)) new says number = (tree : TreeLists 2) × (new ≡ Some (Plane (record old { tree = tree }))) × Answers number (says old tree)
 OnPlane (Some other) new says number = (number ≡ number_of OtherKind) × (new ≡ Some other)
 
 -- the object is a tree of two axes of which this holds
-abbrev pub IsPlane : (Kept 2 → Type 0) → Object → Type 0
+abbrev pub IsPlane : (HeldTree 2 → Type 0) → Object → Type 0
 IsPlane says (Plane kept) = says kept
 IsPlane says other = ⊥
 
 -- the same of a tree of one axis
-abbrev pub OnLine : Option Object → Option Object → (Kept 1 → TreeLists 1 → Code → Type 0) → ℤ → Type 0
+abbrev pub OnLine : Option Object → Option Object → (HeldTree 1 → TreeLists 1 → Code → Type 0) → ℤ → Type 0
 OnLine None new says number = (number ≡ number_of Closed) × (new ≡ None)
 OnLine (Some (Line old)) new says number = (tree : TreeLists 1) × (new ≡ Some (Line (record old { tree = tree }))) × Answers number (says old tree)
 OnLine (Some other) new says number = (number ≡ number_of OtherKind) × (new ≡ Some other)
 
-abbrev pub IsLine : (Kept 1 → Type 0) → Object → Type 0
+abbrev pub IsLine : (HeldTree 1 → Type 0) → Object → Type 0
 IsLine says (Line kept) = says kept
 IsLine says other = ⊥
 
 -- and of three
-abbrev pub OnSpace : Option Object → Option Object → (Kept 3 → TreeLists 3 → Code → Type 0) → ℤ → Type 0
+abbrev pub OnSpace : Option Object → Option Object → (HeldTree 3 → TreeLists 3 → Code → Type 0) → ℤ → Type 0
 OnSpace None new says number = (number ≡ number_of Closed) × (new ≡ None)
 OnSpace (Some (Space old)) new says number = (tree : TreeLists 3) × (new ≡ Some (Space (record old { tree = tree }))) × Answers number (says old tree)
 OnSpace (Some other) new says number = (number ≡ number_of OtherKind) × (new ≡ Some other)
 
-abbrev pub IsSpace : (Kept 3 → Type 0) → Object → Type 0
+abbrev pub IsSpace : (HeldTree 3 → Type 0) → Object → Type 0
 IsSpace says (Space kept) = says kept
 IsSpace says other = ⊥
 

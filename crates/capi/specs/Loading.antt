@@ -5,7 +5,7 @@ use Rattle.rt_check.specs.Shadow.{ShadowLists}
 use Rattle.rt_check.specs.Conditions.{IsSound, is_ordered, times_named}
 use Rattle.rt_check_dump.specs.declared.dump.AnyShadow.{AnyShadow}
 use Rattle.rt_check_dump.specs.Faults.{IsTextOf, IsDump}
-use Rattle.rt_handle.specs.declared.object.Kept.{Kept}
+use Rattle.rt_handle.specs.declared.object.HeldTree.{HeldTree}
 use Rattle.rt_tree.specs.Lists.{TreeLists, empty_lists}
 use Rattle.rt_tree.specs.Rows.{row_in, rows_of}
 use Rattle.rt_tree_walk.specs.declared.searching.Row.{Row}
@@ -42,7 +42,7 @@ module _ {D : ℕ} where
   GivesTree capacity cells (Err code) = ⊥
 
   -- a shadow in which the checker finds no problem is loaded, if it has no more rows than a tree may have
-  abbrev pub Loads : ShadowLists D → Result (Kept D) Code → Type 0
+  abbrev pub Loads : ShadowLists D → Result (HeldTree D) Code → Type 0
   Loads s (Ok kept) = IsSound s × HasRowsOf s kept
   Loads s (Err BadDump) = ¬ IsSound s
   Loads s (Err TreeFull) = IsSound s × (most_rows < length (rows_of s))
@@ -56,6 +56,6 @@ module _ {D : ℕ} (of_kind : ShadowLists D → AnyShadow) where
   IsOfKind any None = (other : ShadowLists D) → of_kind other ≡ any → ⊥
 
   -- the text is loaded, or why it isn't
-  abbrev pub LoadsDump : List ℕ → Result (Kept D) Code → Type 0
+  abbrev pub LoadsDump : List ℕ → Result (HeldTree D) Code → Type 0
   LoadsDump text (Ok kept) = IsOfDump of_kind text kept
   LoadsDump text (Err code) = LoadsNone of_kind text code

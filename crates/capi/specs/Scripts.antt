@@ -33,7 +33,7 @@ code_of_feed (Ok flow) = Done
 code_of_feed (Err Write) = OutOfMemory
 code_of_feed (Err LongScript) = TooLong
 
--- the shell is fed these bytes, and what it prints comes behind its output
+-- the shell is fed these bytes, and what it prints comes after its output
 abbrev pub ExecutesIn : Option Shell → List ℕ → Script → Script → Code → Type 0
 ExecutesIn None bytes old new code = (code ≡ Ended) × (new ≡ old)
 ExecutesIn (Some shell) bytes old new code =
@@ -47,7 +47,7 @@ abbrev pub result_of_end : Result Status WriteFault → Result Status Code
 result_of_end (Ok status) = Ok status
 result_of_end (Err fault) = Err OutOfMemory
 
--- the script ends, and what the shell prints comes behind its output
+-- the script ends, and what the shell prints comes after its output
 abbrev pub FinishesIn : Option Shell → Script → Script → Result Status Code → Type 0
 FinishesIn None old new result = (result ≡ Err Ended) × (new ≡ old)
 FinishesIn (Some shell) old new result =

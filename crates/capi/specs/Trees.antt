@@ -12,7 +12,7 @@ use Rattle.rt_check.specs.Conditions.{IsSound, leaf_cells}
 use Rattle.rt_check_dump.specs.declared.dump.AnyShadow.{AnyShadow}
 use Rattle.rt_check_dump.specs.Dump.{shadow_text}
 use Rattle.rt_check_dump.specs.Faults.{IsTextOf}
-use Rattle.rt_handle.specs.declared.object.Kept.{Kept}
+use Rattle.rt_handle.specs.declared.object.HeldTree.{HeldTree}
 use Rattle.rt_tree.specs.Lists.{TreeLists, empty_lists}
 use Rattle.rt_tree.specs.Rows.{box_in, box_of, rows_of, GainsRow, LosesRow}
 use Rattle.rt_tree.specs.Changes.{IsInsertion, IsRemoval, IsReplacement}
@@ -39,10 +39,10 @@ module _ {D : ℕ} where
   abbrev pub IsEmptyTree : ℕ → TreeLists D → Type 0
   IsEmptyTree capacity tree = tree ≡ record { lists = empty_lists capacity; spare = 0 }
 
-  abbrev pub IsNew : ℕ → Kept D → Type 0
+  abbrev pub IsNew : ℕ → HeldTree D → Type 0
   IsNew capacity kept = (kept.capacity ≡ capacity) × IsEmptyTree capacity kept.tree
 
-  abbrev pub Makes : ℕ → Result (Kept D) Code → Type 0
+  abbrev pub Makes : ℕ → Result (HeldTree D) Code → Type 0
   Makes capacity (Ok kept) = IsNew capacity kept
   Makes capacity (Err code) = MakesNone capacity code
 
@@ -54,7 +54,7 @@ module _ {D : ℕ} where
 
   -- The tree has exactly the rows of the shadow, ids and boxes: as many of either pass any test. They are inserted into a
   -- tree without rows and of the shadow's capacity, in ascending order of ids.
-  pub record HasRowsOf (s : ShadowLists D) (kept : Kept D) : Type 0 where
+  pub record HasRowsOf (s : ShadowLists D) (kept : HeldTree D) : Type 0 where
     pub rows : (test : Row D → Bool) → count_by test (rows_of kept.tree.lists) ≡ count_by test (rows_of s)
     pub most_cells : kept.tree.lists.capacity ≡ s.capacity
     pub capacity : kept.capacity ≡ s.capacity
@@ -69,7 +69,7 @@ module _ {D : ℕ} where
   IsSoundDump of_kind text s = IsTextOf (of_kind s) text × IsSound s
 
   -- the tree has the rows of a shadow of which the text is the dump
-  abbrev pub IsOfDump : (ShadowLists D → AnyShadow) → List ℕ → Kept D → Type 0
+  abbrev pub IsOfDump : (ShadowLists D → AnyShadow) → List ℕ → HeldTree D → Type 0
   IsOfDump of_kind text kept = (s : ShadowLists D) × IsSoundDump of_kind text s × HasRowsOf s kept
 
   -- Why there is no tree of the text: it is the dump of no such shadow, or of one with more rows than a tree may have, or

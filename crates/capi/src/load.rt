@@ -15,7 +15,7 @@ use rt_box::{Capacity, Rect};
 use rt_check::{RawCell, Shadow, check};
 use rt_check_dump::laws::dumps_are_read;
 use rt_check_dump::{AnyShadow, DumpFault, read_dump};
-use rt_handle::Kept;
+use rt_handle::HeldTree;
 use rt_tree::{Tree, Work};
 use std::alloc::{AllocError, Global};
 use std::hash::RandomState;
@@ -141,7 +141,7 @@ fn load_sound<const D: usize>(
     alloc: Global,
     keys: RandomState,
     shadow: &Shadow<D>,
-) -> Result<Kept<D>, Code>
+) -> Result<HeldTree<D>, Code>
     requires some { 1 ≤ D }
     requires few { D ≤ 3 }
     requires sound { IsSound shadow.now }
@@ -152,7 +152,7 @@ fn load_sound<const D: usize>(
     };
     let capacity = shadow.capacity();
     match tree_of(alloc, keys, capacity, &cells) {
-        Ok(tree) => Ok(Kept {
+        Ok(tree) => Ok(HeldTree {
             tree,
             keys,
             capacity,
@@ -166,7 +166,7 @@ pub fn load<const D: usize>(
     alloc: Global,
     keys: RandomState,
     shadow: &Shadow<D>,
-) -> Result<Kept<D>, Code>
+) -> Result<HeldTree<D>, Code>
     requires some { 1 ≤ D }
     requires few { D ≤ 3 }
     ensures { Loads shadow.now result }

@@ -19,7 +19,7 @@ use crate::tree::{clear, get, insert, len, new_tree, remove, replace};
 use rt_box::Rect;
 use rt_check::Shadow;
 use rt_check_dump::AnyShadow;
-use rt_handle::{Handle, Kept, Object};
+use rt_handle::{Handle, HeldTree, Object};
 use rt_tree::Row;
 use std::alloc::Global;
 use std::hash::RandomState;
@@ -112,7 +112,7 @@ fn shadow_of(any: AnyShadow) -> Option<Shadow<2>>
 }
 
 /// A tree with the rows of a dump.
-fn load_dump(alloc: Global, keys: &Keys, text: &[u8]) -> Result<Kept<2>, Code>
+fn load_dump(alloc: Global, keys: &Keys, text: &[u8]) -> Result<HeldTree<2>, Code>
     ensures { LoadsDump Two text.now result }
 {
     let Ok(keys) = RandomState::new(keys) else {
@@ -358,7 +358,7 @@ pub extern "C" fn juicedelta_tree2_nearest(
     code.number()
 }
 
-fn dump_tree(alloc: Global, kept: &Kept<2>, text: &mut [u8], total: &mut u64) -> Code
+fn dump_tree(alloc: Global, kept: &HeldTree<2>, text: &mut [u8], total: &mut u64) -> Code
     ensures { Dumps text.old text.new total.old total.new kept.now.tree kept.now.tree result }
 {
     let Ok(shadow) = kept.tree.shadow(alloc, kept.keys) else {

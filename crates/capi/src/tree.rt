@@ -8,7 +8,7 @@ use crate::code::Code;
 use crate::keys::Keys;
 use crate::plain::FromRect;
 use rt_box::{Capacity, Rect};
-use rt_handle::Kept;
+use rt_handle::HeldTree;
 use rt_tree::Tree;
 use std::alloc::Global;
 use std::hash::RandomState;
@@ -17,7 +17,11 @@ use std::hash::RandomState;
 pub const MOST_ROWS_OF_A_TREE: usize = 1 << 20;
 
 /// A tree without rows.
-pub fn new_tree<const D: usize>(alloc: Global, capacity: u32, keys: &Keys) -> Result<Kept<D>, Code>
+pub fn new_tree<const D: usize>(
+    alloc: Global,
+    capacity: u32,
+    keys: &Keys,
+) -> Result<HeldTree<D>, Code>
     requires some { 1 ≤ D }
     requires few { D ≤ 3 }
     ensures { Makes capacity result }
@@ -32,7 +36,7 @@ pub fn new_tree<const D: usize>(alloc: Global, capacity: u32, keys: &Keys) -> Re
         return Err(Code::OutOfMemory);
     };
     match Tree::new(alloc, keys, capacity) {
-        Ok(tree) => Ok(Kept {
+        Ok(tree) => Ok(HeldTree {
             tree,
             keys,
             capacity,
@@ -120,7 +124,7 @@ pub fn len<const D: usize>(tree: &Tree<D>, rows: &mut u64) -> Code
 }
 
 /// Removes all rows. The tree's memory is freed, and a new tree takes its place.
-pub fn clear<const D: usize>(alloc: Global, kept: &mut Kept<D>) -> Code
+pub fn clear<const D: usize>(alloc: Global, kept: &mut HeldTree<D>) -> Code
     requires some { 1 ≤ D }
     requires few { D ≤ 3 }
     ensures tree { Clears kept.new.capacity kept.old.tree kept.new.tree result }

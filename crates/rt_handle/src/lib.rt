@@ -11,4 +11,4 @@ mod loose;
 mod object;
 
 pub use handle::Handle;
-pub use object::{Kept, Object, Script};
+pub use object::{HeldTree, Object, Script};

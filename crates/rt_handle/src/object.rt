@@ -12,11 +12,11 @@ pub enum Object {
     /// A script shell.
     Script(Script),
     /// A tree of one axis.
-    Line(Kept<1>),
+    Line(HeldTree<1>),
     /// A tree of two axes.
-    Plane(Kept<2>),
+    Plane(HeldTree<2>),
     /// A tree of three axes.
-    Space(Kept<3>),
+    Space(HeldTree<3>),
 }
 
 /// A script shell, and what it printed that the caller has not dropped yet.
@@ -30,7 +30,7 @@ pub struct Script {
 
 /// A tree, and what a new one in its place is made of.
 #[derive(Drop)]
-pub struct Kept<const D: usize> {
+pub struct HeldTree<const D: usize> {
     /// The tree.
     pub tree: Tree<D>,
     /// The keys of the hashes of its ids.

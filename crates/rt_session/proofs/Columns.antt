@@ -12,7 +12,7 @@ use Rattle.rt_table_row.specs.Tables.{TableLists, select}
 use Rattle.rt_table_row.proofs.Filters.{present}
 use Rattle.rt_table.specs.Replies.{Shows}
 use Rattle.rt_reply.specs.declared.reply.Reply.TheVariants.{Rows}
-use Rattle.rt_session.specs.Session.{State, selected, shown, is_by_id}
+use Rattle.rt_session.specs.Session.{select_reply, shown_values, is_by_id}
 use Rattle.rt_session.specs.Selecting.{ArePlaces}
 use Rattle.rt_reply.specs.Shown.{values_at}
 
@@ -44,13 +44,13 @@ values_there columns (name ∷ names) (place ∷ places) values placed =
     rw here (ap (λ vs. slice_index_or values place Null ∷ vs) (values_there columns names places values later))
 
 columns_shown : (columns : Columns) (names : List (List ℕ)) (places : List ℕ) (rows : List TableRow) → ArePlaces columns.names names places
-    → map (values_at places) (map values_of rows) ≡ map (shown columns (Some names)) rows
+    → map (values_at places) (map values_of rows) ≡ map (shown_values columns (Some names)) rows
 columns_shown columns names places [] placed = refl
 columns_shown columns names places (row ∷ rows) placed =
     rw (values_there columns.names names places (values_of row) placed) (ap (λ vs. map (value_in columns.names (values_of row)) names ∷ vs) (columns_shown columns names places rows placed))
 
-pub selected_columns : (state : State) (t : TableLists) (names : List (List ℕ)) (cond : List Test) (order : Option (List ℕ)) (places : List ℕ) (values : List (List Value))
+pub selected_columns : (t : TableLists) (names : List (List ℕ)) (cond : List Test) (order : Option (List ℕ)) (places : List ℕ) (values : List (List Value))
     → ArePlaces t.columns.names names places → is_by_id t.columns order ≡ true → Shows (select t cond) values
-    → selected state (Some names) cond order t ≡ Ok (Rows (map (values_at places) values), state)
-selected_columns state t names cond order places values placed by_id (rows, given, same) =
+    → select_reply (Some names) cond order t ≡ Ok (Rows (map (values_at places) values))
+selected_columns t names cond order places values placed by_id (rows, given, same) =
     rw (are_known t.columns.names names places placed, by_id, given, same, columns_shown t.columns names places rows placed) refl

@@ -1,4 +1,3 @@
 pub mod Places
 pub mod Outcomes
-pub mod Carrying
 pub mod Columns

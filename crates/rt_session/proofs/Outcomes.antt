@@ -24,11 +24,12 @@ use Rattle.rt_table_view.specs.Watching.{change_of as view_change}
 use Rattle.rt_table.specs.Replies.{Refuses, Shows}
 use Rattle.rt_sql_statement.specs.declared.statement.Edit.{Edit}
 use Rattle.rt_reply.specs.declared.change.Change.{Change}
+use Rattle.rt_reply.specs.declared.reply.Reply.{Reply}
 use Rattle.rt_reply.specs.declared.reply.Reply.TheVariants.{Nothing, Rows, Changes}
 use Rattle.rt_session.specs.declared.tables.Named.{Named}
-use Rattle.rt_session.specs.Session.{State, NamedTable, is_named, table_of, with_table, with_tree, without_table, created, dropped, is_watched, count_views, watched_by, now_watched, viewed, carried_out, on_table, change_of}
+use Rattle.rt_session.specs.Session.{State, NamedTable, is_named, table_of, with_table, with_tree, without_table, create_outcome, drop_outcome, is_watched, count_views, watched_by, watch_outcome, view_reply, edit_outcome, on_table, change_of}
 use Rattle.rt_table_row.specs.Edits.{steps_of}
-use Rattle.rt_session.specs.Steps.{edited_by}
+use Rattle.rt_session.specs.Steps.{edit_result}
 use Rattle.rt_session.specs.SessionInside.{named_of, HaveNames}
 use Rattle.rt_session.proofs.Places.{found_at, not_found, replaced, removed, replaced_by, Distinct, find_mapped, any_mapped, distinct-filter, distinct-one_more}
 
@@ -114,8 +115,8 @@ in_turn : {A B C : Type 0} (r : Result A Refusal) (f : A → Result B Refusal) (
 in_turn (Ok a) f g = refl
 in_turn (Err refusal) f g = refl
 
-pub carried : (tree : AnyShadow) (state : State) (name : List ℕ) (t : TableLists) (edit : Edit) (answer : Result (List Change × TableLists) Refusal) → edited_by edit t ≡ answer
-    → carried_out tree state name t (steps_of edit t.columns t.rows) ≡ and_then answer (λ done. Ok (Changes done.0, with_tree state name done.1 tree))
+pub carried : (tree : AnyShadow) (state : State) (name : List ℕ) (t : TableLists) (edit : Edit) (answer : Result (List Change × TableLists) Refusal) → edit_result edit t ≡ answer
+    → edit_outcome tree state name t (steps_of edit t.columns t.rows) ≡ and_then answer (λ done. Ok (Changes done.0, with_tree state name done.1 tree))
 carried tree state name t edit answer is =
     sym (in_turn (edited t (steps_of edit t.columns t.rows)) (λ done. Ok (map change_of done.0, done.1)) (λ done. Ok (Changes done.0, with_tree state name done.1 tree)))
     ∙ ap (λ r. and_then r (λ done. Ok (Changes done.0, with_tree state name done.1 tree))) is
@@ -138,7 +139,7 @@ any_found p (x ∷ xs) =
       | false ↦ any_found p xs
     ]
 
--- a place is there where something is found
+-- there is a place if something is found
 place_found : {X : Type 0} (p : X → Bool) (xs : List X) → is_some (find p xs) ≡ is_some (position p xs)
 place_found p xs = sym (any_found p xs) ∙ any_position p xs ∙ sym (some_choice _ (position_or_len p xs))
 
@@ -186,14 +187,14 @@ pub many : (n k : ℕ) → k ≤ n → nat_le k n ≡ true
 many n k more = grind (arith, nat_tests)
 
 pub created_new : (state : State) (name : List ℕ) (if_absent : Bool) (columns : List ColumnDef) → is_some (table_of state name) ≡ false → nat_le 64 (length state.tables) ≡ false
-    → created state name if_absent columns ≡ and_then (columns_of columns) (λ c. Ok (Nothing, record state { tables = state.tables ++ record { name = name; table = new_table c; tree = new_tree state.capacity c } ∷ [] }))
+    → create_outcome state name if_absent columns ≡ and_then (columns_of columns) (λ c. Ok (Nothing, record state { tables = state.tables ++ record { name = name; table = new_table c; tree = new_tree state.capacity c } ∷ [] }))
 created_new state name if_absent columns new room = rw (new, room) refl
 
 pub watched_same : (n : ℕ) → not (nat_le n 0) ≡ nat_lt 0 n
 watched_same n = grind (arith, nat_tests)
 
 pub dropped_found : (state : State) (name : List ℕ) (if_there : Bool) (t : NamedTable) → table_of state name ≡ Some t
-    → dropped state name if_there ≡ (if is_watched t.table then Err TableIsWatched else Ok (Nothing, without_table state name))
+    → drop_outcome state name if_there ≡ (if is_watched t.table then Err TableIsWatched else Ok (Nothing, without_table state name))
 dropped_found state name true t found = rw found refl
 dropped_found state name false t found = rw found refl
 
@@ -222,27 +223,34 @@ count_of now capacity ts slice is same =
     ∙ ap (sum_by (λ n. length n.table.lists.views)) (sym same)
 
 pub watched_new : (state : State) (name table : List ℕ) (cond : List Test) (t : NamedTable) → table_of state table ≡ Some t → is_some (watched_by state name) ≡ false → nat_le 64 (count_views state) ≡ false
-    → on_table (table_of state table) (now_watched state name table cond) ≡ and_then (watch t.table name cond) (λ after. Ok (Nothing, with_table state table after))
+    → on_table (table_of state table) (watch_outcome state name table cond) ≡ and_then (watch t.table name cond) (λ after. Ok (Nothing, with_table state table after))
 watched_new state name table cond t there new room = rw (there, new, room) refl
 
-pub viewed_as : (state : State) (name : List ℕ) (t : NamedTable) (values : List (List Value)) → Shows (view t.table name) values → viewed state name t ≡ Ok (Rows values, state)
-viewed_as state name t values (rows, given, same) = rw (given, same) refl
+pub viewed_as : (name : List ℕ) (t : NamedTable) (values : List (List Value)) → Shows (view t.table name) values → view_reply name t ≡ Ok (Rows values)
+viewed_as name t values (rows, given, same) = rw (given, same) refl
 
 pub name_taken : (state : State) (name table : List ℕ) (cond : List Test) → is_some (table_of state table) ≡ true → is_some (watched_by state name) ≡ true
-    → on_table (table_of state table) (now_watched state name table cond) ≡ Err ViewAlreadyExists
+    → on_table (table_of state table) (watch_outcome state name table cond) ≡ Err ViewAlreadyExists
 name_taken state name table cond there taken =
-    elim (table_of state table) as (λ o. is_some o ≡ true → on_table o (now_watched state name table cond) ≡ Err ViewAlreadyExists) [
+    elim (table_of state table) as (λ o. is_some o ≡ true → on_table o (watch_outcome state name table cond) ≡ Err ViewAlreadyExists) [
       | None ↦ λ no_table. absurd (let none : ⊥ = cc in none)
       | Some t ↦ λ _. rw taken refl
     ] there
 
 pub no_view_more : (state : State) (name table : List ℕ) (cond : List Test) → is_some (table_of state table) ≡ true → is_some (watched_by state name) ≡ false → nat_le 64 (count_views state) ≡ true
-    → on_table (table_of state table) (now_watched state name table cond) ≡ Err TooManyTablesOrViews
+    → on_table (table_of state table) (watch_outcome state name table cond) ≡ Err TooManyTablesOrViews
 no_view_more state name table cond there new many =
-    elim (table_of state table) as (λ o. is_some o ≡ true → on_table o (now_watched state name table cond) ≡ Err TooManyTablesOrViews) [
+    elim (table_of state table) as (λ o. is_some o ≡ true → on_table o (watch_outcome state name table cond) ≡ Err TooManyTablesOrViews) [
       | None ↦ λ no_table. absurd (let none : ⊥ = cc in none)
       | Some t ↦ λ _. rw (new, many) refl
     ] there
+
+-- ---- questions
+
+-- what a reply comes to, which leaves the state
+pub leaves_state : (state : State) (reply given : Result Reply Refusal) → reply ≡ given
+    → and_then {B = Reply × State} reply (λ r. Ok (r, state)) ≡ and_then {B = Reply × State} given (λ r. Ok (r, state))
+leaves_state state reply given same = ap (λ (answer : Result Reply Refusal). and_then {B = Reply × State} answer (λ r. Ok (r, state))) same
 
 -- ---- edits
 
@@ -251,8 +259,8 @@ same_changes [] = refl
 same_changes (c ∷ cs) = ap (λ (ds : List Change). c ∷ ds) (same_changes cs)
 
 -- what a table answered to an edit
-pub done : (edit : Edit) (t after : TableLists) (changes : List Change) → edited t (steps_of edit t.columns t.rows) ≡ Ok (map view_change changes, after) → edited_by edit t ≡ Ok (changes, after)
+pub done : (edit : Edit) (t after : TableLists) (changes : List Change) → edited t (steps_of edit t.columns t.rows) ≡ Ok (map view_change changes, after) → edit_result edit t ≡ Ok (changes, after)
 done edit t after changes is = rw (is, same_changes changes) refl
 
-pub not_done : (edit : Edit) (t : TableLists) (refusal : Refusal) → Refuses (edited t (steps_of edit t.columns t.rows)) refusal → refusal ≢ OutOfMemory → edited_by edit t ≡ Err refusal
+pub not_done : (edit : Edit) (t : TableLists) (refusal : Refusal) → Refuses (edited t (steps_of edit t.columns t.rows)) refusal → refusal ≢ OutOfMemory → edit_result edit t ≡ Err refusal
 not_done edit t refusal refuses other = rw (refused (edited t (steps_of edit t.columns t.rows)) refusal refuses other) refl

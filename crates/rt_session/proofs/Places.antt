@@ -4,6 +4,7 @@ use Rattle.std.specs.Prelude.{position, find, if◌then◌else◌, nat_lt}
 use Rattle.std.specs.Str.{bytes_eq, str_to_ascii_lowercase}
 use Rattle.std.specs.List.{list_any, remove, position_or_len, slice_get}
 use Rattle.std.specs.Option.{option_map}
+use Rattle.std.proofs.lemmas.Bool.{and_parts, or_parts}
 use Rattle.std.proofs.lemmas.Grind.{common_steps}
 use Rattle.std.proofs.lemmas.Slice.Eq.{bytes_eq-Decides}
 use Rattle.std.proofs.lemmas.List.Folds.{find_at, list_any-append}
@@ -40,14 +41,6 @@ turned a b =
 
 -- ---- lists
 
-both : (a b : Bool) → (a && b) ≡ true → (a ≡ true) × (b ≡ true)
-both true b is = (refl, is)
-both false b is = absurd (let none : ⊥ = cc in none)
-
-neither : (a b : Bool) → (a || b) ≡ false → (a ≡ false) × (b ≡ false)
-neither true b is = absurd (let none : ⊥ = cc in none)
-neither false b is = (refl, is)
-
 denied : (a : Bool) → not a ≡ true → a ≡ false
 denied true is = absurd (let none : ⊥ = cc in none)
 denied false is = refl
@@ -66,8 +59,8 @@ any_mapped p f (x ∷ xs) = ap (λ (b : Bool). p (f x) || b) (any_mapped p f xs)
 
 not_any : {X : Type 0} (p : X → Bool) (xs : List X) (at : ℕ) (d : X) → at < length xs → list_any p xs ≡ false → p (get_or xs at d) ≡ false
 not_any p [] at d within none = absurd (omega arith)
-not_any p (x ∷ xs) zero d within none = (neither _ _ none).0
-not_any p (x ∷ xs) (suc at) d within none = not_any p xs at d (omega arith) (neither (p x) _ none).1
+not_any p (x ∷ xs) zero d within none = (or_parts _ _ none).0
+not_any p (x ∷ xs) (suc at) d within none = not_any p xs at d (omega arith) (or_parts (p x) _ none).1
 
 -- what stands at the first place is what is found
 pub found_at : {X : Type 0} (p : X → Bool) (xs : List X) (at : ℕ) (x : X) → position p xs ≡ Some at → x ≡ get_or xs at x → find p xs ≡ Some x
@@ -97,10 +90,10 @@ abbrev pub replaced_by : List ℕ → (NamedTable → NamedTable) → NamedTable
 replaced_by name change t = if is_named name t then change t else t
 
 first_apart : (t : NamedTable) (ts : List NamedTable) → Distinct (t ∷ ts) → list_any (is_named t.name) ts ≡ false
-first_apart t ts distinct = sym (any_mapped (same_name t.name) (λ u. u.name) ts) ∙ denied _ (both _ _ distinct).0
+first_apart t ts distinct = sym (any_mapped (same_name t.name) (λ u. u.name) ts) ∙ denied _ (and_parts _ _ distinct).0
 
 later_distinct : (t : NamedTable) (ts : List NamedTable) → Distinct (t ∷ ts) → Distinct ts
-later_distinct t ts distinct = (both (not (has_name (map (λ u. u.name) ts) t.name)) _ distinct).1
+later_distinct t ts distinct = (and_parts (not (has_name (map (λ u. u.name) ts) t.name)) _ distinct).1
 
 -- no other table has the name of one
 others : (name : List ℕ) (t : NamedTable) (ts : List NamedTable) → Distinct (t ∷ ts) → is_named name t ≡ true → list_any (is_named name) ts ≡ false
@@ -117,8 +110,8 @@ first_other name t ts at u distinct within read is =
 none_replaced : (name : List ℕ) (change : NamedTable → NamedTable) (ts : List NamedTable) → list_any (is_named name) ts ≡ false → map (replaced_by name change) ts ≡ ts
 none_replaced name change [] none = refl
 none_replaced name change (t ∷ ts) none =
-    let here : is_named name t ≡ false = (neither _ _ none).0 in
-    let later = none_replaced name change ts (neither (is_named name t) _ none).1 in
+    let here : is_named name t ≡ false = (or_parts _ _ none).0 in
+    let later = none_replaced name change ts (or_parts (is_named name t) _ none).1 in
     rw (here, later)
 
 -- the changed table in the place of the one there
@@ -134,8 +127,8 @@ replaced name change (x ∷ xs) (suc at) t within read is distinct =
 none_left_out : (name : List ℕ) (ts : List NamedTable) → list_any (is_named name) ts ≡ false → filter (λ t. not (is_named name t)) ts ≡ ts
 none_left_out name [] none = refl
 none_left_out name (t ∷ ts) none =
-    let here : is_named name t ≡ false = (neither _ _ none).0 in
-    let later = none_left_out name ts (neither (is_named name t) _ none).1 in
+    let here : is_named name t ≡ false = (or_parts _ _ none).0 in
+    let later = none_left_out name ts (or_parts (is_named name t) _ none).1 in
     rw (here, later)
 
 -- the table of that name goes
@@ -153,9 +146,9 @@ removed name (x ∷ xs) (suc at) t within read is distinct =
 filter_lacks : (name : List ℕ) (p : NamedTable → Bool) (ts : List NamedTable) → list_any (is_named name) ts ≡ false → list_any (is_named name) (filter p ts) ≡ false
 filter_lacks name p [] none = refl
 filter_lacks name p (t ∷ ts) none =
-    let later = filter_lacks name p ts (neither (is_named name t) _ none).1 in
+    let later = filter_lacks name p ts (or_parts (is_named name t) _ none).1 in
     elim (p t) as (λ b. list_any (is_named name) (cond b (t ∷ filter p ts) (filter p ts)) ≡ false) [
-      | true ↦ rw ((neither (is_named name t) _ none).0) later
+      | true ↦ rw ((or_parts (is_named name t) _ none).0) later
       | false ↦ later
     ]
 
@@ -174,8 +167,8 @@ distinct-filter p (t ∷ ts) distinct =
 pub distinct-one_more : (names : List (List ℕ)) (name : List ℕ) → are_distinct names ≡ true → list_any (same_name name) names ≡ false → are_distinct (names ++ name ∷ []) ≡ true
 distinct-one_more [] name distinct new = refl
 distinct-one_more (x ∷ xs) name distinct new =
-    let later = distinct-one_more xs name (both (not (has_name xs x)) _ distinct).1 (neither (same_name name x) _ new).1 in
-    let other : same_name x name ≡ false = turned x name ∙ (neither _ _ new).0 in
-    let before : has_name xs x ≡ false = denied _ (both _ _ distinct).0 in
+    let later = distinct-one_more xs name (and_parts (not (has_name xs x)) _ distinct).1 (or_parts (same_name name x) _ new).1 in
+    let other : same_name x name ≡ false = turned x name ∙ (or_parts _ _ new).0 in
+    let before : has_name xs x ≡ false = denied _ (and_parts _ _ distinct).0 in
     let apart : has_name (xs ++ name ∷ []) x ≡ false = list_any-append (same_name x) xs (name ∷ []) ∙ rw (before, other) refl in
     rw (apart, later)

@@ -20,6 +20,8 @@ use Rattle.rt_table_row.specs.Edits.{Steps, and_then, steps_of}
 use Rattle.rt_table_row.specs.Views.{ViewChange}
 use Rattle.rt_table_row.specs.Tables.{TableLists, new_table, edited, select, watch, unwatch, view, has_view}
 use Rattle.rt_check_dump.specs.declared.dump.AnyShadow.{AnyShadow}
+use Rattle.rt_check_dump.specs.declared.dump.AnyShadow.TheVariants.{One}
+use Rattle.rt_tree.specs.Lists.{empty_lists}
 use Rattle.rt_reply.specs.declared.change.Change.{Change}
 use Rattle.rt_table.specs.AnyTrees.{new_tree, FollowsIfTaken}
 use Rattle.rt_reply.specs.declared.reply.Reply.{Reply}
@@ -70,18 +72,27 @@ with_tree state name table tree =
 abbrev pub without_table : State → List ℕ → State
 without_table state name = record state { tables = filter (λ t. not (is_named name t)) state.tables }
 
--- the outcome on the table of that name
-abbrev pub on_table : Option NamedTable → (TableLists → Outcome) → Outcome
+-- what the table of that name gives, or the refusal if there is none
+abbrev pub on_table : {A : Type 0} → Option NamedTable → (TableLists → Result A Refusal) → Result A Refusal
 on_table None next = Err NoSuchTable
 on_table (Some t) next = next t.table
+
+-- the table that has the view of that name
+abbrev pub watched_by : State → List ℕ → Option NamedTable
+watched_by state name = find (λ t. has_view t.table name) state.tables
+
+-- what the table gives that has the view, or the refusal if there is none
+abbrev pub on_watched : {A : Type 0} → Option NamedTable → (NamedTable → Result A Refusal) → Result A Refusal
+on_watched None next = Err NoSuchView
+on_watched (Some t) next = next t
 
 -- ---- CREATE and DROP
 
 abbrev pub most_tables : ℕ
 most_tables = 64
 
-abbrev pub created : State → List ℕ → Bool → List ColumnDef → Outcome
-created state name if_absent columns =
+abbrev pub create_outcome : State → List ℕ → Bool → List ColumnDef → Outcome
+create_outcome state name if_absent columns =
     if is_some (table_of state name) then (if if_absent then Ok (Nothing, state) else Err TableAlreadyExists)
     else (if nat_le most_tables (length state.tables) then Err TooManyTablesOrViews
     else and_then (columns_of columns) (λ c.
@@ -90,8 +101,8 @@ created state name if_absent columns =
 abbrev pub is_watched : TableLists → Bool
 is_watched t = not (nat_le (length t.views) 0)
 
-abbrev pub dropped : State → List ℕ → Bool → Outcome
-dropped state name if_there =
+abbrev pub drop_outcome : State → List ℕ → Bool → Outcome
+drop_outcome state name if_there =
     if if_there && not (is_some (table_of state name)) then Ok (Nothing, state)
     else on_table (table_of state name) (λ t. if is_watched t then Err TableIsWatched else Ok (Nothing, without_table state name))
 
@@ -101,11 +112,29 @@ abbrev pub change_of : ViewChange → Change
 change_of c = record { view = c.view; came = c.came; row = c.row }
 
 -- the steps are taken on the table of that name, whose tree is then this one, and their changes of its views are shown
-abbrev pub carried_out : AnyShadow → State → List ℕ → TableLists → Steps → Outcome
-carried_out tree state name t steps =
+abbrev pub edit_outcome : AnyShadow → State → List ℕ → TableLists → Steps → Outcome
+edit_outcome tree state name t steps =
     and_then (edited t steps) (λ done. Ok (Changes (map change_of done.0), with_tree state name done.1 tree))
 
--- ---- SELECT
+-- ---- views
+
+abbrev pub most_views : ℕ
+most_views = 64
+
+-- how many views the tables have in all
+abbrev pub count_views : State → ℕ
+count_views state = sum_by (λ t. length t.table.views) state.tables
+
+abbrev pub watch_outcome : State → List ℕ → List ℕ → List Test → TableLists → Outcome
+watch_outcome state name table cond t =
+    if is_some (watched_by state name) then Err ViewAlreadyExists
+    else (if nat_le most_views (count_views state) then Err TooManyTablesOrViews
+    else and_then (watch t name cond) (λ after. Ok (Nothing, with_table state table after)))
+
+abbrev pub unwatch_outcome : State → List ℕ → NamedTable → Outcome
+unwatch_outcome state name t = and_then (unwatch t.table name) (λ after. Ok (Nothing, with_table state t.name after))
+
+-- ---- questions: SELECT, and what a view, the checker and a tree show
 
 -- the order is by the id, or none is given
 abbrev pub is_by_id : Columns → Option (List ℕ) → Bool
@@ -118,70 +147,50 @@ are_columns columns None = true
 are_columns columns (Some names) = list_all (has_name columns.names) names
 
 -- the values of those columns, or of all
-abbrev pub shown : Columns → Option (List (List ℕ)) → TableRow → List Value
-shown columns None row = values_of row
-shown columns (Some names) row = map (value_in columns.names (values_of row)) names
+abbrev pub shown_values : Columns → Option (List (List ℕ)) → TableRow → List Value
+shown_values columns None row = values_of row
+shown_values columns (Some names) row = map (value_in columns.names (values_of row)) names
 
-abbrev pub selected : State → Option (List (List ℕ)) → List Test → Option (List ℕ) → TableLists → Outcome
-selected state names cond order t =
+abbrev pub select_reply : Option (List (List ℕ)) → List Test → Option (List ℕ) → TableLists → Result Reply Refusal
+select_reply names cond order t =
     if not (are_columns t.columns names && is_by_id t.columns order) then Err NoSuchColumn
-    else and_then (select t cond) (λ rows. Ok (Rows (map (shown t.columns names) rows), state))
+    else and_then (select t cond) (λ rows. Ok (Rows (map (shown_values t.columns names) rows)))
 
--- ---- views
-
-abbrev pub most_views : ℕ
-most_views = 64
-
--- how many views the tables have in all
-abbrev pub count_views : State → ℕ
-count_views state = sum_by (λ t. length t.table.views) state.tables
-
--- the table that has the view of that name
-abbrev pub watched_by : State → List ℕ → Option NamedTable
-watched_by state name = find (λ t. has_view t.table name) state.tables
-
-abbrev pub now_watched : State → List ℕ → List ℕ → List Test → TableLists → Outcome
-now_watched state name table cond t =
-    if is_some (watched_by state name) then Err ViewAlreadyExists
-    else (if nat_le most_views (count_views state) then Err TooManyTablesOrViews
-    else and_then (watch t name cond) (λ after. Ok (Nothing, with_table state table after)))
-
--- the outcome on the table that has the view
-abbrev pub on_watched : Option NamedTable → (NamedTable → Outcome) → Outcome
-on_watched None next = Err NoSuchView
-on_watched (Some t) next = next t
-
-abbrev pub now_unwatched : State → List ℕ → NamedTable → Outcome
-now_unwatched state name t = and_then (unwatch t.table name) (λ after. Ok (Nothing, with_table state t.name after))
-
-abbrev pub viewed : State → List ℕ → NamedTable → Outcome
-viewed state name t = and_then (view t.table name) (λ rows. Ok (Rows (map values_of rows), state))
-
--- ---- trees
+abbrev pub view_reply : List ℕ → NamedTable → Result Reply Refusal
+view_reply name t = and_then (view t.table name) (λ rows. Ok (Rows (map values_of rows)))
 
 -- the tree of each table is sound, whatever was done to the table
-abbrev pub checked : State → TableLists → Outcome
-checked state t = Ok (Verdict [], state)
+abbrev pub check_reply : TableLists → Result Reply Refusal
+check_reply t = Ok (Verdict [])
 
-abbrev pub dumped : State → Option NamedTable → Outcome
-dumped state None = Err NoSuchTable
-dumped state (Some t) = Ok (Dump t.tree, state)
+abbrev pub nodes_reply : Option NamedTable → Result Reply Refusal
+nodes_reply None = Err NoSuchTable
+nodes_reply (Some t) = Ok (Dump t.tree)
+
+-- the reply to a question; `answer` asks it of no other statement
+abbrev pub reply_to : State → Stmt → Result Reply Refusal
+reply_to state (Select columns name cond order) = on_table (table_of state name) (select_reply columns cond order)
+reply_to state (View name) = on_watched (watched_by state name) (view_reply name)
+reply_to state (Check name) = on_table (table_of state name) check_reply
+reply_to state (Nodes name) = nodes_reply (table_of state name)
+reply_to state other = Ok Nothing
 
 -- ---- all statements
 
--- the reply and the state afterwards, or the refusal, where the table that the statement changes gets this tree
+-- the reply and the state afterwards, or the refusal, if the table that the statement changes gets this tree
 abbrev pub answer : AnyShadow → State → Stmt → Outcome
-answer tree state (Create name if_absent columns) = created state name if_absent columns
-answer tree state (Drop name if_there) = dropped state name if_there
+answer tree state (Create name if_absent columns) = create_outcome state name if_absent columns
+answer tree state (Drop name if_there) = drop_outcome state name if_there
 answer tree state (Edits name edit) =
-    on_table (table_of state name) (λ t. carried_out tree state name t (steps_of edit t.columns t.rows))
-answer tree state (Select columns name cond order) =
-    on_table (table_of state name) (selected state columns cond order)
-answer tree state (Check name) = on_table (table_of state name) (checked state)
-answer tree state (Watch name table cond) = on_table (table_of state table) (now_watched state name table cond)
-answer tree state (Unwatch name) = on_watched (watched_by state name) (now_unwatched state name)
-answer tree state (View name) = on_watched (watched_by state name) (viewed state name)
-answer tree state (Nodes name) = dumped state (table_of state name)
+    on_table (table_of state name) (λ t. edit_outcome tree state name t (steps_of edit t.columns t.rows))
+answer tree state (Watch name table cond) = on_table (table_of state table) (watch_outcome state name table cond)
+answer tree state (Unwatch name) = on_watched (watched_by state name) (unwatch_outcome state name)
+-- a question leaves the state
+answer tree state question = and_then (reply_to state question) (λ reply. Ok (reply, state))
+
+-- a tree for statements that choose none
+abbrev pub no_tree : AnyShadow
+no_tree = One (empty_lists 0)
 
 -- The rows of a table don't determine its tree. It has their ids and boxes and the table's capacity, and the checker
 -- finds no problem in it. It takes the steps of the statement one after the other: a row that comes is an insertion, one
@@ -193,21 +202,14 @@ MayChooseFor (Some t) edit tree = FollowsIfTaken t.table.rows (steps_of edit t.t
 -- the trees that the table which a statement changes may have afterwards
 abbrev pub MayChoose : State → Stmt → AnyShadow → Type 0
 MayChoose old (Edits name edit) tree = MayChooseFor (table_of old name) edit tree
-MayChoose old (Create name if_absent columns) tree = Unit {0}
-MayChoose old (Drop name if_there) tree = Unit {0}
-MayChoose old (Select columns name cond order) tree = Unit {0}
-MayChoose old (Check name) tree = Unit {0}
-MayChoose old (Watch view name cond) tree = Unit {0}
-MayChoose old (Unwatch view) tree = Unit {0}
-MayChoose old (View view) tree = Unit {0}
-MayChoose old (Nodes name) tree = Unit {0}
+MayChoose old statement tree = Unit {0}
 
 -- the outcomes of a statement: its answer with a tree that it may choose; a refusal is the answer with any
 abbrev pub Answers : State → Stmt → Outcome → Type 0
 Answers old statement (Ok given) = (tree : AnyShadow) × (answer tree old statement ≡ Ok given) × MayChoose old statement tree
 Answers old statement (Err refusal) = (tree : AnyShadow) → answer tree old statement ≡ Err refusal
 
--- Ok is an outcome with the new state. A refusal leaves the state, and is an outcome or want of memory.
+-- Ok is an outcome with the new state. A refusal leaves the state, and is an outcome or `OutOfMemory`.
 abbrev pub CarriesOut : State → Stmt → Result Reply Refusal → State → Type 0
 CarriesOut old statement (Ok reply) new = Answers old statement (Ok (reply, new))
 CarriesOut old statement (Err refusal) new = (new ≡ old) × (refusal ≢ OutOfMemory → Answers old statement (Err refusal))

@@ -6,30 +6,16 @@ use Rattle.rt_sql_statement.specs.declared.statement.Edit.{Edit}
 use Rattle.rt_sql_statement.specs.declared.value.Value.{Value}
 use Rattle.rt_table_row.specs.Edits.{and_then, steps_of}
 use Rattle.rt_table_row.specs.Tables.{TableLists, edited}
-use Rattle.rt_check_dump.specs.declared.dump.AnyShadow.{AnyShadow}
 use Rattle.rt_reply.specs.declared.change.Change.{Change}
 use Rattle.rt_reply.specs.declared.reply.Reply.{Reply}
 use Rattle.rt_reply.specs.declared.reply.Reply.TheVariants.{Rows}
-use Rattle.rt_session.specs.Session.{State, Outcome, change_of}
+use Rattle.rt_session.specs.Session.{change_of}
 
--- Ok is the reply and the state that were expected. A refusal leaves the state, and is the one expected or want of memory.
-abbrev pub AnswersUnlessMemory : {A S : Type 0} → Result (A × S) Refusal → Result A Refusal → S → S → Type 0
-AnswersUnlessMemory expected r old new =
-    MatchResult r (λ reply. expected ≡ Ok (reply, new)) (λ refusal. (new ≡ old) × (refusal ≢ OutOfMemory → expected ≡ Err refusal))
-
--- Ok is the reply and the state that were expected with some tree that may be chosen. A refusal leaves the state, and is
--- the one expected with any tree or want of memory.
-abbrev pub AnswersByTree : (AnyShadow → Outcome) → (AnyShadow → Type 0) → Result Reply Refusal → State → State → Type 0
-AnswersByTree expected MayBe r old new =
-    MatchResult r
-    (λ reply. (tree : AnyShadow) × (expected tree ≡ Ok (reply, new)) × MayBe tree)
-    (λ refusal. (new ≡ old) × (refusal ≢ OutOfMemory → (tree : AnyShadow) → expected tree ≡ Err refusal))
-
--- the rows are shown, and the state stays
-abbrev pub ShowsRows : (State → Outcome) → Result (List (List Value)) Refusal → Type 0
+-- Ok is the rows of the reply that was expected. A refusal is the one expected or `OutOfMemory`.
+abbrev pub ShowsRows : Result Reply Refusal → Result (List (List Value)) Refusal → Type 0
 ShowsRows expected r =
-    (state : State) → MatchResult r (λ rows. expected state ≡ Ok (Rows rows, state)) (λ refusal. refusal ≢ OutOfMemory → expected state ≡ Err refusal)
+    MatchResult r (λ rows. expected ≡ Ok (Rows rows)) (λ refusal. refusal ≢ OutOfMemory → expected ≡ Err refusal)
 
 -- the changes of its views that are shown, and the table afterwards
-abbrev pub edited_by : Edit → TableLists → Result (List Change × TableLists) Refusal
-edited_by edit t = and_then (edited t (steps_of edit t.columns t.rows)) (λ done. Ok (map change_of done.0, done.1))
+abbrev pub edit_result : Edit → TableLists → Result (List Change × TableLists) Refusal
+edit_result edit t = and_then (edited t (steps_of edit t.columns t.rows)) (λ done. Ok (map change_of done.0, done.1))

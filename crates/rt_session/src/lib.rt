@@ -4,10 +4,10 @@
 //!   refusal leaves the tables as they were.
 //! - `Reply`, `Change`: what a statement answers (`rt_reply`).
 //!
-//! Any statement may be refused for want of memory, and that refusal too leaves the tables.
+//! If no memory is left, any statement may be refused, and that refusal too leaves the tables.
 //!
 //! Stands on `rt_table` and `rt_reply`. Definitions: `specs/Session.antt` (the answer to each statement),
-//! `Selecting.antt`. What holds of every session is said in `rt_session_laws`.
+//! `Selecting.antt`. `rt_laws` says what holds of every session.
 #![tactic(auto)]
 
 mod selecting;

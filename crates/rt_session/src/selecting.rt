@@ -3,7 +3,7 @@
 //! Column names are looked up before the table is searched.
 
 ghost use Rattle.std.specs.Prelude.{◌≡◌, IfOk, IfErr};
-ghost use Rattle.rt_session.specs.Session.{is_by_id, selected};
+ghost use Rattle.rt_session.specs.Session.{is_by_id, select_reply};
 ghost use Rattle.rt_session.specs.Selecting.{ArePlaces, IsMissing};
 ghost use Rattle.rt_session.specs.Steps.{ShowsRows};
 
@@ -49,7 +49,7 @@ pub(crate) fn select(
     cond: Cond,
     order: &Option<Name>,
 ) -> Result<Shown, Refusal>
-    ensures { ShowsRows (λ state. selected state columns.now cond order.now table.now.lists) result }
+    ensures { ShowsRows (select_reply columns.now cond order.now table.now.lists) result }
 {
     if !is_by_id(table.schema(), order) {
         return Err(Refusal::NoSuchColumn);

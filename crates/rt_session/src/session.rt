@@ -4,9 +4,8 @@
 //! and views is the table's part. `specs/Session.antt` defines the answer to each statement over plain lists.
 
 ghost use Rattle.std.specs.Prelude.{◌≡◌};
-ghost use Rattle.rt_table_row.specs.Edits.{steps_of};
-ghost use Rattle.rt_session.specs.Session.{empty, CarriesOut, MayChooseFor, created, dropped, carried_out, on_table, table_of, now_watched, on_watched, watched_by, now_unwatched, viewed, selected, checked, dumped};
-ghost use Rattle.rt_session.specs.Steps.{AnswersUnlessMemory, AnswersByTree};
+ghost use Rattle.rt_sql_statement.specs.declared.statement.Stmt.TheVariants.{Create, Drop, Edit as Edits, Select, Watch, Unwatch, View, Check, Nodes};
+ghost use Rattle.rt_session.specs.Session.{empty, CarriesOut};
 
 use crate::selecting::select;
 use crate::tables::{Named, have_views, place_of, place_of_view};
@@ -19,10 +18,10 @@ use std::alloc::Global;
 use std::hash::RandomState;
 use std::marker::Model;
 
-/// How many tables there are at most. The limit is own.
+/// How many tables there are at most. SQLite has no such limit.
 const MOST_TABLES: usize = 64;
 
-/// How many views the tables have in all at most. The limit is own.
+/// How many views all tables have at most. SQLite has no such limit.
 const MOST_VIEWS: usize = 64;
 
 /// The tables of a session, each under its name.
@@ -61,8 +60,8 @@ impl Model for Session {
 }
 
 impl Session {
-    /// A session with no table, which takes no memory. The capacity is that of each table's nodes, and
-    /// the keys are those of the hashes of ids.
+    /// A session with no table. It allocates nothing. The capacity is that of each table's nodes; the keys are those of
+    /// the hashes of ids.
     pub fn new(alloc: Global, keys: RandomState, capacity: Capacity) -> Session
         ensures { result ≡ empty capacity }
     {
@@ -74,12 +73,12 @@ impl Session {
         }
     }
 
-    /// Carries out a statement, as SQLite's R*Tree module does where the definitions name no rule
-    /// of their own.
+    /// Carries out a statement as SQLite's R*Tree module does, unless the definitions name a rule of their own.
     ///
     /// # Errors
     ///
-    /// The refusal that the definitions name, or `OutOfMemory`. Either leaves the tables as they were.
+    /// The refusal that the definitions name, or `OutOfMemory` if no memory is left. Either leaves the tables as they
+    /// were.
     pub fn step(&mut self, statement: Stmt) -> Result<Reply, Refusal>
         ensures { CarriesOut self.old statement result self.new }
     {
@@ -105,7 +104,7 @@ impl Session {
         }
     }
 
-    // Rare statements stand apart here and below, so that their locals aren't cleared for others.
+    // Rare statements have functions of their own here and below, so that no other statement clears their locals.
     #[inline(never)]
     fn create(
         &mut self,
@@ -113,7 +112,7 @@ impl Session {
         if_absent: bool,
         columns: &Items<ColumnDef>,
     ) -> Result<Reply, Refusal>
-        ensures { AnswersUnlessMemory (created self.old name if_absent columns.now) result self.old self.new }
+        ensures { CarriesOut self.old (Create name if_absent columns.now) result self.new }
     {
         if place_of(self.tables.as_slice(), &name).is_some() {
             if if_absent {
@@ -132,7 +131,7 @@ impl Session {
 
     #[inline(never)]
     fn drop_table(&mut self, name: &Name, if_there: bool) -> Result<Reply, Refusal>
-        ensures { AnswersUnlessMemory (dropped self.old name.now if_there) result self.old self.new }
+        ensures { CarriesOut self.old (Drop name.now if_there) result self.new }
     {
         let Some(at) = place_of(self.tables.as_slice(), name) else {
             if if_there {
@@ -148,7 +147,7 @@ impl Session {
     }
 
     fn edit(&mut self, name: &Name, edit: Edit) -> Result<Reply, Refusal>
-        ensures { AnswersByTree (λ tree. on_table (table_of self.old name.now) (λ t. carried_out tree self.old name.now t (steps_of edit t.columns t.rows))) (MayChooseFor (table_of self.old name.now) edit) result self.old self.new }
+        ensures { CarriesOut self.old (Edits name.now edit) result self.new }
     {
         let Some(at) = place_of(self.tables.as_slice(), name) else {
             return Err(Refusal::NoSuchTable);
@@ -159,7 +158,7 @@ impl Session {
 
     #[inline(never)]
     fn watch(&mut self, view: Name, name: &Name, cond: Cond) -> Result<Reply, Refusal>
-        ensures { AnswersUnlessMemory (on_table (table_of self.old name.now) (now_watched self.old view name.now cond)) result self.old self.new }
+        ensures { CarriesOut self.old (Watch view name.now cond) result self.new }
     {
         let Some(at) = place_of(self.tables.as_slice(), name) else {
             return Err(Refusal::NoSuchTable);
@@ -176,7 +175,7 @@ impl Session {
 
     #[inline(never)]
     fn unwatch(&mut self, view: &Name) -> Result<Reply, Refusal>
-        ensures { AnswersUnlessMemory (on_watched (watched_by self.old view.now) (now_unwatched self.old view.now)) result self.old self.new }
+        ensures { CarriesOut self.old (Unwatch view.now) result self.new }
     {
         let Some(at) = place_of_view(self.tables.as_slice(), view) else {
             return Err(Refusal::NoSuchView);
@@ -187,13 +186,13 @@ impl Session {
 
     #[inline(never)]
     fn view(&self, view: &Name) -> Result<Reply, Refusal>
-        ensures { AnswersUnlessMemory (on_watched (watched_by self.now view.now) (viewed self.now view.now)) result self.now self.now }
+        ensures { CarriesOut self.now (View view.now) result self.now }
     {
         let Some(at) = place_of_view(self.tables.as_slice(), view) else {
             return Err(Refusal::NoSuchView);
         };
         let picked = self.tables[at].table.view(self.alloc, view)?;
-        // A view visits no node for its rows, so the number of visited nodes is 0 and says nothing.
+        // A view visits no node for its rows, so the number of visited nodes is 0 and is left out.
         Ok(Reply::Rows(Shown::whole(AnyRows::listed(picked.rows))))
     }
 
@@ -204,7 +203,7 @@ impl Session {
         cond: Cond,
         order: &Option<Name>,
     ) -> Result<Reply, Refusal>
-        ensures { AnswersUnlessMemory (on_table (table_of self.now name.now) (selected self.now columns.now cond order.now)) result self.now self.now }
+        ensures { CarriesOut self.now (Select columns.now name.now cond order.now) result self.now }
     {
         let Some(at) = place_of(self.tables.as_slice(), name) else {
             return Err(Refusal::NoSuchTable);
@@ -215,7 +214,7 @@ impl Session {
 
     #[inline(never)]
     fn check(&self, name: &Name) -> Result<Reply, Refusal>
-        ensures { AnswersUnlessMemory (on_table (table_of self.now name.now) (checked self.now)) result self.now self.now }
+        ensures { CarriesOut self.now (Check name.now) result self.now }
     {
         let Some(at) = place_of(self.tables.as_slice(), name) else {
             return Err(Refusal::NoSuchTable);
@@ -226,7 +225,7 @@ impl Session {
 
     #[inline(never)]
     fn nodes(&self, name: &Name) -> Result<Reply, Refusal>
-        ensures { AnswersUnlessMemory (dumped self.now (table_of self.now name.now)) result self.now self.now }
+        ensures { CarriesOut self.now (Nodes name.now) result self.now }
     {
         let Some(at) = place_of(self.tables.as_slice(), name) else {
             return Err(Refusal::NoSuchTable);

@@ -16,7 +16,7 @@ pub(crate) struct Named {
     pub(crate) table: AnyTable,
 }
 
-/// Where the table of that name stands. There are few enough tables to look at each.
+/// Where the table of that name stands. There are few tables, so each is looked at.
 pub(crate) fn place_of(tables: &[Named], name: &Name) -> Option<usize>
     ensures { result ≡ position (λ n. same_name name.now n.name) tables.now }
 {
@@ -30,7 +30,7 @@ pub(crate) fn place_of_view(tables: &[Named], name: &Name) -> Option<usize>
     tables.iter().position(|named| named.table.has_view(name))
 }
 
-/// Whether the tables have that many views in all, or more.
+/// Whether the tables have `many` views in all, or more.
 pub(crate) fn have_views(tables: &[Named], many: usize) -> bool
     ensures { result ≡ nat_le many (sum_by (λ n. length n.table.lists.views) tables.now) }
 {

@@ -89,7 +89,7 @@ remarked options marks others p (piece ∷ pieces) parts status agree (outcome, 
 
 -- ---- the text of parts
 
--- the lines of a piece, and then the text of those behind it
+-- the lines of a piece, and then the text of those after it
 text_from : (options : Options) (marks : Marks) (p : Progress) (piece : PieceText) (pieces : List PieceText) (outcome : Outcome) → MayGive (marks (p.pieces + 1)) p.state piece outcome
     → (later out : List ℕ) (status : Status) → out ≡ part_of options (p.pieces + 1) piece outcome ++ later
     → MatchBool (options.bail && is_err outcome) ((later ≡ []) × (status ≡ Refused)) (PrintsText options marks (after p outcome) pieces later status)
@@ -119,7 +119,7 @@ cut_in_some_way : (so_far : Bool) (x : List ℕ) → (pieces : List PieceText) �
 cut_in_some_way false x = cut_somehow x
 cut_in_some_way true x = ended_of x _ (cut_somehow x).1
 
--- where memory refuses each piece
+-- if memory refuses each piece
 all_marked : Marks
 all_marked = λ number. true
 

@@ -15,7 +15,7 @@ use Rattle.rt_shell.proofs.EngineLemmas.{moves_nowhere, moves_step, stops_step, 
 pub parts : (n : ℕ) (s : List ℕ) → s ≡ take n s ++ take (length s - n) (drop n s)
 parts n s = sym (ap (λ l. take n s ++ l) (take_all (length s - n) (drop n s) (omega (arith, length-drop {A = ℕ}))) ∙ take-append-drop n s)
 
--- a front of the bytes is taken, and the pieces that ended in it are answered
+-- a prefix of the bytes is taken, and the pieces that ended in it are answered
 pub record Taking (old : Engine) (bytes : List ℕ) (now : Engine) (rest : List ℕ) (w v : Option (List ℕ)) (f g : ℕ) : Type 0 where
   pub taken : List ℕ
   pub lines : List ℕ

@@ -2,6 +2,7 @@
 use Rattle.std.specs.Prelude.{◌≡◌, ◌⊎◌, ℕ, ◌+◌, Bool, true, false, ◌&&◌, if◌then◌else◌, List, [], ◌++◌, Result, Ok, Err, Option, Some, None, IfOk}
 use Rattle.std.specs.Result.{is_err}
 use Rattle.rt_bytes.specs.Bytes.{Writes, WritesAll, WritesPrefix}
+use Rattle.rt_bytes.specs.declared.device.ByteWriter.{Ghosts as WriterMembers}
 use Rattle.rt_bytes.specs.declared.device.WriteFault.{WriteFault}
 use Rattle.rt_sql_cut.specs.Piece.{PieceText}
 use Rattle.rt_sql_cut.specs.Pieces.{IsGap, IsWholePiece, IsLastPiece, Pieces, EndedPieces}
@@ -69,6 +70,10 @@ abbrev pub ready_lines : Engine → Option (Result Reply Refusal) → List ℕ
 ready_lines old None = []
 ready_lines old (Some answer) = echo_ready old.options.echo (ready_piece old.cutter) ++ answer_lines (old.pieces + 1) answer
 
+-- what a piece of this number prints with this answer: with echo itself, and then the answer
+abbrev pub piece_lines : Bool → ℕ → PieceText → Result Reply Refusal → List ℕ
+piece_lines echo number piece answer = echo_of echo piece ++ answer_lines number answer
+
 -- with bail the run stops at a refusal
 abbrev pub flow_of : Bool → Option (Result Reply Refusal) → Flow
 flow_of bail None = Goes
@@ -81,6 +86,10 @@ pub record AnswersReady (old new : Engine) (w v : Option (List ℕ)) (f g : ℕ)
   pub writes : Writes w v f g result (ready_lines old answer)
   pub flow : IfOk result (λ flow. flow ≡ flow_of old.options.bail answer)
 
+-- the same, told by the writer before and after
+abbrev pub AnswersReadyTo : {W : Type 0} → WriterMembers W → Engine → Engine → W → W → Result Flow WriteFault → Type 0
+AnswersReadyTo w old new from to result = AnswersReady old new (w.written from) (w.written to) (w.faults from) (w.faults to) result
+
 -- the pieces of a text, or those that have ended in it so far
 abbrev pub CutInto : Bool → List ℕ → List PieceText → Type 0
 CutInto true x pieces = EndedPieces x pieces
@@ -92,7 +101,7 @@ Gives so_far options p text out status =
     (marks : Marks) × ((pieces : List PieceText) × CutInto so_far text pieces × PrintsText options marks p pieces out status)
 
 -- from x the engine took the bytes and printed the lines, and stands at y: whatever comes and is printed after
--- that, comes and is printed with these in front
+-- that, comes and is printed after these
 pub record Moves (old : Engine) (x bytes lines : List ℕ) (new : Engine) (y : List ℕ) : Type 0 where
   pub stands : StandsAt new.cutter y
   pub same_options : new.options ≡ old.options
@@ -103,7 +112,7 @@ pub record Moves (old : Engine) (x bytes lines : List ℕ) (new : Engine) (y : L
 abbrev pub StopsWith : Engine → List ℕ → List ℕ → List ℕ → Type 0
 StopsWith old x bytes lines = (so_far : Bool) (ahead : List ℕ) → Gives so_far old.options (progress_of old) (x ++ (bytes ++ ahead)) lines Refused
 
--- the lines are the front of what is printed, whatever comes after the bytes
+-- the lines are a prefix of what is printed, whatever comes after the bytes
 abbrev pub Reaches : Engine → List ℕ → List ℕ → List ℕ → Type 0
 Reaches old x bytes lines = (so_far : Bool) (ahead : List ℕ)
     → (out : List ℕ) × (status : Status) × Gives so_far old.options (progress_of old) (x ++ (bytes ++ ahead)) (lines ++ out) status
@@ -112,12 +121,15 @@ abbrev pub FlowsOn : Flow → Engine → List ℕ → List ℕ → List ℕ → 
 FlowsOn Goes old x bytes lines new = (y : List ℕ) × Moves old x bytes lines new y
 FlowsOn Stops old x bytes lines new = StopsWith old x bytes lines
 
--- all of the bytes were taken and the pieces that end in them answered, or a front of their lines was written
+-- all of the bytes were taken and the pieces that end in them answered, or a prefix of their lines was written
 abbrev pub TakesAll : Engine → List ℕ → Engine → Option (List ℕ) → Option (List ℕ) → ℕ → ℕ → Result Flow WriteFault → Type 0
 TakesAll old bytes new w v f g (Ok flow) =
     (lines : List ℕ) × WritesAll w v f g lines × ((x : List ℕ) → StandsAt old.cutter x → FlowsOn flow old x bytes lines new)
 TakesAll old bytes new w v f g (Err fault) =
     (lines : List ℕ) × WritesPrefix w v f g lines × ((x : List ℕ) → StandsAt old.cutter x → Reaches old x bytes lines)
+
+abbrev pub TakesAllTo : {W : Type 0} → WriterMembers W → Engine → List ℕ → Engine → W → W → Result Flow WriteFault → Type 0
+TakesAllTo w old bytes new from to result = TakesAll old bytes new (w.written from) (w.written to) (w.faults from) (w.faults to) result
 
 -- the input has ended, and the last piece is answered
 abbrev pub Finishes : Engine → Option (List ℕ) → Option (List ℕ) → ℕ → ℕ → Result Status WriteFault → Type 0
@@ -125,3 +137,6 @@ Finishes old w v f g (Ok status) =
     (lines : List ℕ) × WritesAll w v f g lines × ((x : List ℕ) → StandsAt old.cutter x → Gives false old.options (progress_of old) x lines status)
 Finishes old w v f g (Err fault) =
     (lines : List ℕ) × WritesPrefix w v f g lines × ((x : List ℕ) → StandsAt old.cutter x → (status : Status) × Gives false old.options (progress_of old) x lines status)
+
+abbrev pub FinishesTo : {W : Type 0} → WriterMembers W → Engine → W → W → Result Status WriteFault → Type 0
+FinishesTo w old from to result = Finishes old (w.written from) (w.written to) (w.faults from) (w.faults to) result

@@ -30,7 +30,7 @@ pub record FailsToRead (options : Options) (old new : Devices) : Type 0 where
   pub short : IfSome old.left (λ script. length script < most_reads → new.failures ≡ one_more old.failures)
   pub no_write_failed : new.faults ≡ old.faults
 
--- a write or the flush failed, and what was written is a front of a transcript: of the pieces that were complete in
+-- a write or the flush failed, and what was written is a prefix of a transcript: of the pieces that were complete in
 -- what was read, or of the whole script
 pub record FailsToWrite (options : Options) (old new : Devices) : Type 0 where
   pub read : List ℕ

@@ -1,6 +1,7 @@
 -- What a shell that is fed a script has printed (own).
 use Rattle.std.specs.Prelude.{◌≡◌, ◌≢◌, ℕ, ◌+◌, ◌^◌, ◌<◌, ◌≤◌, List, [], ◌++◌, length, Option, Result, Ok, Err}
 use Rattle.rt_bytes.specs.Bytes.{WritesAll, WritesPrefix}
+use Rattle.rt_bytes.specs.declared.device.ByteWriter.{Ghosts as WriterMembers}
 use Rattle.rt_bytes.specs.declared.device.WriteFault.{WriteFault}
 use Rattle.rt_bytes.specs.declared.outcome.Status.{Status}
 use Rattle.rt_bytes.specs.declared.outcome.Status.TheVariants.{Refused}
@@ -63,6 +64,10 @@ abbrev pub Feeds : Shell → List ℕ → Shell → Option (List ℕ) → Option
 Feeds old bytes new w v f g result =
     (options : Options) (fed out : List ℕ) → HasPrinted options old fed out → FeedsOn options fed out old bytes new w v f g result
 
+-- the same, told by the writer before and after
+abbrev pub FeedsTo : {W : Type 0} → WriterMembers W → Shell → List ℕ → Shell → W → W → Result Flow FeedFault → Type 0
+FeedsTo w old bytes new from to result = Feeds old bytes new (w.written from) (w.written to) (w.faults from) (w.faults to) result
+
 -- of a shell that was fed and printed this, what it does at the script's end
 abbrev pub EndsWith : Options → List ℕ → List ℕ → Option (List ℕ) → Option (List ℕ) → ℕ → ℕ → Result Status WriteFault → Type 0
 EndsWith options fed out w v f g (Ok status) = (lines : List ℕ) × WritesAll w v f g lines × MayPrint options fed (out ++ lines) status
@@ -72,22 +77,33 @@ EndsWith options fed out w v f g (Err fault) =
 abbrev pub Ends : Shell → Option (List ℕ) → Option (List ℕ) → ℕ → ℕ → Result Status WriteFault → Type 0
 Ends shell w v f g result = (options : Options) (fed out : List ℕ) → HasPrinted options shell fed out → EndsWith options fed out w v f g result
 
+abbrev pub EndsTo : {W : Type 0} → WriterMembers W → Shell → W → W → Result Status WriteFault → Type 0
+EndsTo w shell from to result = Ends shell (w.written from) (w.written to) (w.faults from) (w.faults to) result
+
 -- ---- a shell that is over
 
-abbrev pub fed_again : Result Flow WriteFault → Result Flow FeedFault
-fed_again (Ok flow) = Ok flow
-fed_again (Err fault) = Err Write
+-- what a shell that is over answers to a feed
+abbrev pub feed_answer : Result Flow WriteFault → Result Flow FeedFault
+feed_answer (Ok flow) = Ok flow
+feed_answer (Err fault) = Err Write
 
 -- it takes and writes nothing more
 abbrev pub FeedsNoMore : Shell → Shell → Option (List ℕ) → Option (List ℕ) → ℕ → ℕ → Result Flow FeedFault → Type 0
-FeedsNoMore old new w v f g result = (result ≡ fed_again old.flow) × (new ≡ old) × (v ≡ w) × (g ≡ f)
+FeedsNoMore old new w v f g result = (result ≡ feed_answer old.flow) × (new ≡ old) × (v ≡ w) × (g ≡ f)
 
-abbrev pub ended_again : Result Flow WriteFault → Result Status WriteFault
-ended_again (Ok flow) = Ok Refused
-ended_again (Err fault) = Err fault
+abbrev pub FeedsNoMoreTo : {W : Type 0} → WriterMembers W → Shell → Shell → W → W → Result Flow FeedFault → Type 0
+FeedsNoMoreTo w old new from to result = FeedsNoMore old new (w.written from) (w.written to) (w.faults from) (w.faults to) result
+
+-- and to the end of its script
+abbrev pub end_answer : Result Flow WriteFault → Result Status WriteFault
+end_answer (Ok flow) = Ok Refused
+end_answer (Err fault) = Err fault
 
 abbrev pub EndsAsBefore : Shell → Option (List ℕ) → Option (List ℕ) → ℕ → ℕ → Result Status WriteFault → Type 0
-EndsAsBefore shell w v f g result = (result ≡ ended_again shell.flow) × (v ≡ w) × (g ≡ f)
+EndsAsBefore shell w v f g result = (result ≡ end_answer shell.flow) × (v ≡ w) × (g ≡ f)
+
+abbrev pub EndsAsBeforeTo : {W : Type 0} → WriterMembers W → Shell → W → W → Result Status WriteFault → Type 0
+EndsAsBeforeTo w shell from to result = EndsAsBefore shell (w.written from) (w.written to) (w.faults from) (w.faults to) result
 
 -- ---- a shell in a run
 

@@ -33,7 +33,7 @@ abbrev pub AnswersParsed : State → Result Stmt Refusal → Outcome → Type 0
 AnswersParsed old (Ok statement) outcome = Answers old statement outcome
 AnswersParsed old (Err refusal) outcome = outcome ≡ Err refusal
 
--- the outcomes of a piece: one that is marked is refused for want of memory
+-- the outcomes of a piece: memory refuses one that is marked
 abbrev pub MayGive : Bool → State → PieceText → Outcome → Type 0
 MayGive true old piece outcome = outcome ≡ Err OutOfMemory
 MayGive false old piece outcome = (parsed : Result Stmt Refusal) × Parses piece parsed × AnswersParsed old parsed outcome
@@ -65,8 +65,8 @@ Prints options marks p (piece ∷ pieces) parts status =
 abbrev pub PrintsText : Options → Marks → Progress → List PieceText → List ℕ → Status → Type 0
 PrintsText options marks p pieces out status = (parts : List (List ℕ)) × Prints options marks p pieces parts status × (out ≡ concat parts)
 
--- the script's run prints these parts, one for each piece, and ends in this status, where memory refuses the pieces that
--- are marked
+-- the script's run prints these parts, one for each piece, and ends in this status, if memory refuses the pieces that are
+-- marked
 abbrev pub IsTranscriptByPieces : Options → Marks → List ℕ → List (List ℕ) → Status → Type 0
 IsTranscriptByPieces options marks script parts status =
     (pieces : List PieceText) × Pieces script pieces × Prints options marks (start options) pieces parts status

@@ -1,10 +1,10 @@
 //! Cuts a script, and answers its pieces.
 //!
-//! The contract of a step holds for whatever bytes follow those that it took, so no loop speaks of the script's
-//! end (`Moves` in `specs/Engine.antt`).
+//! The contract of a step holds whatever bytes follow those that it took. So no loop speaks of the script's end
+//! (`Moves` in `specs/Engine.antt`).
 
-ghost use Rattle.std.specs.Prelude.{◌≡◌, ℕ, ◌+◌, ◌-◌, ◌<◌, ◌≤◌, ◌^◌, ◌++◌, length, None, IfOk};
-ghost use Rattle.rt_shell.specs.Engine.{IsFresh, GivesAnswer, AnswersReady, TakesAll, Finishes, flow_of};
+ghost use Rattle.std.specs.Prelude.{◌≡◌, ℕ, ◌+◌, ◌-◌, ◌<◌, ◌≤◌, ◌^◌, length, None, IfOk};
+ghost use Rattle.rt_shell.specs.Engine.{IsFresh, GivesAnswer, piece_lines, AnswersReadyTo, TakesAllTo, FinishesTo, flow_of};
 ghost use Rattle.rt_sql_cut.specs.Cutter.{ready_piece};
 ghost use Rattle.rt_bytes.specs.Devices.{WritesTo};
 ghost use Rattle.rt_shell_lines.specs.Lines.{answer_lines, echo_of};
@@ -36,7 +36,7 @@ pub struct Options {
 pub enum Flow {
     /// More of the script may come.
     Goes,
-    /// With bail a piece was refused, and what comes after it isn't run.
+    /// With bail a piece was refused, and nothing after it is run.
     Stops,
 }
 
@@ -46,8 +46,9 @@ pub struct Engine {
     alloc: Global,
     cutter: Cutter,
     session: Session,
-    // How many pieces came, and whether one was refused.
+    /// How many pieces came.
     pub pieces: u64,
+    // Whether one was refused.
     refused: bool,
     options: Options,
 }
@@ -95,7 +96,7 @@ fn write_part<W: ByteWriter>(
     answer: &Result<Reply, Refusal>,
     writer: &mut W,
 ) -> Result<(), WriteFault>
-    ensures { WritesTo W.ByteWriter writer.old writer.new result (echo_of echo piece.now ++ answer_lines number.now answer.now) }
+    ensures { WritesTo W.ByteWriter writer.old writer.new result (piece_lines echo number.now piece.now answer.now) }
 {
     write_echo(echo, piece, writer)?;
     write_answer(number, answer, writer)
@@ -130,7 +131,7 @@ impl Engine {
     // Answers the piece that the cutter has ready, if it has one, writes what it prints, and drops it.
     fn answer_ready<W: ByteWriter>(&mut self, writer: &mut W) -> Result<Flow, WriteFault>
         requires { self.old.pieces < 2 ^ 64 - 1 }
-        ensures { AnswersReady self.old self.new (W.written writer.old) (W.written writer.new) (W.faults writer.old) (W.faults writer.new) result }
+        ensures { AnswersReadyTo W.ByteWriter self.old self.new writer.old writer.new result }
     {
         let Some(piece) = self.cutter.ready() else {
             return Ok(Flow::Goes);
@@ -152,7 +153,7 @@ impl Engine {
     ) -> Result<Flow, WriteFault>
         requires few { self.old.pieces + length bytes.now ≤ 2 ^ 63 }
         requires idle { ready_piece self.old.cutter ≡ None }
-        ensures takes { TakesAll self.old bytes.now self.new (W.written writer.old) (W.written writer.new) (W.faults writer.old) (W.faults writer.new) result }
+        ensures takes { TakesAllTo W.ByteWriter self.old bytes.now self.new writer.old writer.new result }
         ensures few { self.new.pieces ≤ self.old.pieces + length bytes.now }
         ensures idle { ready_piece self.new.cutter ≡ None }
     {
@@ -171,7 +172,7 @@ impl Engine {
     /// The input has ended: answers the piece that it ends, if it does.
     pub fn finish<W: ByteWriter>(&mut self, writer: &mut W) -> Result<Status, WriteFault>
         requires { self.old.pieces < 2 ^ 64 - 1 }
-        ensures { Finishes self.old (W.written writer.old) (W.written writer.new) (W.faults writer.old) (W.faults writer.new) result }
+        ensures { FinishesTo W.ByteWriter self.old writer.old writer.new result }
     {
         self.cutter.finish();
         self.answer_ready(writer)?;

@@ -1,19 +1,19 @@
 //! A script shell over the tables of a session: it takes a script, carries out its pieces one by one, and
 //! writes what they print.
 //!
-//! - `write_reply`: the lines that an answer prints (`rt_shell_lines`).
-//! - `Shell`: is fed a script in whatever parts. After each of them it has printed the transcript so far of all
-//!   that it was fed, and after the last the transcript of the script.
-//! - `run`: reads a script into a shell. Its contract names the transcript of the script: the lines of its pieces in order, each
-//!   answered from the tables that those before it left. It says so however the reader parts the
-//!   bytes, and of a failed read or write how much of the transcript was written.
+//! - `write_reply` writes the lines that an answer prints (`rt_shell_lines`).
+//! - `Shell` is fed a script in whatever parts. After each of them it has printed the transcript so far of all that it was
+//!   fed, and after the last the transcript of the script.
+//! - `run` reads a script into a shell. Its contract names the transcript of the script: the lines of its pieces in order,
+//!   each answered from the tables that those before it left. It holds however the reader parts the bytes, and says how
+//!   much of the transcript was written if a read or a write fails.
 //!
-//! Any piece may be refused for want of memory, and that refusal too leaves the tables.
+//! If no memory is left, any piece may be refused, and that refusal too leaves the tables.
 //!
 //! Stands on `rt_session` (answers), `rt_shell_lines` (their lines), `rt_sql_cut` and `rt_sql` (pieces and their statements)
 //! and `rt_bytes`. Definitions: `specs/Transcript.antt` (what a whole script prints), `Shell.antt` (what a shell has printed
 //! of what it was fed), `Run.antt` (what a run does to its reader and writer); `Engine.antt` says how steps of a run join.
-//! What holds of every script is said in `rt_shell_laws`.
+//! `rt_laws` says what holds of every script.
 //!
 //! ```text
 //! let keys = RandomState::new(&rt)?;

@@ -40,22 +40,22 @@ fn pump<R: ByteReader, W: ByteWriter>(
     Err(RunFault::Read)
 }
 
-/// Runs a script: reads it from the reader, and writes to the writer what its pieces print, each
-/// piece's lines before the next piece is taken. A refusal is no fault: its line is printed, and the
-/// status tells of it. At the end of the input, with `bail` after the first refusal, the writer is
-/// flushed once, and the run is over.
+/// Runs a script: reads it from the reader, and writes what its pieces print, each piece's lines before the next piece is
+/// taken. A refusal is no fault: its line is printed, and the status tells of it. At the end of the input, with `bail`
+/// after the first refusal, the writer is flushed once, and the run is over.
 ///
-/// It holds a piece of the script and 4,096 bytes at a time beside the tables, and reads at most 2^40
-/// times. The keys are those of the hashes of ids; nothing that is printed depends on them.
+/// It holds a piece of the script and 4,096 bytes at a time beside the tables, and reads at most 2^40 times. The keys are
+/// those of the hashes of ids; nothing that is printed depends on them.
 ///
-/// After a fault nothing more is read, written or flushed:
+/// # Errors
 ///
-/// - `Memory`: the start found no memory, and nothing was read or written. Where memory runs out
-///   later, a piece is refused.
-/// - `Read`: a read failed, or the input hadn't ended after 2^40 reads. What was written is what the
-///   pieces print that were complete before.
-/// - `Write`: a write or the flush failed, or a write took no byte. What was written is a front of
-///   what the script prints, which the failed flush may have held back.
+/// After a fault nothing more is read, written or flushed.
+///
+/// - `Memory` if the start found no memory. Nothing was read or written. If memory runs out later, a piece is refused.
+/// - `Read` if a read failed, or the input hadn't ended after 2^40 reads. What was written is what the pieces print that
+///   were complete before.
+/// - `Write` if a write or the flush failed, or a write took no byte. What was written is a prefix of what the script
+///   prints; the writer may hold back what the flush failed to pass on.
 pub fn run<R: ByteReader, W: ByteWriter>(
     alloc: Global,
     keys: RandomState,

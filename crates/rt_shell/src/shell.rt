@@ -11,8 +11,7 @@ use std::alloc::{AllocError, Global};
 use std::hash::RandomState;
 use thiserror::Error;
 
-/// How many pieces may come so that the shell can count them. Each has a byte at least, so in a script of so many
-/// bytes there are no more.
+/// How many pieces the shell can count. Each has a byte at least, so a script of `n` bytes has `n` pieces at most.
 const MOST_PIECES: u64 = 1 << 63;
 
 /// Why a shell didn't take what it was fed.
@@ -51,10 +50,10 @@ impl From<FeedFault> for RunFault {
     }
 }
 
-/// A script shell that is fed its script, in whatever parts: what it prints doesn't depend on them (`laws`).
+/// A script shell that is fed its script, in whatever parts: what it prints doesn't depend on them.
 ///
-/// It holds a piece of the script beside the tables. It is over once a write failed, and with bail after
-/// the first refusal: then it takes and writes nothing more, and answers the same again.
+/// It holds a piece of the script beside the tables. It is over after a failed write, and with bail after the first
+/// refusal: then it takes and writes nothing more, and answers the same again.
 #[derive(Drop)]
 pub struct Shell {
     engine: Engine,
@@ -66,7 +65,7 @@ pub struct Shell {
 
 impl Shell {
     ghost use Rattle.std.specs.Prelude.{◌≡◌, ℕ, List, [], IfOk};
-    ghost use Rattle.rt_shell.specs.Shell.{HasPrinted, Feeds, Ends, IsOver, FeedsNoMore, EndsAsBefore};
+    ghost use Rattle.rt_shell.specs.Shell.{HasPrinted, FeedsTo, EndsTo, IsOver, FeedsNoMoreTo, EndsAsBeforeTo};
 
     /// A shell without a table that was fed nothing.
     ///
@@ -74,7 +73,7 @@ impl Shell {
     ///
     /// # Errors
     ///
-    /// There is no memory for the longest piece. If memory runs out later, a piece is refused.
+    /// `AllocError` if there is no memory for the longest piece. If memory runs out later, a piece is refused.
     pub fn new(alloc: Global, keys: RandomState, options: &Options) -> Result<Shell, AllocError>
         ensures { IfOk result (λ shell. HasPrinted options.now shell [] []) }
     {
@@ -91,13 +90,13 @@ impl Shell {
     ///
     /// # Errors
     ///
-    /// - `Write`: a write failed or took no byte, and the shell is over. What was written is a front of what the
-    ///   script prints. The shell answers this to all that it is fed from then on.
-    /// - `TooLong`: with these bytes the script is longer than 2^63 bytes. They aren't taken, nothing is written,
-    ///   and the shell stays as it was.
+    /// - `Write` if a write failed or took no byte. What was written is a prefix of what the script prints. The shell is
+    ///   over, and answers this to all that it is fed from then on.
+    /// - `TooLong` if with these bytes the script is longer than 2^63 bytes. They aren't taken, nothing is written, and
+    ///   the shell stays as it was.
     pub fn feed<W: ByteWriter>(&mut self, bytes: &[u8], writer: &mut W) -> Result<Flow, FeedFault>
-        ensures feeds { Feeds self.old bytes.now self.new (W.written writer.old) (W.written writer.new) (W.faults writer.old) (W.faults writer.new) result }
-        ensures over { IsOver self.old → FeedsNoMore self.old self.new (W.written writer.old) (W.written writer.new) (W.faults writer.old) (W.faults writer.new) result }
+        ensures feeds { FeedsTo W.ByteWriter self.old bytes.now self.new writer.old writer.new result }
+        ensures over { IsOver self.old → FeedsNoMoreTo W.ByteWriter self.old self.new writer.old writer.new result }
     {
         match self.flow? {
             Flow::Goes => {}
@@ -115,10 +114,11 @@ impl Shell {
     ///
     /// # Errors
     ///
-    /// A write failed or took no byte, now or before. What was written is a front of what the script prints.
+    /// `WriteFault` if a write failed or took no byte, now or before. What was written is a prefix of what the script
+    /// prints.
     pub fn finish<W: ByteWriter>(mut self, writer: &mut W) -> Result<Status, WriteFault>
-        ensures ends { Ends self (W.written writer.old) (W.written writer.new) (W.faults writer.old) (W.faults writer.new) result }
-        ensures over { IsOver self → EndsAsBefore self (W.written writer.old) (W.written writer.new) (W.faults writer.old) (W.faults writer.new) result }
+        ensures ends { EndsTo W.ByteWriter self writer.old writer.new result }
+        ensures over { IsOver self → EndsAsBeforeTo W.ByteWriter self writer.old writer.new result }
     {
         match self.flow? {
             Flow::Goes => self.engine.finish(writer),

@@ -21,12 +21,20 @@ use Rattle.rt_reply.specs.declared.reply.Reply.TheVariants.{Nothing, Rows, Chang
 abbrev pub hex_pair : ℕ → List ℕ
 hex_pair b = digit_glyph true (b / 16) ∷ digit_glyph true (b % 16) ∷ []
 
--- a value as a statement could write it: a text in quotes (39), those inside it doubled
+-- a text in quotes (39), those inside it doubled
+abbrev pub quoted_text : List ℕ → List ℕ
+quoted_text t = codes "'" ++ double 39 t ++ codes "'"
+
+-- bytes as a blob's literal
+abbrev pub blob_text : List ℕ → List ℕ
+blob_text bytes = codes "X'" ++ flat_map hex_pair bytes ++ codes "'"
+
+-- a value as a statement could write it
 abbrev pub value_text : Value → List ℕ
 value_text Null = codes "NULL"
 value_text (Int n) = signed_decimal n
-value_text (Text t) = codes "'" ++ double 39 t ++ codes "'"
-value_text (Blob bytes) = codes "X'" ++ flat_map hex_pair bytes ++ codes "'"
+value_text (Text t) = quoted_text t
+value_text (Blob bytes) = blob_text bytes
 
 -- the value of a row at that place; NULL past the last one
 abbrev pub column_text : List Value → ℕ → List ℕ

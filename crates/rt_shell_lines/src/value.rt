@@ -1,14 +1,14 @@
 //! What is printed of a value: the literal of SQL that SQLite's `quote()` gives.
 //!
-//! A text is written in parts that end behind a quote, and a blob through a small buffer, so printing a value
-//! takes no memory.
+//! A text is written in parts that end after a quote, and a blob through a small buffer, so printing a value never
+//! allocates.
 
-ghost use Rattle.std.specs.Prelude.{◌≡◌, ◌*◌, ◌<◌, ◌≤◌, ◌++◌, ◌==◌, true, length, take, codes};
+ghost use Rattle.std.specs.Prelude.{◌≡◌, ◌*◌, ◌<◌, ◌≤◌, ◌==◌, true, length, take};
 ghost use Rattle.std.specs.Fmt.{digit_glyph, signed_decimal};
 ghost use Rattle.std.specs.List.{flat_map, position};
 ghost use Rattle.rt_bytes.specs.Devices.{WritesTo};
 ghost use Rattle.rt_sql.specs.Token.{double};
-ghost use Rattle.rt_shell_lines.specs.Lines.{hex_pair, value_text};
+ghost use Rattle.rt_shell_lines.specs.Lines.{hex_pair, quoted_text, blob_text, value_text};
 
 use itoa::Buffer;
 use rt_bytes::{ByteWriter, WriteFault, write_parts, write_whole};
@@ -18,7 +18,7 @@ use rt_sql_statement::Value;
 const BYTES_AT_ONCE: usize = 32;
 
 /// Writes a value: `NULL`, an integer in decimal, a text in quotes with those inside it doubled, or
-/// a blob as `X'..'` with two digits for each byte. After a fault a front of that is written.
+/// a blob as `X'..'` with two digits for each byte. After a fault a prefix of that is written.
 pub(crate) fn write_value<W: ByteWriter>(value: &Value, writer: &mut W) -> Result<(), WriteFault>
     ensures { WritesTo W.ByteWriter writer.old writer.new result (value_text value.now) }
 {
@@ -30,7 +30,7 @@ pub(crate) fn write_value<W: ByteWriter>(value: &Value, writer: &mut W) -> Resul
     }
 }
 
-/// Writes an integer in decimal. After a fault a front of that is written.
+/// Writes an integer in decimal. After a fault a prefix of that is written.
 pub(crate) fn write_integer<W: ByteWriter>(number: &i64, writer: &mut W) -> Result<(), WriteFault>
     ensures { WritesTo W.ByteWriter writer.old writer.new result (signed_decimal number.now) }
 {
@@ -39,7 +39,7 @@ pub(crate) fn write_integer<W: ByteWriter>(number: &i64, writer: &mut W) -> Resu
 }
 
 fn write_text<W: ByteWriter>(text: &[u8], writer: &mut W) -> Result<(), WriteFault>
-    ensures { WritesTo W.ByteWriter writer.old writer.new result (codes "'" ++ double 39 text.now ++ codes "'") }
+    ensures { WritesTo W.ByteWriter writer.old writer.new result (quoted_text text.now) }
 {
     write_whole(writer, b"'")?;
     write_doubled(text, writer)?;
@@ -53,7 +53,7 @@ pub(crate) fn first_quote(text: &[u8]) -> Option<usize>
     text.iter().position(|byte| *byte == b'\'')
 }
 
-/// Writes a text with each quote twice, in parts that end behind a quote.
+/// Writes a text with each quote twice, in parts that end after a quote.
 fn write_doubled<W: ByteWriter>(text: &[u8], writer: &mut W) -> Result<(), WriteFault>
     ensures { WritesTo W.ByteWriter writer.old writer.new result (double 39 text.now) }
 {
@@ -67,14 +67,14 @@ fn write_doubled<W: ByteWriter>(text: &[u8], writer: &mut W) -> Result<(), Write
 }
 
 fn write_blob<W: ByteWriter>(bytes: &[u8], writer: &mut W) -> Result<(), WriteFault>
-    ensures { WritesTo W.ByteWriter writer.old writer.new result (codes "X'" ++ flat_map hex_pair bytes.now ++ codes "'") }
+    ensures { WritesTo W.ByteWriter writer.old writer.new result (blob_text bytes.now) }
 {
     write_whole(writer, b"X'")?;
     write_hex(bytes, writer)?;
     write_whole(writer, b"'")
 }
 
-/// Writes two digits for each byte, of so many bytes at a time as a small buffer takes.
+/// Writes two digits for each byte, through a small buffer.
 fn write_hex<W: ByteWriter>(bytes: &[u8], writer: &mut W) -> Result<(), WriteFault>
     ensures { WritesTo W.ByteWriter writer.old writer.new result (flat_map hex_pair bytes.now) }
 {
@@ -96,7 +96,7 @@ fn write_few<W: ByteWriter>(bytes: &[u8], writer: &mut W) -> Result<(), WriteFau
     write_whole(writer, &digits[..2 * bytes.len()])
 }
 
-/// Puts the digits of the bytes at the front of the buffer.
+/// Puts the digits of the bytes at the start of the buffer.
 fn put_digits(bytes: &[u8], digits: &mut [u8])
     requires { 2 * length bytes.now ≤ length digits.old }
     ensures { take (2 * length bytes.now) digits.new ≡ flat_map hex_pair bytes.now }

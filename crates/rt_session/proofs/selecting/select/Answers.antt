@@ -6,7 +6,7 @@ use Rattle.rt_session.proofs.Columns.{selected_columns}
 use Rattle.rt_session.proofs.selecting.select.Goals as goal
 
 pub returns : goal.returns
-returns c = λ state.
+returns c =
     let t = c.args.table.now.lists in
     let names = c.as_slice.result.now in
     let by_id : is_by_id t.columns c.args.order.now ≡ true =
@@ -15,4 +15,4 @@ returns c = λ state.
     subst (λ (s : Columns). ArePlaces s.names names c.in_ok-places.places.items) c.schema-2.ensures c.in_ok-places.ensures.ok in
     let listed : c.args.columns.now ≡ Some names = search (rules, c.in-Some.is, c.as_slice.ensures) in
     rw (listed, c.columns.ensures)
-    (selected_columns state t names c.args.cond c.args.order.now c.in_ok-places.places.items c.in_ok-picked-2.picked placed by_id c.in_ok-picked-2.ensures.ok)
+    (selected_columns t names c.args.cond c.args.order.now c.in_ok-places.places.items c.in_ok-picked-2.picked placed by_id c.in_ok-picked-2.ensures.ok)

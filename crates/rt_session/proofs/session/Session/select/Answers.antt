@@ -2,16 +2,16 @@ use Rattle.std.proofs.Common.{◌≡◌, Some, None, refl}
 use Rattle.std.proofs.lemmas.Result.{err_from_is_err_and}
 use Rattle.rt_sql_statement.specs.Name.{same_name}
 use Rattle.rt_session.specs.declared.tables.Named.{Named}
-use Rattle.rt_session.specs.Session.{table_of, is_named}
+use Rattle.rt_session.specs.Session.{table_of, is_named, no_tree}
 use Rattle.rt_session.specs.SessionInside.{named_of}
-use Rattle.rt_session.proofs.Outcomes.{placed, found, missing}
+use Rattle.rt_session.proofs.Outcomes.{placed, found, missing, leaves_state}
 use Rattle.rt_session.proofs.session.Session.select.Goals as goal
 
 pub returns-in_default : goal.returns-in_default
 returns-in_default c =
     let place = placed (λ (n : Named). same_name c.args.name.now n.name) c.self.inside.tables.items _ _ _ c.as_slice.ensures.value c.place_of.ensures c.in_default.is in
     let none : table_of c.args.self.now c.args.name.now ≡ None = missing c.args.self.now _ _ c.self.view_is (is_named c.args.name.now) place in
-    (refl, λ other. rw none refl)
+    (refl, λ other tree. rw none refl)
 
 pub returns-in_err-rows : goal.returns-in_err-rows
 returns-in_err-rows c =
@@ -19,11 +19,11 @@ returns-in_err-rows c =
     let t = c.index.result.now in
     let there : table_of c.args.self.now c.args.name.now ≡ Some (named_of t) = found c.args.self.now _ _ c.self.view_is (is_named c.args.name.now) c.in-Some.at t place c.index.ensures in
     let p = err_from_is_err_and c.from_residual.result c.from_residual.ensures.1 in
-    rw (p.1, p.2) (refl, λ other. rw there (c.in_err-rows.ensures c.args.self.now other))
+    rw (p.1, p.2) (refl, λ other tree. rw there (leaves_state c.args.self.now _ _ (c.in_err-rows.ensures other)))
 
 pub returns : goal.returns
 returns c =
     let place = placed (λ (n : Named). same_name c.args.name.now n.name) c.self.inside.tables.items _ _ _ c.as_slice.ensures.value c.place_of.ensures c.in-Some.is in
     let t = c.index.result.now in
     let there : table_of c.args.self.now c.args.name.now ≡ Some (named_of t) = found c.args.self.now _ _ c.self.view_is (is_named c.args.name.now) c.in-Some.at t place c.index.ensures in
-    rw there (c.in_ok-rows.ensures c.args.self.now)
+    (no_tree, rw there (leaves_state c.args.self.now _ _ c.in_ok-rows.ensures), tt)

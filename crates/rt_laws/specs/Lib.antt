@@ -1,0 +1,5 @@
+pub mod SessionLaws
+pub mod Replaying
+pub mod ScriptLaws
+pub mod StatementExamples
+pub mod LineExamples

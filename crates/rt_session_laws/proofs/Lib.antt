@@ -1,4 +1,0 @@
-pub mod Always
-pub mod RisingLemmas
-pub mod Standing
-pub mod Replaying

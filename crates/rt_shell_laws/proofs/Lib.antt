@@ -1,4 +1,0 @@
-pub mod Alike
-pub mod Standing
-pub mod TranscriptLemmas
-pub mod Parts

@@ -1,5 +1,0 @@
-use Rattle.rt_shell_laws.proofs.Parts.{parts_printed}
-use Rattle.rt_shell_laws.proofs.shell_prints_the_transcript_so_far.Goals as goal
-
-pub returns : goal.returns
-returns c = parts_printed
