@@ -13,7 +13,7 @@ use Rattle.rt_table_row.specs.Arrangements.{ColumnPlaces, row_values, IsArrangem
 use Rattle.rt_table_row.specs.Rows.{TableRow, has_id}
 use Rattle.rt_table_row.specs.NewRows.{given_id, row_from}
 use Rattle.rt_table_row.specs.Edits.{Step, Steps, Comes, Becomes, outcome, and_then, steps_and, most_rows, id_or_new, put_over, put_row, unless_ignored, put, put_all, column_values, listed_columns, insert}
-use Rattle.rt_table_plan.specs.Counts.{Counts, Inserts, largest_after, room_after}
+use Rattle.rt_table_plan.specs.Counts.{Counts, Inserts, largest_after, room_after, put_values}
 use Rattle.rt_table_plan.proofs.Drafting.{outcome-append, steps_and-append}
 use Rattle.rt_table_plan.proofs.Counting.{counts_more}
 
@@ -55,6 +55,14 @@ pub put_fits : (axes : ℕ) (rule : Rule) (now : List TableRow) (values : List V
 put_fits axes rule now values step e =
     let made : Result TableRow Refusal = row_from axes (id_or_new now (given_id values)) values in
     made_fits rule now made step (not_ignored rule (and_then made (put_row rule now)) step e)
+
+-- ---- a row of values
+
+pub values_made : (axes : ℕ) (rule : Rule) (now : List TableRow) (values : List Value) (id : Option ℤ) (row : TableRow) → id ≡ id_or_new now (given_id values) →
+    row_from axes id values ≡ Ok row → put_values axes rule now values ≡ put_row rule now row
+values_made axes rule now values id row is made =
+    ap (λ (own : Option ℤ). and_then (row_from axes own values) (put_row rule now)) (sym is)
+    ∙ ap (λ (r : Result TableRow Refusal). and_then r (put_row rule now)) made
 
 -- ---- one list more
 
