@@ -10,9 +10,9 @@
 //! What callers know of a store is the list of its rows, the tree of their boxes, and its room.
 //!
 //! Stands on `rt_table_row`, `rt_tree` and `rt_tree_sort`, and not on `rt_table_plan`: a plan is a list of steps here.
-//! Definitions: `specs/StoreLists.antt` (rows, tree and room), `Picking.antt`, `GreatestIds.antt` (the largest id), `Trees.antt`
-//! and `Moves.antt` (the tree that stands for the rows, and when it changes), `Steps.antt` (steps that apply, and what
-//! they take), `Laws.antt` (the law).
+//! Definitions: `specs/StoreLists.antt` (rows, tree and room), `Picking.antt`, `GreatestIds.antt` (the largest id),
+//! `Trees.antt` and `Moves.antt` (the tree that stands for the rows, and when it changes), `Steps.antt` (steps that apply,
+//! and what they take), `Laws.antt` (the law).
 #![tactic(auto)]
 
 mod finding;
