@@ -1,12 +1,13 @@
 -- Rows whose numbers and auxiliary values stand in two lists, and one more behind them.
-use Rattle.std.proofs.Common.{◌≡◌, ℤ, ◌-◌, List, [], ◌∷◌, ◌++◌, map, length, take, drop, All, arith, refl, ap, sym, ◌∙◌}
-use Rattle.std.proofs.lemmas.List.{length-append, length-drop, take_all, drop_at, drop-append-le, take-append-le}
+use Rattle.std.proofs.Common.{◌≡◌, ℤ, ◌-◌, List, [], ◌∷◌, ◌++◌, map, length, take, drop, All, Result, Ok, Err, arith, refl, ap, sym, ◌∙◌}
+use Rattle.std.specs.Prelude.{OnErr}
+use Rattle.std.proofs.lemmas.List.{length-append, length-drop, take_all, drop_at, drop-append-le, take-append-le, take-append-drop}
 use Rattle.std.proofs.lemmas.List.Elements.{All-head, All-tail}
 use Rattle.rt_sql_statement.specs.declared.value.Value.{Value}
 use Rattle.rt_sql_statement.specs.declared.value.Value.TheVariants.{Int}
 use Rattle.rt_table_row.specs.declared.row_list.Span.{Span}
 use Rattle.rt_table_row.specs.declared.row_list.Place.{Place}
-use Rattle.rt_table_row.specs.RowLists.{part, row_in, IsWithin}
+use Rattle.rt_table_row.specs.RowLists.{part, row_in, IsWithin, IsPrefix}
 
 -- a part stays where more come behind
 part_kept : {A : Type 0} (items more : List A) (s : Span) → IsWithin items s → part (items ++ more) s ≡ part items s
@@ -36,6 +37,20 @@ rows_kept numbers ns values vs (p ∷ places) within =
     ap (λ (row : List Value). row ∷ map (row_in (numbers ++ ns) (values ++ vs)) places) (row_kept numbers ns values vs p here.0 here.1)
     ∙ ap (λ (rows : List (List Value)). row_in numbers values p ∷ rows)
     (rows_kept numbers ns values vs places (All-tail (λ place. IsWithin numbers place.numbers × IsWithin values place.auxiliary) p places within))
+
+pub on_err : {T E P : Type 0} (r : Result T E) → P → OnErr r P
+on_err (Ok a) p = tt
+on_err (Err e) p = p
+
+-- what is pushed without a place belongs to no row
+pub rows-kept : (numbers ns : List ℤ) (values more : List Value) (places : List Place) →
+    All (λ place. IsWithin numbers place.numbers × IsWithin values place.auxiliary) places → IsPrefix values more →
+    map (row_in (numbers ++ ns) more) places ≡ map (row_in numbers values) places
+rows-kept numbers ns values more places within prefix =
+    let rest = drop (length values) more in
+    ap (λ (xs : List Value). map (row_in (numbers ++ ns) xs) places)
+    (sym (take-append-drop (length values) more) ∙ ap (λ (xs : List Value). xs ++ rest) prefix)
+    ∙ rows_kept numbers ns values rest places within
 
 map_more_one : (f : Place → List Value) (places : List Place) (p : Place) → map f (places ++ p ∷ []) ≡ map f places ++ f p ∷ []
 map_more_one f [] p = refl

@@ -1,6 +1,6 @@
 -- Rows whose numbers stand in one list, and their auxiliary values in another: where those of each row begin and end.
 -- Source: own.
-use Rattle.std.specs.Prelude.{ℤ, ◌≤◌, List, ◌++◌, map, length, All, slice_range}
+use Rattle.std.specs.Prelude.{◌≡◌, ℤ, ◌≤◌, List, ◌++◌, map, length, All, take, slice_range}
 use Rattle.rt_sql_statement.specs.declared.value.Value.{Value}
 use Rattle.rt_sql_statement.specs.declared.value.Value.TheVariants.{Int}
 use Rattle.rt_table_row.specs.declared.row_list.Span.{Span}
@@ -25,3 +25,7 @@ IsWithin items span = (span.start ≤ span.end) × (span.end ≤ length items)
 
 abbrev pub AreWithin : Inside → Type 0
 AreWithin list = All (λ place. IsWithin list.numbers.items place.numbers × IsWithin list.values.items place.auxiliary) list.places.items
+
+-- the items begin with the prefix
+abbrev pub IsPrefix : {A : Type 0} → List A → List A → Type 0
+IsPrefix prefix items = take (length prefix) items ≡ prefix

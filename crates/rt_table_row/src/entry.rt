@@ -3,9 +3,10 @@
 //! The id and the box are numbers, and the auxiliary values stand apart. `RowView` and `ListedRow` borrow those
 //! values; `values` and `try_clone` copy them (`specs/Entries.antt`).
 
-ghost use Rattle.std.specs.Prelude.{◌≡◌, ◌+◌, ◌*◌, ◌<◌, ◌≤◌, ◌∷◌, ◌++◌, length, map, slice_index_or, IfOk, OnOk, vec_len, vec_capacity};
+ghost use Rattle.std.specs.Prelude.{◌≡◌, ◌+◌, ◌*◌, ◌<◌, ◌≤◌, ◌∷◌, ◌++◌, length, map, slice_index_or, IfOk, OnOk, OnErr, vec_len, vec_capacity};
 ghost use Rattle.rt_sql_statement.specs.declared.value.Value.TheVariants.{Null, Int};
 ghost use Rattle.rt_table_row.specs.Entries.{field_value};
+ghost use Rattle.rt_table_row.specs.RowLists.{IsPrefix};
 ghost use Rattle.rt_box.specs.Rect.{coordinates};
 
 use rt_box::Rect;
@@ -93,6 +94,7 @@ pub(crate) fn push_numbers<const D: usize>(
     rect: &Rect<D>,
 ) -> Result<(), AllocError>
     ensures ok { OnOk result (numbers.new.items ≡ numbers.old.items ++ id ∷ coordinates rect.now) }
+    ensures refused { OnErr result (numbers.new.items ≡ numbers.old.items) }
     ensures longer { length numbers.old.items ≤ length numbers.new.items }
 {
     numbers.reserve(1 + 2 * rect.axes())?;
@@ -109,6 +111,7 @@ pub(crate) fn push_copies(
     auxiliary: &[Value],
 ) -> Result<(), AllocError>
     ensures ok { OnOk result (values.new.items ≡ values.old.items ++ auxiliary.now) }
+    ensures kept { IsPrefix values.old.items values.new.items }
     ensures longer { length values.old.items ≤ length values.new.items }
 {
     for value in auxiliary {

@@ -57,13 +57,24 @@ impl Model for RowList {
 }
 
 impl RowList {
-    ghost use Rattle.std.specs.Prelude.{◌≡◌, ◌<◌, ◌++◌, ◌∷◌, [], length, slice_index_or, IfOk, OnOk};
+    ghost use Rattle.std.specs.Prelude.{◌≡◌, ◌<◌, ◌++◌, ◌∷◌, [], length, slice_index_or, IfOk, OnOk, OnErr};
 
-    /// No rows, with room for so many rows, numbers and auxiliary values.
+    /// No rows, without memory.
+    pub fn new(alloc: Global) -> RowList
+        ensures { result ≡ [] }
+    {
+        RowList {
+            numbers: Vec::new(alloc),
+            values: Vec::new(alloc),
+            places: Vec::new(alloc),
+        }
+    }
+
+    /// No rows, with room for `rows` rows of `numbers` numbers and `values` auxiliary values in all.
     ///
     /// # Errors
     ///
-    /// `AllocError` where no memory is left.
+    /// `AllocError` if no memory is left.
     pub fn with_capacity(
         alloc: Global,
         rows: usize,
@@ -98,18 +109,20 @@ impl RowList {
         }
     }
 
-    /// Appends the values of a row.
+    /// Appends the values of a row. A refused push leaves the rows.
     ///
     /// # Errors
     ///
-    /// `AllocError` where no memory is left.
+    /// `AllocError` if no memory is left.
     pub fn push<const D: usize>(
         &mut self,
         alloc: Global,
         row: &RowView<'_, D>,
     ) -> Result<(), AllocError>
-        ensures { OnOk result (self.new ≡ self.old ++ values_of (view_row row.now) ∷ []) }
+        ensures ok { OnOk result (self.new ≡ self.old ++ values_of (view_row row.now) ∷ []) }
+        ensures refused { OnErr result (self.new ≡ self.old) }
     {
+        // What was pushed without a place belongs to no row.
         let (first, start) = (self.numbers.len(), self.values.len());
         push_numbers(&mut self.numbers, row.id, &row.rect)?;
         push_copies(alloc, &mut self.values, row.auxiliary)?;
