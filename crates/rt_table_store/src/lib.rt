@@ -1,8 +1,7 @@
 //! The rows of a table, by rising id.
 //!
-//! - `Store` keeps them: a row is found by its id, inserted, replaced or removed; `picked_rows` finds those of which a
-//!   condition holds, `passing_row` the only one where it fixes an id, `picked` their ids, and `select` searches for them
-//!   by the condition's window.
+//! - `Store` keeps them: a row is found by its id, inserted, replaced or removed; `select` finds those of which a
+//!   condition holds, and `passing_row` the only one if it fixes an id.
 //! - Inserting takes no memory: `reserve` makes the room for it before.
 //!
 //! What callers know of a store is the list of its rows, the tree of their boxes, and its room.
@@ -12,9 +11,9 @@
 //! when it changes).
 #![tactic(auto)]
 
-mod finding;
 mod largest;
+mod select;
 mod store;
 
-pub use finding::Selected;
+pub use select::Nodes;
 pub use store::Store;
