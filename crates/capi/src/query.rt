@@ -38,7 +38,7 @@ fn find<const D: usize>(
     tree: &Tree<D>,
     min: &[i32; D],
     max: &[i32; D],
-) -> Result<Found<D>, AllocError>
+) -> Result<Found<Vec<Row<D>>>, AllocError>
     requires some { 1 ≤ D }
     requires few { D ≤ 3 }
     ensures { IfOk result (λ found. FindsTouching tree.now.lists min.now max.now found.rows.items) }

@@ -1,2 +1,3 @@
-pub mod AnyRows
+pub mod Changes
+pub mod Rows
 pub mod Shown

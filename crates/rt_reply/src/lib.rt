@@ -2,21 +2,21 @@
 //!
 //! - `Reply`: the answer of a statement that was carried out. `Shown` is the rows of a reply with the columns that it shows
 //!   of them, and `TreeDump` a tree.
-//! - `AnyRows`, `Rows`: rows of a table, whatever its number of axes.
-//! - `Change`: a row that came into a view, or left it.
+//! - `Rows`: rows of a table, whatever its number of axes; `RowsOf` is those of a table of `D` axes.
+//! - `Changes`: rows that came into views, or left them.
 //!
 //! A table makes rows and changes of what it finds, a session the reply of these, and a shell prints it.
 //!
-//! Stands on `rt_table_row` (values) and `rt_tree_walk` (rows that a search finds). Definitions: `specs/AnyRows.antt`,
-//! `Shown.antt`.
+//! Stands on `rt_table_row` (values) and `rt_tree_walk` (rows that a search finds). Definitions: `specs/Rows.antt`,
+//! `Shown.antt`, `Changes.antt`.
 #![tactic(auto)]
 
-mod any_rows;
-mod change;
+mod changes;
 mod reply;
+mod rows;
 mod shown;
 
-pub use any_rows::{AnyRows, Rows, RowsView};
-pub use change::Change;
+pub use changes::{Change, Changes};
 pub use reply::{Reply, TreeDump};
-pub use shown::{Shown, ShownView};
+pub use rows::{Rows, RowsOf};
+pub use shown::Shown;

@@ -2,7 +2,7 @@
 //!
 //! A reply owns what it shows and borrows nothing from the tables, so it stays as it is when they change.
 
-use crate::change::Change;
+use crate::changes::Changes;
 use crate::shown::Shown;
 use rt_check::Problem;
 use rt_check_dump::AnyShadow;
@@ -39,7 +39,7 @@ impl TreeDump {
     ///
     /// # Errors
     ///
-    /// `AllocError` where no memory is left.
+    /// `AllocError` if no memory is left.
     pub fn new(alloc: Global, tree: AnyShadow) -> Result<TreeDump, AllocError>
         ensures { IfOk result (λ dump. dump ≡ tree) }
     {
@@ -64,7 +64,7 @@ pub enum Reply {
     /// The rows selected, or those of a view, by rising id: their values, column by column.
     Rows(Shown),
     /// What an INSERT, UPDATE or DELETE changed in the views of its table.
-    Changes(Items<Change>),
+    Changes(Changes),
     /// The problems that the checker finds in a table's tree.
     Verdict(Items<Problem>),
     /// A table's tree from outside.

@@ -10,7 +10,7 @@ ghost use Rattle.rt_table_plan.specs.Plans.{Plans};
 use crate::plan::Plan;
 use rt_sql_statement::{Cond, Refusal};
 use rt_table_row::{Filter, Schema, Step};
-use rt_table_store::Store;
+use rt_table_store::{Nodes, Store};
 use rt_tree::Row;
 use std::alloc::{AllocError, Global};
 
@@ -35,8 +35,8 @@ fn picked_steps<const D: usize>(
 {
     // There are one to three axes.
     store.facts();
-    let rows = store.picked_rows(alloc, condition)?;
-    leave_steps(alloc, rows.as_slice())
+    let found = store.select(alloc, condition, Nodes::Uncounted)?;
+    leave_steps(alloc, found.rows.as_slice())
 }
 
 /// The plan of a DELETE: the rows of which the condition holds go, by rising id.

@@ -15,7 +15,7 @@ use crate::draft::Draft;
 use crate::plan::Plan;
 use rt_sql_statement::{Cond, Name, Refusal, Source};
 use rt_table_row::{Entry, Filter, RowView, Schema, Settings, Step};
-use rt_table_store::Store;
+use rt_table_store::{Nodes, Store};
 use rt_tree::Row;
 use std::alloc::Global;
 use std::hash::RandomState;
@@ -118,8 +118,8 @@ fn picked_steps<const D: usize>(
             None => Ok(Vec::new(alloc)),
         };
     }
-    let rows = store.picked_rows(alloc, condition)?;
-    all_steps(alloc, keys, store, settings, rows.as_slice())
+    let found = store.select(alloc, condition, Nodes::Uncounted)?;
+    all_steps(alloc, keys, store, settings, found.rows.as_slice())
 }
 
 /// The plan of an UPDATE: the rows of which the condition holds at its start, by rising id, each among the rows as

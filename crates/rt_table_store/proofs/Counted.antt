@@ -27,7 +27,8 @@ module _ {X : Type 0} (key : X → ℤ) where
   abbrev pub AreUnique : List X → Type 0
   AreUnique xs = (q : ℤ) → count_by (λ x. int_eq q (key x)) xs ≤ 1
 
-  abbrev Distinct : List X → Type 0
+  -- nor at its key later on
+  abbrev pub Distinct : List X → Type 0
   Distinct [] = Unit {0}
   Distinct (x ∷ xs) = (at_key key xs (key x) ≡ None) × Distinct xs
 
@@ -90,7 +91,7 @@ module _ {X : Type 0} (key : X → ℤ) where
     rest-at y xs ys rise at q false is = at q ∙ ap (λ (c : Bool). cond c (Some y) (at_key key ys q)) (other-way (key y) q is)
 
     -- lists that have the same at each key
-    same-counts : (xs ys : List X) → Distinct xs → Rises key ys → ((q : ℤ) → at_key key xs q ≡ at_key key ys q) → count_by test xs ≡ count_by test ys
+    pub same-counts : (xs ys : List X) → Distinct xs → Rises key ys → ((q : ℤ) → at_key key xs q ≡ at_key key ys q) → count_by test xs ≡ count_by test ys
     same-counts [] [] d rise at = refl
     same-counts (x ∷ xs) [] d rise at =
         let some : Some x ≡ None = sym (ap (λ (c : Bool). cond c (Some x) (at_key key xs (key x))) (eq_same (key x))) ∙ at (key x) in

@@ -69,7 +69,7 @@ same_sides a b = pointwise same_side a b
 sides-Decides : (a b : List Interval) → Decides (same_sides a b) (a ≡ b)
 sides-Decides a b = slice_eq-Decides side-Decides a b (same_sides a b) refl
 
-leaf_rises : (D : ℕ) (rows : List TableRow) → Rises (λ (row : TableRow). row.id) rows → Rises (λ (r : Row D). r.id) (map leaf_row rows)
+pub leaf_rises : (D : ℕ) (rows : List TableRow) → Rises (λ (row : TableRow). row.id) rows → Rises (λ (r : Row D). r.id) (map leaf_row rows)
 leaf_rises D [] rise = tt
 leaf_rises D (row ∷ rows) rise = (all_leaf rows rise.0, leaf_rises D rows rise.1)
   where
@@ -83,14 +83,14 @@ leaf_ids D [] = refl
 leaf_ids D (row ∷ rows) = ap (λ ids. row.id ∷ ids) (leaf_ids D rows)
 
 module _ {D : ℕ} where
-  same_row : Row D → Row D → Bool
+  pub same_row : Row D → Row D → Bool
   same_row r q = int_eq r.id q.id && same_sides r.rect q.rect
 
-  row_itself : (r : Row D) → same_row r r ≡ true
+  pub row_itself : (r : Row D) → same_row r r ≡ true
   unfolding same_row
   row_itself r = and_from (int_eq r.id r.id) (same_sides r.rect r.rect) (eq_same r.id) ((sides-Decides r.rect r.rect).1 refl)
 
-  row_same : (r q : Row D) → same_row r q ≡ true → r ≡ q
+  pub row_same : (r q : Row D) → same_row r q ≡ true → r ≡ q
   unfolding same_row
   row_same r q e =
       let parts = both (int_eq r.id q.id) (same_sides r.rect q.rect) e in

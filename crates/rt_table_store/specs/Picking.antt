@@ -1,9 +1,14 @@
--- Rows of a tree as the rows of a table. Source: own.
-use Rattle.std.specs.Prelude.{◌≡◌, ℕ, Bool, false, List, Some}
+-- The rows that a condition picks, and rows of a tree as the rows of a table. Source: own.
+use Rattle.std.specs.Prelude.{◌≡◌, ℕ, Bool, false, List, Some, map, filter}
 use Rattle.std.specs.Option.{option_map, option_map_or}
+use Rattle.rt_box.specs.declared.interval.Interval.{Interval}
+use Rattle.rt_box.specs.Window.{IsUnlimited}
+use Rattle.rt_check.specs.Shadow.{ShadowLists}
 use Rattle.rt_tree_walk.specs.declared.searching.Row.{Row}
 use Rattle.rt_table_row.specs.Rows.{TableRow, row_at}
-use Rattle.rt_table_store.specs.Trees.{leaf_row}
+use Rattle.rt_table_row.specs.Filters.{Placed, admits}
+use Rattle.rt_table_row.specs.Windows.{IsWindowAt}
+use Rattle.rt_table_store.specs.Trees.{leaf_row, Visits}
 
 module _ {D : ℕ} where
   -- the table's row of that id has that box
@@ -13,3 +18,23 @@ module _ {D : ℕ} where
   -- the table's row of that id passes
   abbrev pub passes : (TableRow → Bool) → List TableRow → Row D → Bool
   passes test rows row = option_map_or test (row_at rows row.id) false
+
+  -- of rows that were found those of which the condition holds
+  abbrev pub passing_rows : Placed → List TableRow → List (Row D) → List (Row D)
+  passing_rows condition rows found = filter (passes (admits condition) rows) found
+
+  -- the rows of which the condition holds, as a tree has them
+  abbrev pub picked_rows : Placed → List TableRow → List (Row D)
+  picked_rows condition rows = map leaf_row (filter (admits condition) rows)
+
+  -- so many nodes are reached by a window of the condition
+  abbrev pub VisitsBy : Placed → ShadowLists D → ℕ → Type 0
+  VisitsBy condition tree visited = (window : List Interval) × IsWindowAt D condition window × Visits tree window visited
+
+  -- so many nodes are reached by a window without limits
+  abbrev pub VisitsFreely : ShadowLists D → ℕ → Type 0
+  VisitsFreely tree visited = (window : List Interval) → IsUnlimited D window → Visits tree window visited
+
+-- a window of the condition has no limits
+abbrev pub HasFreeWindow : ℕ → Placed → Type 0
+HasFreeWindow axes condition = (window : List Interval) × IsWindowAt axes condition window × IsUnlimited axes window

@@ -1,8 +1,7 @@
 //! The rows of a table, by rising id.
 //!
-//! - `Store` keeps them: a row is found by its id, inserted, replaced or removed; `picked_rows` finds those of which a
-//!   condition holds, `passing_row` the only one if it fixes an id, `picked` their ids, and `select` searches for them
-//!   by the condition's window.
+//! - `Store` keeps them: a row is found by its id, inserted, replaced or removed; `select` finds those of which a
+//!   condition holds, and `passing_row` the only one if it fixes an id.
 //! - Inserting takes no memory: `reserve` makes the room for it before.
 //! - `apply` carries out the steps of a plan, with no memory and no refusal; `inserts_all` and `auxiliary_rows_all`
 //!   count the room that they take before. `laws`: the steps of each statement apply to the rows.
@@ -15,14 +14,14 @@
 //! apply, and what they take), `Laws.antt` (the law).
 #![tactic(auto)]
 
-mod finding;
 mod largest;
 pub mod laws;
 mod room;
+mod select;
 mod steps;
 mod store;
 
-pub use finding::Selected;
 pub use room::{auxiliary_rows_all, inserts_all};
+pub use select::Nodes;
 pub use steps::apply;
 pub use store::Store;

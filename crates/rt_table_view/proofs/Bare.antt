@@ -6,7 +6,7 @@ use Rattle.rt_tree_walk.specs.declared.searching.Row.{Row}
 use Rattle.rt_sql_statement.specs.declared.value.Value.{Value}
 use Rattle.rt_table_row.specs.Rows.{TableRow, values_of}
 use Rattle.rt_table_store.specs.Trees.{leaf_row}
-use Rattle.rt_reply.specs.AnyRows.{box_values}
+use Rattle.rt_reply.specs.Rows.{box_values}
 
 abbrev IsBare : TableRow → Type 0
 IsBare row = row.auxiliary ≡ []

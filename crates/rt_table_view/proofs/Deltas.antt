@@ -13,7 +13,7 @@ use Rattle.rt_table_row.specs.Filters.{admits}
 use Rattle.rt_table_row.specs.Views.{ViewChange, same_row, change_at, ids_of_both, delta, deltas}
 use Rattle.rt_table_store.proofs.Order.{eq_from}
 use Rattle.rt_table_store.proofs.Sorted.{kept, at_key, Rises, rises, at_key-filter, at_key-placed, rises-placed, rises-filter, same_lists}
-use Rattle.rt_table_view.specs.declared.watched.Watched.{Watched}
+use Rattle.rt_table_view.specs.declared.view.Watched.{Watched}
 use Rattle.rt_table_view.specs.Watching.{view_of, shown, IsKept}
 use Rattle.rt_table_view.specs.Preparing.{DifferAt}
 use Rattle.rt_table_view.specs.Fates.{changes_at}

@@ -8,6 +8,8 @@ use Rattle.std.proofs.lemmas.List.{take_more, map-append, append-nil}
 use Rattle.std.proofs.lemmas.Cmp.{int_eq_equiv}
 use Rattle.rt_sql_statement.specs.declared.value.Value.{Value}
 use Rattle.rt_table_row.specs.Rows.{TableRow, AreRising, row_at, values_of}
+use Rattle.rt_tree_walk.specs.declared.searching.Row.{Row}
+use Rattle.rt_table_store.specs.Trees.{leaf_row}
 use Rattle.rt_table_store.proofs.Sorted.{kept, at_key, rises, at_key-filter}
 use Rattle.rt_table_view.specs.Watching.{is_picked}
 
@@ -40,14 +42,14 @@ next_looked : (rows : List TableRow) (ids : List ℤ) (i : ℕ) (o : Option Tabl
 next_looked rows ids i o within found =
     rw (take_more ids i (pos 0) within, found) (filter_map-append (row_at rows) (take i ids) (get_or ids i (pos 0) ∷ []))
 
-pub none_looked : (rows : List TableRow) (ids : List ℤ) (i : ℕ) (lists : List (List Value)) → i < length ids → None ≡ row_at rows (get_or ids i (pos 0))
-    → lists ≡ map values_of (filter_map (row_at rows) (take i ids)) → lists ≡ map values_of (filter_map (row_at rows) (take (i + 1) ids))
-none_looked rows ids i lists within found so_far = so_far ∙ ap (map values_of) (sym (next_looked rows ids i None within found ∙ append-nil (filter_map (row_at rows) (take i ids))))
+pub none_looked : {D : ℕ} (rows : List TableRow) (ids : List ℤ) (i : ℕ) (found : List (Row D)) → i < length ids → None ≡ row_at rows (get_or ids i (pos 0))
+    → found ≡ map leaf_row (filter_map (row_at rows) (take i ids)) → found ≡ map leaf_row (filter_map (row_at rows) (take (i + 1) ids))
+none_looked rows ids i found within none so_far = so_far ∙ ap (map leaf_row) (sym (next_looked rows ids i None within none ∙ append-nil (filter_map (row_at rows) (take i ids))))
 
-pub some_looked : (rows : List TableRow) (ids : List ℤ) (i : ℕ) (lists : List (List Value)) (r : TableRow) (values : List Value) → i < length ids → Some r ≡ row_at rows (get_or ids i (pos 0))
-    → values ≡ values_of r → lists ≡ map values_of (filter_map (row_at rows) (take i ids)) → lists ++ values ∷ [] ≡ map values_of (filter_map (row_at rows) (take (i + 1) ids))
-some_looked rows ids i lists r values within found copied so_far =
-    rw (so_far, copied) (sym (ap (map values_of) (next_looked rows ids i (Some r) within found) ∙ map-append values_of (filter_map (row_at rows) (take i ids)) (r ∷ [])))
+pub some_looked : {D : ℕ} (rows : List TableRow) (ids : List ℤ) (i : ℕ) (found : List (Row D)) (r : TableRow) (box : Row D) → i < length ids → Some r ≡ row_at rows (get_or ids i (pos 0))
+    → box ≡ leaf_row r → found ≡ map leaf_row (filter_map (row_at rows) (take i ids)) → found ++ box ∷ [] ≡ map leaf_row (filter_map (row_at rows) (take (i + 1) ids))
+some_looked rows ids i found r box within some copied so_far =
+    rw (so_far, copied) (sym (ap (map leaf_row) (next_looked rows ids i (Some r) within some) ∙ map-append leaf_row (filter_map (row_at rows) (take i ids)) (r ∷ [])))
 
 or_assoc : (a b c : Bool) → (a || (b || c)) ≡ ((a || b) || c)
 or_assoc true b c = refl
@@ -63,13 +65,15 @@ any_append : (p : ℤ → Bool) (xs ys : List ℤ) → list_any p (xs ++ ys) ≡
 any_append p [] ys = refl
 any_append p (x ∷ xs) ys = ap (λ (b : Bool). p x || b) (any_append p xs ys) ∙ or_assoc (p x) (list_any p xs) (list_any p ys)
 
--- one id more is listed
-pub any_more : (ids : List ℤ) (i : ℕ) (q : ℤ) (b : Bool) → i < length ids → b ≡ list_any (int_eq q) (take i ids) → cond (int_eq (get_or ids i (pos 0)) q) true b ≡ list_any (int_eq q) (take (i + 1) ids)
-any_more ids i q b within same =
-    ap (λ (t : Bool). cond t true b) (int_eq_equiv.symm (get_or ids i (pos 0)) q)
-    ∙ one_more (int_eq q (get_or ids i (pos 0))) b
-    ∙ ap (λ (a : Bool). a || (int_eq q (get_or ids i (pos 0)) || false)) same
-    ∙ sym (ap (list_any (int_eq q)) (take_more ids i (pos 0) within) ∙ any_append (int_eq q) (take i ids) (get_or ids i (pos 0) ∷ []))
+-- one key more is listed
+pub any_more : {X : Type 0} (key : X → ℤ) (xs : List X) (i : ℕ) (x : X) (q : ℤ) (b : Bool) → i < length xs → x ≡ get_or xs i x → b ≡ list_any (int_eq q) (map key (take i xs))
+    → cond (int_eq (key x) q) true b ≡ list_any (int_eq q) (map key (take (i + 1) xs))
+any_more {X} key xs i x q b within here same =
+    ap (λ (t : Bool). cond t true b) (int_eq_equiv.symm (key x) q)
+    ∙ one_more (int_eq q (key x)) b
+    ∙ ap (λ (a : Bool). a || (int_eq q (key x) || false)) same
+    ∙ sym (ap (λ ys. list_any (int_eq q) (map key ys)) (take_more xs i x within) ∙ ap (list_any (int_eq q)) (map-append key (take i xs) (get_or xs i x ∷ []))
+    ∙ any_append (int_eq q) (map key (take i xs)) (key (get_or xs i x) ∷ []) ∙ ap (λ (z : X). list_any (int_eq q) (map key (take i xs)) || (int_eq q (key z) || false)) (sym here))
 
 -- one more of what was found
 pub found_more : {X : Type 0} (f : X → Option TableRow) (found : List X) (i : ℕ) (lists : List (List Value)) (x : X) (r : TableRow) (values : List Value) → i < length found → x ≡ get_or found i x

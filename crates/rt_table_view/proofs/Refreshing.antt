@@ -10,8 +10,8 @@ use Rattle.rt_table_row.specs.Rows.{TableRow, row_at}
 use Rattle.rt_table_row.specs.Conditions.{holds}
 use Rattle.rt_table_row.specs.Filters.{Placed, IsFilterOf, admits}
 use Rattle.rt_table_row.specs.Views.{View}
-use Rattle.rt_table_view.specs.declared.watched.Watched.{Watched}
-use Rattle.rt_table_view.specs.declared.watched.Shift.{Shift}
+use Rattle.rt_table_view.specs.declared.view.Watched.{Watched}
+use Rattle.rt_table_view.specs.declared.view.Shift.{Shift}
 use Rattle.rt_table_view.specs.Watching.{view_of, awaited_of, is_picked, shifted_ids, AreShifts, IsKept, IsRefreshed, IsRoomier}
 use Rattle.rt_table_view.specs.Fates.{shifts_at}
 use Rattle.rt_table_view.specs.Preparing.{DifferAt, IsAwaited}

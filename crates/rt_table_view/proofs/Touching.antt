@@ -11,8 +11,8 @@ use Rattle.std.proofs.lemmas.List.Folds.{list_any-append}
 use Rattle.rt_table_row.specs.Rows.{TableRow, row_at}
 use Rattle.rt_table_row.specs.Filters.{admits}
 use Rattle.rt_table_store.proofs.Order.{eq_from}
-use Rattle.rt_table_view.specs.declared.watched.Shift.{Shift}
-use Rattle.rt_table_view.specs.declared.watched.Watched.{Watched}
+use Rattle.rt_table_view.specs.declared.view.Shift.{Shift}
+use Rattle.rt_table_view.specs.declared.view.Watched.{Watched}
 use Rattle.rt_table_view.specs.Fates.{shift, shifts_at}
 use Rattle.rt_table_view.specs.Watching.{is_picked, shown, shifted_ids, AreShifts}
 use Rattle.rt_table_view.specs.Preparing.{DifferAt}

@@ -1,24 +1,43 @@
 -- A view as a table keeps it: with the ids of its rows. Source: own.
-use Rattle.std.specs.Prelude.{◌≡◌, ℕ, ℤ, Bool, false, List, map, Option, Some, None, if◌then◌else◌}
+use Rattle.std.specs.Prelude.{◌≡◌, ◌<◌, ℕ, ℤ, Bool, false, length, slice_index_or, List, map, filter, Option, Some, None, if◌then◌else◌}
 use Rattle.std.specs.Ordering.{int_eq}
 use Rattle.std.specs.Option.{option_map_or}
-use Rattle.std.specs.List.{All, list_any}
+use Rattle.std.specs.List.{All, list_any, filter_map}
 use Rattle.indexmap.specs.IndexSet.{spare}
 use Rattle.rt_table_row.specs.Columns.{Columns}
-use Rattle.rt_table_row.specs.Rows.{TableRow, row_at}
-use Rattle.rt_table_row.specs.Filters.{IsFilterOf, admits}
-use Rattle.rt_table_row.specs.Views.{View, ViewChange}
-use Rattle.rt_table_view.specs.declared.watched.Watched.{Watched}
-use Rattle.rt_reply.specs.declared.change.Change.{Change}
-use Rattle.rt_table_view.specs.declared.watched.Shift.{Shift}
+use Rattle.rt_tree_walk.specs.declared.searching.Row.{Row}
+use Rattle.rt_sql_statement.specs.declared.value.Value.{Value}
+use Rattle.rt_table_row.specs.Rows.{TableRow, row_at, values_of}
+use Rattle.rt_table_row.specs.Filters.{Placed, IsFilterOf, admits}
+use Rattle.rt_table_row.specs.Views.{View}
+use Rattle.rt_table_store.specs.Trees.{leaf_row}
+use Rattle.rt_table_view.specs.declared.view.Watched.{Watched}
+use Rattle.rt_reply.specs.declared.rows.RowsOf.{RowsOf}
+use Rattle.rt_reply.specs.Rows.{values_of_rows}
+use Rattle.rt_table_view.specs.declared.view.Shift.{Shift}
 
 -- the view that it is
 abbrev pub view_of : Watched → View
 view_of watched = record { name = watched.name; cond = watched.filter.cond }
 
--- the change that it is
-abbrev pub change_of : Change → ViewChange
-change_of change = record { view = change.view; came = change.came; row = change.row }
+-- the values of the rows of which the condition holds
+abbrev pub shown_rows : Placed → List TableRow → List (List Value)
+shown_rows condition rows = map values_of (filter (admits condition) rows)
+
+-- if the rows that were found are those that pass a test, the answer has their values
+abbrev pub ShowsPicked : {D : _} → List TableRow → List (Row D) → RowsOf D → Type 0
+ShowsPicked rows found answer = (p : TableRow → Bool) → found ≡ map leaf_row (filter p rows) → values_of_rows answer ≡ map values_of (filter p rows)
+
+-- the rows that have these ids, in their order, and those of what was found of them
+abbrev pub rows_named : List TableRow → List ℤ → List TableRow
+rows_named rows ids = filter_map (row_at rows) ids
+
+abbrev pub rows_found : {D : _} → List TableRow → List (Row D) → List TableRow
+rows_found rows found = filter_map (λ row. row_at rows row.id) found
+
+-- the id is one of these
+abbrev pub is_listed : List ℤ → ℤ → Bool
+is_listed ids id = list_any (int_eq id) ids
 
 -- the row is there, and passes
 abbrev pub is_picked : (TableRow → Bool) → Option TableRow → Bool
@@ -67,3 +86,7 @@ pub record IsRoomier (old new : Watched) : Type 0 where
   pub name_is : new.name ≡ old.name
   pub filter_is : new.filter ≡ old.filter
   pub keys_are : new.ids.keys ≡ old.ids.keys
+
+-- each view is the same, whatever it has ready
+abbrev pub AreRoomier : List Watched → List Watched → Type 0
+AreRoomier old new = (k : ℕ) (w : Watched) → k < length old → IsRoomier (slice_index_or old k w) (slice_index_or new k w)

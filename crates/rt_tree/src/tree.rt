@@ -294,12 +294,16 @@ impl<const D: usize> Tree<D> {
         nodes_are_few(&self.arena);
     }
 
-    /// Finds the rows whose boxes the window admits.
+    /// Finds the rows whose boxes the window admits, each once, in no stated order.
     ///
     /// # Errors
     ///
     /// `AllocError` if no memory is left for the rows found, or for the list of the nodes reached: 16 bytes a node.
-    pub fn search(&self, alloc: Global, window: &Window<D>) -> Result<Found<D>, AllocError>
+    pub fn search(
+        &self,
+        alloc: Global,
+        window: &Window<D>,
+    ) -> Result<Found<Vec<Row<D>>>, AllocError>
         ensures { IfOk result (λ found. FindsIn self.now.lists window.now found.rows.items found.visited) }
     {
         search(alloc, &self.arena, window)

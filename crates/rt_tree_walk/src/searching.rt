@@ -45,9 +45,9 @@ pub struct Row<const D: usize> {
 
 /// What a search found.
 #[derive(Drop)]
-pub struct Found<const D: usize> {
-    /// The rows whose boxes the window admits, each once, in no stated order.
-    pub rows: Vec<Row<D>>,
+pub struct Found<R> {
+    /// The rows found.
+    pub rows: R,
     /// The number of nodes that the search went into.
     pub visited: u64,
 }
@@ -352,7 +352,7 @@ pub fn search_into<const D: usize>(
     Ok(visited as u64)
 }
 
-/// Finds the rows whose boxes the window admits: `search_into` a list of its own.
+/// Finds the rows whose boxes the window admits, each once, in no stated order: `search_into` a list of its own.
 ///
 /// # Errors
 ///
@@ -361,7 +361,7 @@ pub fn search<const D: usize>(
     alloc: Global,
     tree: &Arena<D>,
     window: &Window<D>,
-) -> Result<Found<D>, AllocError>
+) -> Result<Found<Vec<Row<D>>>, AllocError>
     requires whole { IsWhole tree.now }
     requires settled { tree.now.pending.items ≡ [] }
     requires few { D ≤ 3 }

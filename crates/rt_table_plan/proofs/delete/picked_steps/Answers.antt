@@ -7,4 +7,4 @@ use Rattle.rt_table_plan.proofs.delete.picked_steps.Goals as goal
 pub returns : goal.returns
 returns g c =
     subst (λ (rows : List (Row g.row.D)). IfOk c.leave_steps.result (λ steps. map step_of steps.items ≡ map (λ (row : Row g.row.D). Leaves row.id) rows))
-    (c.as_slice.ensures.value ∙ c.in_ok-rows.ensures) c.leave_steps.ensures
+    (c.as_slice.ensures.value ∙ c.in_ok-found.ensures.rows) c.leave_steps.ensures

@@ -37,7 +37,7 @@ all_steps-requires g c = (
           search rules,
           (
             search rules,
-            all_found g.row.D (admits c.args.condition.now) c.args.store.now.rows c.as_slice.result.now c.facts.ensures.rising (c.as_slice.ensures.value ∙ c.in_ok-rows.ensures),
+            all_found g.row.D (admits c.args.condition.now) c.args.store.now.rows c.as_slice.result.now c.facts.ensures.rising (c.as_slice.ensures.value ∙ c.in_ok-found.ensures.rows),
           ),
         ),
       ),
