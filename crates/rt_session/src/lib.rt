@@ -2,7 +2,7 @@
 //!
 //! - `Session`: the tables under their names. `step` carries a statement out, or refuses it, and a
 //!   refusal leaves the tables as they were.
-//! - `Reply`, `Change`: what a statement answers (`rt_reply`).
+//! - `Reply`, `Changes`: what a statement answers (`rt_reply`).
 //!
 //! Any statement may be refused for want of memory, and that refusal too leaves the tables.
 //!
@@ -10,9 +10,9 @@
 //! `Selecting.antt`. What holds of every session is said in `rt_session_laws`.
 #![tactic(auto)]
 
-mod selecting;
+mod select;
 mod session;
 mod tables;
 
-pub use rt_reply::{Change, Reply};
+pub use rt_reply::{Changes, Reply};
 pub use session::Session;

@@ -8,10 +8,10 @@ ghost use Rattle.rt_table_row.specs.Edits.{steps_of};
 ghost use Rattle.rt_session.specs.Session.{empty, CarriesOut, MayChooseFor, created, dropped, carried_out, on_table, table_of, now_watched, on_watched, watched_by, now_unwatched, viewed, selected, checked, dumped};
 ghost use Rattle.rt_session.specs.Steps.{AnswersUnlessMemory, AnswersByTree};
 
-use crate::selecting::select;
+use crate::select::select;
 use crate::tables::{Named, have_views, place_of, place_of_view};
 use rt_box::Capacity;
-use rt_reply::{AnyRows, Reply, Shown, TreeDump};
+use rt_reply::{Reply, Shown, TreeDump};
 use rt_sql_statement::{ColumnDef, Cond, Edit, Items, Name, Refusal, Stmt};
 use rt_table::AnyTable;
 use rt_table_row::Schema;
@@ -153,8 +153,8 @@ impl Session {
         let Some(at) = place_of(self.tables.as_slice(), name) else {
             return Err(Refusal::NoSuchTable);
         };
-        let changes = self.tables[at].table.edit(self.alloc, edit)?;
-        Ok(Reply::Changes(Items::from_vec(changes)))
+        let changes = self.tables[at].table.edit(edit)?;
+        Ok(Reply::Changes(changes))
     }
 
     #[inline(never)]
@@ -170,7 +170,7 @@ impl Session {
         if have_views(self.tables.as_slice(), MOST_VIEWS) {
             return Err(Refusal::TooManyTablesOrViews);
         }
-        self.tables[at].table.watch(self.alloc, view, cond)?;
+        self.tables[at].table.watch(view, cond)?;
         Ok(Reply::Nothing)
     }
 
@@ -192,9 +192,12 @@ impl Session {
         let Some(at) = place_of_view(self.tables.as_slice(), view) else {
             return Err(Refusal::NoSuchView);
         };
-        let picked = self.tables[at].table.view(self.alloc, view)?;
+        let found = self.tables[at].table.view(view)?;
         // A view visits no node for its rows, so the number of visited nodes is 0 and says nothing.
-        Ok(Reply::Rows(Shown::whole(AnyRows::listed(picked.rows))))
+        Ok(Reply::Rows(Shown {
+            rows: found.rows,
+            columns: None,
+        }))
     }
 
     fn select(
@@ -220,7 +223,7 @@ impl Session {
         let Some(at) = place_of(self.tables.as_slice(), name) else {
             return Err(Refusal::NoSuchTable);
         };
-        let problems = self.tables[at].table.check(self.alloc)?;
+        let problems = self.tables[at].table.check()?;
         Ok(Reply::Verdict(Items::from_vec(problems)))
     }
 
@@ -231,7 +234,7 @@ impl Session {
         let Some(at) = place_of(self.tables.as_slice(), name) else {
             return Err(Refusal::NoSuchTable);
         };
-        let shadow = self.tables[at].table.nodes(self.alloc)?;
+        let shadow = self.tables[at].table.shadow()?;
         let dump = TreeDump::new(self.alloc, shadow)?;
         Ok(Reply::Dump(dump))
     }
