@@ -21,7 +21,7 @@ use Rattle.rt_table_row.specs.Edits.{and_then}
 use Rattle.rt_table_row.specs.Tables.{new_table}
 use Rattle.rt_check_dump.specs.declared.dump.AnyShadow.TheVariants.{One, Two, Three}
 use Rattle.rt_tree.specs.Lists.{empty_lists}
-use Rattle.rt_reply.specs.declared.change.Change.{Change}
+use Rattle.rt_table_row.specs.Views.{ViewChange}
 use Rattle.rt_reply.specs.declared.reply.Reply.{Reply}
 use Rattle.rt_reply.specs.declared.reply.Reply.TheVariants.{Nothing, Rows, Changes, Verdict, Dump}
 use Rattle.rt_session.specs.Session.{State, Outcome, state_after, empty, answer, no_tree}
@@ -53,10 +53,10 @@ put name rows = Edits name (Insert Abort None rows)
 abbrev above : ℕ → Test
 above k = Compare (record { column = codes "minX"; op = Gt; value = n k })
 
-abbrev came : List ℕ → List Value → Change
+abbrev came : List ℕ → List Value → ViewChange
 came view row = record { view = view; came = true; row = row }
 
-abbrev left : List ℕ → List Value → Change
+abbrev left : List ℕ → List Value → ViewChange
 left view row = record { view = view; came = false; row = row }
 
 -- ---- what a script answers

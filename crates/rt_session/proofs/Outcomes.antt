@@ -20,14 +20,13 @@ use Rattle.rt_table_row.specs.Tables.{TableLists, edited, new_table, watch, view
 use Rattle.rt_check_dump.specs.declared.dump.AnyShadow.{AnyShadow}
 use Rattle.rt_table.specs.Held.{TableAndTree}
 use Rattle.rt_table.specs.AnyTrees.{new_tree}
-use Rattle.rt_table_view.specs.Watching.{change_of as view_change}
 use Rattle.rt_table.specs.Replies.{Refuses, Shows}
 use Rattle.rt_sql_statement.specs.declared.statement.Edit.{Edit}
-use Rattle.rt_reply.specs.declared.change.Change.{Change}
+use Rattle.rt_table_row.specs.Views.{ViewChange}
 use Rattle.rt_reply.specs.declared.reply.Reply.{Reply}
 use Rattle.rt_reply.specs.declared.reply.Reply.TheVariants.{Nothing, Rows, Changes}
 use Rattle.rt_session.specs.declared.tables.Named.{Named}
-use Rattle.rt_session.specs.Session.{State, NamedTable, is_named, table_of, with_table, with_tree, without_table, create_outcome, drop_outcome, is_watched, count_views, watched_by, watch_outcome, view_reply, edit_outcome, on_table, change_of}
+use Rattle.rt_session.specs.Session.{State, NamedTable, is_named, table_of, with_table, with_tree, without_table, create_outcome, drop_outcome, is_watched, count_views, watched_by, watch_outcome, view_reply, edit_outcome, on_table}
 use Rattle.rt_table_row.specs.Edits.{steps_of}
 use Rattle.rt_session.specs.Steps.{edit_result}
 use Rattle.rt_session.specs.SessionInside.{named_of, HaveNames}
@@ -111,15 +110,9 @@ names_kept ts at t after read named = rw (map-set_same (λ n. n.name) ts at (rec
 
 -- ---- what follows an edit
 
-in_turn : {A B C : Type 0} (r : Result A Refusal) (f : A → Result B Refusal) (g : B → Result C Refusal) → and_then (and_then r f) g ≡ and_then r (λ a. and_then (f a) g)
-in_turn (Ok a) f g = refl
-in_turn (Err refusal) f g = refl
-
-pub carried : (tree : AnyShadow) (state : State) (name : List ℕ) (t : TableLists) (edit : Edit) (answer : Result (List Change × TableLists) Refusal) → edit_result edit t ≡ answer
+pub carried : (tree : AnyShadow) (state : State) (name : List ℕ) (t : TableLists) (edit : Edit) (answer : Result (List ViewChange × TableLists) Refusal) → edit_result edit t ≡ answer
     → edit_outcome tree state name t (steps_of edit t.columns t.rows) ≡ and_then answer (λ done. Ok (Changes done.0, with_tree state name done.1 tree))
-carried tree state name t edit answer is =
-    sym (in_turn (edited t (steps_of edit t.columns t.rows)) (λ done. Ok (map change_of done.0, done.1)) (λ done. Ok (Changes done.0, with_tree state name done.1 tree)))
-    ∙ ap (λ r. and_then r (λ done. Ok (Changes done.0, with_tree state name done.1 tree))) is
+carried tree state name t edit answer is = ap (λ r. and_then r (λ done. Ok (Changes done.0, with_tree state name done.1 tree))) is
 
 -- ---- CREATE and DROP
 
@@ -253,14 +246,6 @@ pub leaves_state : (state : State) (reply given : Result Reply Refusal) → repl
 leaves_state state reply given same = ap (λ (answer : Result Reply Refusal). and_then {B = Reply × State} answer (λ r. Ok (r, state))) same
 
 -- ---- edits
-
-same_changes : (changes : List Change) → map change_of (map view_change changes) ≡ changes
-same_changes [] = refl
-same_changes (c ∷ cs) = ap (λ (ds : List Change). c ∷ ds) (same_changes cs)
-
--- what a table answered to an edit
-pub done : (edit : Edit) (t after : TableLists) (changes : List Change) → edited t (steps_of edit t.columns t.rows) ≡ Ok (map view_change changes, after) → edit_result edit t ≡ Ok (changes, after)
-done edit t after changes is = rw (is, same_changes changes) refl
 
 pub not_done : (edit : Edit) (t : TableLists) (refusal : Refusal) → Refuses (edited t (steps_of edit t.columns t.rows)) refusal → refusal ≢ OutOfMemory → edit_result edit t ≡ Err refusal
 not_done edit t refusal refuses other = rw (refused (edited t (steps_of edit t.columns t.rows)) refusal refuses other) refl

@@ -17,12 +17,10 @@ use Rattle.rt_table_row.specs.Columns.{Columns, columns_of, has_name}
 use Rattle.rt_table_row.specs.Rows.{TableRow, values_of}
 use Rattle.rt_table_row.specs.Conditions.{value_in}
 use Rattle.rt_table_row.specs.Edits.{Steps, and_then, steps_of}
-use Rattle.rt_table_row.specs.Views.{ViewChange}
 use Rattle.rt_table_row.specs.Tables.{TableLists, new_table, edited, select, watch, unwatch, view, has_view}
 use Rattle.rt_check_dump.specs.declared.dump.AnyShadow.{AnyShadow}
 use Rattle.rt_check_dump.specs.declared.dump.AnyShadow.TheVariants.{One}
 use Rattle.rt_tree.specs.Lists.{empty_lists}
-use Rattle.rt_reply.specs.declared.change.Change.{Change}
 use Rattle.rt_table.specs.AnyTrees.{new_tree, FollowsIfTaken}
 use Rattle.rt_reply.specs.declared.reply.Reply.{Reply}
 use Rattle.rt_reply.specs.declared.reply.Reply.TheVariants.{Nothing, Rows, Changes, Verdict, Dump}
@@ -108,13 +106,10 @@ drop_outcome state name if_there =
 
 -- ---- INSERT, UPDATE and DELETE
 
-abbrev pub change_of : ViewChange → Change
-change_of c = record { view = c.view; came = c.came; row = c.row }
-
 -- the steps are taken on the table of that name, whose tree is then this one, and their changes of its views are shown
 abbrev pub edit_outcome : AnyShadow → State → List ℕ → TableLists → Steps → Outcome
 edit_outcome tree state name t steps =
-    and_then (edited t steps) (λ done. Ok (Changes (map change_of done.0), with_tree state name done.1 tree))
+    and_then (edited t steps) (λ done. Ok (Changes done.0, with_tree state name done.1 tree))
 
 -- ---- views
 

@@ -2,7 +2,7 @@
 //!
 //! - `Session`: the tables under their names. `step` carries a statement out, or refuses it, and a
 //!   refusal leaves the tables as they were.
-//! - `Reply`, `Change`: what a statement answers (`rt_reply`).
+//! - `Reply`, `Changes`: what a statement answers (`rt_reply`).
 //!
 //! If no memory is left, any statement may be refused, and that refusal too leaves the tables.
 //!
@@ -10,9 +10,9 @@
 //! `Selecting.antt`. `rt_laws` says what holds of every session.
 #![tactic(auto)]
 
-mod selecting;
+mod select;
 mod session;
 mod tables;
 
-pub use rt_reply::{Change, Reply};
+pub use rt_reply::{Changes, Reply};
 pub use session::Session;

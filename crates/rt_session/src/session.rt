@@ -7,10 +7,10 @@ ghost use Rattle.std.specs.Prelude.{◌≡◌};
 ghost use Rattle.rt_sql_statement.specs.declared.statement.Stmt.TheVariants.{Create, Drop, Edit as Edits, Select, Watch, Unwatch, View, Check, Nodes};
 ghost use Rattle.rt_session.specs.Session.{empty, CarriesOut};
 
-use crate::selecting::select;
+use crate::select::select;
 use crate::tables::{Named, have_views, place_of, place_of_view};
 use rt_box::Capacity;
-use rt_reply::{AnyRows, Reply, Shown, TreeDump};
+use rt_reply::{Reply, Shown, TreeDump};
 use rt_sql_statement::{ColumnDef, Cond, Edit, Items, Name, Refusal, Stmt};
 use rt_table::AnyTable;
 use rt_table_row::Schema;
@@ -152,8 +152,8 @@ impl Session {
         let Some(at) = place_of(self.tables.as_slice(), name) else {
             return Err(Refusal::NoSuchTable);
         };
-        let changes = self.tables[at].table.edit(self.alloc, edit)?;
-        Ok(Reply::Changes(Items::from_vec(changes)))
+        let changes = self.tables[at].table.edit(edit)?;
+        Ok(Reply::Changes(changes))
     }
 
     #[inline(never)]
@@ -169,7 +169,7 @@ impl Session {
         if have_views(self.tables.as_slice(), MOST_VIEWS) {
             return Err(Refusal::TooManyTablesOrViews);
         }
-        self.tables[at].table.watch(self.alloc, view, cond)?;
+        self.tables[at].table.watch(view, cond)?;
         Ok(Reply::Nothing)
     }
 
@@ -191,9 +191,12 @@ impl Session {
         let Some(at) = place_of_view(self.tables.as_slice(), view) else {
             return Err(Refusal::NoSuchView);
         };
-        let picked = self.tables[at].table.view(self.alloc, view)?;
+        let found = self.tables[at].table.view(view)?;
         // A view visits no node for its rows, so the number of visited nodes is 0 and is left out.
-        Ok(Reply::Rows(Shown::whole(AnyRows::listed(picked.rows))))
+        Ok(Reply::Rows(Shown {
+            rows: found.rows,
+            columns: None,
+        }))
     }
 
     fn select(
@@ -219,7 +222,7 @@ impl Session {
         let Some(at) = place_of(self.tables.as_slice(), name) else {
             return Err(Refusal::NoSuchTable);
         };
-        let problems = self.tables[at].table.check(self.alloc)?;
+        let problems = self.tables[at].table.check()?;
         Ok(Reply::Verdict(Items::from_vec(problems)))
     }
 
@@ -230,7 +233,7 @@ impl Session {
         let Some(at) = place_of(self.tables.as_slice(), name) else {
             return Err(Refusal::NoSuchTable);
         };
-        let shadow = self.tables[at].table.nodes(self.alloc)?;
+        let shadow = self.tables[at].table.shadow()?;
         let dump = TreeDump::new(self.alloc, shadow)?;
         Ok(Reply::Dump(dump))
     }

@@ -10,7 +10,7 @@ use Rattle.rt_box.specs.declared.interval.Interval.{Interval}
 use Rattle.rt_box.specs.Rect.{coordinates}
 use Rattle.rt_tree_walk.specs.declared.searching.Row.{Row}
 use Rattle.rt_table_row.proofs.Places.{coordinates_more}
-use Rattle.rt_reply.specs.AnyRows.{box_values}
+use Rattle.rt_reply.specs.Rows.{box_values}
 use Rattle.rt_shell_lines.specs.Lines.{row_line}
 use Rattle.rt_shell_lines.proofs.Listed.{listed-put}
 

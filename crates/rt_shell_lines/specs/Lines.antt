@@ -1,6 +1,6 @@
 -- The lines that a script's run prints (own; values as SQLite's documentation has them of quote(), Built-In Scalar SQL
 -- Functions).
-use Rattle.std.specs.Prelude.{ℕ, ◌/◌, ◌%◌, Bool, true, false, if◌then◌else◌, List, [], ◌∷◌, ◌++◌, codes, decimal, slice_index_or, Result, Ok, Err}
+use Rattle.std.specs.Prelude.{ℕ, ℤ, ◌/◌, ◌%◌, Bool, true, false, if◌then◌else◌, List, [], ◌∷◌, ◌++◌, codes, decimal, slice_index_or, map, take, drop, Result, Ok, Err}
 use Rattle.std.specs.Fmt.{digit_glyph, signed_decimal}
 use Rattle.std.specs.List.{flat_map, join_by}
 use Rattle.rt_sql_cut.specs.Piece.{PieceText}
@@ -13,9 +13,14 @@ use Rattle.rt_sql_statement.specs.declared.value.Value.{Value}
 use Rattle.rt_sql_statement.specs.declared.value.Value.TheVariants.{Null, Int, Text, Blob}
 use Rattle.rt_check_dump.specs.Dump.{any_text}
 use Rattle.rt_check_report.specs.Report.{verdict_lines}
-use Rattle.rt_reply.specs.declared.change.Change.{Change}
+use Rattle.rt_table_row.specs.Views.{ViewChange}
+use Rattle.rt_table_row.specs.RowLists.{Lists}
+use Rattle.rt_reply.specs.declared.rows.Rows.{Rows}
+use Rattle.rt_tree_walk.specs.declared.searching.Row.{Row}
+use Rattle.rt_reply.specs.Rows.{box_values, values_in}
+use Rattle.rt_reply.specs.Shown.{values_at}
 use Rattle.rt_reply.specs.declared.reply.Reply.{Reply}
-use Rattle.rt_reply.specs.declared.reply.Reply.TheVariants.{Nothing, Rows, Changes, Verdict, Dump}
+use Rattle.rt_reply.specs.declared.reply.Reply.TheVariants as reply
 
 -- a byte in two hexadecimal digits, with letters in upper case
 abbrev pub hex_pair : ℕ → List ℕ
@@ -44,16 +49,53 @@ column_text row place = value_text (slice_index_or row place Null)
 abbrev pub row_line : List Value → List ℕ
 row_line row = join_by value_text (codes "|") row ++ codes "\n"
 
+-- the line of a row's columns at these places
+abbrev pub columns_line : List ℕ → List Value → List ℕ
+columns_line places row = row_line (values_at places row)
+
+-- the values of the row at that place, and the text of a column of it
+abbrev pub row_at : Rows → ℕ → List Value
+row_at rows at = slice_index_or (values_in rows) at []
+
+abbrev pub column_at : Rows → ℕ → ℕ → List ℕ
+column_at rows at place = column_text (row_at rows at) place
+
+-- texts with a bar before each, and with bars between them
+abbrev pub after_bars : {X : Type 0} → (X → List ℕ) → List X → List ℕ
+after_bars text items = flat_map (λ item. codes "|" ++ text item) items
+
+abbrev pub between_bars : {X : Type 0} → (X → List ℕ) → List X → List ℕ
+between_bars text items = join_by text (codes "|") items
+
+-- numbers and then values, with a bar before each
+abbrev pub listed_after_bars : List ℤ → List Value → List ℕ
+listed_after_bars numbers values = after_bars value_text (map Int numbers ++ values)
+
+-- the lines of the rows from one place to another
+abbrev pub rows_between : ℕ → ℕ → Lists → List ℕ
+rows_between from to rows = flat_map row_line (drop from (take to rows))
+
+-- the lines of rows without auxiliary values
+abbrev pub lines_of_boxes : {D : _} → List (Row D) → List ℕ
+lines_of_boxes rows = flat_map (λ row. row_line (box_values row)) rows
+
+-- the lines of columns, of all rows and of those from one place to another
+abbrev pub lines_of_columns : List ℕ → Rows → List ℕ
+lines_of_columns places rows = flat_map (columns_line places) (values_in rows)
+
+abbrev pub columns_between : List ℕ → ℕ → ℕ → Rows → List ℕ
+columns_between places from to rows = flat_map (columns_line places) (drop from (take to (values_in rows)))
+
 -- the row that came into the view of that name, or left it
-abbrev pub change_line : Change → List ℕ
+abbrev pub change_line : ViewChange → List ℕ
 change_line c = (if c.came then codes "+" else codes "-") ++ c.view ++ codes " " ++ row_line c.row
 
 abbrev pub reply_lines : Reply → List ℕ
-reply_lines Nothing = []
-reply_lines (Rows rows) = flat_map row_line rows
-reply_lines (Changes changes) = flat_map change_line changes
-reply_lines (Verdict problems) = verdict_lines problems
-reply_lines (Dump tree) = any_text tree
+reply_lines reply.Nothing = []
+reply_lines (reply.Rows rows) = flat_map row_line rows
+reply_lines (reply.Changes changes) = flat_map change_line changes
+reply_lines (reply.Verdict problems) = verdict_lines problems
+reply_lines (reply.Dump tree) = any_text tree
 
 -- the refusal of the piece of this number
 abbrev pub refusal_line : ℕ → Refusal → List ℕ
@@ -62,7 +104,7 @@ refusal_line number refusal =
 
 -- what an answer to the piece of this number prints
 abbrev pub answer_lines : ℕ → Result Reply Refusal → List ℕ
-answer_lines number (Ok reply) = reply_lines reply
+answer_lines number (Ok given) = reply_lines given
 answer_lines number (Err refusal) = refusal_line number refusal
 
 -- a piece's text that ended so, as it is echoed

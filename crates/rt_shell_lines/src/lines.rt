@@ -1,22 +1,19 @@
 //! The lines of rows put together, so that they are written at once.
 //!
 //! A row without auxiliary values has a line of few bytes, so some of them always fit. Of other rows a call returns
-//! `None` where the room is used up, or where a value takes more than a copy. `reply` then writes that row value by
-//! value.
+//! `None` if the room is used up, or if a value takes more than a copy. `reply` then writes that row value by value.
 
-ghost use Rattle.std.specs.Prelude.{◌≡◌, ◌+◌, ◌*◌, ◌<◌, ◌≤◌, ◌++◌, ◌∷◌, ℕ, List, [], IfSome, codes, drop, length, slice_index_or, take};
+ghost use Rattle.std.specs.Prelude.{◌≡◌, ◌+◌, ◌*◌, ◌<◌, ◌≤◌, ◌++◌, ◌∷◌, ℕ, List, [], IfSome, codes, drop, length};
 ghost use Rattle.std.specs.Fmt.{signed_decimal};
-ghost use Rattle.std.specs.List.{flat_map, join_by};
+ghost use Rattle.std.specs.List.{flat_map};
 ghost use Rattle.rt_sql.specs.Token.{double};
-ghost use Rattle.rt_table_row.specs.Entries.{listed_values};
-ghost use Rattle.rt_table_row.specs.Entries.{field_value};
-ghost use Rattle.rt_reply.specs.AnyRows.{box_values};
-ghost use Rattle.rt_reply.specs.Shown.{values_at};
-ghost use Rattle.rt_shell_lines.specs.Lines.{value_text, column_text, row_line};
+ghost use Rattle.rt_table_row.specs.Entries.{listed_values, field_value};
+ghost use Rattle.rt_reply.specs.Rows.{box_values, values_in};
+ghost use Rattle.rt_shell_lines.specs.Lines.{value_text, row_line, columns_line, row_at, column_at, after_bars, between_bars, rows_between, columns_between};
 
 use crate::value::first_quote;
 use itoa::write_digits;
-use rt_reply::AnyRows;
+use rt_reply::Rows;
 use rt_sql_statement::Value;
 use rt_table_row::{Field, ListedRow, RowList};
 use rt_tree_walk::Row;
@@ -157,7 +154,7 @@ impl Lines {
         self.start = put_boxes(&mut self.bytes, MOST_BYTES, rows);
     }
 
-    /// Puts the bytes before the rest, where there is room for them.
+    /// Puts the bytes before the rest, if there is room for them.
     fn put(&mut self, bytes: &[u8]) -> Option<()>
         ensures { IfSome result (λ _. self.new ≡ bytes.now ++ self.old) }
     {
@@ -167,7 +164,7 @@ impl Lines {
         Some(())
     }
 
-    /// Puts a byte before the rest, where there is room for it.
+    /// Puts a byte before the rest, if there is room for it.
     #[inline]
     fn put_byte(&mut self, byte: u8) -> Option<()>
         ensures { IfSome result (λ _. self.new ≡ byte ∷ self.old) }
@@ -178,7 +175,7 @@ impl Lines {
         Some(())
     }
 
-    /// Puts a number, where there is room for any.
+    /// Puts a number, if there is room for any.
     #[inline]
     fn put_integer(&mut self, number: i64) -> Option<()>
         ensures { IfSome result (λ _. self.new ≡ signed_decimal number ++ self.old) }
@@ -193,7 +190,7 @@ impl Lines {
         Some(())
     }
 
-    /// Puts a text in quotes, where it is short and has none inside.
+    /// Puts a text in quotes, if it is short and has none inside.
     fn put_text(&mut self, text: &[u8]) -> Option<()>
         ensures { IfSome result (λ _. self.new ≡ (codes "'" ++ double 39 text.now ++ codes "'") ++ self.old) }
     {
@@ -206,7 +203,7 @@ impl Lines {
         Some(())
     }
 
-    /// Puts a value, where there is room for it and it takes no more than a copy.
+    /// Puts a value, if there is room for it and it takes no more than a copy.
     #[inline]
     fn put_value(&mut self, value: &Value) -> Option<()>
         ensures { IfSome result (λ _. self.new ≡ value_text value.now ++ self.old) }
@@ -219,7 +216,7 @@ impl Lines {
         }
     }
 
-    /// Puts a value that is looked at, where there is room for it and it takes no more than a copy.
+    /// Puts a value that is looked at, if there is room for it and it takes no more than a copy.
     #[inline]
     fn put_field(&mut self, field: Field<'_>) -> Option<()>
         ensures { IfSome result (λ _. self.new ≡ value_text (field_value field.entry) ++ self.old) }
@@ -232,9 +229,9 @@ impl Lines {
     }
 
     /// Puts the columns of a row that follow a first one, each behind a bar.
-    fn put_more_columns(&mut self, rows: &AnyRows, at: usize, places: &[usize]) -> Option<()>
-        requires { at < length rows.now }
-        ensures { IfSome result (λ _. self.new ≡ flat_map (λ place. codes "|" ++ column_text (slice_index_or rows.now at []) place) places.now ++ self.old) }
+    fn put_more_columns(&mut self, rows: &Rows, at: usize, places: &[usize]) -> Option<()>
+        requires { at < length (values_in rows.now) }
+        ensures { IfSome result (λ _. self.new ≡ after_bars (column_at rows.now at) places.now ++ self.old) }
     {
         let mut rest = places;
         while let Some((last, before)) = rest.split_last() {
@@ -246,9 +243,9 @@ impl Lines {
     }
 
     /// Puts the columns of a row with bars between them.
-    fn put_each_column(&mut self, rows: &AnyRows, at: usize, places: &[usize]) -> Option<()>
-        requires { at < length rows.now }
-        ensures { IfSome result (λ _. self.new ≡ join_by (column_text (slice_index_or rows.now at [])) (codes "|") places.now ++ self.old) }
+    fn put_each_column(&mut self, rows: &Rows, at: usize, places: &[usize]) -> Option<()>
+        requires { at < length (values_in rows.now) }
+        ensures { IfSome result (λ _. self.new ≡ between_bars (column_at rows.now at) places.now ++ self.old) }
     {
         if let Some((first, rest)) = places.split_first() {
             self.put_more_columns(rows, at, rest)?;
@@ -257,19 +254,39 @@ impl Lines {
         Some(())
     }
 
-    /// Puts the line of the columns of a row, where there is room for it and no value takes more than a copy.
-    pub(crate) fn put_columns(&mut self, rows: &AnyRows, at: usize, places: &[usize]) -> Option<()>
-        requires { at < length rows.now }
-        ensures { IfSome result (λ _. self.new ≡ row_line (values_at places.now (slice_index_or rows.now at [])) ++ self.old) }
+    /// Puts the line of the columns of a row, if there is room for it and no value takes more than a copy.
+    pub(crate) fn put_columns(&mut self, rows: &Rows, at: usize, places: &[usize]) -> Option<()>
+        requires { at < length (values_in rows.now) }
+        ensures { IfSome result (λ _. self.new ≡ columns_line places.now (row_at rows.now at) ++ self.old) }
     {
         self.put_byte(b'\n')?;
         self.put_each_column(rows, at, places)?;
         Some(())
     }
 
+    /// Puts the lines of the columns of the rows from one place to another, if there is room for them and no value takes more
+    /// than a copy.
+    pub(crate) fn put_columns_between(
+        &mut self,
+        rows: &Rows,
+        places: &[usize],
+        from: usize,
+        to: usize,
+    ) -> Option<()>
+        requires { to ≤ length (values_in rows.now) }
+        ensures { IfSome result (λ _. self.new ≡ columns_between places.now from to rows.now ++ self.old) }
+    {
+        let mut at = to;
+        while at > from {
+            at -= 1;
+            self.put_columns(rows, at, places)?;
+        }
+        Some(())
+    }
+
     /// Puts values that follow a first one, each behind a bar.
     fn put_more(&mut self, values: &[Value]) -> Option<()>
-        ensures { IfSome result (λ _. self.new ≡ flat_map (λ value. codes "|" ++ value_text value) values.now ++ self.old) }
+        ensures { IfSome result (λ _. self.new ≡ after_bars value_text values.now ++ self.old) }
     {
         let mut rest = values;
         while let Some((last, before)) = rest.split_last() {
@@ -282,7 +299,7 @@ impl Lines {
 
     /// Puts numbers that follow a first one, each behind a bar.
     fn put_more_numbers(&mut self, numbers: &[i64]) -> Option<()>
-        ensures { IfSome result (λ _. self.new ≡ flat_map (λ number. codes "|" ++ signed_decimal number) numbers.now ++ self.old) }
+        ensures { IfSome result (λ _. self.new ≡ after_bars signed_decimal numbers.now ++ self.old) }
     {
         let mut rest = numbers;
         while let Some((last, before)) = rest.split_last() {
@@ -295,7 +312,7 @@ impl Lines {
 
     /// Puts values with bars between them.
     fn put_values(&mut self, values: &[Value]) -> Option<()>
-        ensures { IfSome result (λ _. self.new ≡ join_by value_text (codes "|") values.now ++ self.old) }
+        ensures { IfSome result (λ _. self.new ≡ between_bars value_text values.now ++ self.old) }
     {
         if let Some((first, rest)) = values.split_first() {
             self.put_more(rest)?;
@@ -306,7 +323,7 @@ impl Lines {
 
     /// Puts the values of a row with bars between them, numbers first.
     fn put_listed(&mut self, row: &ListedRow<'_>) -> Option<()>
-        ensures { IfSome result (λ _. self.new ≡ join_by value_text (codes "|") (listed_values row.now) ++ self.old) }
+        ensures { IfSome result (λ _. self.new ≡ between_bars value_text (listed_values row.now) ++ self.old) }
     {
         let Some((first, rest)) = row.numbers.split_first() else {
             return self.put_values(row.auxiliary);
@@ -317,7 +334,7 @@ impl Lines {
         Some(())
     }
 
-    /// Puts the line of a row, where there is room for it and no value takes more than a copy.
+    /// Puts the line of a row, if there is room for it and no value takes more than a copy.
     pub(crate) fn put_row(&mut self, row: &ListedRow<'_>) -> Option<()>
         ensures { IfSome result (λ _. self.new ≡ row_line (listed_values row.now) ++ self.old) }
     {
@@ -326,11 +343,10 @@ impl Lines {
         Some(())
     }
 
-    /// Puts the lines of the rows from one place to another, where there is room for them and no value takes more than a
-    /// copy.
+    /// Puts the lines of the rows from one place to another, if there is room for them and no value takes more than a copy.
     pub(crate) fn put_rows(&mut self, rows: &RowList, from: usize, to: usize) -> Option<()>
         requires { to ≤ length rows.now }
-        ensures { IfSome result (λ _. self.new ≡ flat_map row_line (drop from (take to rows.now)) ++ self.old) }
+        ensures { IfSome result (λ _. self.new ≡ rows_between from to rows.now ++ self.old) }
     {
         let mut at = to;
         while at > from {

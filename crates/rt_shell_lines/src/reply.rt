@@ -3,17 +3,15 @@
 //! Rows are written in two ways with the same bytes: short ones are put together by `lines` and written some at a
 //! time, as are all without auxiliary values, and others value by value. `specs/Lines.antt` names the bytes.
 
-ghost use Rattle.std.specs.Prelude.{◌≡◌, ◌<◌, ◌≤◌, ◌++◌, [], if◌then◌else◌, codes, map, length, slice_index_or, take, drop, IfOk, OnErr};
-ghost use Rattle.rt_bytes.specs.Bytes.{WritesAll, WritesPrefix};
+ghost use Rattle.std.specs.Prelude.{◌≡◌, ◌<◌, ◌≤◌, ◌++◌, if◌then◌else◌, codes, length, IfOk};
 ghost use Rattle.std.specs.Fmt.{signed_decimal};
-ghost use Rattle.std.specs.List.{flat_map, join_by};
+ghost use Rattle.std.specs.List.{flat_map};
 ghost use Rattle.rt_bytes.specs.Devices.{WritesTo};
-ghost use Rattle.rt_sql_statement.specs.declared.value.Value.TheVariants.{Int};
-ghost use Rattle.rt_table_row.specs.Entries.{listed_values};
-ghost use Rattle.rt_table_row.specs.Entries.{field_value};
-ghost use Rattle.rt_reply.specs.AnyRows.{box_values};
-ghost use Rattle.rt_reply.specs.Shown.{values_at};
-ghost use Rattle.rt_shell_lines.specs.Lines.{value_text, column_text, row_line, change_line, reply_lines, refusal_line};
+ghost use Rattle.rt_table_row.specs.Entries.{listed_values, field_value};
+ghost use Rattle.rt_reply.specs.Rows.{values_in};
+ghost use Rattle.rt_reply.specs.Changes.{change_seen};
+ghost use Rattle.rt_shell_lines.specs.Lines.{value_text, row_line, columns_line, row_at, column_at, after_bars, between_bars, listed_after_bars, lines_of_boxes, lines_of_columns, change_line, reply_lines, refusal_line};
+ghost use Rattle.rt_shell_lines.specs.Writing.{WritesNext, WritesColumns};
 
 use crate::lines::{BOXES_AT_ONCE, Lines};
 use crate::value::{write_integer, write_value};
@@ -21,27 +19,27 @@ use itoa::Buffer;
 use rt_bytes::{ByteWriter, WriteFault, write_parts, write_whole};
 use rt_check_dump::write_dump;
 use rt_check_report::write_verdict;
-use rt_reply::{AnyRows, Change, Reply, RowsView, Shown, ShownView};
+use rt_reply::{Change, Changes, Reply, Rows, Shown};
 use rt_sql_statement::{Refusal, Value};
 use rt_table_row::{Field, ListedRow, RowList};
 use rt_tree_walk::Row;
 
-/// The most rows whose lines are written at once.
+/// The most rows whose lines are put together before it is known that they fit.
 const ROWS_AT_ONCE: usize = 8;
 
 /// Writes the lines of a reply: a line for each row that it shows, or for each change; the verdict on
-/// a tree, or its dump. After a fault a front of them is written.
+/// a tree, or its dump. After a fault a prefix of them is written.
 ///
 /// A row's line is its values with bars between them, each as SQLite's `quote()` writes it:
-/// `7|-1|4|'it''s'|X'0AFF'|NULL`. The line of a change is `+V ROW` where the row came into the view
-/// V, and `-V ROW` where it left it. A verdict is `ok`, or a line for each problem.
+/// `7|-1|4|'it''s'|X'0AFF'|NULL`. The line of a change is `+V ROW` if the row came into the view
+/// V, and `-V ROW` if it left it. A verdict is `ok`, or a line for each problem.
 pub fn write_reply<W: ByteWriter>(reply: &Reply, writer: &mut W) -> Result<(), WriteFault>
     ensures { WritesTo W.ByteWriter writer.old writer.new result (reply_lines reply.now) }
 {
     match reply {
         Reply::Nothing => Ok(()),
         Reply::Rows(shown) => write_shown(shown, writer),
-        Reply::Changes(changes) => write_changes(changes.as_slice(), writer),
+        Reply::Changes(changes) => write_changes(changes, writer),
         Reply::Verdict(problems) => write_verdict(problems.as_slice(), writer),
         Reply::Dump(dump) => write_dump(dump.tree(), writer),
     }
@@ -50,37 +48,70 @@ pub fn write_reply<W: ByteWriter>(reply: &Reply, writer: &mut W) -> Result<(), W
 fn write_shown<W: ByteWriter>(shown: &Shown, writer: &mut W) -> Result<(), WriteFault>
     ensures { WritesTo W.ByteWriter writer.old writer.new result (flat_map row_line shown.now) }
 {
-    match shown.view() {
-        ShownView::Whole(rows) => write_rows(rows, writer),
-        ShownView::Columns(rows, places) => write_columns(rows, places, writer),
+    match &shown.columns {
+        None => write_rows(&shown.rows, writer),
+        Some(places) => write_columns(&shown.rows, places.as_slice(), writer),
     }
 }
 
-/// Writes the lines of the columns at these places, row by row.
+/// Writes the lines of the columns at these places, some rows at a time.
 fn write_columns<W: ByteWriter>(
-    rows: &AnyRows,
+    rows: &Rows,
     places: &[usize],
     writer: &mut W,
 ) -> Result<(), WriteFault>
-    ensures { WritesTo W.ByteWriter writer.old writer.new result (flat_map (λ row. row_line (values_at places.now row)) rows.now) }
+    ensures { WritesTo W.ByteWriter writer.old writer.new result (lines_of_columns places.now rows.now) }
 {
     let mut lines = Lines::new();
-    for at in 0..rows.len() {
-        write_columns_of(&mut lines, rows, at, places, writer)?;
+    let (mut from, mut at_once) = (0, ROWS_AT_ONCE);
+    while from < rows.len() {
+        let to = from + at_once.min(rows.len() - from);
+        let next = write_next_columns(&mut lines, rows, places, from, to, writer)?;
+        // Twice as many as were short enough last time.
+        at_once = ROWS_AT_ONCE.min(2 * (next - from));
+        from = next;
     }
     Ok(())
 }
 
-/// Writes the line of a row's columns, which is put together in `lines` where it is short.
+/// Writes the lines of the columns of the rows from one place to another at once if they are short, else that of the
+/// first row; answers where the rows behind them begin.
+fn write_next_columns<W: ByteWriter>(
+    lines: &mut Lines,
+    rows: &Rows,
+    places: &[usize],
+    from: usize,
+    to: usize,
+    writer: &mut W,
+) -> Result<usize, WriteFault>
+    requires some { from < to }
+    requires within { to ≤ length (values_in rows.now) }
+    ensures next { IfOk result (λ next. (from < next) × (next ≤ to)) }
+    ensures written { WritesColumns W.ByteWriter writer.old writer.new result places.now from rows.now }
+{
+    lines.clear();
+    match lines.put_columns_between(rows, places, from, to) {
+        Some(()) => {
+            write_whole(writer, lines.as_slice())?;
+            Ok(to)
+        }
+        None => {
+            write_columns_of(lines, rows, from, places, writer)?;
+            Ok(from + 1)
+        }
+    }
+}
+
+/// Writes the line of a row's columns, which is put together in `lines` if it is short.
 fn write_columns_of<W: ByteWriter>(
     lines: &mut Lines,
-    rows: &AnyRows,
+    rows: &Rows,
     at: usize,
     places: &[usize],
     writer: &mut W,
 ) -> Result<(), WriteFault>
-    requires { at < length rows.now }
-    ensures { WritesTo W.ByteWriter writer.old writer.new result (row_line (values_at places.now (slice_index_or rows.now at []))) }
+    requires { at < length (values_in rows.now) }
+    ensures { WritesTo W.ByteWriter writer.old writer.new result (columns_line places.now (row_at rows.now at)) }
 {
     lines.clear();
     match lines.put_columns(rows, at, places) {
@@ -91,26 +122,26 @@ fn write_columns_of<W: ByteWriter>(
 
 /// Writes the line of a row's columns value by value.
 fn write_long_columns<W: ByteWriter>(
-    rows: &AnyRows,
+    rows: &Rows,
     at: usize,
     places: &[usize],
     writer: &mut W,
 ) -> Result<(), WriteFault>
-    requires { at < length rows.now }
-    ensures { WritesTo W.ByteWriter writer.old writer.new result (row_line (values_at places.now (slice_index_or rows.now at []))) }
+    requires { at < length (values_in rows.now) }
+    ensures { WritesTo W.ByteWriter writer.old writer.new result (columns_line places.now (row_at rows.now at)) }
 {
     write_each_column(rows, at, places, writer)?;
     write_line_end(writer)
 }
 
 fn write_each_column<W: ByteWriter>(
-    rows: &AnyRows,
+    rows: &Rows,
     at: usize,
     places: &[usize],
     writer: &mut W,
 ) -> Result<(), WriteFault>
-    requires { at < length rows.now }
-    ensures { WritesTo W.ByteWriter writer.old writer.new result (join_by (column_text (slice_index_or rows.now at [])) (codes "|") places.now) }
+    requires { at < length (values_in rows.now) }
+    ensures { WritesTo W.ByteWriter writer.old writer.new result (between_bars (column_at rows.now at) places.now) }
 {
     let Some((first, rest)) = places.split_first() else {
         return Ok(());
@@ -121,13 +152,13 @@ fn write_each_column<W: ByteWriter>(
 
 /// Writes the columns that follow a first one.
 fn write_more_columns<W: ByteWriter>(
-    rows: &AnyRows,
+    rows: &Rows,
     at: usize,
     places: &[usize],
     writer: &mut W,
 ) -> Result<(), WriteFault>
-    requires { at < length rows.now }
-    ensures { WritesTo W.ByteWriter writer.old writer.new result (flat_map (λ place. codes "|" ++ column_text (slice_index_or rows.now at []) place) places.now) }
+    requires { at < length (values_in rows.now) }
+    ensures { WritesTo W.ByteWriter writer.old writer.new result (after_bars (column_at rows.now at) places.now) }
 {
     for place in places {
         write_column_after_bar(rows, at, *place, writer)?;
@@ -142,13 +173,13 @@ fn write_line_end<W: ByteWriter>(writer: &mut W) -> Result<(), WriteFault>
 }
 
 fn write_column_after_bar<W: ByteWriter>(
-    rows: &AnyRows,
+    rows: &Rows,
     at: usize,
     place: usize,
     writer: &mut W,
 ) -> Result<(), WriteFault>
-    requires { at < length rows.now }
-    ensures { WritesTo W.ByteWriter writer.old writer.new result (codes "|" ++ column_text (slice_index_or rows.now at []) place) }
+    requires { at < length (values_in rows.now) }
+    ensures { WritesTo W.ByteWriter writer.old writer.new result (codes "|" ++ column_at rows.now at place) }
 {
     write_bar(writer)?;
     write_field(rows.value_at(at, place), writer)
@@ -164,23 +195,23 @@ fn write_field<W: ByteWriter>(field: Field<'_>, writer: &mut W) -> Result<(), Wr
     }
 }
 
-fn write_rows<W: ByteWriter>(rows: &AnyRows, writer: &mut W) -> Result<(), WriteFault>
-    ensures { WritesTo W.ByteWriter writer.old writer.new result (flat_map row_line rows.now) }
+fn write_rows<W: ByteWriter>(rows: &Rows, writer: &mut W) -> Result<(), WriteFault>
+    ensures { WritesTo W.ByteWriter writer.old writer.new result (flat_map row_line (values_in rows.now)) }
 {
-    match rows.view() {
-        RowsView::One(rows) => write_boxes(rows, writer),
-        RowsView::Two(rows) => write_boxes(rows, writer),
-        RowsView::Three(rows) => write_boxes(rows, writer),
-        RowsView::Listed(rows) => write_list(rows, writer),
+    match rows {
+        Rows::One(rows) => write_boxes(rows.as_slice(), writer),
+        Rows::Two(rows) => write_boxes(rows.as_slice(), writer),
+        Rows::Three(rows) => write_boxes(rows.as_slice(), writer),
+        Rows::Listed(rows) => write_list(rows, writer),
     }
 }
 
-/// Writes the lines of rows without auxiliary values, so many at a time as always fit.
+/// Writes the lines of rows without auxiliary values, as many at a time as always fit.
 fn write_boxes<W: ByteWriter, const D: usize>(
     rows: &[Row<D>],
     writer: &mut W,
 ) -> Result<(), WriteFault>
-    ensures { WritesTo W.ByteWriter writer.old writer.new result (flat_map (λ row. row_line (box_values row)) rows.now) }
+    ensures { WritesTo W.ByteWriter writer.old writer.new result (lines_of_boxes rows.now) }
 {
     // One place for all lines, since making it costs as much as filling it.
     let mut lines = Lines::new();
@@ -209,7 +240,7 @@ fn write_list<W: ByteWriter>(rows: &RowList, writer: &mut W) -> Result<(), Write
     Ok(())
 }
 
-/// Writes the lines of the rows from one place to another at once where they are short, else that of the first; answers
+/// Writes the lines of the rows from one place to another at once if they are short, else that of the first; answers
 /// where the rows behind them begin.
 fn write_next<W: ByteWriter>(
     lines: &mut Lines,
@@ -221,8 +252,7 @@ fn write_next<W: ByteWriter>(
     requires some { from < to }
     requires within { to ≤ length rows.now }
     ensures next { IfOk result (λ next. (from < next) × (next ≤ to)) }
-    ensures written { IfOk result (λ next. WritesAll (W.ByteWriter.written writer.old) (W.ByteWriter.written writer.new) (W.ByteWriter.faults writer.old) (W.ByteWriter.faults writer.new) (flat_map row_line (drop from (take next rows.now)))) }
-    ensures failed { OnErr result (WritesPrefix (W.ByteWriter.written writer.old) (W.ByteWriter.written writer.new) (W.ByteWriter.faults writer.old) (W.ByteWriter.faults writer.new) (flat_map row_line (drop from rows.now))) }
+    ensures written { WritesNext W.ByteWriter writer.old writer.new result row_line from rows.now }
 {
     lines.clear();
     match lines.put_rows(rows, from, to) {
@@ -237,7 +267,7 @@ fn write_next<W: ByteWriter>(
     }
 }
 
-fn write_changes<W: ByteWriter>(changes: &[Change], writer: &mut W) -> Result<(), WriteFault>
+fn write_changes<W: ByteWriter>(changes: &Changes, writer: &mut W) -> Result<(), WriteFault>
     ensures { WritesTo W.ByteWriter writer.old writer.new result (flat_map change_line changes.now) }
 {
     // Most edits change no view, and no place for lines is made for nothing.
@@ -245,35 +275,32 @@ fn write_changes<W: ByteWriter>(changes: &[Change], writer: &mut W) -> Result<()
         return Ok(());
     }
     let mut lines = Lines::new();
-    for change in changes {
-        write_change(&mut lines, change, writer)?;
+    for at in 0..changes.len() {
+        write_change(&mut lines, changes.get(at), writer)?;
     }
     Ok(())
 }
 
-fn sign(change: &Change) -> &[u8]
-    ensures { result.now ≡ (if change.now.came then codes "+" else codes "-") }
+fn sign(came: bool) -> &'static [u8]
+    ensures { result.now ≡ (if came then codes "+" else codes "-") }
 {
-    if change.came { b"+" } else { b"-" }
+    if came { b"+" } else { b"-" }
 }
 
 fn write_change<W: ByteWriter>(
     lines: &mut Lines,
-    change: &Change,
+    change: Change<'_>,
     writer: &mut W,
 ) -> Result<(), WriteFault>
-    ensures { WritesTo W.ByteWriter writer.old writer.new result (change_line change.now) }
+    ensures { WritesTo W.ByteWriter writer.old writer.new result (change_line (change_seen change.entry)) }
 {
-    let parts: [&[u8]; 3] = [sign(change), change.view.as_str().as_bytes(), b" "];
+    let Change { view, came, row } = change;
+    let parts: [&[u8]; 3] = [sign(came), view.as_str().as_bytes(), b" "];
     write_parts(writer, &parts)?;
-    let row = ListedRow {
-        numbers: &[],
-        auxiliary: change.row.as_slice(),
-    };
     write_row(lines, &row, writer)
 }
 
-/// Writes a row's line, which is put together in `lines` where it is short.
+/// Writes a row's line, which is put together in `lines` if it is short.
 fn write_row<W: ByteWriter>(
     lines: &mut Lines,
     row: &ListedRow<'_>,
@@ -297,7 +324,7 @@ fn write_long_row<W: ByteWriter>(row: &ListedRow<'_>, writer: &mut W) -> Result<
 }
 
 fn write_listed<W: ByteWriter>(row: &ListedRow<'_>, writer: &mut W) -> Result<(), WriteFault>
-    ensures { WritesTo W.ByteWriter writer.old writer.new result (join_by value_text (codes "|") (listed_values row.now)) }
+    ensures { WritesTo W.ByteWriter writer.old writer.new result (between_bars value_text (listed_values row.now)) }
 {
     let Some((first, rest)) = row.numbers.split_first() else {
         return write_values(row.auxiliary, writer);
@@ -312,7 +339,7 @@ fn write_more_listed<W: ByteWriter>(
     values: &[Value],
     writer: &mut W,
 ) -> Result<(), WriteFault>
-    ensures { WritesTo W.ByteWriter writer.old writer.new result (flat_map (λ value. codes "|" ++ value_text value) (map Int numbers.now ++ values.now)) }
+    ensures { WritesTo W.ByteWriter writer.old writer.new result (listed_after_bars numbers.now values.now) }
 {
     write_more_numbers(numbers, writer)?;
     write_more_values(values, writer)
@@ -320,7 +347,7 @@ fn write_more_listed<W: ByteWriter>(
 
 /// Writes the numbers that follow a first one.
 fn write_more_numbers<W: ByteWriter>(numbers: &[i64], writer: &mut W) -> Result<(), WriteFault>
-    ensures { WritesTo W.ByteWriter writer.old writer.new result (flat_map (λ number. codes "|" ++ signed_decimal number) numbers.now) }
+    ensures { WritesTo W.ByteWriter writer.old writer.new result (after_bars signed_decimal numbers.now) }
 {
     for number in numbers {
         write_number_after_bar(number, writer)?;
@@ -342,7 +369,7 @@ fn write_number_after_bar<W: ByteWriter>(number: &i64, writer: &mut W) -> Result
 }
 
 fn write_values<W: ByteWriter>(values: &[Value], writer: &mut W) -> Result<(), WriteFault>
-    ensures { WritesTo W.ByteWriter writer.old writer.new result (join_by value_text (codes "|") values.now) }
+    ensures { WritesTo W.ByteWriter writer.old writer.new result (between_bars value_text values.now) }
 {
     let Some((first, rest)) = values.split_first() else {
         return Ok(());
@@ -353,7 +380,7 @@ fn write_values<W: ByteWriter>(values: &[Value], writer: &mut W) -> Result<(), W
 
 /// Writes the values that follow a first one.
 fn write_more_values<W: ByteWriter>(values: &[Value], writer: &mut W) -> Result<(), WriteFault>
-    ensures { WritesTo W.ByteWriter writer.old writer.new result (flat_map (λ value. codes "|" ++ value_text value) values.now) }
+    ensures { WritesTo W.ByteWriter writer.old writer.new result (after_bars value_text values.now) }
 {
     for value in values {
         write_after_bar(value, writer)?;
@@ -369,7 +396,7 @@ fn write_after_bar<W: ByteWriter>(value: &Value, writer: &mut W) -> Result<(), W
 }
 
 /// Writes the line of a refusal, `refused NUMBER CODE: WORDS`, with the number of its piece. After a
-/// fault a front of it is written.
+/// fault a prefix of it is written.
 pub fn write_refusal<W: ByteWriter>(
     number: &u64,
     refusal: Refusal,

@@ -13,7 +13,7 @@ use Rattle.rt_table_row.specs.Rows.{values_of}
 use Rattle.rt_table_row.specs.Conditions.{holds, picked}
 use Rattle.rt_table_row.specs.Filters.{admits}
 use Rattle.rt_table_row.specs.Tables.{TableLists, view, viewed, is_view}
-use Rattle.rt_table_view.specs.declared.watched.Watched.{Watched}
+use Rattle.rt_table_view.specs.declared.view.Watched.{Watched}
 use Rattle.rt_table_view.specs.Watching.{view_of, IsKept}
 use Rattle.rt_table_view.proofs.Looking.{find_mapped}
 use Rattle.rt_table.specs.Replies.{Shows}

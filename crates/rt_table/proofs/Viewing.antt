@@ -12,7 +12,7 @@ use Rattle.rt_table_row.specs.Filters.{Placed, admits, IsFilterOf}
 use Rattle.rt_table_row.specs.Tables.{TableLists, select, unwatch, has_view, is_view}
 use Rattle.rt_table_row.specs.Views.{View}
 use Rattle.rt_sql_statement.specs.Name.{same_name}
-use Rattle.rt_table_view.specs.declared.watched.Watched.{Watched}
+use Rattle.rt_table_view.specs.declared.view.Watched.{Watched}
 use Rattle.rt_table_view.specs.Watching.{view_of}
 use Rattle.rt_table.specs.Replies.{Shows}
 

@@ -29,7 +29,7 @@ Follows rows steps (Two old) (Two new) = FollowsSteps rows steps old new
 Follows rows steps (Three old) (Three new) = FollowsSteps rows steps old new
 Follows rows steps old new = ⊥
 
--- where the steps are taken, a tree follows them
+-- if the steps are taken, a tree follows them
 abbrev pub FollowsIfTaken : List TableRow → Steps → AnyShadow → AnyShadow → Type 0
 FollowsIfTaken rows taken old new = IfOk taken (λ steps. Follows rows steps old new)
 

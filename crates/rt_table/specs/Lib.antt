@@ -4,3 +4,4 @@ pub mod Ready
 pub mod TableInside
 pub mod AnyTrees
 pub mod AnyAxes
+pub mod Edits

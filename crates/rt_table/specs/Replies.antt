@@ -1,9 +1,15 @@
 -- What a call answers that may run out of memory, and rows as lists of values. Source: own.
-use Rattle.std.specs.Prelude.{◌≡◌, ◌⊎◌, List, map, Result, Ok, Err}
+use Rattle.std.specs.Prelude.{◌≡◌, ◌⊎◌, ℕ, List, map, Result, Ok, Err}
 use Rattle.rt_sql_statement.specs.declared.value.Value.{Value}
 use Rattle.rt_sql_statement.specs.declared.refusal.Refusal.{Refusal}
 use Rattle.rt_sql_statement.specs.declared.refusal.Refusal.TheVariants.{OutOfMemory}
+use Rattle.rt_box.specs.declared.interval.Interval.{Interval}
+use Rattle.rt_sql_statement.specs.declared.statement.Test.{Test}
 use Rattle.rt_table_row.specs.Rows.{TableRow, values_of}
+use Rattle.rt_table_row.specs.Windows.{IsWindowOf}
+use Rattle.rt_table_store.specs.Trees.{Visits}
+use Rattle.rt_table.specs.AnyTrees.{VisitsAny}
+use Rattle.rt_table.specs.Held.{Held, TableAndTree}
 
 -- the refusal that is wanted, or want of memory
 abbrev pub Refuses : {A : Type 0} → Result A Refusal → Refusal → Type 0
@@ -12,3 +18,10 @@ Refuses wanted refusal = (wanted ≡ Err refusal) ⊎ (refusal ≡ OutOfMemory)
 -- the rows that are wanted, each as its values
 abbrev pub Shows : Result (List TableRow) Refusal → List (List Value) → Type 0
 Shows wanted values = (rows : List TableRow) × (wanted ≡ Ok rows) × (values ≡ map values_of rows)
+
+-- so many nodes of the tree are reached by a window of the condition
+abbrev pub VisitsBy : {D : ℕ} → Held D → List Test → ℕ → Type 0
+VisitsBy table cond visited = (window : List Interval) × IsWindowOf table.lists.columns cond window × Visits table.tree window visited
+
+abbrev pub VisitsAnyBy : TableAndTree → List Test → ℕ → Type 0
+VisitsAnyBy table cond visited = (window : List Interval) × IsWindowOf table.lists.columns cond window × VisitsAny table.tree window visited

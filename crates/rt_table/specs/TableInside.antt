@@ -4,7 +4,7 @@ use Rattle.std.specs.List.{All}
 use Rattle.rt_table_row.specs.Rows.{AreRising}
 use Rattle.rt_table.specs.declared.table.Table.TheInside.{Inside}
 use Rattle.rt_table.specs.Held.{Held}
-use Rattle.rt_table_view.specs.Watching.{view_of, change_of, awaited_of, IsKept}
+use Rattle.rt_table_view.specs.Watching.{view_of, awaited_of, IsKept}
 
 abbrev pub held : {D : _} → Inside D → Held D
 held t = record {
@@ -13,7 +13,7 @@ held t = record {
   room = t.store.room;
   auxiliary_room = t.store.auxiliary_room;
   awaited = map awaited_of t.views.items;
-  staged = map change_of t.staged.items;
+  staged = t.staged;
 }
 
 -- one to three axes, and views of the rows that are there

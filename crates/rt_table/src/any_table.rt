@@ -3,17 +3,17 @@
 //! Each call goes to the table of that number of axes. `edit` plans, prepares and commits in one call, so no plan
 //! meets a table of other axes.
 
-ghost use Rattle.std.specs.Prelude.{◌≡◌, ◌<◌, List, [], map, length, nat_lt, Ok, IfOk, IfErr, OnOk, OnErr};
-ghost use Rattle.rt_box.specs.declared.interval.Interval.{Interval};
+ghost use Rattle.std.specs.Prelude.{◌≡◌, ◌<◌, [], length, nat_lt, Ok, IfOk, IfErr, OnOk, OnErr};
 
 use crate::table::Table;
 use rt_box::Capacity;
 use rt_check::Problem;
 use rt_check_dump::AnyShadow;
-use rt_reply::{AnyRows, Change};
+use rt_reply::{Changes, Rows};
 use rt_sql_statement::{Cond, Edit, Name, Refusal};
 use rt_table_row::Schema;
-use rt_table_view::Picked;
+use rt_table_store::Nodes;
+use rt_tree::Found;
 use std::alloc::{AllocError, Global};
 use std::hash::RandomState;
 use std::marker::Model;
@@ -43,15 +43,14 @@ impl Model for AnyTable {
 
 impl AnyTable {
     ghost use Rattle.rt_table_row.specs.Tables.{new_table, has_view, select, watch, unwatch, view};
-    ghost use Rattle.rt_table_row.specs.Edits.{steps_of};
-    ghost use Rattle.rt_table_row.specs.Tables.{edited};
-    ghost use Rattle.rt_table_view.specs.Watching.{change_of};
-    ghost use Rattle.rt_table.specs.Replies.{Refuses, Shows};
-    ghost use Rattle.rt_table_row.specs.Windows.{IsWindowOf};
-    ghost use Rattle.rt_table.specs.AnyTrees.{new_tree, FollowsIfTaken, VisitsAny};
+    ghost use Rattle.rt_reply.specs.Rows.{values_in};
+    ghost use Rattle.rt_table.specs.Replies.{Refuses, Shows, VisitsAnyBy};
+    ghost use Rattle.rt_table.specs.Edits.{edit_outcome, FollowsAnyEdit};
+    ghost use Rattle.rt_table.specs.AnyTrees.{new_tree};
+    ghost use Rattle.rt_table_store.specs.declared.select.Nodes.TheVariants.{Counted};
 
     /// A table of these columns, without rows and views. The nodes of its tree have at most `capacity` cells. Look-ups
-    /// hash by `keys`, which are to be random where others choose the ids.
+    /// hash by `keys`, which are to be random if others choose the ids.
     pub fn new(
         alloc: Global,
         keys: RandomState,
@@ -135,37 +134,32 @@ impl AnyTable {
         }
     }
 
-    /// The rows that a condition picks, by rising id.
+    /// The rows that a condition picks, by rising id, and the number of nodes that its window reaches, if they are counted.
     ///
     /// # Errors
     ///
-    /// `NoSuchColumn` where a test looks at a column that the table hasn't, and `OutOfMemory`.
-    pub fn select(&self, alloc: Global, cond: Cond) -> Result<Picked, Refusal>
-        ensures ok { IfOk result (λ picked. Shows (select self.now.lists cond) picked.rows) }
-        ensures visited { IfOk result (λ picked. (window : List Interval) × IsWindowOf self.now.lists.columns cond window × VisitsAny self.now.tree window picked.visited) }
+    /// `NoSuchColumn` if a test looks at a column that the table hasn't, and `OutOfMemory`.
+    pub fn select(&self, cond: Cond, nodes: Nodes) -> Result<Found<Rows>, Refusal>
+        ensures ok { IfOk result (λ found. Shows (select self.now.lists cond) (values_in found.rows)) }
+        ensures visited { IfOk result (λ found. nodes ≡ Counted → VisitsAnyBy self.now cond found.visited) }
         ensures err { IfErr result (Refuses (select self.now.lists cond)) }
     {
         match &self.axes {
-            Axes::One(table) => table.select(alloc, cond),
-            Axes::Two(table) => table.select(alloc, cond),
-            Axes::Three(table) => table.select(alloc, cond),
-        }
-    }
-
-    /// The rows that a condition picks, by rising id, where nobody asks for the nodes that are reached: a condition
-    /// that fixes the id looks that row up, whatever else it tests.
-    ///
-    /// # Errors
-    ///
-    /// Those of `select`.
-    pub fn rows(&self, alloc: Global, cond: Cond) -> Result<AnyRows, Refusal>
-        ensures ok { IfOk result (Shows (select self.now.lists cond)) }
-        ensures err { IfErr result (Refuses (select self.now.lists cond)) }
-    {
-        match &self.axes {
-            Axes::One(table) => Ok(AnyRows::one(table.rows(alloc, cond)?)),
-            Axes::Two(table) => Ok(AnyRows::two(table.rows(alloc, cond)?)),
-            Axes::Three(table) => Ok(AnyRows::three(table.rows(alloc, cond)?)),
+            Axes::One(table) => {
+                let Found { rows, visited } = table.select(cond, nodes)?;
+                let rows = Rows::one(rows);
+                Ok(Found { rows, visited })
+            }
+            Axes::Two(table) => {
+                let Found { rows, visited } = table.select(cond, nodes)?;
+                let rows = Rows::two(rows);
+                Ok(Found { rows, visited })
+            }
+            Axes::Three(table) => {
+                let Found { rows, visited } = table.select(cond, nodes)?;
+                let rows = Rows::three(rows);
+                Ok(Found { rows, visited })
+            }
         }
     }
 
@@ -173,16 +167,28 @@ impl AnyTable {
     ///
     /// # Errors
     ///
-    /// `NoSuchView` where no view of this table has the name, and `OutOfMemory`.
-    pub fn view(&self, alloc: Global, name: &Name) -> Result<Picked, Refusal>
-        ensures ok { IfOk result (λ picked. Shows (view self.now.lists name.now) picked.rows) }
-        ensures visited { IfOk result (λ picked. picked.visited ≡ 0) }
+    /// `NoSuchView` if no view of this table has the name, and `OutOfMemory`.
+    pub fn view(&self, name: &Name) -> Result<Found<Rows>, Refusal>
+        ensures ok { IfOk result (λ found. Shows (view self.now.lists name.now) (values_in found.rows)) }
+        ensures visited { IfOk result (λ found. found.visited ≡ 0) }
         ensures err { IfErr result (Refuses (view self.now.lists name.now)) }
     {
         match &self.axes {
-            Axes::One(table) => table.view(alloc, name),
-            Axes::Two(table) => table.view(alloc, name),
-            Axes::Three(table) => table.view(alloc, name),
+            Axes::One(table) => {
+                let Found { rows, visited } = table.view(name)?;
+                let rows = Rows::one(rows);
+                Ok(Found { rows, visited })
+            }
+            Axes::Two(table) => {
+                let Found { rows, visited } = table.view(name)?;
+                let rows = Rows::two(rows);
+                Ok(Found { rows, visited })
+            }
+            Axes::Three(table) => {
+                let Found { rows, visited } = table.view(name)?;
+                let rows = Rows::three(rows);
+                Ok(Found { rows, visited })
+            }
         }
     }
 
@@ -190,17 +196,17 @@ impl AnyTable {
     ///
     /// # Errors
     ///
-    /// `ViewAlreadyExists` where a view of this table has the name, `NoSuchColumn`, and `OutOfMemory`.
-    pub fn watch(&mut self, alloc: Global, name: Name, cond: Cond) -> Result<(), Refusal>
+    /// `ViewAlreadyExists` if a view of this table has the name, `NoSuchColumn`, and `OutOfMemory`.
+    pub fn watch(&mut self, name: Name, cond: Cond) -> Result<(), Refusal>
         ensures ok { OnOk result (watch self.old.lists name cond ≡ Ok self.new.lists) }
         ensures tree { self.new.tree ≡ self.old.tree }
         ensures err { IfErr result (Refuses (watch self.old.lists name cond)) }
         ensures refused { OnErr result (self.new ≡ self.old) }
     {
         match &mut self.axes {
-            Axes::One(table) => table.watch(alloc, name, cond),
-            Axes::Two(table) => table.watch(alloc, name, cond),
-            Axes::Three(table) => table.watch(alloc, name, cond),
+            Axes::One(table) => table.watch(name, cond),
+            Axes::Two(table) => table.watch(name, cond),
+            Axes::Three(table) => table.watch(name, cond),
         }
     }
 
@@ -208,7 +214,7 @@ impl AnyTable {
     ///
     /// # Errors
     ///
-    /// `NoSuchView` where no view of this table has the name.
+    /// `NoSuchView` if no view of this table has the name.
     pub fn unwatch(&mut self, name: &Name) -> Result<(), Refusal>
         ensures ok { OnOk result (unwatch self.old.lists name.now ≡ Ok self.new.lists) }
         ensures tree { self.new.tree ≡ self.old.tree }
@@ -227,16 +233,16 @@ impl AnyTable {
     /// # Errors
     ///
     /// Those of `Table::plan`.
-    pub fn edit(&mut self, alloc: Global, edit: Edit) -> Result<Vec<Change>, Refusal>
-        ensures ok { IfOk result (λ changes. edited self.old.lists (steps_of edit self.old.lists.columns self.old.lists.rows) ≡ Ok (map change_of changes.items, self.new.lists)) }
-        ensures tree { OnOk result (FollowsIfTaken self.old.lists.rows (steps_of edit self.old.lists.columns self.old.lists.rows) self.old.tree self.new.tree) }
-        ensures err { IfErr result (Refuses (edited self.old.lists (steps_of edit self.old.lists.columns self.old.lists.rows))) }
+    pub fn edit(&mut self, edit: Edit) -> Result<Changes, Refusal>
+        ensures ok { IfOk result (λ changes. edit_outcome edit self.old.lists ≡ Ok (changes, self.new.lists)) }
+        ensures tree { OnOk result (FollowsAnyEdit edit self.old.lists self.old.tree self.new.tree) }
+        ensures err { IfErr result (Refuses (edit_outcome edit self.old.lists)) }
         ensures refused { OnErr result (self.new ≡ self.old) }
     {
         match &mut self.axes {
-            Axes::One(table) => table.edit(alloc, edit),
-            Axes::Two(table) => table.edit(alloc, edit),
-            Axes::Three(table) => table.edit(alloc, edit),
+            Axes::One(table) => table.edit(edit),
+            Axes::Two(table) => table.edit(edit),
+            Axes::Three(table) => table.edit(edit),
         }
     }
 
@@ -244,14 +250,14 @@ impl AnyTable {
     ///
     /// # Errors
     ///
-    /// `AllocError` where no memory is left.
-    pub fn check(&self, alloc: Global) -> Result<Vec<Problem>, AllocError>
+    /// `AllocError` if no memory is left.
+    pub fn check(&self) -> Result<Vec<Problem>, AllocError>
         ensures { IfOk result (λ problems. problems.items ≡ []) }
     {
         match &self.axes {
-            Axes::One(table) => table.check(alloc),
-            Axes::Two(table) => table.check(alloc),
-            Axes::Three(table) => table.check(alloc),
+            Axes::One(table) => table.check(),
+            Axes::Two(table) => table.check(),
+            Axes::Three(table) => table.check(),
         }
     }
 
@@ -259,14 +265,14 @@ impl AnyTable {
     ///
     /// # Errors
     ///
-    /// `AllocError` where no memory is left.
-    pub fn nodes(&self, alloc: Global) -> Result<AnyShadow, AllocError>
+    /// `AllocError` if no memory is left.
+    pub fn shadow(&self) -> Result<AnyShadow, AllocError>
         ensures { IfOk result (λ shadow. shadow ≡ self.now.tree) }
     {
         match &self.axes {
-            Axes::One(table) => Ok(AnyShadow::One(table.nodes(alloc)?)),
-            Axes::Two(table) => Ok(AnyShadow::Two(table.nodes(alloc)?)),
-            Axes::Three(table) => Ok(AnyShadow::Three(table.nodes(alloc)?)),
+            Axes::One(table) => Ok(AnyShadow::One(table.shadow()?)),
+            Axes::Two(table) => Ok(AnyShadow::Two(table.shadow()?)),
+            Axes::Three(table) => Ok(AnyShadow::Three(table.shadow()?)),
         }
     }
 }

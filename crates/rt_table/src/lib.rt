@@ -18,5 +18,5 @@ mod table;
 
 pub use any_table::AnyTable;
 pub use rt_table_plan::Plan;
-pub use rt_table_view::Picked;
+pub use rt_table_store::Nodes;
 pub use table::Table;

@@ -1,23 +1,22 @@
 //! A table of `D` axes.
 //!
 //! A statement that changes rows goes in three steps: `plan` only looks, `prepare` takes all the memory, and
-//! `commit` can't fail. Where nobody watches, a DELETE by id goes in one, since nothing can refuse it. Contracts see a
+//! `commit` can't fail. If nobody watches, a DELETE by id goes in one, since nothing can refuse it. Contracts see a
 //! table as `Held` (`specs/Held.antt`).
 
-ghost use Rattle.std.specs.Prelude.{◌≡◌, ◌≤◌, ◌<◌, List, [], not, map, filter, length, position, nat_lt, false, Ok, IfSome, IfNone, IfOk, IfErr, OnOk, OnErr};
+ghost use Rattle.std.specs.Prelude.{◌≡◌, ◌≤◌, ◌<◌, [], not, map, filter, length, position, nat_lt, Ok, IfSome, IfNone, IfOk, IfErr, OnOk, OnErr};
 ghost use Rattle.std.specs.List.{list_any};
-ghost use Rattle.rt_box.specs.declared.interval.Interval.{Interval};
 ghost use Rattle.rt_sql_statement.specs.Name.{same_name};
 
 use rt_box::Capacity;
 use rt_check::{Problem, Shadow, check};
-use rt_reply::{Change, Rows};
+use rt_reply::{Changes, RowsOf};
 use rt_sql_statement::{Cond, Edit, Name, Refusal};
-use rt_table_store::{apply, auxiliary_rows_all, inserts_all};
 use rt_table_plan::Plan;
 use rt_table_row::{Filter, Schema, Step, lone_id};
-use rt_table_store::Store;
-use rt_table_view::{Picked, Watched, pick, refresh_all, rows_of, rows_picked, stage, watch};
+use rt_table_store::{Nodes, Store, apply, auxiliary_rows_all, inserts_all};
+use rt_table_view::{Watched, refresh_each, rows_of, select, stage, watch};
+use rt_tree::Found;
 use std::alloc::{AllocError, Global};
 use std::hash::RandomState;
 use std::marker::Model;
@@ -51,7 +50,7 @@ pub struct Table<const D: usize> {
     columns: Schema,
     store: Store<D>,
     views: Vec<Watched>,
-    staged: Vec<Change>,
+    staged: Changes,
 }
 
 // By hand, since a derived drop is written out, field by field, wherever such a value ends.
@@ -81,28 +80,20 @@ impl<const D: usize> Model for Table<D> {
 }
 
 impl<const D: usize> Table<D> {
-    ghost use Rattle.rt_table_row.specs.Tables.{new_table, has_view, select, watch, unwatch, view};
-    ghost use Rattle.rt_table_row.specs.Edits.{outcome, leaving};
+    ghost use Rattle.rt_table_row.specs.Tables.{new_table, has_view, select, watch, unwatch, view, edited};
     ghost use Rattle.rt_table_row.specs.Entries.{step_of};
-    ghost use Rattle.rt_table_row.specs.Views.{deltas};
-    ghost use Rattle.rt_table_row.specs.Edits.{steps_of};
-    ghost use Rattle.rt_table_row.specs.Tables.{edited};
     ghost use Rattle.rt_table_plan.specs.Plans.{Plans};
-    ghost use Rattle.rt_table.specs.Replies.{Refuses, Shows};
-    ghost use Rattle.rt_reply.specs.AnyRows.{values_of_rows};
+    ghost use Rattle.rt_table.specs.Replies.{Refuses, Shows, VisitsBy};
+    ghost use Rattle.rt_reply.specs.Rows.{values_of_rows};
     ghost use Rattle.rt_table_store.specs.Steps.{ApplyTo};
     ghost use Rattle.rt_table.specs.Ready.{IsReady};
-    ghost use Rattle.rt_table_view.specs.Watching.{change_of};
-    ghost use Rattle.rt_table_row.specs.Windows.{IsWindowOf};
-    ghost use Rattle.rt_table_row.specs.Filters.{is_by_id};
-    ghost use Rattle.rt_sql_statement.specs.declared.statement.Test.{Test};
-    ghost use Rattle.rt_sql_statement.specs.declared.statement.Edit.TheVariants.{Delete};
+    ghost use Rattle.rt_table.specs.Edits.{edit_steps, edit_outcome, lists_after, changes_to, row_leaving, FollowsEdit, NeedsPlan};
     ghost use Rattle.rt_tree.specs.Lists.{empty_lists};
-    ghost use Rattle.rt_table_store.specs.Trees.{Visits};
     ghost use Rattle.rt_table_store.specs.Moves.{FollowsSteps};
+    ghost use Rattle.rt_table_store.specs.declared.select.Nodes.TheVariants.{Counted};
 
     /// A table of these columns, without rows and views. The nodes of its tree have at most `capacity` cells. Look-ups
-    /// hash by `keys`, which are to be random where others choose the ids.
+    /// hash by `keys`, which are to be random if others choose the ids.
     pub fn new(
         alloc: Global,
         keys: RandomState,
@@ -122,7 +113,7 @@ impl<const D: usize> Table<D> {
             columns,
             store,
             views: Vec::new(alloc),
-            staged: Vec::new(alloc),
+            staged: Changes::new(alloc),
         })
     }
 
@@ -161,57 +152,43 @@ impl<const D: usize> Table<D> {
         has_view(self.views.as_slice(), name)
     }
 
-    /// The rows that a condition picks, by rising id.
+    /// The rows that a condition picks, by rising id, and the number of nodes that its window reaches, if they are counted.
     ///
     /// # Errors
     ///
-    /// `NoSuchColumn` where a test looks at a column that the table hasn't, and `OutOfMemory`.
-    pub fn select(&self, alloc: Global, cond: Cond) -> Result<Picked, Refusal>
-        ensures ok { IfOk result (λ picked. Shows (select self.now.lists cond) picked.rows) }
-        ensures visited { IfOk result (λ picked. (window : List Interval) × IsWindowOf self.now.lists.columns cond window × Visits self.now.tree window picked.visited) }
+    /// `NoSuchColumn` if a test looks at a column that the table hasn't, and `OutOfMemory`.
+    pub fn select(&self, cond: Cond, nodes: Nodes) -> Result<Found<RowsOf<D>>, Refusal>
+        ensures ok { IfOk result (λ found. Shows (select self.now.lists cond) (values_of_rows found.rows)) }
+        ensures visited { IfOk result (λ found. nodes ≡ Counted → VisitsBy self.now cond found.visited) }
         ensures err { IfErr result (Refuses (select self.now.lists cond)) }
     {
-        let condition = Filter::new(alloc, &self.columns, cond)?;
-        Ok(pick(alloc, &self.store, &condition)?)
-    }
-
-    /// The rows that a condition picks, by rising id, where nobody asks for the nodes that are reached: a condition
-    /// that fixes the id looks that row up, whatever else it tests.
-    ///
-    /// # Errors
-    ///
-    /// Those of `select`.
-    pub fn rows(&self, alloc: Global, cond: Cond) -> Result<Rows<D>, Refusal>
-        ensures ok { IfOk result (λ rows. Shows (select self.now.lists cond) (values_of_rows rows)) }
-        ensures err { IfErr result (Refuses (select self.now.lists cond)) }
-    {
-        let condition = Filter::new(alloc, &self.columns, cond)?;
-        Ok(rows_picked(alloc, &self.store, &condition)?)
+        let condition = Filter::new(self.alloc, &self.columns, cond)?;
+        Ok(select(self.alloc, &self.store, &condition, nodes)?)
     }
 
     /// The rows of a view, by rising id. No node is visited for them.
     ///
     /// # Errors
     ///
-    /// `NoSuchView` where no view of this table has the name, and `OutOfMemory`.
-    pub fn view(&self, alloc: Global, name: &Name) -> Result<Picked, Refusal>
-        ensures ok { IfOk result (λ picked. Shows (view self.now.lists name.now) picked.rows) }
-        ensures visited { IfOk result (λ picked. picked.visited ≡ 0) }
+    /// `NoSuchView` if no view of this table has the name, and `OutOfMemory`.
+    pub fn view(&self, name: &Name) -> Result<Found<RowsOf<D>>, Refusal>
+        ensures ok { IfOk result (λ found. Shows (view self.now.lists name.now) (values_of_rows found.rows)) }
+        ensures visited { IfOk result (λ found. found.visited ≡ 0) }
         ensures err { IfErr result (Refuses (view self.now.lists name.now)) }
     {
         let Some(at) = position(self.views.as_slice(), name) else {
             return Err(Refusal::NoSuchView);
         };
-        let rows = rows_of(alloc, &self.store, &self.views[at])?;
-        Ok(Picked { rows, visited: 0 })
+        let rows = rows_of(self.alloc, &self.store, &self.views[at])?;
+        Ok(Found { rows, visited: 0 })
     }
 
     /// Names a view of the rows that a condition picks. A refusal changes nothing.
     ///
     /// # Errors
     ///
-    /// `ViewAlreadyExists` where a view of this table has the name, `NoSuchColumn`, and `OutOfMemory`.
-    pub fn watch(&mut self, alloc: Global, name: Name, cond: Cond) -> Result<(), Refusal>
+    /// `ViewAlreadyExists` if a view of this table has the name, `NoSuchColumn`, and `OutOfMemory`.
+    pub fn watch(&mut self, name: Name, cond: Cond) -> Result<(), Refusal>
         ensures ok { OnOk result (watch self.old.lists name cond ≡ Ok self.new.lists) }
         ensures tree { self.new.tree ≡ self.old.tree }
         ensures err { IfErr result (Refuses (watch self.old.lists name cond)) }
@@ -220,7 +197,14 @@ impl<const D: usize> Table<D> {
         if self.has_view(&name) {
             return Err(Refusal::ViewAlreadyExists);
         }
-        let view = watch(alloc, self.keys, &self.columns, &self.store, name, cond)?;
+        let view = watch(
+            self.alloc,
+            self.keys,
+            &self.columns,
+            &self.store,
+            name,
+            cond,
+        )?;
         self.views.push(view)?;
         Ok(())
     }
@@ -235,11 +219,11 @@ impl<const D: usize> Table<D> {
     ///   `MinimumAboveMaximum` and `IdAlreadyTaken` of a row.
     /// - Of a DELETE: `NoSuchColumn`.
     /// - Of any: `OutOfMemory`.
-    pub fn plan(&self, alloc: Global, edit: Edit) -> Result<Plan<D>, Refusal>
-        ensures plans { Plans (steps_of edit self.now.lists.columns self.now.lists.rows) result }
+    pub fn plan(&self, edit: Edit) -> Result<Plan<D>, Refusal>
+        ensures plans { Plans (edit_steps edit self.now.lists) result }
         ensures applies { IfOk result (ApplyTo self.now.lists.columns self.now.lists.rows) }
     {
-        Plan::new(alloc, self.keys, &self.columns, &self.store, edit)
+        Plan::new(self.alloc, self.keys, &self.columns, &self.store, edit)
     }
 
     /// Makes the table ready for a plan: reserves what carrying it out takes, and stages what it changes in the
@@ -247,14 +231,14 @@ impl<const D: usize> Table<D> {
     ///
     /// # Errors
     ///
-    /// `AllocError` where no memory is left.
-    pub fn prepare(&mut self, alloc: Global, plan: &[Step<D>]) -> Result<(), AllocError>
+    /// `AllocError` if no memory is left.
+    pub fn prepare(&mut self, plan: &[Step<D>]) -> Result<(), AllocError>
         requires { ApplyTo self.old.lists.columns self.old.lists.rows (map step_of plan.now) }
         ensures lists { self.new.lists ≡ self.old.lists }
         ensures tree { self.new.tree ≡ self.old.tree }
         ensures ok { OnOk result (IsReady self.new (map step_of plan.now)) }
     {
-        let staged = stage(alloc, &mut self.views, &self.store, plan)?;
+        let staged = stage(self.alloc, &mut self.views, &self.store, plan)?;
         self.store
             .reserve(inserts_all(plan), auxiliary_rows_all(plan))?;
         self.staged = staged;
@@ -262,23 +246,23 @@ impl<const D: usize> Table<D> {
     }
 
     /// Carries out the plan that the table is ready for. It takes no memory, and nothing refuses it.
-    pub fn commit(&mut self, plan: Vec<Step<D>>) -> Vec<Change>
+    pub fn commit(&mut self, plan: Vec<Step<D>>) -> Changes
         requires { IsReady self.old (map step_of plan.items) }
-        ensures lists { self.new.lists ≡ record self.old.lists { rows = outcome self.old.lists.rows (map step_of plan.entry.items) } }
-        ensures changed { map change_of result.items ≡ deltas self.old.lists.columns self.old.lists.views self.old.lists.rows self.new.lists.rows }
+        ensures lists { self.new.lists ≡ lists_after self.old.lists (map step_of plan.entry.items) }
+        ensures changed { result ≡ changes_to self.old.lists self.new.lists.rows }
         ensures tree { FollowsSteps self.old.lists.rows (map step_of plan.entry.items) self.old.tree self.new.tree }
     {
         apply(&mut self.store, plan);
         self.store.facts();
-        refresh_all(self.alloc, &mut self.views);
-        mem::replace(&mut self.staged, Vec::new(self.alloc))
+        refresh_each(self.alloc, &mut self.views);
+        mem::replace(&mut self.staged, Changes::new(self.alloc))
     }
 
     /// Forgets a view. It takes no memory; a refusal changes nothing.
     ///
     /// # Errors
     ///
-    /// `NoSuchView` where no view of this table has the name.
+    /// `NoSuchView` if no view of this table has the name.
     pub fn unwatch(&mut self, name: &Name) -> Result<(), Refusal>
         ensures ok { OnOk result (unwatch self.old.lists name.now ≡ Ok self.new.lists) }
         ensures tree { self.new.tree ≡ self.old.tree }
@@ -293,24 +277,24 @@ impl<const D: usize> Table<D> {
     }
 
     /// Carries a plan out, and answers what it changed in the views. A refusal changes nothing.
-    fn carry_out(&mut self, alloc: Global, plan: Plan<D>) -> Result<Vec<Change>, AllocError>
+    fn carry_out(&mut self, plan: Plan<D>) -> Result<Changes, AllocError>
         requires { ApplyTo self.old.lists.columns self.old.lists.rows plan }
-        ensures ok { IfOk result (λ changes. edited self.old.lists (Ok plan.entry) ≡ Ok (map change_of changes.items, self.new.lists)) }
+        ensures ok { IfOk result (λ changes. edited self.old.lists (Ok plan.entry) ≡ Ok (changes, self.new.lists)) }
         ensures tree { OnOk result (FollowsSteps self.old.lists.rows plan.entry self.old.tree self.new.tree) }
         ensures refused { OnErr result (self.new.lists ≡ self.old.lists) }
         ensures same_tree { OnErr result (self.new.tree ≡ self.old.tree) }
     {
         self.store.facts();
         let steps = plan.into_steps();
-        self.prepare(alloc, steps.as_slice())?;
+        self.prepare(steps.as_slice())?;
         Ok(self.commit(steps))
     }
 
-    /// Takes the row of an id out, where there is one. It takes no memory, and no view has to follow.
+    /// Takes the row of an id out, if there is one. It takes no memory, and no view has to follow.
     fn take(&mut self, id: &i64)
         requires { self.old.lists.views ≡ [] }
-        ensures lists { self.new.lists ≡ record self.old.lists { rows = outcome self.old.lists.rows (leaving self.old.lists.rows id.now) } }
-        ensures tree { FollowsSteps self.old.lists.rows (leaving self.old.lists.rows id.now) self.old.tree self.new.tree }
+        ensures lists { self.new.lists ≡ lists_after self.old.lists (row_leaving self.old.lists id.now) }
+        ensures tree { FollowsSteps self.old.lists.rows (row_leaving self.old.lists id.now) self.old.tree self.new.tree }
     {
         // The law says before and after that the tree has the rows.
         self.store.facts();
@@ -318,12 +302,12 @@ impl<const D: usize> Table<D> {
         self.store.facts();
     }
 
-    /// The id whose row an edit takes out without a plan: nothing can refuse a DELETE that asks for an id alone, and where nobody
+    /// The id whose row an edit takes out without a plan: nothing can refuse a DELETE that asks for an id alone, and if nobody
     /// watches, no view has to follow.
     fn leaving_id(&self, edit: &Edit) -> Option<i64>
         ensures unwatched { IfSome result (λ _. self.now.lists.views ≡ []) }
-        ensures steps { IfSome result (λ id. steps_of edit.now self.now.lists.columns self.now.lists.rows ≡ Ok (leaving self.now.lists.rows id)) }
-        ensures none { IfNone result ((cond : List Test) → edit.now ≡ Delete cond → self.now.lists.views ≡ [] → is_by_id self.now.lists.columns cond ≡ false) }
+        ensures steps { IfSome result (λ id. edit_steps edit.now self.now.lists ≡ Ok (row_leaving self.now.lists id)) }
+        ensures none { IfNone result (NeedsPlan edit.now self.now.lists) }
     {
         let Edit::Delete { cond } = edit else {
             return None;
@@ -339,42 +323,42 @@ impl<const D: usize> Table<D> {
     /// # Errors
     ///
     /// Those of `plan`.
-    pub fn edit(&mut self, alloc: Global, edit: Edit) -> Result<Vec<Change>, Refusal>
-        ensures ok { IfOk result (λ changes. edited self.old.lists (steps_of edit self.old.lists.columns self.old.lists.rows) ≡ Ok (map change_of changes.items, self.new.lists)) }
-        ensures tree { OnOk result (IfOk (steps_of edit self.old.lists.columns self.old.lists.rows) (λ steps. FollowsSteps self.old.lists.rows steps self.old.tree self.new.tree)) }
-        ensures err { IfErr result (Refuses (edited self.old.lists (steps_of edit self.old.lists.columns self.old.lists.rows))) }
+    pub fn edit(&mut self, edit: Edit) -> Result<Changes, Refusal>
+        ensures ok { IfOk result (λ changes. edit_outcome edit self.old.lists ≡ Ok (changes, self.new.lists)) }
+        ensures tree { OnOk result (FollowsEdit edit self.old.lists self.old.tree self.new.tree) }
+        ensures err { IfErr result (Refuses (edit_outcome edit self.old.lists)) }
         ensures refused { OnErr result (self.new.lists ≡ self.old.lists) }
         ensures same_tree { OnErr result (self.new.tree ≡ self.old.tree) }
     {
         if let Some(id) = self.leaving_id(&edit) {
             self.take(&id);
-            return Ok(Vec::new(alloc));
+            return Ok(Changes::new(self.alloc));
         }
-        let plan = self.plan(alloc, edit)?;
-        Ok(self.carry_out(alloc, plan)?)
+        let plan = self.plan(edit)?;
+        Ok(self.carry_out(plan)?)
     }
 
     /// The problems of the tree: there are none.
     ///
     /// # Errors
     ///
-    /// `AllocError` where no memory is left.
-    pub fn check(&self, alloc: Global) -> Result<Vec<Problem>, AllocError>
+    /// `AllocError` if no memory is left.
+    pub fn check(&self) -> Result<Vec<Problem>, AllocError>
         ensures { IfOk result (λ problems. problems.items ≡ []) }
     {
         self.store.facts();
-        let shadow = self.nodes(alloc)?;
-        check(alloc, &shadow)
+        let shadow = self.shadow()?;
+        check(self.alloc, &shadow)
     }
 
     /// The tree from outside.
     ///
     /// # Errors
     ///
-    /// `AllocError` where no memory is left.
-    pub fn nodes(&self, alloc: Global) -> Result<Shadow<D>, AllocError>
+    /// `AllocError` if no memory is left.
+    pub fn shadow(&self) -> Result<Shadow<D>, AllocError>
         ensures { IfOk result (λ shadow. shadow ≡ self.now.tree) }
     {
-        self.store.shadow(alloc, self.keys)
+        self.store.shadow(self.alloc, self.keys)
     }
 }

@@ -29,18 +29,18 @@ fn watch(alloc: Global, table: &mut Table<1>) -> Result<(), Fail> {
     let Stmt::Watch { view, cond, .. } = statement(alloc, b".watch v FROM t WHERE maxX<=11")? else {
         return Err(Fail::from("no command"));
     };
-    match table.watch(alloc, view, cond) {
+    match table.watch(view, cond) {
         Ok(()) => Ok(()),
         Err(_) => Err(Fail::from("refused")),
     }
 }
 
 /// The plan of a statement.
-fn plan(alloc: Global, table: &Table<1>, statement: Stmt) -> Result<Plan<1>, Refusal>
+fn plan(table: &Table<1>, statement: Stmt) -> Result<Plan<1>, Refusal>
     ensures { IfOk result (ApplyTo table.now.lists.columns table.now.lists.rows) }
 {
     match statement {
-        Stmt::Edit { edit, .. } => table.plan(alloc, edit),
+        Stmt::Edit { edit, .. } => table.plan(edit),
         _ => Err(Refusal::SyntaxError),
     }
 }
@@ -52,11 +52,11 @@ fn carry_out(
     text: &[u8],
 ) -> Result<usize, Fail> {
     let statement = statement(rt.alloc(), text)?;
-    let Ok(plan) = plan(rt.alloc(), table, statement) else {
+    let Ok(plan) = plan(table, statement) else {
         return Err(Fail::from("refused"));
     };
     let steps = plan.into_steps();
-    table.prepare(rt.alloc(), steps.as_slice())?;
+    table.prepare(steps.as_slice())?;
     let _ = eprint!(rt; "<");
     let changes = table.commit(steps);
     let _ = eprint!(rt; ">");

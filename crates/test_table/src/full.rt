@@ -37,7 +37,7 @@ fn takes(
         columns: None,
         rows: rows(alloc, first, count)?,
     };
-    match table.edit(alloc, edit) {
+    match table.edit(edit) {
         Ok(_) => Ok(true),
         Err(Refusal::TableFull) => Ok(false),
         Err(_) => Err(Fail::from("refused for something else")),

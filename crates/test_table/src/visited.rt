@@ -3,8 +3,9 @@
 //! The rows are those of `worked` in `test_tree`, whose dumps show the nodes.
 
 use crate::from_text::{statement, table};
+use rt_reply::Rows;
 use rt_sql::Stmt;
-use rt_table::AnyTable;
+use rt_table::{AnyTable, Nodes};
 use std::alloc::Global;
 use std::hash::RandomState;
 use std::process::Abort;
@@ -14,13 +15,13 @@ fn insert(alloc: Global, table: &mut AnyTable, text: &[u8]) -> Result<(), Fail> 
     let Stmt::Edit { edit, .. } = statement(alloc, text)? else {
         return Err(Fail::from("no INSERT"));
     };
-    match table.edit(alloc, edit) {
+    match table.edit(edit) {
         Ok(_) => Ok(()),
         Err(_) => Err(Fail::from("refused")),
     }
 }
 
-/// The SELECT finds the rows of these ids, and its window reaches so many nodes.
+/// The SELECT finds the rows of these ids, and its window reaches `visited` nodes.
 fn expect(
     rt: &(impl Abort + AllocGlobal),
     table: &AnyTable,
@@ -31,15 +32,18 @@ fn expect(
     let Stmt::Select { cond, .. } = statement(rt.alloc(), text)? else {
         return Err(Fail::from("no SELECT"));
     };
-    let Ok(picked) = table.select(rt.alloc(), cond) else {
+    let Ok(found) = table.select(cond, Nodes::Counted) else {
         return Err(Fail::from("refused"));
     };
-    assert!(rt; picked.rows.len() == ids.len());
+    let Rows::One(rows) = &found.rows else {
+        return Err(Fail::from("no rows of one axis"));
+    };
+    assert!(rt; rows.len() == ids.len());
     for (at, id) in ids.iter().enumerate() {
-        assert!(rt; at < picked.rows.len());
-        assert!(rt; picked.rows.row(at).numbers.first() == Some(id));
+        assert!(rt; at < rows.len());
+        assert!(rt; rows[at].id == *id);
     }
-    assert!(rt; picked.visited == visited);
+    assert!(rt; found.visited == visited);
     Ok(())
 }
 

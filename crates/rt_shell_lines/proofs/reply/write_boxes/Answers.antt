@@ -3,7 +3,7 @@ use Rattle.std.specs.List.{flat_map}
 use Rattle.std.proofs.lemmas.Grind.{flat_map-append}
 use Rattle.rt_bytes.proofs.Writing.{WritesAll-trans}
 use Rattle.rt_tree_walk.specs.declared.searching.Row.{Row}
-use Rattle.rt_reply.specs.AnyRows.{box_values}
+use Rattle.rt_reply.specs.Rows.{box_values}
 use Rattle.rt_shell_lines.specs.Lines.{row_line}
 use Rattle.rt_shell_lines.proofs.Parts.{goes_on, three_parts, is_nil}
 use Rattle.rt_shell_lines.proofs.Sequences.{Writes-middle}

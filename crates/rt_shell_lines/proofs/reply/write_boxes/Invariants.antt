@@ -2,7 +2,7 @@ use Rattle.std.proofs.Common.{◌≡◌, List, ◌++◌, length}
 use Rattle.std.specs.List.{flat_map}
 use Rattle.rt_bytes.specs.Bytes.{WritesAll}
 use Rattle.rt_tree_walk.specs.declared.searching.Row.{Row}
-use Rattle.rt_reply.specs.AnyRows.{box_values}
+use Rattle.rt_reply.specs.Rows.{box_values}
 use Rattle.rt_shell_lines.specs.Lines.{row_line}
 use Rattle.rt_shell_lines.proofs.reply.write_boxes.Given as goal
 

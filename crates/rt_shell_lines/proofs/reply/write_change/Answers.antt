@@ -1,5 +1,6 @@
 use Rattle.std.proofs.Common.{◌≡◌, ℕ, List, ◌++◌, codes, ap, sym, ◌∙◌, append_assoc}
 use Rattle.rt_bytes.proofs.Writing.{Writes-both}
+use Rattle.rt_table_row.specs.Entries.{listed_values}
 use Rattle.rt_shell_lines.specs.Lines.{row_line}
 use Rattle.rt_shell_lines.proofs.reply.write_change.Goals as goal
 
@@ -11,7 +12,7 @@ pub returns : goal.returns
 returns g c =
     let came = c.sign.result.now in
     let view = c.as_bytes.result.now in
-    let row = row_line c.args.change.now.row in
-    let name : view ≡ c.args.change.now.view = c.as_bytes.ensures.value ∙ c.as_str.ensures in
+    let row = row_line (listed_values c.args.change.row) in
+    let name : view ≡ c.args.change.view.now = c.as_bytes.ensures.value ∙ c.as_str.ensures in
     Writes-both _ _ _ _ _ _ _ (came ++ (view ++ codes " ")) row _ (line came view row _ _ c.sign.ensures name)
-    c.in_ok-write_parts.ensures (rw c.as_slice.ensures at c.write_row.ensures)
+    c.in_ok-write_parts.ensures c.write_row.ensures

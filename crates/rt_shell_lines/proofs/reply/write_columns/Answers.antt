@@ -1,22 +1,32 @@
-use Rattle.std.proofs.Common.{[], arith, slice_index_or}
-use Rattle.std.proofs.lemmas.List.{get_or_default}
-use Rattle.rt_bytes.proofs.Writing.{Writes-failed}
-use Rattle.rt_reply.specs.Shown.{values_at}
-use Rattle.rt_shell_lines.specs.Lines.{row_line}
-use Rattle.rt_shell_lines.proofs.Sequences.{WritesAll-item, WritesPrefix-item}
+use Rattle.std.proofs.Common.{◌≤◌, ◌<◌, take, drop, length, arith}
+use Rattle.std.specs.List.{flat_map}
+use Rattle.rt_reply.specs.Rows.{values_in}
+use Rattle.rt_bytes.proofs.Writing.{WritesAll-trans, WritesPrefix-after, Writes-failed}
+use Rattle.rt_shell_lines.specs.Lines.{columns_line}
+use Rattle.rt_shell_lines.proofs.Groups.{before_and_between, before_and_after}
 use Rattle.rt_shell_lines.proofs.reply.write_columns.Goals as goal
 
-pub returns-in_err-write_columns_of : goal.returns-in_err-write_columns_of
-returns-in_err-write_columns_of g c =
-    let rows = c.args.rows.now in
-    let item = slice_index_or c.args.rows.now c.loop-at.at [] in
+pub returns-in_err-next : goal.returns-in_err-next
+returns-in_err-next g c =
+    let rows = values_in c.args.rows.now in
+    let line = columns_line c.args.places.now in
+    let from = c.loop-from.from in
     Writes-failed _ _ _ _ _ _ c.from_residual.ensures.0
-    (WritesPrefix-item (λ row. row_line (values_at c.args.places.now row)) _ _ _ _ _ _ rows c.loop-at.at item (omega arith) (get_or_default rows c.loop-at.at [] item (omega arith))
-    c.loop-at.invariant c.in_err-write_columns_of.ensures)
+    (rw (← before_and_after line from rows)
+    (WritesPrefix-after _ _ _ _ _ _ (flat_map line (take from rows)) (flat_map line (drop from rows)) c.loop-from.invariant.3 c.in_err-next.ensures.written))
 
-pub loop-at-preserved : goal.loop-at-preserved
-loop-at-preserved g c =
-    let rows = c.args.rows.now in
-    let item = slice_index_or c.args.rows.now c.loop-at.at [] in
-    WritesAll-item (λ row. row_line (values_at c.args.places.now row)) _ _ _ _ _ _ rows c.loop-at.at item (omega arith) (get_or_default rows c.loop-at.at [] item (omega arith))
-    c.loop-at.invariant c.in_ok-write_columns_of.ensures
+pub loop-from-preserved : goal.loop-from-preserved
+loop-from-preserved g c =
+    let rows = values_in c.args.rows.now in
+    let line = columns_line c.args.places.now in
+    let from = c.loop-from.from in
+    let next = c.in_ok-next.next in
+    let on : from < next = c.in_ok-next.ensures.next.0 in
+    let within : next ≤ length rows = omega (arith, c.in_ok-next.ensures.next.1, c.min.ensures, c.len-in-loop-from.ensures, c.loop-from.invariant.0) in
+    let le : from ≤ next = omega (arith, on) in (
+      within,
+      omega (arith, on, c.min-at_once.ensures),
+      omega (arith, c.min-at_once.ensures),
+      rw (← before_and_between line from next rows le)
+          (WritesAll-trans _ _ _ _ _ _ (flat_map line (take from rows)) (flat_map line (drop from (take next rows))) c.loop-from.invariant.3 c.in_ok-next.ensures.written),
+    )

@@ -11,7 +11,7 @@ returns-in_err-next g c =
     let from = c.loop-from.from in
     Writes-failed _ _ _ _ _ _ c.from_residual.ensures.0
     (rw (← before_and_after row_line from rows)
-    (WritesPrefix-after _ _ _ _ _ _ (flat_map row_line (take from rows)) (flat_map row_line (drop from rows)) c.loop-from.invariant.3 c.in_err-next.ensures.failed))
+    (WritesPrefix-after _ _ _ _ _ _ (flat_map row_line (take from rows)) (flat_map row_line (drop from rows)) c.loop-from.invariant.3 c.in_err-next.ensures.written))
 
 pub loop-from-preserved : goal.loop-from-preserved
 loop-from-preserved g c =

@@ -2,7 +2,7 @@ use Rattle.std.proofs.Common.{◌≡◌, Some, None, sym, ◌∙◌}
 use Rattle.std.specs.Prelude.{position}
 use Rattle.std.proofs.lemmas.List.Quantifiers.{position-Some}
 use Rattle.rt_sql_statement.specs.Name.{same_name}
-use Rattle.rt_table_view.specs.declared.watched.Watched.{Watched}
+use Rattle.rt_table_view.specs.declared.view.Watched.{Watched}
 use Rattle.rt_table.proofs.Viewing.{sifted_out, none_sifted, not_placed}
 use Rattle.rt_table.proofs.table.forget.Goals as goal
 

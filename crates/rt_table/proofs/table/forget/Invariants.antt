@@ -1,6 +1,6 @@
 use Rattle.std.proofs.Common.{◌≡◌, filter, not, vec_len}
 use Rattle.rt_sql_statement.specs.Name.{same_name}
-use Rattle.rt_table_view.specs.declared.watched.Watched.{Watched}
+use Rattle.rt_table_view.specs.declared.view.Watched.{Watched}
 use Rattle.rt_table.proofs.table.forget.Given as goal
 
 abbrev pub invariant-loop-at : goal.invariant-loop-at

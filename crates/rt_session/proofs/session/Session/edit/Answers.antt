@@ -5,7 +5,7 @@ use Rattle.rt_sql_statement.specs.Name.{same_name}
 use Rattle.rt_session.specs.declared.tables.Named.{Named}
 use Rattle.rt_session.specs.Session.{table_of, is_named}
 use Rattle.rt_session.specs.SessionInside.{named_of}
-use Rattle.rt_session.proofs.Outcomes.{placed, found, missing, kept_at, with_tree_at, names_kept, carried, done, not_done}
+use Rattle.rt_session.proofs.Outcomes.{placed, found, missing, kept_at, with_tree_at, names_kept, carried, not_done}
 use Rattle.rt_session.proofs.session.Session.edit.Goals as goal
 
 pub returns-in_default : goal.returns-in_default
@@ -41,4 +41,4 @@ returns c =
     let same : same_name c.args.name.now t.name ≡ true = ap (λ (n : Named). same_name c.args.name.now n.name) c.index_mut.ensures.value ∙ here.1 in
     let after = c.edit.new.self in
     let state = with_tree_at c.args.self.now _ _ c.self.view_is c.in-Some.at t here.0 c.index_mut.ensures.value after c.args.name.now same c.self.invariant in
-    rw (there, state, c.from_vec.ensures) (after.tree, carried after.tree c.args.self.now c.args.name.now t.table.lists c.args.edit _ (done c.args.edit t.table.lists after.lists c.in_ok-changes.changes.items c.in_ok-changes.ensures.ok), c.in_ok-changes.ensures.tree)
+    rw (there, state) (after.tree, carried after.tree c.args.self.now c.args.name.now t.table.lists c.args.edit _ c.in_ok-changes.ensures.ok, c.in_ok-changes.ensures.tree)

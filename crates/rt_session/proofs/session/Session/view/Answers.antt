@@ -13,17 +13,17 @@ returns-in_default c =
     let none : watched_by c.args.self.now c.args.view.now ≡ None = missing c.args.self.now _ _ c.self.view_is (λ t. has_view t.table c.args.view.now) place in
     (refl, λ other tree. rw none refl)
 
-pub returns-in_err-picked : goal.returns-in_err-picked
-returns-in_err-picked c =
+pub returns-in_err-found : goal.returns-in_err-found
+returns-in_err-found c =
     let place = placed (λ (n : Named). has_view n.table.lists c.args.view.now) c.self.inside.tables.items _ _ _ c.as_slice.ensures.value c.place_of_view.ensures c.in-Some.is in
     let t = c.index.result.now in
     let there : watched_by c.args.self.now c.args.view.now ≡ Some (named_of t) = found c.args.self.now _ _ c.self.view_is (λ t. has_view t.table c.args.view.now) c.in-Some.at t place c.index.ensures in
     let p = err_from_is_err_and c.from_residual.result c.from_residual.ensures.1 in
-    rw (p.1, p.2) (refl, λ other tree. rw (there, refused (view t.table.lists c.args.view.now) _ c.in_err-picked.ensures.err other) refl)
+    rw (p.1, p.2) (refl, λ other tree. rw (there, refused (view t.table.lists c.args.view.now) _ c.in_err-found.ensures.err other) refl)
 
 pub returns : goal.returns
 returns c =
     let place = placed (λ (n : Named). has_view n.table.lists c.args.view.now) c.self.inside.tables.items _ _ _ c.as_slice.ensures.value c.place_of_view.ensures c.in-Some.is in
     let t = c.index.result.now in
     let there : watched_by c.args.self.now c.args.view.now ≡ Some (named_of t) = found c.args.self.now _ _ c.self.view_is (λ t. has_view t.table c.args.view.now) c.in-Some.at t place c.index.ensures in
-    (no_tree, rw (there, c.whole.ensures, c.listed.ensures) (leaves_state c.args.self.now _ _ (viewed_as c.args.view.now (named_of t) _ c.in_ok-picked.ensures.ok)), tt)
+    (no_tree, rw there (leaves_state c.args.self.now _ _ (viewed_as c.args.view.now (named_of t) _ c.in_ok-found.ensures.ok)), tt)

@@ -1,7 +1,7 @@
 use Rattle.std.proofs.Common.{ℕ, List, ◌++◌, ap, append-nil, arith, ◌∙◌}
 use Rattle.std.specs.List.{flat_map}
 use Rattle.std.proofs.lemmas.List.{drop_all}
-use Rattle.rt_reply.specs.AnyRows.{box_values}
+use Rattle.rt_reply.specs.Rows.{box_values}
 use Rattle.rt_shell_lines.specs.Lines.{row_line}
 use Rattle.rt_shell_lines.proofs.lines.Lines.set_boxes.Goals as goal
 

@@ -6,15 +6,15 @@ use Rattle.rt_table_row.specs.Edits.{outcome}
 use Rattle.rt_table_row.specs.Entries.{step_of}
 use Rattle.rt_table_store.specs.Trees.{IsTreeOf}
 use Rattle.rt_table_store.specs.Moves.{FollowsSteps}
-use Rattle.rt_table_view.specs.declared.watched.Watched.{Watched}
+use Rattle.rt_table_view.specs.declared.view.Watched.{Watched}
 use Rattle.rt_table.specs.Held.{Held}
 use Rattle.rt_table_view.specs.Preparing.{IsAwaited}
 use Rattle.rt_table_view.specs.Watching.{awaited_of}
 use Rattle.rt_table_view.proofs.Refreshing.{All-unmapped}
 use Rattle.rt_table.proofs.table.Table.commit.Goals as goal
 
-pub refresh_all-requires : goal.refresh_all-requires
-refresh_all-requires g c =
+pub refresh_each-requires : goal.refresh_each-requires
+refresh_each-requires g c =
     let after = outcome c.self.inside.store.rows (map step_of c.args.plan.items) in
     let awaited : All (IsAwaited c.self.inside.columns c.self.inside.store.rows after) (map awaited_of c.self.inside.views.items) =
     subst (λ (h : Held g.row.D). All (IsAwaited h.lists.columns h.lists.rows (outcome h.lists.rows (map step_of c.args.plan.items))) h.awaited) (sym c.self.view_is) c.requires.awaited in
@@ -31,7 +31,7 @@ invariant_of-self g c =
       few = c.self.invariant.few;
       axes_are = c.self.invariant.axes_are;
       rising = c.facts.ensures.rising;
-      kept = rw c.apply.ensures.rows (c.refresh_all.ensures.kept c.self.inside.columns c.self.inside.store.rows after awaited c.self.invariant.kept);
+      kept = rw c.apply.ensures.rows (c.refresh_each.ensures.kept c.self.inside.columns c.self.inside.store.rows after awaited c.self.invariant.kept);
     }
 
 pub returns-clause-tree : goal.returns-clause-tree

@@ -9,7 +9,7 @@ returns-in-Some-clause-ok g c =
     let old = c.args.self.now.lists in
     let id = c.in-Some.id in
     let fits : FitsSigned w64 id = search rules in
-    rw c.new.ensures.items (
+    rw c.new.ensures (
     edited-alone old c.take.new.self.lists (steps_of c.args.edit old.columns old.rows) (leaving old.rows id) c.in-Some.ensures.steps c.in-Some.ensures.unwatched
     (rw (to_z-of_z w64 id fits) at c.take.ensures.lists)
     )

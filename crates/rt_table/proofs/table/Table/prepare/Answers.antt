@@ -2,7 +2,7 @@ use Rattle.std.proofs.Common.{map, arith, lit<, sym, subst}
 use Rattle.std.proofs.lemmas.List.Elements.{All-weaker}
 use Rattle.rt_table_row.specs.Entries.{step_of}
 use Rattle.rt_table_row.specs.Filters.{admits}
-use Rattle.rt_table_view.specs.declared.watched.Watched.{Watched}
+use Rattle.rt_table_view.specs.declared.view.Watched.{Watched}
 use Rattle.rt_table_view.specs.Watching.{KeepsIds, IsKept}
 use Rattle.rt_table.specs.Held.{Held}
 use Rattle.rt_table_store.specs.Steps.{ApplyTo}
@@ -46,6 +46,6 @@ returns-clause-ok g c =
     let apply : ApplyTo c.self.inside.columns c.self.inside.store.rows (map step_of c.args.plan.now) =
     subst (λ (h : Held g.row.D). ApplyTo h.lists.columns h.lists.rows (map step_of c.args.plan.now)) (sym c.self.view_is) c.requires in
     ready c.self.inside.columns c.self.inside.store.rows c.reserve.new.self.rows c.reserve.new.self.tree c.self.inside.views.items c.stage.new.views.items c.reserve.new.self.room c.reserve.new.self.auxiliary_room
-    c.in_ok-staged.staged.items (map step_of c.args.plan.now) c.in_ok-reserve.ensures.rows c.in_ok-staged.ensures.views apply
+    c.in_ok-staged.staged (map step_of c.args.plan.now) c.in_ok-reserve.ensures.rows c.in_ok-staged.ensures.views apply
     (omega (arith, c.in_ok-reserve.ensures.ok, c.inserts_all.ensures)) (omega (arith, c.in_ok-reserve.ensures.auxiliary, c.auxiliary_rows_all.ensures))
     (c.in_ok-staged.ensures.awaited c.self.inside.columns c.self.invariant.kept) (c.in_ok-staged.ensures.changes c.self.inside.columns c.self.invariant.kept)

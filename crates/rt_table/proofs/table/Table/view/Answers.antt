@@ -2,7 +2,7 @@ use Rattle.std.proofs.Common.{◌≡◌, sym, subst, inl, refl, Some, None}
 use Rattle.std.specs.Prelude.{position}
 use Rattle.std.proofs.lemmas.List.Quantifiers.{position-Some}
 use Rattle.rt_table_row.specs.Tables.{is_view}
-use Rattle.rt_table_view.specs.declared.watched.Watched.{Watched}
+use Rattle.rt_table_view.specs.declared.view.Watched.{Watched}
 use Rattle.rt_table.specs.TableInside.{held}
 use Rattle.rt_table_view.specs.Watching.{view_of, IsKept}
 use Rattle.rt_table.proofs.Showing.{no_view, view_shown}

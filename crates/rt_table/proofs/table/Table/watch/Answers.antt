@@ -17,5 +17,5 @@ invariant_of-self-2 g c = record {
   few = c.self.invariant.few;
   axes_are = c.self.invariant.axes_are;
   rising = c.self.invariant.rising;
-  kept = rw c.in_ok-push.ensures.items (All-push (IsKept c.self.inside.columns c.self.inside.store.rows) c.self.inside.views.items c.in_ok-view.view c.self.invariant.kept c.in_ok-view.ensures.ok.1);
+  kept = rw c.in_ok-push.ensures.items (All-push (IsKept c.self.inside.columns c.self.inside.store.rows) c.self.inside.views.items c.in_ok-view.view c.self.invariant.kept c.in_ok-view.ensures.kept);
 }

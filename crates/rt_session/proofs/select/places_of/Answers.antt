@@ -2,7 +2,7 @@ use Rattle.std.proofs.Common.{refl, sym, ◌∙◌}
 use Rattle.rt_table_row.specs.Columns.{has_name}
 use Rattle.rt_table_row.proofs.Filters.{absent}
 use Rattle.rt_session.proofs.Columns.{one_fails}
-use Rattle.rt_session.proofs.selecting.places_of.Goals as goal
+use Rattle.rt_session.proofs.select.places_of.Goals as goal
 
 pub returns-in_default-clause-err : goal.returns-in_default-clause-err
 returns-in_default-clause-err c =

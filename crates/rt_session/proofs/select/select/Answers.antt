@@ -1,9 +1,10 @@
 use Rattle.std.proofs.Common.{◌≡◌, ◌∙◌, true, Some, sym, ap, subst, rules}
 use Rattle.rt_table_row.specs.Columns.{Columns}
+use Rattle.rt_reply.specs.Rows.{values_in}
 use Rattle.rt_session.specs.Session.{is_by_id}
 use Rattle.rt_session.specs.Selecting.{ArePlaces}
 use Rattle.rt_session.proofs.Columns.{selected_columns}
-use Rattle.rt_session.proofs.selecting.select.Goals as goal
+use Rattle.rt_session.proofs.select.select.Goals as goal
 
 pub returns : goal.returns
 returns c =
@@ -14,5 +15,5 @@ returns c =
     let placed : ArePlaces t.columns.names names c.in_ok-places.places.items =
     subst (λ (s : Columns). ArePlaces s.names names c.in_ok-places.places.items) c.schema-2.ensures c.in_ok-places.ensures.ok in
     let listed : c.args.columns.now ≡ Some names = search (rules, c.in-Some.is, c.as_slice.ensures) in
-    rw (listed, c.columns.ensures)
-    (selected_columns t names c.args.cond c.args.order.now c.in_ok-places.places.items c.in_ok-picked-2.picked placed by_id c.in_ok-picked-2.ensures.ok)
+    rw listed
+    (selected_columns t names c.args.cond c.args.order.now c.in_ok-places.places.items (values_in c.in_ok-found-2.found.rows) placed by_id c.in_ok-found-2.ensures.ok)

@@ -9,7 +9,7 @@ ghost use Rattle.rt_session.specs.Steps.{ShowsRows};
 
 use rt_reply::Shown;
 use rt_sql_statement::{Cond, Items, Name, Refusal};
-use rt_table::AnyTable;
+use rt_table::{AnyTable, Nodes};
 use rt_table_row::Schema;
 use std::alloc::Global;
 
@@ -55,10 +55,16 @@ pub(crate) fn select(
         return Err(Refusal::NoSuchColumn);
     }
     let Some(names) = columns else {
-        let picked = table.rows(alloc, cond)?;
-        return Ok(Shown::whole(picked));
+        let found = table.select(cond, Nodes::Uncounted)?;
+        return Ok(Shown {
+            rows: found.rows,
+            columns: None,
+        });
     };
     let places = places_of(alloc, table.schema(), names.as_slice())?;
-    let picked = table.rows(alloc, cond)?;
-    Ok(Shown::columns(picked, places))
+    let found = table.select(cond, Nodes::Uncounted)?;
+    Ok(Shown {
+        rows: found.rows,
+        columns: Some(places),
+    })
 }
