@@ -31,8 +31,8 @@ abbrev pub changes_to : TableLists → List TableRow → List ViewChange
 changes_to lists rows = deltas lists.columns lists.views lists.rows rows
 
 -- the steps in which the row of an id goes, if there is one
-abbrev pub row_leaving : TableLists → ℤ → List Step
-row_leaving lists id = leaving lists.rows id
+abbrev pub removal : TableLists → ℤ → List Step
+removal lists id = leaving lists.rows id
 
 -- if the edit is taken, a tree follows its steps
 abbrev pub FollowsEdit : {D : ℕ} → Edit → TableLists → ShadowLists D → ShadowLists D → Type 0

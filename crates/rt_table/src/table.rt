@@ -87,7 +87,7 @@ impl<const D: usize> Table<D> {
     ghost use Rattle.rt_reply.specs.Rows.{values_of_rows};
     ghost use Rattle.rt_table_store.specs.Steps.{ApplyTo};
     ghost use Rattle.rt_table.specs.Ready.{IsReady};
-    ghost use Rattle.rt_table.specs.Edits.{edit_steps, edit_outcome, lists_after, changes_to, row_leaving, FollowsEdit, NeedsPlan};
+    ghost use Rattle.rt_table.specs.Edits.{edit_steps, edit_outcome, lists_after, changes_to, removal, FollowsEdit, NeedsPlan};
     ghost use Rattle.rt_tree.specs.Lists.{empty_lists};
     ghost use Rattle.rt_table_store.specs.Moves.{FollowsSteps};
     ghost use Rattle.rt_table_store.specs.declared.select.Nodes.TheVariants.{Counted};
@@ -293,8 +293,8 @@ impl<const D: usize> Table<D> {
     /// Takes the row of an id out, if there is one. It takes no memory, and no view has to follow.
     fn take(&mut self, id: &i64)
         requires { self.old.lists.views ≡ [] }
-        ensures lists { self.new.lists ≡ lists_after self.old.lists (row_leaving self.old.lists id.now) }
-        ensures tree { FollowsSteps self.old.lists.rows (row_leaving self.old.lists id.now) self.old.tree self.new.tree }
+        ensures lists { self.new.lists ≡ lists_after self.old.lists (removal self.old.lists id.now) }
+        ensures tree { FollowsSteps self.old.lists.rows (removal self.old.lists id.now) self.old.tree self.new.tree }
     {
         // The law says before and after that the tree has the rows.
         self.store.facts();
@@ -306,7 +306,7 @@ impl<const D: usize> Table<D> {
     /// watches, no view has to follow.
     fn leaving_id(&self, edit: &Edit) -> Option<i64>
         ensures unwatched { IfSome result (λ _. self.now.lists.views ≡ []) }
-        ensures steps { IfSome result (λ id. edit_steps edit.now self.now.lists ≡ Ok (row_leaving self.now.lists id)) }
+        ensures steps { IfSome result (λ id. edit_steps edit.now self.now.lists ≡ Ok (removal self.now.lists id)) }
         ensures none { IfNone result (NeedsPlan edit.now self.now.lists) }
     {
         let Edit::Delete { cond } = edit else {

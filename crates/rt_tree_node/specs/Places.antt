@@ -29,8 +29,8 @@ module _ {D : ℕ} where
   picked cells positions = map (λ p. slice_index_or cells p no_cell) positions
 
   -- the number of the cell at a position; `d` is read past the end alone
-  abbrev pub number_in_cell : List (Cell D) → ℕ → Cell D → ℤ
-  number_in_cell cells at d = (slice_index_or cells at d).number
+  abbrev pub number_at : List (Cell D) → ℕ → Cell D → ℤ
+  number_at cells at d = (slice_index_or cells at d).number
 
   -- how many of the cells name the node at the key
   abbrev pub times_named : ℕ → List (Cell D) → ℕ

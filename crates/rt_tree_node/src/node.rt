@@ -6,7 +6,7 @@
 ghost use Rattle.std.specs.Prelude.{◌≡◌, ◌≢◌, ℕ, pos, false, All, ◌+◌, ◌<◌, ◌≤◌, [], ◌∷◌, ◌++◌, map, length, slice_index_or, slice_set, remove};
 ghost use Rattle.rt_box.specs.Capacity.{most_cells};
 ghost use Rattle.rt_tree_node.specs.declared.cell.Cell.{Cell};
-ghost use Rattle.rt_tree_node.specs.Places.{picked, number_in_cell};
+ghost use Rattle.rt_tree_node.specs.Places.{picked, number_at};
 
 use crate::cell::Cell;
 use crate::key::Key;
@@ -225,8 +225,8 @@ impl<const D: usize> Node<D> {
     /// The position of the first cell with that number, or the number of cells if none has it.
     pub fn position(&self, number: &i64) -> usize
         ensures within { result ≤ length self.now.cells }
-        ensures found { (d : Cell D) → result < length self.now.cells → number_in_cell self.now.cells result d ≡ number.now }
-        ensures first { (k : ℕ) (d : Cell D) → k < result → number_in_cell self.now.cells k d ≢ number.now }
+        ensures found { (d : Cell D) → result < length self.now.cells → number_at self.now.cells result d ≡ number.now }
+        ensures first { (k : ℕ) (d : Cell D) → k < result → number_at self.now.cells k d ≢ number.now }
     {
         // Their count is read from the boxes, so that the cache line that a caller mostly needs next is on its way.
         let numbers = counted(self.numbers(), self.boxes().len());
