@@ -19,6 +19,7 @@ struct Head {
 }
 
 /// A row that came into a view, or left it, looked at where it stands.
+#[derive(Clone, Copy)]
 pub struct Change<'a> {
     /// The view's name, as it was written when it was named.
     pub view: &'a Name,

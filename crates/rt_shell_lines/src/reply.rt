@@ -276,28 +276,28 @@ fn write_changes<W: ByteWriter>(changes: &Changes, writer: &mut W) -> Result<(),
     }
     let mut lines = Lines::new();
     for at in 0..changes.len() {
-        write_change(&mut lines, changes.get(at), writer)?;
+        let change = changes.get(at);
+        write_change(&mut lines, &change, writer)?;
     }
     Ok(())
 }
 
-fn sign(came: bool) -> &'static [u8]
-    ensures { result.now ≡ (if came then codes "+" else codes "-") }
+fn sign<'a>(change: &Change<'a>) -> &'a [u8]
+    ensures { result.now ≡ (if change.now.came then codes "+" else codes "-") }
 {
-    if came { b"+" } else { b"-" }
+    if change.came { b"+" } else { b"-" }
 }
 
 fn write_change<W: ByteWriter>(
     lines: &mut Lines,
-    change: Change<'_>,
+    change: &Change<'_>,
     writer: &mut W,
 ) -> Result<(), WriteFault>
-    ensures { WritesTo W.ByteWriter writer.old writer.new result (change_line (change_seen change.entry)) }
+    ensures { WritesTo W.ByteWriter writer.old writer.new result (change_line (change_seen change.now)) }
 {
-    let Change { view, came, row } = change;
-    let parts: [&[u8]; 3] = [sign(came), view.as_str().as_bytes(), b" "];
+    let parts: [&[u8]; 3] = [sign(change), change.view.as_str().as_bytes(), b" "];
     write_parts(writer, &parts)?;
-    write_row(lines, &row, writer)
+    write_row(lines, &change.row, writer)
 }
 
 /// Writes a row's line, which is put together in `lines` if it is short.

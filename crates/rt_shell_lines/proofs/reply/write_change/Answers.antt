@@ -12,7 +12,7 @@ pub returns : goal.returns
 returns g c =
     let came = c.sign.result.now in
     let view = c.as_bytes.result.now in
-    let row = row_line (listed_values c.args.change.row) in
-    let name : view ≡ c.args.change.view.now = c.as_bytes.ensures.value ∙ c.as_str.ensures in
+    let row = row_line (listed_values c.args.change.now.row) in
+    let name : view ≡ c.args.change.now.view.now = c.as_bytes.ensures.value ∙ c.as_str.ensures in
     Writes-both _ _ _ _ _ _ _ (came ++ (view ++ codes " ")) row _ (line came view row _ _ c.sign.ensures name)
     c.in_ok-write_parts.ensures c.write_row.ensures

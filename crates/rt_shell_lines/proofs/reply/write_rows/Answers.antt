@@ -1,11 +1,19 @@
+use Rattle.std.proofs.Common.{◌≡◌, refl, map}
+use Rattle.rt_reply.specs.Rows.{box_values, values_in}
 use Rattle.rt_shell_lines.proofs.Numbers.{box_lines}
 use Rattle.rt_shell_lines.proofs.reply.write_rows.Goals as goal
 
 pub returns-in-One : goal.returns-in-One
-returns-in-One g c = rw (← (box_lines c.in-One.rows.now c.args.rows.now c.in-One.ensures)) c.write_boxes.ensures
+returns-in-One g c =
+    let same : map box_values c.as_slice.result.now ≡ values_in c.args.rows.now = rw (c.in-One.is, c.as_slice.ensures.value) refl in
+    rw (← (box_lines c.as_slice.result.now (values_in c.args.rows.now) same)) c.write_boxes.ensures
 
 pub returns-in-Two : goal.returns-in-Two
-returns-in-Two g c = rw (← (box_lines c.in-Two.rows.now c.args.rows.now c.in-Two.ensures)) c.write_boxes-in-Two.ensures
+returns-in-Two g c =
+    let same : map box_values c.as_slice-in-Two.result.now ≡ values_in c.args.rows.now = rw (c.in-Two.is, c.as_slice-in-Two.ensures.value) refl in
+    rw (← (box_lines c.as_slice-in-Two.result.now (values_in c.args.rows.now) same)) c.write_boxes-in-Two.ensures
 
 pub returns-in-Three : goal.returns-in-Three
-returns-in-Three g c = rw (← (box_lines c.in-Three.rows.now c.args.rows.now c.in-Three.ensures)) c.write_boxes-in-Three.ensures
+returns-in-Three g c =
+    let same : map box_values c.as_slice-in-Three.result.now ≡ values_in c.args.rows.now = rw (c.in-Three.is, c.as_slice-in-Three.ensures.value) refl in
+    rw (← (box_lines c.as_slice-in-Three.result.now (values_in c.args.rows.now) same)) c.write_boxes-in-Three.ensures

@@ -1,6 +1,11 @@
+use Rattle.std.proofs.Common.{◌≡◌, refl, map}
+use Rattle.rt_reply.specs.Rows.{values_in}
+use Rattle.rt_reply.specs.Shown.{values_at}
 use Rattle.rt_shell_lines.proofs.Columns.{column_lines}
 use Rattle.rt_shell_lines.proofs.reply.write_shown.Goals as goal
 
-pub returns-in-Columns : goal.returns-in-Columns
-returns-in-Columns g c =
-    rw (← (column_lines c.in-Columns.places.now c.in-Columns.rows.now c.args.shown.now c.in-Columns.ensures)) c.write_columns.ensures
+pub returns-in-Some : goal.returns-in-Some
+returns-in-Some g c =
+    let rows = values_in c.shown.inside.rows in
+    let same : map (values_at c.as_slice.result.now) rows ≡ c.args.shown.now = rw (← c.shown.view_is, c.in-Some.is, c.as_slice.ensures.value) refl in
+    rw (← (column_lines c.as_slice.result.now rows c.args.shown.now same)) c.write_columns.ensures
