@@ -90,12 +90,10 @@ Dot lines end with the line
   .watch V FROM T [WHERE ..]          names a view, and prints its changes
   .view V                             prints the rows of a view
   .unwatch V                          forgets a view
-  .nodes T                            prints the table's tree as a dump, for `rtsh check`
+  .nodes T                            prints the table's tree as a dump
+A refused statement prints `refused N CODE: TEXT`, and changes nothing
 
-A refused statement prints `refused N CODE: TEXT`, N its number in the script, and changes nothing
-
-Only at a terminal, whose prompt shows an open quote or comment; alone on a line, also inside a
-statement
+Only at a terminal, alone on a line, also inside a statement
   .help                               prints this
   .quit or .exit                      ends, as Ctrl-D on an empty line does
 `rlwrap rtsh run` gives history and editing";
