@@ -33,7 +33,7 @@ Follows rows steps old new = ⊥
 abbrev pub FollowsIfTaken : List TableRow → Steps → AnyShadow → AnyShadow → Type 0
 FollowsIfTaken rows taken old new = IfOk taken (λ steps. Follows rows steps old new)
 
--- so many nodes of the tree are reached by the window
+-- `visited` nodes of the tree are reached by the window
 abbrev pub VisitsAny : AnyShadow → List Interval → ℕ → Type 0
 VisitsAny (One tree) window visited = Visits tree window visited
 VisitsAny (Two tree) window visited = Visits tree window visited

@@ -19,7 +19,7 @@ Refuses wanted refusal = (wanted ≡ Err refusal) ⊎ (refusal ≡ OutOfMemory)
 abbrev pub Shows : Result (List TableRow) Refusal → List (List Value) → Type 0
 Shows wanted values = (rows : List TableRow) × (wanted ≡ Ok rows) × (values ≡ map values_of rows)
 
--- so many nodes of the tree are reached by a window of the condition
+-- `visited` nodes of the tree are reached by a window of the condition
 abbrev pub VisitsBy : {D : ℕ} → Held D → List Test → ℕ → Type 0
 VisitsBy table cond visited = (window : List Interval) × IsWindowOf table.lists.columns cond window × Visits table.tree window visited
 

@@ -1,7 +1,7 @@
 //! A row as a table keeps it.
 //!
 //! The id and the box are numbers, and the auxiliary values stand apart. `RowView` and `ListedRow` borrow those
-//! values; `values` and `try_clone` copy them (`specs/Entries.antt`).
+//! values; `try_clone` copies one (`specs/Entries.antt`).
 
 ghost use Rattle.std.specs.Prelude.{◌≡◌, ◌+◌, ◌*◌, ◌<◌, ◌≤◌, ◌∷◌, ◌++◌, length, map, slice_index_or, IfOk, OnOk, OnErr, vec_len, vec_capacity};
 ghost use Rattle.rt_sql_statement.specs.declared.value.Value.TheVariants.{Null, Int};
@@ -173,19 +173,6 @@ impl<'a, const D: usize> RowView<'a, D> {
         }
         auxiliary_at(self.auxiliary, place - 1 - 2 * axes)
     }
-
-    /// A copy of the row's values, column by column.
-    pub fn values(&self, alloc: Global) -> Result<Items<Value>, AllocError>
-        ensures { IfOk result (λ row. row ≡ values_of (view_row self.now)) }
-    {
-        let mut numbers = Vec::new(alloc);
-        push_numbers(&mut numbers, self.id, &self.rect)?;
-        let row = ListedRow {
-            numbers: &numbers,
-            auxiliary: self.auxiliary,
-        };
-        row.values(alloc)
-    }
 }
 
 /// A row looked at where it stands in a list: numbers first, and then auxiliary values.
@@ -208,18 +195,6 @@ impl<'a> ListedRow<'a> {
             return Field::Number(self.numbers[place]);
         }
         auxiliary_at(self.auxiliary, place - self.numbers.len())
-    }
-
-    /// A copy of the row's values, column by column.
-    pub fn values(&self, alloc: Global) -> Result<Items<Value>, AllocError>
-        ensures { IfOk result (λ row. row ≡ listed_values self.now) }
-    {
-        let mut values = Vec::with_capacity(alloc, self.numbers.len())?;
-        for number in self.numbers {
-            values.push(Value::Int(*number))?;
-        }
-        push_copies(alloc, &mut values, self.auxiliary)?;
-        Ok(Items::from_vec(values))
     }
 }
 

@@ -27,11 +27,11 @@ module _ {D : ℕ} where
   abbrev pub picked_rows : Placed → List TableRow → List (Row D)
   picked_rows condition rows = map leaf_row (filter (admits condition) rows)
 
-  -- so many nodes are reached by a window of the condition
+  -- `visited` nodes are reached by a window of the condition
   abbrev pub VisitsBy : Placed → ShadowLists D → ℕ → Type 0
   VisitsBy condition tree visited = (window : List Interval) × IsWindowAt D condition window × Visits tree window visited
 
-  -- so many nodes are reached by a window without limits
+  -- `visited` nodes are reached by a window without limits
   abbrev pub VisitsFreely : ShadowLists D → ℕ → Type 0
   VisitsFreely tree visited = (window : List Interval) → IsUnlimited D window → Visits tree window visited
 
