@@ -7,7 +7,7 @@ ghost use Rattle.std.specs.Prelude.{◌≡◌, ◌≤◌, ℤ, None};
 ghost use Rattle.rt_tree.specs.Rows.{box_of};
 
 use rt_box::{Capacity, Operator, Rect, Window};
-use rt_tree::{Row, Tree};
+use rt_tree::{MOST_ROWS_OF_A_TREE, Row, Tree};
 use rt_tree_node::Node;
 use std::alloc::{AllocError, Global};
 use std::hash::RandomState;
@@ -149,9 +149,6 @@ enum Question {
     Count,
     NearestTen,
 }
-
-/// How many rows a tree has at most.
-const MOST_ROWS_OF_A_TREE: usize = 1 << 20;
 
 /// How rows are drawn, and how many.
 #[derive(Clone, Copy)]

@@ -58,7 +58,7 @@ module _ {D : ℕ} where
     rows-are = entries-long t.arena ∙ k.ids
 
     -- the cells of all nodes on the way up from a leaf may wait
-    pub way-waits : t.arena.level ≤ 20 → (least_fill t.arena.capacity - 1) * t.arena.level + 512 ≤ vec_capacity t.arena.pending
+    pub way-waits : t.arena.level ≤ 31 → (least_fill t.arena.capacity - 1) * t.arena.level + 512 ≤ vec_capacity t.arena.pending
     way-waits low =
         let most = k.whole.fitted.cap.1 in
         let narrow : least_fill t.arena.capacity - 1 ≤ 19 = omega arith in
@@ -70,7 +70,7 @@ module _ {D : ℕ} where
       more-rows : row_count u ≡ row_count t.arena + 1
       more-rows = i.rows (λ c. true)
 
-      pub inserted-kept : (n : ℕ) → n + 1 ≡ t.spare → row_count t.arena < 2 ^ 20 → IsKept {D = D} record { arena = u; spare = n }
+      pub inserted-kept : (n : ℕ) → n + 1 ≡ t.spare → row_count t.arena < 2 ^ 31 → IsKept {D = D} record { arena = u; spare = n }
       inserted-kept n is few = record {
         some = k.some;
         few = k.few;

@@ -97,7 +97,7 @@ module _ {D : ℕ} where
           let none = ap (λ ws. count_by (λ (c : Cell D). true) (pending_rows ws)) idle in
           omega (arith, step, start, here, none)
 
-      pub fresh-kept : 1 ≤ D → D ≤ 3 → IsCapacity t.capacity → 33 ≤ t.nodes.capacity → t.nodes.capacity ≤ 2 ^ 62 → 1024 ≤ vec_capacity t.pending →
+      pub fresh-kept : 1 ≤ D → D ≤ 3 → IsCapacity t.capacity → 33 ≤ t.nodes.capacity → t.nodes.capacity ≤ 2 ^ 62 → 1152 ≤ vec_capacity t.pending →
           IsKept {D = D} record { arena = t; spare = 0 }
       fresh-kept some few cap room keys pending_room = record {
         some = some;

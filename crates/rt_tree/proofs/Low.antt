@@ -1,9 +1,10 @@
 -- A tree has few levels.
 use Rattle.std.proofs.Common.{◌≡◌, ◌≢◌, ℕ, zero, suc, ◌*◌, ◌<◌, ◌≤◌, ◌^◌, true, List, [], ◌∷◌, length, Option, Some, None, arith, refl, ap, sym, ◌∙◌, inl, inr}
 use Rattle.std.proofs.Math.Nat.{pow-suc, pow-zero, pow-le-pow_left, mul-le-mul, suc-mul, mul_comm}
+use Rattle.std.proofs.Math.Pow.{pow_mono}
 use Rattle.std.specs.List.{All, flat_map, sum_by, count_by}
 use Rattle.std.proofs.lemmas.Bool.{cases_lt}
-use Rattle.std.proofs.lemmas.Nat.{pow_below}
+use Rattle.std.proofs.lemmas.Nat.{pow_pos}
 use Rattle.std.proofs.lemmas.Option.{none-some}
 use Rattle.std.proofs.lemmas.List.{get_or_past}
 use Rattle.std.proofs.lemmas.List.Elements.{All-head, All-tail}
@@ -96,26 +97,31 @@ module _ {D : ℕ} (t : Arena D) (s : IsSettled t) where
         sum_by-cons rows_at k (flat_map (λ c. keys_in t.nodes l (key_of c)) (cells_at t.nodes k)),
       )
 
-  -- a tree of at most 2^20 rows has at most 20 levels
-  pub low-root : IsBranched t → row_count t ≤ 2 ^ 20 → t.level < 20
+  -- a root above the leaves has two cells, at least
+  pub many-rows : IsBranched t → 1 ≤ t.level → 2 * least_fill t.capacity ^ t.level ≤ row_count t
   unfolding below rows_at measure least
-  low-root branched few = by t.level refl
+  many-rows branched high = by t.level refl high
     where
-      by : (l : ℕ) → t.level ≡ l → l < 20
-      by zero e = omega arith
-      by (suc l) e = elim (cases_lt (suc l) 20) [
-        | inl low ↦ low
-        | inr high ↦
-            let top : level_at t.nodes t.root ≡ Some (suc l) = s.whole.linked.root_level ∙ ap Some e in
-            let cells = below-cells l (least ^ suc l) (powers l) t.root (cells_at t.nodes t.root) (s.whole.linked.children t.root l top) in
-            let two : 2 ≤ length (cells_at t.nodes t.root) = branched (omega arith) in
-            let wide : 2 * least ^ suc l ≤ length (cells_at t.nodes t.root) * least ^ suc l = mul-le-mul two (omega arith) in
-            let all = all-below in
-            let rows = ap (λ n. below n t.root) e in
-            let here = sum_by-cons rows_at t.root (flat_map (λ c. keys_in t.nodes l (key_of c)) (cells_at t.nodes t.root)) in
-            let some : 2 ≤ least = let cap = s.whole.fitted.cap.0 in omega arith in
-            let base = pow-le-pow_left some (suc l) in
-            let past = pow_below 20 (suc (suc l)) (omega (arith, high)) in
-            let step : 2 ^ suc (suc l) ≡ 2 ^ suc l * 2 = pow-suc 2 (suc l) in
-            absurd (omega (arith, cells, wide, all, rows, here, base, past, step, few))
-      ]
+      by : (l : ℕ) → t.level ≡ l → 1 ≤ l → 2 * least_fill t.capacity ^ l ≤ row_count t
+      by zero e some = absurd (omega (arith, some))
+      by (suc l) e some =
+          let top : level_at t.nodes t.root ≡ Some (suc l) = s.whole.linked.root_level ∙ ap Some e in
+          let cells = below-cells l (least ^ suc l) (powers l) t.root (cells_at t.nodes t.root) (s.whole.linked.children t.root l top) in
+          let two : 2 ≤ length (cells_at t.nodes t.root) = branched (omega arith) in
+          let wide : 2 * least ^ suc l ≤ length (cells_at t.nodes t.root) * least ^ suc l = mul-le-mul two (omega arith) in
+          let all = all-below in
+          let rows = ap (λ n. below n t.root) e in
+          let here = sum_by-cons rows_at t.root (flat_map (λ c. keys_in t.nodes l (key_of c)) (cells_at t.nodes t.root)) in
+          omega (arith, cells, wide, all, rows, here)
+
+  -- so each level doubles the rows
+  pub low-root : IsBranched t → (n : ℕ) → row_count t ≤ 2 ^ suc n → t.level ≤ n
+  low-root branched n few = elim (cases_lt n t.level) [
+    | inl high ↦
+        let some : 2 ≤ least_fill t.capacity = let cap = s.whole.fitted.cap.0 in omega arith in
+        let rows = many-rows branched (omega (arith, high)) in
+        let base = pow-le-pow_left some t.level in
+        let past = pow_mono {i = suc n} {j = t.level} (omega (arith, high)) in
+        absurd (omega (arith, rows, base, past, pow_pos t.level, few))
+    | inr low ↦ low
+  ]

@@ -1,5 +1,5 @@
 -- A tree from outside.
-use Rattle.std.specs.Prelude.{ℕ, ◌+◌, ◌-◌, ◌/◌, ℤ, Option, pos, [], ◌∷◌, None, length}
+use Rattle.std.specs.Prelude.{ℕ, ◌+◌, ◌-◌, ◌*◌, ◌/◌, ◌^◌, ℤ, Option, pos, [], ◌∷◌, None, length}
 use Rattle.std.specs.Option.{option_map, option_map_or}
 use Rattle.rt_box.specs.Capacity.{least_fill}
 use Rattle.rt_check.specs.Shadow.{ShadowLists}
@@ -23,6 +23,10 @@ module _ {D : ℕ} where
   -- the most nodes of a tree with that many rows: a node for each `least - 1` of them, and one more
   abbrev pub most_nodes : ShadowLists D → ℕ
   most_nodes s = 1 + length s.rows / (least_fill s.capacity - 1)
+
+  -- the least rows of a tree with such a root above the leaves: the root has two cells, and each other node has `least`
+  abbrev pub least_rows : ShadowLists D → ℕ
+  least_rows s = 2 * least_fill s.capacity ^ root_level s
 
   -- no rows: the root is a leaf without cells
   abbrev pub empty_lists : ℕ → ShadowLists D

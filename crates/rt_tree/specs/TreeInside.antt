@@ -21,4 +21,4 @@ module _ {D : ℕ} where
     pub rows : row_count t.arena ≤ most_rows_of_a_tree
     pub room : HasRoom t.arena (row_count t.arena + t.spare)
     pub leaves_room : t.spare ≤ spare t.arena.leaves
-    pub pending_room : 1024 ≤ vec_capacity t.arena.pending
+    pub pending_room : 1152 ≤ vec_capacity t.arena.pending

@@ -8,7 +8,7 @@ ghost use Rattle.std.specs.List.{list_any};
 ghost use Rattle.std.specs.Ordering.{int_eq};
 ghost use Rattle.rt_box.specs.Capacity.{least_fill};
 ghost use Rattle.rt_tree_node.specs.Whole.{most_rows_of_a_tree};
-ghost use Rattle.rt_tree.specs.Lists.{root_level, most_nodes, empty_lists, IsInShape};
+ghost use Rattle.rt_tree.specs.Lists.{root_level, most_nodes, least_rows, empty_lists, IsInShape};
 ghost use Rattle.rt_tree.specs.Rows.{box_of, rows_of, GainsRow, LosesRow};
 ghost use Rattle.rt_tree.specs.Boxes.{HasBoxes};
 ghost use Rattle.rt_tree.specs.Changes.{IsInsertion, IsRemoval, ReplacesOther};
@@ -48,10 +48,14 @@ const MANY_NODES: usize = 40_000;
 const MOST_ROOM: usize = 1 << 42;
 
 /// The most rows that a tree may have.
-pub const MOST_ROWS_OF_A_TREE: usize = 1 << 20;
+pub const MOST_ROWS_OF_A_TREE: usize = 1 << 31;
 
-/// The most cells that may be pending at once.
-const PENDING_ROOM: usize = 1024;
+/// The rows that room grows to before it grows any further: as many as a table of a script may have. So a full table keeps no
+/// room for rows that it can't get.
+const FIRST_ROWS: usize = 1 << 20;
+
+/// The most cells that may be pending at once: those of an underfull node on each level, and 512.
+const PENDING_ROOM: usize = 1152;
 
 /// A box.
 fn point<const D: usize>() -> Rect<D>
@@ -159,13 +163,18 @@ fn make_room<const D: usize>(nodes: &mut Slab<Node<D>>, room: usize) -> Result<(
 
 /// The further rows that a tree of `rows` rows makes room for if it is asked for `more`: as many as it has, so that many
 /// reservations of one row each copy a node only a few times, but no more than it may still get. A full tree is asked for
-/// more if rows are replaced; twice of that keeps copies few there.
+/// more if rows are replaced; twice of that keeps copies few there. A tree of `FIRST_ROWS` rows counts as full.
 fn room_ahead(rows: usize, more: usize) -> usize
     requires { more ≤ 2 ^ 42 }
     ensures room { more ≤ result }
     ensures most { result ≤ max more rows }
 {
-    let free = MOST_ROWS_OF_A_TREE.saturating_sub(rows);
+    let most = if rows > FIRST_ROWS {
+        MOST_ROWS_OF_A_TREE
+    } else {
+        FIRST_ROWS
+    };
+    let free = most.saturating_sub(rows);
     let wanted = if free < 2 * more { 2 * more } else { free };
     let ahead = if rows < wanted { rows } else { wanted };
     if more < ahead { ahead } else { more }
@@ -285,11 +294,15 @@ impl<const D: usize> Tree<D> {
         let _ = self.arena.nodes.len();
     }
 
-    /// A law: a tree has at most one node for each `capacity.least() - 1` of its rows, and one more, and at most 20
-    /// levels of nodes. The call does nothing.
+    /// A law: a tree has at most 2^31 rows, and at most one node for each `capacity.least() - 1` of them, and one more. If it
+    /// has levels above the leaves, it has at least twice `capacity.least()` to the power of their number as many rows. So it
+    /// has at most 20 levels of nodes while it has at most 2^20 rows, and at most 31 in all. The call does nothing.
     pub fn is_small(&self)
+        ensures rows { length self.now.lists.rows ≤ most_rows_of_a_tree }
         ensures nodes { length self.now.lists.nodes ≤ most_nodes self.now.lists }
-        ensures levels { root_level self.now.lists < 20 }
+        ensures powers { 1 ≤ root_level self.now.lists → least_rows self.now.lists ≤ length self.now.lists.rows }
+        ensures few_levels { length self.now.lists.rows ≤ 2 ^ 20 → root_level self.now.lists < 20 }
+        ensures levels { root_level self.now.lists < 31 }
     {
         nodes_are_few(&self.arena);
     }
@@ -358,8 +371,8 @@ impl<const D: usize> Tree<D> {
         nearest(alloc, &self.arena, point, k)
     }
 
-    /// Makes room for `more` further rows. The room grows by as many rows as there are, except those that a tree may not get
-    /// any more, so that many reservations of one row each copy a node only a few times.
+    /// Makes room for `more` further rows. The room grows by as many rows as there are, so that many reservations of one row
+    /// each copy a node only a few times; but first to 2^20 rows, and from there to the most rows that a tree may have.
     ///
     /// # Errors
     ///

@@ -9,7 +9,7 @@ use Rattle.rt_tree_node.specs.Sound.{IsLinked, IsFitted, HasHomes}
 
 -- the most rows that a tree has (own)
 abbrev pub most_rows_of_a_tree : ℕ
-most_rows_of_a_tree = 2 ^ 20
+most_rows_of_a_tree = 2 ^ 31
 
 module _ {D : ℕ} where
   -- sound, except for what the node `odd` may lack

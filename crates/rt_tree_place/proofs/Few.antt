@@ -1,10 +1,12 @@
 -- A whole tree has few nodes and few levels.
 use Rattle.std.proofs.Common.{◌≡◌, ◌≢◌, ℕ, zero, suc, ◌+◌, ◌-◌, ◌*◌, ◌/◌, ◌^◌, ◌<◌, ◌≤◌, Bool, true, false, cond, List, [], ◌∷◌, ◌++◌, length, Option, None, Some, is_some, vec_len, nat_eq, eq-eqb, ne_eqb, arith, refl, ap, sym, subst, ◌∙◌, inl, inr}
-use Rattle.std.specs.List.{count_by}
+use Rattle.std.specs.List.{count_by, All}
 use Rattle.std.proofs.Math.Nat.{mul_comm, mul-add, mul-suc, suc-mul, mul-le-mul_left, le-mul_of_pos_right, le_of_mul-le-mul_left, pow-zero, pow-suc, pow-le-pow_left, mul_assoc}
-use Rattle.std.proofs.lemmas.Nat.{pow_below, le-div}
+use Rattle.std.proofs.Math.Pow.{pow_mono}
+use Rattle.std.proofs.lemmas.Nat.{pow_below, pow_pos, le-div}
 use Rattle.std.proofs.lemmas.Bool.{cases_eq, cases_lt}
 use Rattle.std.proofs.lemmas.Option.{same_Some, none-some}
+use Rattle.std.proofs.lemmas.List.Elements.{All-head}
 use Rattle.slab.specs.Slab.{get, slab_len, HasRoomFor}
 use Rattle.rt_box.specs.Capacity.{IsCapacity, least_fill}
 use Rattle.rt_tree_node.specs.declared.arena.Arena.{Arena}
@@ -13,7 +15,7 @@ use Rattle.rt_tree_node.specs.Node.{NodeCells}
 use Rattle.rt_tree_node.specs.Places.{level_of, cells_of, leaf_part, inner_part, leaf_cells_of, inner_cells_of, cells_at, level_at, pending_rows, pending_nodes, sum_over}
 use Rattle.rt_tree_node.specs.Whole.{IsWhole, HasRoom, row_count}
 use Rattle.rt_tree_place.proofs.Sums.{sum-same, sum-added, sum-scaled, count-all, sum-each, sum-le, sum-le_but}
-use Rattle.rt_tree_place.proofs.Named.{chosen_part, chosen, node_in, named-on_level, named-in_all}
+use Rattle.rt_tree_place.proofs.Named.{chosen_part, chosen, node_in, named-on_level, named-and_first, named-in_all}
 
 pub least-two : (capacity : ℕ) → IsCapacity capacity → 2 ≤ least_fill capacity
 least-two capacity is = let low = is.0 in omega arith
@@ -128,10 +130,10 @@ module _ {D : ℕ} where
     pub few-pending : vec_len t.pending ≤ row_count t
     few-pending = let w = pred-least in omega (arith, others-and_rows w.0 w.1)
 
-    pub fewer-nodes_than_rows : slab_len t.nodes ≤ suc (row_count t)
+    pub fewer-nodes_than_rows : slab_len t.nodes + vec_len t.pending ≤ suc (row_count t)
     fewer-nodes_than_rows =
         let w = pred-least in
-        omega (arith, others-and_rows w.0 w.1, le-mul_of_pos_right (slab_len t.nodes - 1) w.2, mul_comm (slab_len t.nodes - 1) w.0)
+        omega (arith, some-node, others-and_rows w.0 w.1, le-mul_of_pos_right (slab_len t.nodes - 1) w.2, mul_comm (slab_len t.nodes - 1) w.0)
 
     pub room-for : HasRoom t (row_count t) → HasRoomFor t.nodes 32
     room-for room =
@@ -147,7 +149,7 @@ module _ {D : ℕ} where
     on_level : ℕ → ℕ
     on_level l = sum_over (node_in (is_level l)) t.nodes
 
-    level-leaves : 1 ≤ t.level → (m : ℕ) → m ≡ least_fill t.capacity → m * on_level 0 ≤ row_count t
+    level-leaves : 1 ≤ t.level → (m : ℕ) → m ≡ least_fill t.capacity → m * on_level 0 + length (pending_rows t.pending.items) ≤ row_count t
     unfolding on_level leaf_rows
     level-leaves high m is =
         omega (
@@ -172,14 +174,21 @@ module _ {D : ℕ} where
                     omega (arith, is, cells, least-at k 0 here other)
                 by (suc l) q = omega (arith, scaled-no m (is_level 0 (suc l)) (ne_eqb (suc l) 0 (λ f. omega arith)))
 
-    level-step : (l : ℕ) → suc l < t.level → (m : ℕ) → m ≡ least_fill t.capacity → m * on_level (suc l) ≤ on_level l
-    unfolding on_level
-    level-step l high m is =
+    -- the cells in nodes that name nodes of a level
+    naming : ℕ → ℕ
+    naming l = sum_over (λ s. length (chosen (is_level l) s)) t.nodes
+
+    naming-on_level : (l : ℕ) → naming l ≤ on_level l
+    unfolding naming on_level
+    naming-on_level l = named-on_level t.nodes t.root t.level t.pending.items whole.linked l
+
+    naming-step : (l : ℕ) → suc l < t.level → (m : ℕ) → m ≡ least_fill t.capacity → m * on_level (suc l) ≤ naming l
+    unfolding naming on_level
+    naming-step l high m is =
         omega (
           arith,
           sum-scaled m (node_in (is_level (suc l))) t.nodes.slots,
           sum-le (λ s. m * node_in (is_level (suc l)) s) (λ s. length (chosen (is_level l) s)) (omega arith) refl t.nodes.slots each,
-          named-on_level t.nodes t.root t.level t.pending.items whole.linked l,
         )
       where
         each : (k : ℕ) → m * node_in (is_level (suc l)) (get t.nodes k) ≤ length (chosen (is_level l) (get t.nodes k))
@@ -199,12 +208,12 @@ module _ {D : ℕ} where
                   omega (arith, scaled-no m (is_level (suc l) n.level) (ne_eqb n.level (suc l) ne))
             ]
 
-    level-top : (l : ℕ) → t.level ≡ suc l → 1 ≤ on_level l
-    unfolding on_level
-    level-top l top =
+    naming-top : (l : ℕ) → t.level ≡ suc l → 1 ≤ naming l
+    unfolding naming
+    naming-top l top =
         let here : level_at t.nodes t.root ≡ Some (suc l) = whole.linked.root_level ∙ ap Some top in
         let each = sum-each (λ s. length (chosen (is_level l) s)) refl t.nodes.slots t.root in
-        omega (arith, each, at-top (get t.nodes t.root) here, whole.fitted.some t.root l here, named-on_level t.nodes t.root t.level t.pending.items whole.linked l)
+        omega (arith, each, at-top (get t.nodes t.root) here, whole.fitted.some t.root l here)
       where
         at-top : (s : Option (NodeCells D)) → level_of s ≡ Some (suc l) → length (chosen (is_level l) s) ≡ length (cells_of s)
         at-top None e = absurd (none-some (suc l) e)
@@ -215,7 +224,8 @@ module _ {D : ℕ} where
         let one : m ^ 1 ≡ m = pow-one m in
         omega (arith, level-leaves (omega arith) m is, ap (λ n. n * on_level 0) one)
     powers (suc l) high m is =
-        let step = mul-le-mul_left (m ^ suc l) (level-step l high m is) in
+        let wide : m * on_level (suc l) ≤ on_level l = omega (arith, naming-step l high m is, naming-on_level l) in
+        let step = mul-le-mul_left (m ^ suc l) wide in
         let a = ap (λ n. n * on_level (suc l)) (pow-suc m (suc l)) ∙ mul_assoc (m ^ suc l) m (on_level (suc l)) in
         omega (arith, step, a, powers l (omega arith) m is)
 
@@ -227,7 +237,8 @@ module _ {D : ℕ} where
         by zero e some = absurd (omega arith)
         by (suc l) e some =
             let m = least_fill t.capacity in
-            let step = mul-le-mul_left (m ^ suc l) (level-top l e) in
+            let some : 1 ≤ on_level l = omega (arith, naming-top l e, naming-on_level l) in
+            let step = mul-le-mul_left (m ^ suc l) some in
             omega (arith, step, powers l (omega arith) m refl)
 
     pub few-levels : (n : ℕ) → row_count t ≤ 2 ^ n → t.level ≤ n
@@ -237,3 +248,75 @@ module _ {D : ℕ} where
           absurd (omega (arith, two, high-level (omega arith), pow_below n t.level high))
       | inr low ↦ low
     ]
+
+    some-power : (l m : ℕ) → m ≡ least_fill t.capacity → 1 ≤ m ^ l
+    some-power l m is =
+        let two : 2 ≤ m = omega (arith, is, least-two t.capacity whole.fitted.cap) in
+        omega (arith, pow_pos l, pow-le-pow_left two l)
+
+    -- ---- levels while a cell waits: one row more
+    module _ (w : Pending D) (rest : List (Pending D)) (first : t.pending.items ≡ w ∷ rest) where
+      row-waits : w.level ≡ 0 → 1 ≤ length (pending_rows t.pending.items)
+      row-waits e =
+          let all = ap (λ ws. length (pending_rows ws)) first in
+          let one = ap (λ i. length (leaf_part i (w.cell ∷ []) ++ pending_rows rest)) e in
+          omega (arith, all, one)
+
+      naming-and_first : (l : ℕ) → w.level ≡ suc l → suc (naming l) ≤ on_level l
+      unfolding naming on_level
+      naming-and_first l e =
+          let one : length (chosen_part (is_level l) w.level (w.cell ∷ [])) ≡ 1 =
+          ap (λ i. length (chosen_part (is_level l) i (w.cell ∷ []))) e ∙ ap (λ b. length (cond b (w.cell ∷ []) [])) (eq-eqb l l refl) in
+          omega (arith, one, named-and_first t.nodes t.root t.level t.pending.items whole.linked l w rest first)
+
+      powers-waiting : (l : ℕ) → l < t.level → (m : ℕ) → m ≡ least_fill t.capacity → w.level ≤ l → suc (m ^ suc l * on_level l) ≤ row_count t
+      powers-waiting zero high m is low =
+          let one : m ^ 1 ≡ m = pow-one m in
+          omega (arith, level-leaves (omega arith) m is, ap (λ n. n * on_level 0) one, row-waits (omega arith))
+      powers-waiting (suc l) high m is low =
+          let a = ap (λ n. n * on_level (suc l)) (pow-suc m (suc l)) ∙ mul_assoc (m ^ suc l) m (on_level (suc l)) in
+          elim (cases_eq w.level (suc l)) [
+            | inl here ↦
+                let wide : suc (m * on_level (suc l)) ≤ on_level l = omega (arith, naming-step l high m is, naming-and_first l here) in
+                let step = mul-le-mul_left (m ^ suc l) wide in
+                omega (arith, step, mul-suc (m ^ suc l) (m * on_level (suc l)), some-power (suc l) m is, a, powers l (omega arith) m is)
+            | inr below ↦
+                let wide : m * on_level (suc l) ≤ on_level l = omega (arith, naming-step l high m is, naming-on_level l) in
+                let step = mul-le-mul_left (m ^ suc l) wide in
+                omega (arith, step, a, powers-waiting l (omega arith) m is (omega (arith, low, below)))
+          ]
+
+      within : w.level ≤ t.level
+      within =
+          let each : Pending D → Type 0 = λ v. v.level ≤ t.level in
+          All-head each w rest (subst (All each) first whole.linked.pending_levels)
+
+      high-waiting : 1 ≤ t.level → least_fill t.capacity ^ t.level < row_count t
+      high-waiting high = by t.level refl high
+        where
+          by : (l : ℕ) → t.level ≡ l → 1 ≤ l → least_fill t.capacity ^ l < row_count t
+          by zero e some = absurd (omega arith)
+          by (suc l) e some =
+              let m = least_fill t.capacity in
+              elim (cases_eq w.level (suc l)) [
+                | inl here ↦
+                    let two : 2 ≤ on_level l = omega (arith, naming-top l e, naming-and_first l here) in
+                    let step = mul-le-mul_left (m ^ suc l) two in
+                    omega (arith, step, some-power (suc l) m refl, powers l (omega arith) m refl)
+                | inr below ↦
+                    let one : 1 ≤ on_level l = omega (arith, naming-top l e, naming-on_level l) in
+                    let step = mul-le-mul_left (m ^ suc l) one in
+                    omega (arith, step, powers-waiting l (omega arith) m refl (omega (arith, within, e, below)))
+              ]
+
+    pub few-levels-waiting : (n : ℕ) → 1 ≤ vec_len t.pending → row_count t ≤ 2 ^ suc n → t.level ≤ n
+    few-levels-waiting n waits few = by t.pending.items refl
+      where
+        by : (ws : List (Pending D)) → t.pending.items ≡ ws → t.level ≤ n
+        by [] none = absurd (omega (arith, waits, ap length none))
+        by (w ∷ rest) first = elim (cases_lt n t.level) [
+          | inl high ↦
+              let two = pow-le-pow_left (least-two t.capacity whole.fitted.cap) t.level in
+              absurd (omega (arith, two, high-waiting w rest first (omega arith), few, pow_mono {i = suc n} {j = t.level} (omega arith)))
+          | inr low ↦ low
+        ]

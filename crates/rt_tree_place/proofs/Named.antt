@@ -4,13 +4,13 @@ use Rattle.std.specs.List.{sum_by, flat_map, All}
 use Rattle.std.proofs.lemmas.Bool.{cases_eq, cases_Bool, true≢false}
 use Rattle.std.proofs.lemmas.Option.{same_Some, none-some}
 use Rattle.std.proofs.lemmas.List.{get_or_past}
-use Rattle.std.proofs.lemmas.List.Elements.{All-weaker}
+use Rattle.std.proofs.lemmas.List.Elements.{All-weaker, All-head}
 use Rattle.slab.specs.Slab.{Slab, get, slab_len}
 use Rattle.rt_tree_node.specs.declared.cell.Cell.{Cell}
 use Rattle.rt_tree_node.specs.declared.cell.Pending.{Pending}
 use Rattle.rt_tree_node.specs.Node.{NodeCells}
 use Rattle.rt_tree_node.specs.Places.{key_of, times_named, level_of, inner_part, inner_cells_of, level_at, parent_at, cells_above, pending_nodes, sum_over}
-use Rattle.rt_tree_node.specs.Sound.{IsLinked, NamesChild}
+use Rattle.rt_tree_node.specs.Sound.{IsLinked, Names, NamesChild}
 use Rattle.rt_tree_node.proofs.Counts.{count-append}
 use Rattle.rt_tree_node.proofs.Places.{inner-at_inner, names_key, named-none, named-one, named-other}
 use Rattle.rt_tree_node.proofs.Links.{above-some, above-none, unnamed-elsewhere, unnamed-vacant, unnamed-by_pending}
@@ -68,6 +68,22 @@ module _ {D : ℕ} where
             true≢false (sym holds ∙ ap test level ∙ fails)) n.cells names) in
             ap (λ b. times_named k (cond b n.cells [])) holds ∙ none
         | inr no_level ↦ ap (λ b. times_named k (cond b n.cells [])) no_level
+      ]
+
+  -- nor by a pending cell, if that is chosen
+  waiting-unnamed : (test : ℕ → Bool) (a : Slab (NodeCells D)) (k l : ℕ) (w : Pending D) → level_at a k ≡ Some l → test l ≡ false →
+      ((i : ℕ) → w.level ≡ suc i → Names a i w.cell) → times_named k (chosen_part test w.level (w.cell ∷ [])) ≡ 0
+  waiting-unnamed test a k l w here fails names = by w.level refl
+    where
+      by : (i : ℕ) → w.level ≡ i → times_named k (chosen_part test i (w.cell ∷ [])) ≡ 0
+      by zero e = refl
+      by (suc i) e = elim (cases_Bool (test i)) [
+        | inl holds ↦
+            let other : key_of w.cell ≢ k = λ same.
+            let level : i ≡ l = same_Some i l (sym (names i e).level_is ∙ ap (level_at a) same ∙ here) in
+            true≢false (sym holds ∙ ap test level ∙ fails) in
+            ap (λ b. times_named k (cond b (w.cell ∷ []) [])) holds ∙ named-other k w.cell other
+        | inr no_level ↦ ap (λ b. times_named k (cond b (w.cell ∷ []) [])) no_level
       ]
 
   module _ (a : Slab (NodeCells D)) (root level : ℕ) (ws : List (Pending D)) (linked : IsLinked a root level ws) where
@@ -145,6 +161,55 @@ module _ {D : ℕ} where
                   let one : ◌≡◌ {A = ℕ} (cond (test n.level) 1 0) 1 = ap (λ b. cond b 1 0) holds in
                   omega (arith, one, times-above test k, above-once k n.level (ap level_of e))
               | inr fails ↦ omega (arith, times-failed test k n.level (ap level_of e) fails)
+            ]
+
+    -- the first pending cell names another node than the cells above
+    pub named-and_first : (l : ℕ) (w : Pending D) (rest : List (Pending D)) → ws ≡ w ∷ rest →
+        length (chosen_part (λ i. nat_eq i l) w.level (w.cell ∷ [])) + sum_over (λ s. length (chosen (λ i. nat_eq i l) s)) a ≤ sum_over (node_in (λ i. nat_eq i l)) a
+    unfolding chosen_cells
+    named-and_first l w rest is =
+        omega (
+          arith,
+          length-flat (chosen test) a.slots,
+          length-append first (flat_map (chosen test) a.slots),
+          upto-list (node_in test) a.slots None,
+          length-few key_of (λ k. node_in test (get a k)) (length a.slots) (first ++ flat_map (chosen test) a.slots) few (λ k h. ap (node_in test) (vacant-past k h)),
+        )
+      where
+        test : ℕ → Bool
+        test = λ i. nat_eq i l
+
+        first : List (Cell D)
+        first = chosen_part test w.level (w.cell ∷ [])
+
+        names : (i : ℕ) → w.level ≡ suc i → Names a i w.cell
+        names =
+            let each : Pending D → Type 0 = λ v. (i : ℕ) → v.level ≡ suc i → Names a i v.cell in
+            All-head each w rest (subst (All each) is linked.pending_named)
+
+        parts : (k : ℕ) → times_named k (first ++ flat_map (chosen test) a.slots) ≡ times_named k first + times_named k (flat_map (chosen test) a.slots)
+        parts k = count-append (names_key k) first (flat_map (chosen test) a.slots)
+
+        waits : (k : ℕ) → times_named k first ≤ times_named k (pending_nodes ws)
+        waits k =
+            omega (
+              arith,
+              chosen_part-le test k w.level (w.cell ∷ []),
+              count-append (names_key k) (inner_part w.level (w.cell ∷ [])) (pending_nodes rest),
+              ap (λ vs. times_named k (pending_nodes vs)) is,
+            )
+
+        few : (k : ℕ) → times_named k (first ++ flat_map (chosen test) a.slots) ≤ node_in test (get a k)
+        few k = by (get a k) refl
+          where
+            by : (s : Option (NodeCells D)) → get a k ≡ s → times_named k (first ++ flat_map (chosen test) a.slots) ≤ node_in test s
+            by None e = omega (arith, parts k, times-vacant test k e, waits k, unnamed-by_pending a ws k (ap level_of e) linked.pending_named)
+            by (Some n) e = elim (cases_Bool (test n.level)) [
+              | inl holds ↦
+                  let one : ◌≡◌ {A = ℕ} (cond (test n.level) 1 0) 1 = ap (λ b. cond b 1 0) holds in
+                  omega (arith, one, parts k, times-above test k, waits k, above-once k n.level (ap level_of e))
+              | inr fails ↦
+                  omega (arith, parts k, times-failed test k n.level (ap level_of e) fails, waiting-unnamed test a k n.level w (ap level_of e) fails names)
             ]
 
     -- each node but the root is named at most once in all

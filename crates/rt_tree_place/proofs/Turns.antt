@@ -16,7 +16,7 @@ use Rattle.rt_tree_node.specs.Settles.{Settles}
 use Rattle.rt_tree_place.specs.Placement.{PlacesLast, TakesRow}
 use Rattle.rt_tree_place.specs.Rise.{InsertsAgain}
 use Rattle.rt_tree_place.specs.Turns.{PlacesInTurn, CountsWork, PlacesRow}
-use Rattle.rt_tree_place.proofs.Few.{few-levels, few-pending, fewer-nodes_than_rows, room-for}
+use Rattle.rt_tree_place.proofs.Few.{few-levels, few-levels-waiting, few-pending, fewer-nodes_than_rows, room-for}
 
 share-few : (capacity : ℕ) → IsCapacity capacity → reinsertion_share capacity ≤ 15
 share-few capacity is = let high = is.1 in omega arith
@@ -58,6 +58,7 @@ module _ {D : ℕ} where
     pub placements : vec_len now.pending + work.placements ≡ vec_len old.pending + reinsertion_share old.capacity * work.reinsertions
     pub few : work.reinsertions ≤ marks
     pub marked : marks ≤ now.level
+    pub grown : old.level ≤ now.level
     pub nodes : slab_len now.nodes + old.level ≡ slab_len old.nodes + work.splits + now.level
     pub alone : (cell : Cell D) → old.pending.items ≡ record { level = 0; cell = cell } ∷ [] →
         Unturned old now marks work ⊎ Turned old now cell work
@@ -77,6 +78,7 @@ module _ {D : ℕ} where
     placements = omega arith;
     few = omega arith;
     marked = omega arith;
+    grown = omega arith;
     nodes = omega arith;
     alone = λ cell e. inl record { same = refl; unmarked = refl; no_splits = refl; no_reinsertions = refl };
   }
@@ -206,14 +208,15 @@ module _ {D : ℕ} where
           placements = turn-placements;
           few = elim places.waits [ inl a ↦ omega (arith, a.counted, a.unmarked, a.marked) | inr n ↦ omega (arith, n.counted, n.marked) ];
           marked = elim places.waits [ inl a ↦ omega (arith, a.marked, a.inner) | inr n ↦ omega (arith, n.marked) ];
+          grown = omega (arith, p.grown);
           nodes = let a = p.nodes in let b = places.len in omega arith;
           alone = λ cell is. inr (elim (p.alone cell is) [ inl u ↦ first-turn cell is u | inr t ↦ later-turn cell t ]);
         }
 
-    pub measure-falls : row_count now ≤ 2 ^ 20 → vec_len new.pending + 16 * (32 - marks1) < vec_len now.pending + 16 * (32 - marks)
+    pub measure-falls : row_count now ≤ 2 ^ 31 → vec_len new.pending + 16 * (32 - marks1) < vec_len now.pending + 16 * (32 - marks)
     measure-falls rows = elim (fewer (share-few old.capacity (subst IsCapacity p.capacity p.whole.fitted.cap))) [
       | inl falls ↦ falls
-      | inr high ↦ let low = few-levels now p.whole 20 rows in let marked = p.marked in absurd (omega arith)
+      | inr high ↦ let low = few-levels now p.whole 31 rows in let marked = p.marked in absurd (omega arith)
     ]
 
   -- what a turn takes is there
@@ -223,7 +226,7 @@ module _ {D : ℕ} where
     pub room : HasRoomFor t.nodes 32
     pub keys : t.nodes.capacity ≤ 2 ^ 62
     pub pending_room : vec_len t.pending + 15 ≤ vec_capacity t.pending
-    pub placements : work.placements ≤ 2 ^ 31
+    pub placements : work.placements + 1 < 2 ^ 32
     pub splits : work.splits ≤ 2 ^ 31
     pub reinsertions : work.reinsertions ≤ 2 ^ 31
 
@@ -233,7 +236,7 @@ module _ {D : ℕ} where
   same-rows : (old now : Arena D) (base marks : ℕ) (work : Work) → Progress old now base marks work → row_count now ≡ row_count old
   same-rows old now base marks work p = p.rows (λ c. true)
 
-  pub rows-bounded : (old now : Arena D) (base marks : ℕ) (work : Work) → Progress old now base marks work → row_count old ≤ 2 ^ 20 → row_count now ≤ 2 ^ 20
+  pub rows-bounded : (old now : Arena D) (base marks : ℕ) (work : Work) → Progress old now base marks work → row_count old ≤ 2 ^ 31 → row_count now ≤ 2 ^ 31
   rows-bounded old now base marks work p rows = omega (arith, same-rows old now base marks work p)
 
   -- as much room as before
@@ -247,11 +250,11 @@ module _ {D : ℕ} where
       record { nodes = omega arith; keys = omega arith }
 
   pub may-turn : (old now : Arena D) (base marks : ℕ) (work : Work) → Progress old now base marks work → IsWhole old → base < vec_len now.pending →
-      row_count old ≤ 2 ^ 20 → HasRoom old (row_count old) → vec_len old.pending + 512 ≤ vec_capacity old.pending → MayTurn now work
+      row_count old ≤ 2 ^ 31 → HasRoom old (row_count old) → vec_len old.pending + 512 ≤ vec_capacity old.pending → MayTurn now work
   may-turn old now base marks work p whole more rows room pending_room =
       let rows_now = rows-bounded old now base marks work p rows in
-      let low = few-levels now p.whole 20 rows_now in
-      let low_old = few-levels old whole 20 rows in
+      let low : now.level ≤ 30 = few-levels-waiting now p.whole 30 (omega arith) rows_now in
+      let grown = p.grown in
       let share = share-few old.capacity whole.fitted.cap in
       let few = p.few in
       let marked = p.marked in

@@ -48,7 +48,7 @@ pub fn place_last<const D: usize>(tree: &mut Arena<D>, marks: &mut u8, work: &mu
     requires room { HasRoomFor tree.old.nodes 32 }
     requires keys { tree.old.nodes.capacity ≤ 2 ^ 62 }
     requires pending_room { vec_len tree.old.pending + 15 ≤ vec_capacity tree.old.pending }
-    requires placements { work.old.placements ≤ 2 ^ 31 }
+    requires placements { work.old.placements + 1 < 2 ^ 32 }
     requires splits { work.old.splits ≤ 2 ^ 31 }
     requires reinsertions { work.old.reinsertions ≤ 2 ^ 31 }
     ensures { PlacesLast tree.old tree.new marks.old marks.new work.old work.new }

@@ -13,7 +13,7 @@ settle-requires g c =
     let whole : IsWhole mid = whole-awaiting old mid cell c.await_leaf.ensures c.requires.idle c.requires.whole c.requires.absent c.facts.ensures in
     let one = waits-one old mid cell c.await_leaf.ensures c.requires.idle in
     let waits : 0 < vec_len mid.pending = omega arith in
-    let rows : row_count mid ≤ 2 ^ 20 = omega (arith, rows-awaiting old mid cell c.await_leaf.ensures c.requires.idle) in
+    let rows : row_count mid ≤ 2 ^ 31 = omega (arith, rows-awaiting old mid cell c.await_leaf.ensures c.requires.idle) in
     let room : HasRoom mid (row_count mid) = room-awaiting old mid cell c.await_leaf.ensures c.requires.idle c.requires.room in
     let pending_room : vec_len mid.pending + 512 ≤ vec_capacity mid.pending = omega arith in
     search rules

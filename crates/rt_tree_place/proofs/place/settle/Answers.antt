@@ -1,4 +1,4 @@
-use Rattle.std.proofs.Common.{◌+◌, ◌^◌, ◌≤◌, vec_len, vec_capacity, arith, rules}
+use Rattle.std.proofs.Common.{◌+◌, ◌^◌, ◌<◌, ◌≤◌, vec_len, vec_capacity, arith, rules}
 use Rattle.slab.specs.Slab.{HasRoomFor}
 use Rattle.rt_tree_node.specs.Whole.{IsWhole}
 use Rattle.rt_tree_place.proofs.Turns.{progress-none, may-turn, measure-falls, progress-turn, rows-bounded, settles-end, counts-end, row-end}
@@ -19,7 +19,7 @@ place_last-requires g c =
     let room : HasRoomFor t.nodes 32 = ready.room in
     let keys : t.nodes.capacity ≤ 2 ^ 62 = ready.keys in
     let pending_room : vec_len t.pending + 15 ≤ vec_capacity t.pending = ready.pending_room in
-    let placements : c.loop-tree.work.placements ≤ 2 ^ 31 = ready.placements in
+    let placements : c.loop-tree.work.placements + 1 < 2 ^ 32 = ready.placements in
     let splits : c.loop-tree.work.splits ≤ 2 ^ 31 = ready.splits in
     let reinsertions : c.loop-tree.work.reinsertions ≤ 2 ^ 31 = ready.reinsertions in
     search rules

@@ -44,7 +44,7 @@ place_pending-requires g c =
     let fewer = fewer-rows s0 c.take_row.new.tree s2 s3 c.args.id.now location.leaf location.at location.rect c.take_row.ensures
     c.condense.ensures c.turn_round.ensures.items c.turn_round.ensures.room in
     let old = c.requires.rows in
-    let rows : row_count s3 ≤ 2 ^ 20 = omega arith in
+    let rows : row_count s3 ≤ 2 ^ 31 = omega arith in
     let room : HasRoom s3 (row_count s3) = ready-room s0 c.take_row.new.tree s2 s3 c.args.id.now location.leaf location.at
     location.rect c.take_row.ensures c.condense.ensures c.turn_round.ensures.items c.turn_round.ensures.room c.requires.room in
     let pending_room : vec_len s3.pending + 512 ≤ vec_capacity s3.pending = ready-pending s0 c.take_row.new.tree s2 s3 c.args.id.now

@@ -20,7 +20,7 @@ settle-requires g c =
     let one = one_waits old id location b r.whole r.branched r.idle r.location r.alone c.leaves_facts.ensures c.remove_cell.ensures
     u c.args.rect.now c.facts.ensures c.push_row.ensures.items c.push_row.ensures.room in
     let waits : 0 < vec_len mid.pending = omega arith in
-    let rows : row_count mid ≤ 2 ^ 20 = omega (arith, same, r.rows) in
+    let rows : row_count mid ≤ 2 ^ 31 = omega (arith, same, r.rows) in
     let room : HasRoom mid (row_count mid) = room_pending old id location b r.whole r.branched r.idle r.location r.alone c.leaves_facts.ensures c.remove_cell.ensures
     u c.args.rect.now c.facts.ensures c.push_row.ensures.items c.push_row.ensures.room r.room in
     let pending_room : vec_len mid.pending + 512 ≤ vec_capacity mid.pending = omega (arith, c.push_row.ensures.room, one) in

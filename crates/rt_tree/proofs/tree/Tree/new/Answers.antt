@@ -12,7 +12,7 @@ invariant_of-result g c =
     let leaf = subst (λ (n : NodeCells g.row.D). Updates a b root (Some n)) c.new.ensures c.add_node-root.ensures.updates in
     let many : 33 ≤ b.capacity = omega (arith, c.in_ok-nodes.ensures.capacity, c.add_node-root.ensures.capacity) in
     let few : b.capacity ≤ 2 ^ 62 = omega (arith, c.capacity.ensures.value, c.add_node-root.ensures.capacity, c.if-capacity-gt-MOST_NODES.false) in
-    let room : 1024 ≤ vec_capacity c.in_ok-pending.pending = omega (arith, c.in_ok-pending.ensures.capacity) in
+    let room : 1152 ≤ vec_capacity c.in_ok-pending.pending = omega (arith, c.in_ok-pending.ensures.capacity) in
     fresh-kept a b root c.in_ok-nodes.ensures.empty leaf (record {
       nodes = b;
       leaves = c.with_hasher.result;

@@ -42,9 +42,9 @@ replace_found-requires g c =
     let branched : IsBranched t = k.branched in
     let location : IsLocationOf t c.args.id.now c.unwrap-location.result =
     found-there t (settled i k) c.args.id.now c.find_row.result c.unwrap-location.result c.find_row.ensures c.unwrap-location.ensures in
-    let rows : row_count t ≤ 2 ^ 20 = k.rows in
+    let rows : row_count t ≤ 2 ^ 31 = k.rows in
     let room : HasRoom t (row_count t) = less-room t (row_count t + i.spare) (row_count t) k.room (omega arith) in
-    let pending_room : (least_fill t.capacity - 1) * t.level + 512 ≤ vec_capacity t.pending = way-waits i k (c.levels_are_few.ensures.doubles 20 k.rows) in
+    let pending_room : (least_fill t.capacity - 1) * t.level + 512 ≤ vec_capacity t.pending = way-waits i k (c.levels_are_few.ensures.doubles 31 k.rows) in
     let some : 1 ≤ i.spare = subst (λ (v : TreeLists g.row.D). 1 ≤ v.spare) (sym c.self.view_is) c.requires.spare in
     let leaves_room : 1 ≤ spare t.leaves = omega (arith, some, k.leaves_room) in
     let one_more : 513 ≤ vec_capacity t.pending = omega (arith, k.pending_room) in

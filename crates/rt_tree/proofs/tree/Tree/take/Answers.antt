@@ -28,9 +28,9 @@ remove_found-requires g c =
     let whole : IsWhole t = k.whole in
     let branched : IsBranched t = k.branched in
     let location : IsLocationOf t c.args.id.now c.in_ok-found.found = c.in_ok-found.ensures in
-    let rows : row_count t ≤ 2 ^ 20 = k.rows in
+    let rows : row_count t ≤ 2 ^ 31 = k.rows in
     let room : HasRoom t (row_count t) = less-room t (row_count t + i.spare) (row_count t) k.room (omega arith) in
-    let pending_room : (least_fill t.capacity - 1) * t.level + 512 ≤ vec_capacity t.pending = way-waits i k (c.levels_are_few.ensures.doubles 20 k.rows) in
+    let pending_room : (least_fill t.capacity - 1) * t.level + 512 ≤ vec_capacity t.pending = way-waits i k (c.levels_are_few.ensures.doubles 31 k.rows) in
     search rules
 
 pub invariant_of-self : goal.invariant_of-self
