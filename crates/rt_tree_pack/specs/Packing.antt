@@ -9,15 +9,28 @@ use Rattle.rt_box.specs.Rect.{IsBox}
 use Rattle.rt_tree_node.specs.declared.arena.Arena.{Arena}
 use Rattle.rt_tree_node.specs.declared.cell.Cell.{Cell}
 use Rattle.rt_tree_node.specs.Places.{times_listed, count_rows}
-use Rattle.rt_tree_node.specs.Whole.{IsWhole, IsBranched}
+use Rattle.rt_tree_node.specs.Whole.{IsWhole, IsBranched, most_rows_of_a_tree}
 use Rattle.rt_tree_node.specs.Homes.{KeepsIds}
-use Rattle.rt_tree_pack.specs.declared.entries.EntryFault.{EntryFault}
-use Rattle.rt_tree_pack.specs.declared.entries.EntryFault.TheVariants.{Repeated, Memory}
+use Rattle.rt_tree_pack.specs.declared.fault.PackFault.{PackFault}
+use Rattle.rt_tree_pack.specs.declared.fault.PackFault.TheVariants.{TooMany, Repeated, Memory}
 
 -- Of a packed tree's nodes, only the root and the last two of each level may have fewer cells than the capacity. So there
 -- is at most one node for each half capacity of rows, beside the root.
 abbrev pub most_packed_nodes : ℕ → ℕ → ℕ
 most_packed_nodes capacity rows = 1 + rows / (capacity / 2)
+
+-- the id at the position stands earlier too, and is the first that does
+pub record IsFirstRepeated (ids : List ℤ) (at : ℕ) : Type 0 where
+  pub id : ℤ
+  pub here : slice_get ids at ≡ Some id
+  pub earlier : 0 < count_by (int_eq id) (take at ids)
+  pub first : (other : ℤ) → count_by (int_eq other) (take at ids) ≤ 1
+
+-- a fault that is said of rows with these ids holds of them; want of memory says nothing of them
+abbrev pub IsFaultOf : List ℤ → PackFault → Type 0
+IsFaultOf ids TooMany = most_rows_of_a_tree < length ids
+IsFaultOf ids (Repeated at) = IsFirstRepeated ids at
+IsFaultOf ids Memory = Unit {0}
 
 module _ {D : ℕ} where
   -- a tree without rows: its root is a leaf, and there is no other node
@@ -28,18 +41,6 @@ module _ {D : ℕ} where
     pub alone : (key : ℕ) → key ≢ t.root → get t.nodes key ≡ None
     pub one : slab_len t.nodes ≡ 1
     pub idle : t.pending.items ≡ []
-
-  -- the row at the position has the id of an earlier one, and is the first that has
-  pub record IsFirstRepeated (rows : List (Cell D)) (at : ℕ) : Type 0 where
-    pub row : Cell D
-    pub here : slice_get rows at ≡ Some row
-    pub earlier : 0 < times_listed row.number (take at rows)
-    pub first : (id : ℤ) → times_listed id (take at rows) ≤ 1
-
-  -- a fault that names a row names the first that has the id of an earlier one
-  abbrev pub NamesRepeated : List (Cell D) → EntryFault → Type 0
-  NamesRepeated rows (Repeated at) = IsFirstRepeated rows at
-  NamesRepeated rows Memory = Unit {0}
 
 module _ {D : ℕ} {S : Type 0} where
   -- no id stands twice among the rows, and these ids have an entry, and no others

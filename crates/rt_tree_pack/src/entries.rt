@@ -3,25 +3,15 @@
 ghost use Rattle.std.specs.Prelude.{◌≡◌, [], length, OnOk, IfOk, IfErr, All};
 ghost use Rattle.rt_box.specs.Rect.{IsBox};
 ghost use Rattle.indexmap.specs.IndexMap.{index_map_len};
-ghost use Rattle.rt_tree_pack.specs.Packing.{HasEntries, NamesRepeated};
+ghost use Rattle.rt_tree_node.specs.Places.{numbers};
+ghost use Rattle.rt_tree_pack.specs.Packing.{HasEntries, IsFaultOf};
 ghost use Rattle.rt_tree_pack.specs.Steps.{Enters};
 
+use crate::fault::PackFault;
 use indexmap::IndexMap;
 use rt_tree_node::{Cell, Key};
 use std::alloc::AllocError;
 use std::hash::RandomState;
-
-/// Why rows get no entries.
-#[derive(Clone, Copy, PartialEq, Eq, Debug)]
-pub enum EntryFault {
-    /// The row at this position has the id of an earlier one, and is the first that has.
-    Repeated {
-        /// The position, from 0.
-        at: usize,
-    },
-    /// No memory is left.
-    Memory,
-}
 
 /// Gives the id an entry that leads to that leaf, unless it has one; returns whether it had none.
 fn enter_id(
@@ -46,19 +36,18 @@ pub fn enter<const D: usize>(
     leaves: &mut IndexMap<i64, Key, RandomState>,
     rows: &[Cell<D>],
     leaf: Key,
-) -> Result<(), EntryFault>
+) -> Result<(), PackFault>
     requires { leaves.old.entries ≡ [] }
     ensures entries { OnOk result (HasEntries leaves.new rows.now) }
     ensures len { OnOk result (index_map_len leaves.new ≡ length rows.now) }
     ensures boxes { OnOk result (All (λ c. IsBox D c.rect) rows.now) }
-    ensures repeated { IfErr result (λ fault. NamesRepeated rows.now fault) }
+    ensures repeated { IfErr result (λ fault. IsFaultOf (numbers rows.now) fault) }
 {
     for (at, row) in rows.iter().enumerate() {
         row.rect.facts();
-        match enter_id(leaves, &row.number, leaf) {
-            Ok(true) => {}
-            Ok(false) => return Err(EntryFault::Repeated { at }),
-            Err(_) => return Err(EntryFault::Memory),
+        let is_new = enter_id(leaves, &row.number, leaf)?;
+        if !is_new {
+            return Err(PackFault::Repeated { at });
         }
     }
     Ok(())

@@ -16,6 +16,7 @@
 
 mod attach;
 mod entries;
+mod fault;
 mod fill;
 mod level;
 mod node;
@@ -23,5 +24,6 @@ mod packing;
 mod root;
 mod tile;
 
-pub use entries::{EntryFault, enter};
+pub use entries::enter;
+pub use fault::PackFault;
 pub use packing::pack;

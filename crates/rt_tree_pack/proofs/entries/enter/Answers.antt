@@ -1,29 +1,25 @@
-use Rattle.std.proofs.Common.{◌≡◌, ◌+◌, ◌<◌, ◌∷◌, ◌++◌, [], take, length, true, false, Some, arith, ap, ◌∙◌, sym, subst}
+use Rattle.std.proofs.Common.{◌≡◌, ◌+◌, ◌<◌, ◌∷◌, ◌++◌, [], take, length, true, false, arith, rules, ap, ◌∙◌, sym, subst}
 use Rattle.std.specs.List.{All}
 use Rattle.std.proofs.lemmas.List.{take_more, take_all}
 use Rattle.std.proofs.lemmas.List.Elements.{All-push}
-use Rattle.std.proofs.lemmas.Option.{slice_get-get_or}
 use Rattle.rt_box.specs.Rect.{IsBox}
 use Rattle.rt_tree_node.specs.declared.cell.Cell.{Cell}
 use Rattle.rt_tree_pack.specs.Packing.{HasEntries}
 use Rattle.rt_tree_pack.specs.Steps.{Enters}
-use Rattle.rt_tree_pack.proofs.Entered.{entries-more, entered-once, entered-few}
+use Rattle.rt_tree_pack.proofs.Entered.{entries-more, first-repeated}
 use Rattle.rt_tree_pack.proofs.entries.enter.Goals as goal
 
-pub returns-in-Ok-false-clause-repeated : goal.returns-in-Ok-false-clause-repeated
-returns-in-Ok-false-clause-repeated g c =
+pub returns-then-not-is_new-clause-repeated : goal.returns-then-not-is_new-clause-repeated
+returns-then-not-is_new-clause-repeated g c =
     let rows = c.args.rows.now in
     let row = c.index-rows-at.result in
     let i = c.loop-at.at in
     let m = c.loop-at.leaves in
+    let n = c.enter_id.new.leaves in
     let within : i < length rows = omega (arith, c.loop-at-test.true) in
-    let there : Enters m c.enter_id.new.leaves row.number c.args.leaf false = subst (Enters m c.enter_id.new.leaves row.number c.args.leaf) c.in-Ok-false.field-0-test c.in-Ok-false.ensures in
-    record {
-      row = row;
-      here = slice_get-get_or rows i row within ∙ ap Some (sym c.index-rows-at.is);
-      earlier = entered-once m (take i rows) row.number c.loop-at.invariant.entries there;
-      first = λ id. entered-few m (take i rows) id c.loop-at.invariant.entries;
-    }
+    let old : c.in_ok-is_new.is_new ≡ false = search rules in
+    let there : Enters m n row.number c.args.leaf false = subst (Enters m n row.number c.args.leaf) old c.in_ok-is_new.ensures in
+    first-repeated m rows i row c.loop-at.invariant.entries within c.index-rows-at.is there
 
 pub loop-at-preserved : goal.loop-at-preserved
 loop-at-preserved g c =
@@ -34,7 +30,8 @@ loop-at-preserved g c =
     let n = c.enter_id.new.leaves in
     let within : i < length rows = omega (arith, c.loop-at-test.true) in
     let next : take (i + 1) rows ≡ take i rows ++ row ∷ [] = take_more rows i row within ∙ ap (λ (x : Cell g.row.D). take i rows ++ x ∷ []) (sym c.index-rows-at.is) in
-    let learns : Enters m n row.number c.args.leaf true = subst (Enters m n row.number c.args.leaf) c.in-Ok-true.field-0-test c.in-Ok-true.ensures in
+    let new : c.in_ok-is_new.is_new ≡ true = search rules in
+    let learns : Enters m n row.number c.args.leaf true = subst (Enters m n row.number c.args.leaf) new c.in_ok-is_new.ensures in
     record {
       entries = subst (HasEntries n) (sym next) (entries-more m n (take i rows) row c.args.leaf c.loop-at.invariant.entries learns.0 learns.1);
       len = omega (arith, learns.1.len, c.loop-at.invariant.len);
