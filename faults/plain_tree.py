@@ -8,6 +8,7 @@ from __future__ import annotations
 
 from collections.abc import Iterable, Iterator, Sequence
 from dataclasses import dataclass
+from itertools import count
 from math import prod
 
 # The least and the greatest number on each axis.
@@ -116,6 +117,32 @@ def paths(node: Node, *above: Node) -> Iterator[tuple[Node, ...]]:
             yield from paths(child, *above, node)
 
 
+def runs(cells: Sequence[Cell], capacity: int) -> Iterator[list[Cell]]:
+    """The cells of each node: all that it can have, but not so many that too few are left for the last one."""
+    while cells:
+        left = len(cells)
+        first = left if left <= capacity else min(capacity, left - 2 * capacity // 5)
+        yield list(cells[:first])
+        cells = cells[first:]
+
+
+def tiled(cells: Sequence[Cell], axes: int, capacity: int) -> list[Cell]:
+    """Sort-tile-recursive: the cells sorted along the first axis by their centres and cut into slabs, each slab along the next axis,
+    and so on. Of equal centres the row of the lower id comes first, or the node that was made first."""
+    nodes = -(-len(cells) // capacity)
+    slabs = next(number for number in count(1) if number**axes >= nodes)
+    places = {id(cell): cell.id if isinstance(cell, Row) else place for place, cell in enumerate(cells)}
+
+    def ordered(part: Sequence[Cell], axis: int) -> list[Cell]:
+        part = sorted(part, key=lambda cell: (sum(cell.box[axis]), places[id(cell)]))
+        if axis == axes - 1:
+            return part
+        length = capacity * slabs ** (axes - 1 - axis)
+        return [cell for start in range(0, len(part), length) for cell in ordered(part[start : start + length], axis + 1)]
+
+    return ordered(cells, 0)
+
+
 class Tree:
     """A tree of rows."""
 
@@ -125,6 +152,15 @@ class Tree:
         self.least = 2 * capacity // 5
         self.share = 3 * capacity // 10
         self.root = Node(0, [])
+
+    def pack(self, rows: Sequence[Row]) -> None:
+        """All rows at once: each level is cut into nodes, until the root can have the last one's (Leutenegger, Lopez, Edgington
+        1997)."""
+        level, cells = 0, list(rows)
+        while len(cells) > self.capacity:
+            cells = [Node(level, run) for run in runs(tiled(cells, self.axes, self.capacity), self.capacity)]
+            level += 1
+        self.root = Node(level, cells)
 
     def insert(self, id: int, box: Box) -> None:
         """A row comes."""

@@ -17,3 +17,4 @@ pub mod Leads
 pub mod Exact
 pub mod Low
 pub mod Nearby
+pub mod FromRows

@@ -5,3 +5,5 @@ pub mod TreeInside
 pub mod Search
 pub mod Way
 pub mod Changes
+pub mod Packing
+pub mod PackingInside

@@ -4,6 +4,7 @@
 //! `Tree` is seen as lists, the way `rt_check` takes a tree from outside: its nodes in preorder, numbered from 1, with
 //! their cells, and an entry for each row.
 //!
+//! - `from_rows` makes a tree of a list of rows, packed all at once.
 //! - `insert` and `remove` take no memory and don't fail: `reserve` made the room. Each other row stays, and if no node gets
 //!   overfull or underfull, no other row moves. Each step is named: where best children lead each cell that is placed, which
 //!   cells an overfull node gives up, and by which cut one is split. `take` removes a row that may be missing.
@@ -15,13 +16,16 @@
 //!   list of the caller's, and `count` says how many they are.
 //! - `nearest` lists the rows whose boxes are nearest to a point.
 //!
-//! Stands on `rt_tree_node`, `rt_tree_walk`, `rt_tree_nearest`, `rt_tree_place` and `rt_tree_remove`, and on `rt_check` for
+//! Stands on `rt_tree_node`, `rt_tree_walk`, `rt_tree_nearest`, `rt_tree_place`, `rt_tree_remove` and `rt_tree_pack`, and on `rt_check` for
 //! the tree from outside. Definitions: `specs/Lists.antt` (a tree from outside), `Rows.antt`, `Boxes.antt`, `Changes.antt`
-//! (insertion, removal and replacement), `Search.antt`, `Way.antt`, and `specs/Nearest.antt` of `rt_tree_nearest`.
+//! (insertion, removal and replacement), `Search.antt`, `Way.antt`, `Packing.antt`
+//! (a tree of a list of rows), and `specs/Nearest.antt` of `rt_tree_nearest`.
 #![tactic(auto)]
 
+mod packing;
 mod tree;
 
 pub use rt_tree_node::Work;
+pub use rt_tree_pack::PackFault;
 pub use rt_tree_walk::{Found, Row};
 pub use tree::{MOST_ROWS_OF_A_TREE, Tree};

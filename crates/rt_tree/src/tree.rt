@@ -3,7 +3,7 @@
 //! Rows come and go without taking memory: `reserve` makes room for the nodes of any tree with that many rows. Between two
 //! calls no cell is pending and no node is out of shape (`IsKept` in `specs/TreeInside.antt`).
 
-ghost use Rattle.std.specs.Prelude.{◌≡◌, ◌≢◌, ◌<◌, ◌≤◌, ◌+◌, ◌-◌, ◌*◌, ◌/◌, ◌^◌, ℤ, max, length, is_some, Some, None, IsSome, IfSome, IfNone, IfOk, OnOk, OnErr};
+ghost use Rattle.std.specs.Prelude.{◌≡◌, ◌≢◌, ◌<◌, ◌≤◌, ◌+◌, ◌-◌, ◌*◌, ◌/◌, ◌^◌, ℤ, max, length, is_some, Some, None, IsSome, IfSome, IfNone, IfOk, IfErr, OnOk, OnErr};
 ghost use Rattle.std.specs.List.{list_any};
 ghost use Rattle.std.specs.Ordering.{int_eq};
 ghost use Rattle.rt_box.specs.Capacity.{least_fill};
@@ -12,15 +12,18 @@ ghost use Rattle.rt_tree.specs.Lists.{root_level, most_nodes, least_rows, empty_
 ghost use Rattle.rt_tree.specs.Rows.{box_of, rows_of, GainsRow, LosesRow};
 ghost use Rattle.rt_tree.specs.Boxes.{HasBoxes};
 ghost use Rattle.rt_tree.specs.Changes.{IsInsertion, IsRemoval, ReplacesOther};
+ghost use Rattle.rt_tree.specs.Packing.{ids, IsPackedOf};
 ghost use Rattle.rt_tree.specs.Search.{FindsIn, FindsInAfter, CountsIn};
+ghost use Rattle.rt_tree_pack.specs.Packing.{IsFaultOf};
 ghost use Rattle.rt_tree_walk.specs.Search.{StaysInFront};
 ghost use Rattle.rt_tree_nearest.specs.Nearest.{nearest_rows};
 
-use indexmap::IndexMap;
+use crate::packing::{bare_arena, pack_rows};
 use rt_box::{Capacity, Rect, Window};
 use rt_check::Shadow;
 use rt_tree_nearest::nearest;
-use rt_tree_node::{Arena, Node, Work, add_node, leaves_facts};
+use rt_tree_node::{Arena, Node, Work, leaves_facts};
+use rt_tree_pack::PackFault;
 use rt_tree_place::{insert_row, levels_are_few, nodes_are_few};
 use rt_tree_remove::{find_row, remove_found, replace_found};
 use rt_tree_walk::{Found, Row, count, search, search_into, shadow_of};
@@ -34,7 +37,7 @@ use std::marker::Model;
 const NODES_AHEAD: usize = 33;
 
 /// The most nodes that a tree has room for, so that a key is a cell's number.
-const MOST_NODES: usize = 1 << 62;
+pub(crate) const MOST_NODES: usize = 1 << 62;
 
 /// The most nodes that room grows to by doubling.
 const FEW_NODES: usize = 512;
@@ -55,10 +58,10 @@ pub const MOST_ROWS_OF_A_TREE: usize = 1 << 31;
 const FIRST_ROWS: usize = 1 << 20;
 
 /// The most cells that may be pending at once: those of an underfull node on each level, and 512.
-const PENDING_ROOM: usize = 1152;
+pub(crate) const PENDING_ROOM: usize = 1152;
 
 /// A box.
-fn point<const D: usize>() -> Rect<D>
+pub(crate) fn point<const D: usize>() -> Rect<D>
     requires some { 1 ≤ D }
     requires few { D ≤ 3 }
 {
@@ -92,7 +95,7 @@ impl<const D: usize> Model for Tree<D> {
 }
 
 /// The nodes that there is to be room for if there are that many rows: each except the root has `capacity.least()` cells.
-fn nodes_for(capacity: Capacity, rows: usize) -> usize
+pub(crate) fn nodes_for(capacity: Capacity, rows: usize) -> usize
     requires { rows ≤ 2 ^ 43 }
     ensures { rows + (least_fill capacity - 1) * 33 ≤ (least_fill capacity - 1) * result }
 {
@@ -192,24 +195,31 @@ impl<const D: usize> Tree<D> {
         requires few { D ≤ 3 }
         ensures { IfOk result (λ tree. tree ≡ record { lists = empty_lists capacity; spare = 0 }) }
     {
-        capacity.facts();
-        let mut nodes = Slab::with_capacity(alloc, NODES_AHEAD)?;
-        if nodes.capacity() > MOST_NODES {
-            return Err(AllocError);
-        }
-        let pending = Vec::with_capacity(alloc, PENDING_ROOM)?;
-        let root = add_node(&mut nodes, Node::new(0, None, &point()));
-        Ok(Tree {
-            arena: Arena {
-                nodes,
-                leaves: IndexMap::with_hasher(alloc, keys),
-                pending,
-                root,
-                level: 0,
-                capacity,
-            },
-            spare: 0,
-        })
+        let arena = bare_arena(alloc, keys, capacity, NODES_AHEAD)?;
+        Ok(Tree { arena, spare: 0 })
+    }
+
+    /// A tree of these rows, packed all at once: few of its nodes have fewer cells than they may have. Look-ups by id hash by
+    /// `keys`, which are to be random if others choose the ids.
+    ///
+    /// # Errors
+    ///
+    /// `TooMany` if there are more rows than `MOST_ROWS_OF_A_TREE`, `Repeated` if two have one id, and `Memory` if no memory is
+    /// left.
+    pub fn from_rows(
+        alloc: Global,
+        keys: RandomState,
+        capacity: Capacity,
+        rows: &[Row<D>],
+    ) -> Result<Tree<D>, PackFault>
+        requires some { 1 ≤ D }
+        requires few { D ≤ 3 }
+        ensures tree { IfOk result (λ tree. IsPackedOf tree.lists capacity rows.now) }
+        ensures spare { IfOk result (λ tree. tree.spare ≡ 0) }
+        ensures fault { IfErr result (λ fault. IsFaultOf (ids rows.now) fault) }
+    {
+        let arena = pack_rows(alloc, keys, capacity, rows)?;
+        Ok(Tree { arena, spare: 0 })
     }
 
     /// The number of rows.
