@@ -14,7 +14,8 @@
 //!   each cell has a box, and there are few nodes and few levels.
 //! - `search` lists the rows that a window admits, and counts the nodes that it went into; `search_into` appends them to a
 //!   list of the caller's, and `count` says how many they are.
-//! - `nearest` lists the rows whose boxes are nearest to a point.
+//! - `nearest` lists the rows whose boxes are nearest to a point, `within` those of them within a distance, and
+//!   `nearest_to` the rows nearest to a box.
 //!
 //! Stands on `rt_tree_node`, `rt_tree_walk`, `rt_tree_nearest`, `rt_tree_place`, `rt_tree_remove` and `rt_tree_pack`, and on `rt_check` for
 //! the tree from outside. Definitions: `specs/Lists.antt` (a tree from outside), `Rows.antt`, `Boxes.antt`, `Changes.antt`

@@ -16,12 +16,12 @@ ghost use Rattle.rt_tree.specs.Packing.{ids, IsPackedOf};
 ghost use Rattle.rt_tree.specs.Search.{FindsIn, FindsInAfter, CountsIn};
 ghost use Rattle.rt_tree_pack.specs.Packing.{IsFaultOf};
 ghost use Rattle.rt_tree_walk.specs.Search.{StaysInFront};
-ghost use Rattle.rt_tree_nearest.specs.Nearest.{nearest_rows};
+ghost use Rattle.rt_tree_nearest.specs.Nearest.{nearest_rows, rows_within, nearest_rows_to};
 
 use crate::packing::{bare_arena, pack_rows};
 use rt_box::{Capacity, Rect, Window};
 use rt_check::Shadow;
-use rt_tree_nearest::nearest;
+use rt_tree_nearest::{nearest, nearest_to, within};
 use rt_tree_node::{Arena, Node, Work, leaves_facts};
 use rt_tree_pack::PackFault;
 use rt_tree_place::{insert_row, levels_are_few, nodes_are_few};
@@ -379,6 +379,41 @@ impl<const D: usize> Tree<D> {
         ensures { IfOk result (λ rows. rows.items ≡ nearest_rows point.now k (rows_of self.now.lists)) }
     {
         nearest(alloc, &self.arena, point, k)
+    }
+
+    /// Of the rows whose boxes are within the distance of the point, the `k` nearest, in the order of `nearest`. The distance
+    /// is in the unit of coordinates; a row is within it if the squared distance is at most its square.
+    ///
+    /// # Errors
+    ///
+    /// `AllocError` if no memory is left for what is returned or seen.
+    pub fn within(
+        &self,
+        alloc: Global,
+        point: &[i32; D],
+        distance: u64,
+        k: usize,
+    ) -> Result<Vec<Row<D>>, AllocError>
+        ensures { IfOk result (λ rows. rows.items ≡ rows_within point.now distance k (rows_of self.now.lists)) }
+    {
+        within(alloc, &self.arena, point, distance, k)
+    }
+
+    /// The `k` rows whose boxes are nearest to the box, by squared distance and then by id; all rows if there are fewer. Boxes
+    /// that have a point in common have the distance 0.
+    ///
+    /// # Errors
+    ///
+    /// `AllocError` if no memory is left for what is returned or seen.
+    pub fn nearest_to(
+        &self,
+        alloc: Global,
+        rect: &Rect<D>,
+        k: usize,
+    ) -> Result<Vec<Row<D>>, AllocError>
+        ensures { IfOk result (λ rows. rows.items ≡ nearest_rows_to rect.now k (rows_of self.now.lists)) }
+    {
+        nearest_to(alloc, &self.arena, rect, k)
     }
 
     /// Makes room for `more` further rows. The room grows by as many rows as there are, so that many reservations of one row

@@ -1,5 +1,5 @@
--- What a candidate stands for: a row for itself, and a node for the rows below it.
-use Rattle.std.proofs.Common.{◌≡◌, ℕ, zero, suc, ◌<◌, ◌≤◌, true, false, cond, ℤ, List, [], ◌∷◌, ◌++◌, length, map, get_or, Contains, Option, Some, None, unwrap_or, nat_eq, ne_eqb, append-nil, arith, refl, ap, sym, ◌∙◌, subst, inl, inr}
+-- What a branch stands for: the rows below its node.
+use Rattle.std.proofs.Common.{◌≡◌, ℕ, zero, suc, ◌<◌, ◌≤◌, ℤ, List, [], ◌∷◌, ◌++◌, length, map, get_or, Contains, Option, Some, None, unwrap_or, nat_eq, append-nil, arith, refl, ap, sym, ◌∙◌, subst, inl, inr}
 use Rattle.std.specs.List.{All, count_by, sum_by, flat_map}
 use Rattle.std.specs.Ordering.{int_eq}
 use Rattle.std.specs.declared.cmp.Reverse.{Reverse}
@@ -7,7 +7,7 @@ use Rattle.std.proofs.lemmas.Bool.{cases_lt}
 use Rattle.std.proofs.lemmas.Option.{none-some, same_Some}
 use Rattle.std.proofs.lemmas.List.{get_or_past}
 use Rattle.std.proofs.lemmas.List.Concat.{flat_map-append}
-use Rattle.std.proofs.lemmas.List.Elements.{All-nil, All-cons, All-head, All-tail, All-append, All-map, All-same, All-weaker, All-contains, Contains-get_or}
+use Rattle.std.proofs.lemmas.List.Elements.{All-nil, All-head, All-tail, All-append, All-map, All-same, All-weaker, All-contains, Contains-get_or}
 use Rattle.std.proofs.Math.Path.{fun_ext}
 use Rattle.std.proofs.lemmas.List.Sums.{count_by-le-length, sum_by-cons}
 use Rattle.indexmap.specs.IndexMap.{get as leaf_of}
@@ -29,14 +29,11 @@ use Rattle.rt_tree_walk.proofs.Judging.{count-mapped}
 use Rattle.rt_tree_walk.proofs.Reaching.{hull-contained}
 use Rattle.rt_tree_walk.proofs.Progress.{IsSettled}
 use Rattle.rt_tree_walk.proofs.Listed.{levels-below, listed-there, listed-once, contained-from_times}
-use Rattle.rt_tree_nearest.specs.declared.candidate.Candidate.{Candidate}
-use Rattle.rt_tree_nearest.specs.Nearest.{squared_distance, rows_in}
-use Rattle.rt_tree_nearest.specs.Candidates.{queued, own_row, own_key, own_level}
 use Rattle.rt_tree_nearest.proofs.Distances.{distance-le}
 use Rattle.rt_tree_nearest.proofs.Same.{count-joined}
-
-above-leaf : (l : ℕ) → nat_eq (suc l) 0 ≡ false
-above-leaf l = ne_eqb (suc l) 0 (λ e. absurd (omega arith))
+use Rattle.rt_tree_nearest.specs.declared.candidate.Branch.{Branch}
+use Rattle.rt_tree_nearest.specs.Nearest.{box_distance, rows_in}
+use Rattle.rt_tree_nearest.specs.Candidates.{queued}
 
 module _ {D : ℕ} where
   abbrev pub leaf_rows : Slab (NodeCells D) → ℕ → List (Row D)
@@ -46,79 +43,59 @@ module _ {D : ℕ} where
   abbrev pub rows_under : Slab (NodeCells D) → ℕ → ℕ → List (Row D)
   rows_under a l key = flat_map (leaf_rows a) (keys_in a l key)
 
-  abbrev pub rows_below : Slab (NodeCells D) → Reverse (Candidate D) → List (Row D)
-  rows_below a e = cond e.0.is_row (own_row e.0 ∷ []) (rows_under a (own_level a e.0) (own_key e.0))
+  abbrev pub own_level : Slab (NodeCells D) → Reverse Branch → ℕ
+  own_level a e = unwrap_or (level_at a e.0.key) 0
 
-  abbrev pub keys_below : Slab (NodeCells D) → Reverse (Candidate D) → List ℕ
-  keys_below a e = cond e.0.is_row [] (keys_in a (own_level a e.0) (own_key e.0))
+  abbrev pub rows_below : Slab (NodeCells D) → Reverse Branch → List (Row D)
+  rows_below a e = rows_under a (own_level a e) e.0.key
 
-  module _ (a : Slab (NodeCells D)) (e : Reverse (Candidate D)) where
-    pub rows-row : e.0.is_row ≡ true → rows_below a e ≡ own_row e.0 ∷ []
-    rows-row is = ap (λ b. cond b (own_row e.0 ∷ []) (rows_under a (own_level a e.0) (own_key e.0))) is
+  abbrev pub keys_below : Slab (NodeCells D) → Reverse Branch → List ℕ
+  keys_below a e = keys_in a (own_level a e) e.0.key
 
-    pub keys-row : e.0.is_row ≡ true → keys_below a e ≡ []
-    keys-row is = ap (λ b. cond b [] (keys_in a (own_level a e.0) (own_key e.0))) is
+  module _ (a : Slab (NodeCells D)) (e : Reverse Branch) (l : ℕ) (at : level_at a e.0.key ≡ Some l) where
+    pub rows-node : rows_below a e ≡ rows_under a l e.0.key
+    rows-node = ap (λ o. rows_under a (unwrap_or o 0) e.0.key) at
 
-    pub rows-node : (l : ℕ) → e.0.is_row ≡ false → level_at a (own_key e.0) ≡ Some l → rows_below a e ≡ rows_under a l (own_key e.0)
-    rows-node l is at =
-        ap (λ b. cond b (own_row e.0 ∷ []) (rows_under a (own_level a e.0) (own_key e.0))) is
-        ∙ ap (λ o. rows_under a (unwrap_or o 0) (own_key e.0)) at
+    pub keys-node : keys_below a e ≡ keys_in a l e.0.key
+    keys-node = ap (λ o. keys_in a (unwrap_or o 0) e.0.key) at
 
-    pub keys-node : (l : ℕ) → e.0.is_row ≡ false → level_at a (own_key e.0) ≡ Some l → keys_below a e ≡ keys_in a l (own_key e.0)
-    keys-node l is at =
-        ap (λ b. cond b [] (keys_in a (own_level a e.0) (own_key e.0))) is
-        ∙ ap (λ o. keys_in a (unwrap_or o 0) (own_key e.0)) at
+  -- a branch is no farther than the rows below it
+  pub record IsNear (t : Arena D) (target : List Interval) (e : Reverse Branch) : Type 0 where
+    pub near : All (λ r. e.0.distance ≤ box_distance r.rect target) (rows_below t.nodes e)
+    pub node : (l : ℕ) × (level_at t.nodes e.0.key ≡ Some l)
 
-  -- a candidate is no farther than the rows that it stands for
-  pub record IsNear (t : Arena D) (point : List ℤ) (e : Reverse (Candidate D)) : Type 0 where
-    pub exact : e.0.distance ≡ squared_distance e.0.rect point
-    pub near : All (λ r. e.0.distance ≤ squared_distance r.rect point) (rows_below t.nodes e)
-    pub node : e.0.is_row ≡ false → (l : ℕ) × (level_at t.nodes (own_key e.0) ≡ Some l)
-
-  module _ (t : Arena D) (s : IsSettled t) (point : List ℤ) where
+  module _ (t : Arena D) (s : IsSettled t) (target : List Interval) where
     abbrev a : Slab (NodeCells D)
     a = t.nodes
 
-    rows-of_leaf : (cells : List (Cell D)) → flat_map (rows_below a) (map (queued point 0) cells) ≡ map row_of cells
-    rows-of_leaf [] = refl
-    rows-of_leaf (c ∷ cs) = ap (λ rs. row_of c ∷ rs) (rows-of_leaf cs)
-
-    keys-of_leaf : (cells : List (Cell D)) → flat_map (keys_below a) (map (queued point 0) cells) ≡ []
-    keys-of_leaf [] = refl
-    keys-of_leaf (c ∷ cs) = keys-of_leaf cs
-
-    child-rows : (l : ℕ) (c : Cell D) → level_at a (key_of c) ≡ Some l → rows_below a (queued point (suc l) c) ≡ rows_under a l (key_of c)
-    child-rows l c at = rows-node a (queued point (suc l) c) l (above-leaf l) at
-
-    child-keys : (l : ℕ) (c : Cell D) → level_at a (key_of c) ≡ Some l → keys_below a (queued point (suc l) c) ≡ keys_in a l (key_of c)
-    child-keys l c at = keys-node a (queued point (suc l) c) l (above-leaf l) at
-
     rows-of_children : (l : ℕ) (cells : List (Cell D)) → All (λ c. level_at a (key_of c) ≡ Some l) cells →
-        flat_map (leaf_rows a) (flat_map (λ c. keys_in a l (key_of c)) cells) ≡ flat_map (rows_below a) (map (queued point (suc l)) cells)
+        flat_map (leaf_rows a) (flat_map (λ c. keys_in a l (key_of c)) cells) ≡ flat_map (rows_below a) (map (queued target) cells)
     rows-of_children l [] all = refl
     rows-of_children l (c ∷ cs) all =
         flat_map-append (leaf_rows a) (keys_in a l (key_of c)) (flat_map (λ c. keys_in a l (key_of c)) cs)
-        ∙ ap (λ rs. rs ++ flat_map (leaf_rows a) (flat_map (λ c. keys_in a l (key_of c)) cs)) (sym (child-rows l c (All-head (λ x. level_at a (key_of x) ≡ Some l) c cs all)))
-        ∙ ap (λ rs. rows_below a (queued point (suc l) c) ++ rs) (rows-of_children l cs (All-tail (λ x. level_at a (key_of x) ≡ Some l) c cs all))
+        ∙ ap (λ rs. rs ++ flat_map (leaf_rows a) (flat_map (λ c. keys_in a l (key_of c)) cs)) (sym (rows-node a (queued target c) l (All-head (λ x. level_at a (key_of x) ≡ Some l) c cs all)))
+        ∙ ap (λ rs. rows_below a (queued target c) ++ rs) (rows-of_children l cs (All-tail (λ x. level_at a (key_of x) ≡ Some l) c cs all))
 
     keys-of_children : (l : ℕ) (cells : List (Cell D)) → All (λ c. level_at a (key_of c) ≡ Some l) cells →
-        flat_map (λ c. keys_in a l (key_of c)) cells ≡ flat_map (keys_below a) (map (queued point (suc l)) cells)
+        flat_map (λ c. keys_in a l (key_of c)) cells ≡ flat_map (keys_below a) (map (queued target) cells)
     keys-of_children l [] all = refl
     keys-of_children l (c ∷ cs) all =
-        ap (λ ks. ks ++ flat_map (λ c. keys_in a l (key_of c)) cs) (sym (child-keys l c (All-head (λ x. level_at a (key_of x) ≡ Some l) c cs all)))
-        ∙ ap (λ ks. keys_below a (queued point (suc l) c) ++ ks) (keys-of_children l cs (All-tail (λ x. level_at a (key_of x) ≡ Some l) c cs all))
+        ap (λ ks. ks ++ flat_map (λ c. keys_in a l (key_of c)) cs) (sym (keys-node a (queued target c) l (All-head (λ x. level_at a (key_of x) ≡ Some l) c cs all)))
+        ∙ ap (λ ks. keys_below a (queued target c) ++ ks) (keys-of_children l cs (All-tail (λ x. level_at a (key_of x) ≡ Some l) c cs all))
 
-    -- a node's rows are those of its cells
-    pub rows-open : (l k : ℕ) → level_at a k ≡ Some l → rows_under a l k ≡ flat_map (rows_below a) (map (queued point l) (cells_at a k))
-    rows-open zero k at = append-nil (leaf_rows a k) ∙ ap (map row_of) (leaf-at_leaf a k at) ∙ sym (rows-of_leaf (cells_at a k))
-    rows-open (suc l) k at =
+    -- a leaf's rows are its cells
+    pub rows-leaf : (k : ℕ) → level_at a k ≡ Some 0 → rows_under a 0 k ≡ map row_of (cells_at a k)
+    rows-leaf k at = append-nil (leaf_rows a k) ∙ ap (map row_of) (leaf-at_leaf a k at)
+
+    -- another node's rows are those of its cells
+    pub rows-inner : (l k : ℕ) → level_at a k ≡ Some (suc l) → rows_under a (suc l) k ≡ flat_map (rows_below a) (map (queued target) (cells_at a k))
+    rows-inner l k at =
         ap (λ cells. map row_of cells ++ flat_map (leaf_rows a) (flat_map (λ c. keys_in a l (key_of c)) (cells_at a k))) (leaf-at_inner a k l at)
         ∙ rows-of_children l (cells_at a k) (levels-below t s k l at)
 
-    -- a node's keys are its own and those of its cells
-    pub keys-open : (l k : ℕ) → level_at a k ≡ Some l → keys_in a l k ≡ k ∷ flat_map (keys_below a) (map (queued point l) (cells_at a k))
-    keys-open zero k at = ap (λ ks. k ∷ ks) (sym (keys-of_leaf (cells_at a k)))
-    keys-open (suc l) k at = ap (λ ks. k ∷ ks) (keys-of_children l (cells_at a k) (levels-below t s k l at))
+    -- another node's keys are its own and those of its cells
+    pub keys-inner : (l k : ℕ) → level_at a k ≡ Some (suc l) → keys_in a (suc l) k ≡ k ∷ flat_map (keys_below a) (map (queued target) (cells_at a k))
+    keys-inner l k at = ap (λ ks. k ∷ ks) (keys-of_children l (cells_at a k) (levels-below t s k l at))
 
     -- ---- a node's box holds the rows below it
     child-hull : (k l : ℕ) → level_at a k ≡ Some (suc l) → (c : Cell D) → Contains (cells_at a k) c → c.rect ≡ hull_at a (key_of c)
@@ -156,27 +133,19 @@ module _ {D : ℕ} where
         let there = Contains-get_or (cells_at a k) i d h in
         subst (λ (b : List Interval). Holds (hull_at a k) b) (child-hull k l at c there) (hull-contained t s.whole k c there)))
 
-    -- ---- candidates
-    pub cells-near : (l k : ℕ) → level_at a k ≡ Some l → All (IsNear t point) (map (queued point l) (cells_at a k))
-    cells-near zero k at = All-map (IsNear t point) (queued point 0) (cells_at a k) (λ i d h.
-        let c = get_or (cells_at a k) i d in
-        record {
-          exact = refl;
-          near = All-cons (λ r. squared_distance c.rect point ≤ squared_distance r.rect point) (row_of c) [] (omega arith) (All-nil (λ r. squared_distance c.rect point ≤ squared_distance r.rect point));
-          node = λ e. cc;
-        })
-    cells-near (suc l) k at = All-map (IsNear t point) (queued point (suc l)) (cells_at a k) (λ i d h.
+    -- ---- branches
+    pub children-near : (l k : ℕ) → level_at a k ≡ Some (suc l) → All (IsNear t target) (map (queued target) (cells_at a k))
+    children-near l k at = All-map (IsNear t target) (queued target) (cells_at a k) (λ i d h.
         let c = get_or (cells_at a k) i d in
         let there = Contains-get_or (cells_at a k) i d h in
         let low : level_at a (key_of c) ≡ Some l = levels-below t s k l at i d h in
-        let far : All (λ r. squared_distance c.rect point ≤ squared_distance r.rect point) (rows_under a l (key_of c)) =
-        All-weaker (Within (key_of c)) (λ r. squared_distance c.rect point ≤ squared_distance r.rect point)
-        (λ r held. distance-le c.rect r.rect point (subst (λ (b : List Interval). Holds b r.rect) (sym (child-hull k l at c there)) held))
+        let far : All (λ r. box_distance c.rect target ≤ box_distance r.rect target) (rows_under a l (key_of c)) =
+        All-weaker (Within (key_of c)) (λ r. box_distance c.rect target ≤ box_distance r.rect target)
+        (λ r held. distance-le c.rect r.rect target (subst (λ (b : List Interval). Holds b r.rect) (sym (child-hull k l at c there)) held))
         (rows_under a l (key_of c)) (held-below l (key_of c) low) in
         record {
-          exact = refl;
-          near = All-same (λ r. squared_distance c.rect point ≤ squared_distance r.rect point) (rows_below a (queued point (suc l) c)) (rows_under a l (key_of c)) (child-rows l c low) far;
-          node = λ e. (l, low);
+          near = All-same (λ r. box_distance c.rect target ≤ box_distance r.rect target) (rows_below a (queued target c)) (rows_under a l (key_of c)) (rows-node a (queued target c) l low) far;
+          node = (l, low);
         })
 
   -- ---- no id is listed twice

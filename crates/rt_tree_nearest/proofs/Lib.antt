@@ -1,6 +1,11 @@
 pub mod Distances
 pub mod Ordered
 pub mod Same
+pub mod Orders
 pub mod Below
-pub mod Browsed
+pub mod Keeping
+pub mod Searched
+pub mod Answered
 pub mod Steps
+pub mod Queueing
+pub mod Points

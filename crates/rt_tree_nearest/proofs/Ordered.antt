@@ -1,5 +1,5 @@
 -- Lists in a strict order: sorting gives one, and what is known to come first is its beginning.
-use Rattle.std.proofs.Common.{◌≡◌, ◌≢◌, zero, suc, ◌⊎◌, Bool, true, false, cond, List, [], ◌∷◌, ◌++◌, length, get_or, take, Contains, arith, refl, ap, sym, ◌∙◌, subst, inl, inr}
+use Rattle.std.proofs.Common.{◌≡◌, ◌≢◌, zero, suc, ◌⊎◌, Bool, true, false, cond, List, [], ◌∷◌, length, get_or, take, filter, Contains, arith, refl, ap, sym, ◌∙◌, subst, inl, inr}
 use Rattle.std.specs.List.{All}
 use Rattle.std.specs.List.Sorted.{IsPermutation}
 use Rattle.std.specs.Cmp.{IsTotalOrder}
@@ -8,7 +8,7 @@ use Rattle.std.specs.declared.cmp.Ordering.TheVariants.{Less, Equal, Greater}
 use Rattle.std.specs.Ordering.{is_gt, ordering_reverse}
 use Rattle.std.proofs.lemmas.Bool.{false≢true}
 use Rattle.std.proofs.lemmas.Cmp.{tied_itself}
-use Rattle.std.proofs.lemmas.List.Elements.{All-nil, All-cons, All-head, All-tail, All-push, All-weaker, All-contains}
+use Rattle.std.proofs.lemmas.List.Elements.{All-nil, All-cons, All-head, All-tail, All-weaker, All-contains, All-filter}
 use Rattle.std.proofs.lemmas.List.Sorted.{IsPermutation-refl, IsPermutation-cons, IsPermutation-trans, IsPermutation-middle}
 use Rattle.rt_tree_choice.specs.Sorting.{insert_by, sort_by}
 use Rattle.rt_tree_choice.proofs.Sorted.{All-sort}
@@ -71,12 +71,10 @@ module _ {X : Type 0} (R : X → X → Ordering) where
   Untied [] = Unit {0}
   Untied (x ∷ xs) = All (λ y. R x y ≢ Equal) xs × Untied xs
 
-  pub Rising-push : (xs : List X) (y : X) → Rising xs → All (λ x. R x y ≡ Less) xs → Rising (xs ++ y ∷ [])
-  Rising-push [] y r all = (All-nil (λ z. R y z ≡ Less), tt)
-  Rising-push (x ∷ xs) y r all = (
-    All-push (λ z. R x z ≡ Less) xs y r.0 (All-head (λ z. R z y ≡ Less) x xs all),
-    Rising-push xs y r.1 (All-tail (λ z. R z y ≡ Less) x xs all),
-  )
+  -- no element comes after a later one
+  abbrev pub InOrder : List X → Type 0
+  InOrder [] = Unit {0}
+  InOrder (x ∷ xs) = All (λ y. is_gt (R x y) ≡ false) xs × InOrder xs
 
 module _ {X : Type 0} (R : X → X → Ordering) (o : IsTotalOrder R) where
   not-itself : (x : X) → R x x ≡ Less → ⊥
@@ -136,3 +134,46 @@ module _ {X : Type 0} (R : X → X → Ordering) (o : IsTotalOrder R) where
         | inr all ↦ inr (All-tail (λ z. R z y ≡ Less) a front all)
       ] in
       ap (λ z. z ∷ front) head ∙ ap (λ zs. x ∷ zs) (beginning front xs r.1 s.1 within_rest other_rest)
+
+-- ---- filters
+Contains-filter_at : {X : Type 0} (p : X → Bool) (y : X) (xs : List X) (x : X) (b : Bool) → p y ≡ b → Contains (y ∷ xs) x → p x ≡ true →
+    (Contains xs x → Contains (filter p xs) x) → Contains (cond b (y ∷ filter p xs) (filter p xs)) x
+Contains-filter_at p y xs x true f h e later = elim (contains-cases y xs x h) [
+  | inl here ↦ (0, omega arith, here)
+  | inr there ↦ contains-later y (filter p xs) x (later there)
+]
+Contains-filter_at p y xs x false f h e later = elim (contains-cases y xs x h) [
+  | inl here ↦ absurd (false≢true (sym f ∙ ap p here ∙ e))
+  | inr there ↦ later there
+]
+
+pub Contains-filter : {X : Type 0} (p : X → Bool) (xs : List X) (x : X) → Contains xs x → p x ≡ true → Contains (filter p xs) x
+Contains-filter p [] x h e = absurd (omega (arith, h.1))
+Contains-filter p (y ∷ xs) x h e = Contains-filter_at p y xs x (p y) refl h e (λ there. Contains-filter p xs x there e)
+
+Contains-unfilter_at : {X : Type 0} (p : X → Bool) (y : X) (xs : List X) (x : X) (b : Bool) → p y ≡ b → Contains (cond b (y ∷ filter p xs) (filter p xs)) x →
+    (Contains (filter p xs) x → Contains xs x × (p x ≡ true)) → Contains (y ∷ xs) x × (p x ≡ true)
+Contains-unfilter_at p y xs x true f g later = elim (contains-cases y (filter p xs) x g) [
+  | inl here ↦ ((0, omega arith, here), sym (ap p here) ∙ f)
+  | inr there ↦ (contains-later y xs x (later there).0, (later there).1)
+]
+Contains-unfilter_at p y xs x false f g later = (contains-later y xs x (later g).0, (later g).1)
+
+pub Contains-unfilter : {X : Type 0} (p : X → Bool) (xs : List X) (x : X) → Contains (filter p xs) x → Contains xs x × (p x ≡ true)
+Contains-unfilter p [] x h = absurd (omega (arith, h.1))
+Contains-unfilter p (y ∷ xs) x h = Contains-unfilter_at p y xs x (p y) refl h (Contains-unfilter p xs x)
+
+module _ {X : Type 0} (R : X → X → Ordering) where
+  Rising-filter_at : (p : X → Bool) (x : X) (xs : List X) (b : Bool) → Rising R (x ∷ xs) → Rising R (filter p xs) →
+      Rising R (cond b (x ∷ filter p xs) (filter p xs))
+  Rising-filter_at p x xs true r rest = (All-filter p (λ y. R x y ≡ Less) xs r.0, rest)
+  Rising-filter_at p x xs false r rest = rest
+
+  pub Rising-filter : (p : X → Bool) (xs : List X) → Rising R xs → Rising R (filter p xs)
+  Rising-filter p [] r = tt
+  Rising-filter p (x ∷ xs) r = Rising-filter_at p x xs (p x) r (Rising-filter p xs r.1)
+
+  -- what is in order and has no ties rises
+  pub rises : (xs : List X) → InOrder R xs → Untied R xs → Rising R xs
+  rises [] up apart = tt
+  rises (x ∷ xs) up apart = ((λ k d h. not-after (R x (get_or xs k d)) (up.0 k d h) (apart.0 k d h)), rises xs up.1 apart.1)

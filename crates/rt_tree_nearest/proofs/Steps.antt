@@ -1,56 +1,109 @@
--- One turn: what is nearest is taken.
-use Rattle.std.proofs.Common.{◌≡◌, ℕ, ◌+◌, ◌<◌, ◌≤◌, true, false, cond, ℤ, List, [], ◌∷◌, ◌++◌, length, map, unwrap_or, append-nil, arith, ap, sym, ◌∙◌, subst, inl, inr}
-use Rattle.std.specs.List.{sum_by}
+-- One turn: the nearest node is seen, or all that is left is too far.
+use Rattle.std.proofs.Common.{◌≡◌, ℕ, zero, suc, ◌^◌, ◌<◌, ◌≤◌, List, [], ◌∷◌, length, map, Some, arith, refl, ap, sym, ◌∙◌, subst}
+use Rattle.std.specs.List.{All, count_by, sum_by}
 use Rattle.std.specs.List.Sorted.{IsPermutation}
 use Rattle.std.specs.BinaryHeap.{IsHeap, IsUpperBound}
 use Rattle.std.specs.declared.cmp.Reverse.{Reverse}
-use Rattle.std.proofs.lemmas.Bool.{cases_Bool}
-use Rattle.std.proofs.lemmas.List.{length_push}
+use Rattle.std.proofs.lemmas.List.Elements.{All-nil, All-cons, All-head, All-weaker}
+use Rattle.std.proofs.lemmas.List.Sorted.{sum_by-IsPermutation, All-permutation}
+use Rattle.std.proofs.lemmas.List.Sums.{sum_by-cons}
+use Rattle.slab.specs.Slab.{get, ContainsKey}
 use Rattle.rt_tree_node.specs.declared.arena.Arena.{Arena}
-use Rattle.rt_tree_node.specs.Places.{cells_at}
-use Rattle.rt_tree_walk.specs.declared.searching.Row.{Row}
-use Rattle.rt_tree_walk.proofs.Progress.{IsSettled}
+use Rattle.rt_tree_node.specs.declared.cell.Cell.{Cell}
+use Rattle.rt_tree_node.specs.Node.{NodeCells}
+use Rattle.rt_tree_node.specs.Places.{cells_of, cells_at, level_of, level_at}
+use Rattle.rt_tree_walk.proofs.Progress.{IsSettled, level-some}
 use Rattle.rt_tree_nearest.specs.declared.candidate.Candidate.{Candidate}
-use Rattle.rt_tree_nearest.specs.Candidates.{queued, compare, own_row, own_key, own_level, Takes}
-use Rattle.rt_tree_nearest.proofs.Below.{rows_below, keys_below}
-use Rattle.rt_tree_nearest.proofs.Browsed.{Browsed, near-x, Browsed-row, shorter-row, Browsed-node, shorter-node}
+use Rattle.rt_tree_nearest.specs.declared.candidate.Branch.{Branch}
+use Rattle.rt_tree_nearest.specs.declared.query.Query.{Query}
+use Rattle.rt_tree_nearest.specs.Nearest.{box_distance}
+use Rattle.rt_tree_nearest.specs.Candidates.{candidate_of, compare, compare_branches, IsReach, IsBeyond, IsOut, Keeps, Queues, Explores}
+use Rattle.rt_tree_nearest.proofs.Orders.{top-nearest}
+use Rattle.rt_tree_nearest.proofs.Below.{rows_under, rows_below, keys_below, rows-node, IsNear}
+use Rattle.rt_tree_nearest.proofs.Searched.{Searched, Searched-moved, Searched-leaf, Searched-drop, Searched-node, shorter-leaf, shorter-node}
 
-module _ {D : ℕ} (point : List ℤ) (t : Arena D) (s : IsSettled t) (answer : List (Row D)) (heap rest : List (Reverse (Candidate D))) (x : Reverse (Candidate D))
-    (so : Browsed point t answer heap) (popped : IsPermutation heap (x ∷ rest)) (top : IsUpperBound compare x rest) (ordered : IsHeap compare rest)
-    (answer1 : List (Row D)) (heap1 : List (Reverse (Candidate D))) (takes : Takes t.nodes point x.0 answer answer1 rest heap1) where
-  abbrev cells : List (Reverse (Candidate D))
-  cells = map (queued point (own_level t.nodes x.0)) (cells_at t.nodes (own_key x.0))
+module _ {D : ℕ} (q : Query D) (t : Arena D) (s : IsSettled t) where
+  -- ---- the start: nothing is seen
+  pub start : (root : Reverse Branch) (es : List (Reverse Branch)) → root.0.distance ≡ 0 → root.0.key ≡ t.root → IsPermutation (root ∷ []) es →
+      (kept : List (Candidate D)) → kept ≡ [] → IsHeap compare kept → Searched q t kept es
+  start root es none at moved kept empty ordered =
+      let level : level_at t.nodes root.0.key ≡ Some t.level = ap (level_at t.nodes) at ∙ s.whole.linked.root_level in
+      Searched-moved q t kept (root ∷ []) es moved (subst (λ (cs : List (Candidate D)). Searched q t cs (root ∷ [])) (sym empty) (record {
+        left = [];
+        keeps = record {
+          few = omega arith;
+          within = All-nil (λ (c : Candidate D). c.distance ≤ q.limit);
+          ordered = subst (IsHeap compare) empty ordered;
+        };
+        near = All-cons (IsNear t q.target) root [] (record {
+          near = λ i d h. omega (arith, none);
+          node = (t.level, level);
+        }) (All-nil (IsNear t q.target));
+        counts = λ test.
+            let f : Reverse Branch → ℕ = λ e. count_by test (rows_below t.nodes e) in
+            omega (arith, sum_by-cons f root [], ap (count_by test) (rows-node t.nodes root t.level level ∙ ap (rows_under t.nodes t.level) at));
+        exact = All-nil (λ (c : Candidate D). c.distance ≡ box_distance c.rect q.target);
+        out = All-nil (IsOut q []);
+      }))
 
-  pub record IsStep : Type 0 where
-    pub browsed : Browsed point t answer1 heap1
-    pub few : length answer1 ≤ length answer + 1
-    pub shorter : sum_by (λ e. length (rows_below t.nodes e)) heap1 + sum_by (λ e. length (keys_below t.nodes e)) heap1
-        < sum_by (λ e. length (rows_below t.nodes e)) heap + sum_by (λ e. length (keys_below t.nodes e)) heap
+  -- ---- a node is seen
+  module _ (kept kept1 : List (Candidate D)) (es rest es1 : List (Reverse Branch)) (x : Reverse Branch) (n : NodeCells D) (so : Searched q t kept es)
+      (popped : IsPermutation es (x ∷ rest)) (heaped : IsHeap compare_branches rest) (got : get t.nodes x.0.key ≡ Some n)
+      (explores : Explores q n kept kept1 rest es1) where
+    pub record IsTurn : Type 0 where
+      pub searched : Searched q t kept1 es1
+      pub ordered : IsHeap compare_branches es1
+      pub shorter : sum_by (λ e. length (keys_below t.nodes e)) es1 < sum_by (λ e. length (keys_below t.nodes e)) es
 
-  row-step : x.0.is_row ≡ true → IsStep
-  row-step is =
-      let more : answer1 ≡ answer ++ own_row x.0 ∷ [] = takes.row ∙ ap (λ b. answer ++ cond b (own_row x.0 ∷ []) []) is in
-      let moved : IsPermutation rest heap1 =
-      subst (λ (es : List (Reverse (Candidate D))). IsPermutation es heap1) (ap (λ b. rest ++ cond b [] cells) is ∙ append-nil rest) takes.cells in
-      record {
-        browsed = Browsed-row point t s answer heap rest x so popped is top answer1 heap1 more moved (takes.order ordered);
-        few = omega (arith, ap length more, length_push answer (own_row x.0));
-        shorter = shorter-row point t s answer heap rest x so popped is top heap1 moved;
-      }
+    abbrev keys : Reverse Branch → ℕ
+    keys e = length (keys_below t.nodes e)
 
-  node-step : x.0.is_row ≡ false → IsStep
-  node-step is =
-      let node = (near-x point t s answer heap rest x so popped).node is in
-      let same : answer ≡ answer1 = sym (append-nil answer) ∙ ap (λ b. answer ++ cond b (own_row x.0 ∷ []) []) (sym is) ∙ sym takes.row in
-      let moved : IsPermutation (rest ++ map (queued point node.0) (cells_at t.nodes (own_key x.0))) heap1 =
-      subst (λ (es : List (Reverse (Candidate D))). IsPermutation es heap1)
-      (ap (λ b. rest ++ cond b [] cells) is ∙ ap (λ o. rest ++ map (queued point (unwrap_or o 0)) (cells_at t.nodes (own_key x.0))) node.1) takes.cells in
-      record {
-        browsed = subst (λ (rs : List (Row D)). Browsed point t rs heap1) same
-            (Browsed-node point t s answer heap rest x so popped node.0 is node.1 heap1 moved (takes.order ordered));
-        few = omega (arith, ap length same);
-        shorter = shorter-node point t s answer heap rest x so popped node.0 is node.1 heap1 moved;
-      }
+    first : Searched q t kept (x ∷ rest)
+    first = Searched-moved q t kept es (x ∷ rest) popped so
 
-  pub step : IsStep
-  step = elim (cases_Bool x.0.is_row) [ inl is ↦ row-step is | inr is ↦ node-step is ]
+    cells_are : cells_at t.nodes x.0.key ≡ n.cells
+    cells_are = ap cells_of got
+
+    at-level : (l : ℕ) → n.level ≡ l → level_at t.nodes x.0.key ≡ Some l
+    at-level l e = ap level_of got ∙ ap Some e
+
+    turn-at : (l : ℕ) → n.level ≡ l → IsTurn
+    turn-at zero e =
+        let seen = explores.rows e in
+        let same : rest ≡ es1 = sym seen.1 in
+        record {
+          searched = subst (λ (fs : List (Reverse Branch)). Searched q t kept1 fs) same
+              (Searched-leaf q t s kept kept1 x rest first (at-level 0 e)
+              (subst (λ (cs : List (Cell D)). Keeps q (map (candidate_of q.target) cs) kept kept1) (sym cells_are) seen.0));
+          ordered = subst (IsHeap compare_branches) same heaped;
+          shorter = omega (arith, ap (sum_by keys) same, shorter-leaf q t s x rest (at-level 0 e), sum_by-IsPermutation keys es (x ∷ rest) popped);
+        }
+    turn-at (suc l) e =
+        let seen = explores.nodes l e in
+        let most = seen.1.0 in
+        let queues : Queues q.target most (cells_at t.nodes x.0.key) rest es1 =
+        subst (λ (cs : List (Cell D)). Queues q.target most cs rest es1) (sym cells_are) seen.1.2 in
+        record {
+          searched = subst (λ (cs : List (Candidate D)). Searched q t cs es1) (sym seen.0) (Searched-node q t s kept most seen.1.1 x rest es1 first l (at-level (suc l) e) queues);
+          ordered = queues.order heaped;
+          shorter = omega (arith, shorter-node q t s kept most seen.1.1 x rest es1 first l (at-level (suc l) e) queues, sum_by-IsPermutation keys es (x ∷ rest) popped);
+        }
+
+    pub turn : IsTurn
+    turn = turn-at n.level refl
+
+  -- the nearest node is there
+  pub first-there : (kept : List (Candidate D)) (es rest : List (Reverse Branch)) (x : Reverse Branch) → Searched q t kept es → IsPermutation es (x ∷ rest) →
+      ContainsKey t.nodes x.0.key
+  first-there kept es rest x so popped =
+      let node = (All-head (IsNear t q.target) x rest (All-permutation (IsNear t q.target) es (x ∷ rest) popped so.near)).node in
+      level-some t.nodes x.0.key node.0 node.1
+
+  -- ---- all that is left is too far
+  pub stop : (kept : List (Candidate D)) (es rest : List (Reverse Branch)) (x : Reverse Branch) (most : ℕ) → Searched q t kept es → IsPermutation es (x ∷ rest) →
+      IsUpperBound compare_branches x rest → IsReach q kept most → most < x.0.distance → x.0.distance < 2 ^ 128 → Searched q t kept []
+  stop kept es rest x most so popped top reach far fits =
+      let beyond : All (λ e. IsBeyond most e.0.distance) (x ∷ rest) =
+      All-cons (λ e. IsBeyond most e.0.distance) x rest (x.0.distance, fits, far, omega arith)
+      (All-weaker (λ e. x.0.distance ≤ e.0.distance) (λ e. IsBeyond most e.0.distance) (λ e h. (x.0.distance, fits, far, h)) rest (top-nearest x rest top)) in
+      Searched-drop q t s kept most reach [] (x ∷ rest) (Searched-moved q t kept es (x ∷ rest) popped so) beyond

@@ -1,55 +1,116 @@
--- What stands in the heap. No public clause cites this module.
-use Rattle.std.specs.Prelude.{◌≡◌, ℕ, ℤ, ◌==◌, List, [], ◌∷◌, ◌++◌, map, unsigned_abs, unwrap_or, if◌then◌else◌, Vec}
+-- What a search keeps, and what it has still to see. No public clause cites this module.
+use Rattle.std.specs.Prelude.{◌≡◌, ℕ, ◌^◌, ◌<◌, ◌≤◌, ◌⊎◌, Bool, true, false, suc, List, ◌++◌, map, filter, take, length, All, nat_le}
 use Rattle.std.specs.declared.cmp.Ordering.{Ordering}
 use Rattle.std.specs.declared.cmp.Reverse.{Reverse}
-use Rattle.std.specs.Ordering.{ordering_then, nat_cmp, int_cmp, bool_cmp}
-use Rattle.std.specs.List.Sorted.{IsPermutation}
-use Rattle.std.specs.BinaryHeap.{KeepsHeap, heap_items}
+use Rattle.std.specs.Ordering.{ordering_then, nat_cmp, int_cmp, is_gt}
+use Rattle.std.specs.List.Sorted.{IsPermutation, IsSorted}
+use Rattle.std.specs.BinaryHeap.{IsHeap, KeepsHeap, heap_items}
 use Rattle.std.specs.declared.alloc.Global.{Global}
 use Rattle.std.specs.declared.collections.BinaryHeap.{BinaryHeap}
-use Rattle.slab.specs.Slab.{Slab}
+use Rattle.rt_box.specs.declared.interval.Interval.{Interval}
+use Rattle.rt_tree_choice.specs.Sorting.{sort_by}
 use Rattle.rt_tree_node.specs.declared.arena.Arena.{Arena}
 use Rattle.rt_tree_node.specs.declared.cell.Cell.{Cell}
 use Rattle.rt_tree_node.specs.Node.{NodeCells}
-use Rattle.rt_tree_node.specs.Places.{cells_at, level_at}
+use Rattle.rt_tree_node.specs.Places.{key_of}
 use Rattle.rt_tree_walk.specs.declared.searching.Row.{Row}
 use Rattle.rt_tree_nearest.specs.declared.candidate.Candidate.{Candidate}
-use Rattle.rt_tree_nearest.specs.Nearest.{squared_distance}
+use Rattle.rt_tree_nearest.specs.declared.candidate.Branch.{Branch}
+use Rattle.rt_tree_nearest.specs.declared.query.Query.{Query}
+use Rattle.rt_tree_nearest.specs.Nearest.{box_distance, by_nearness_to, rows_in}
+
+-- a distance beyond a limit: some number of 128 bits lies between
+abbrev pub IsBeyond : ℕ → ℕ → Type 0
+IsBeyond limit distance = (n : ℕ) × (n < 2 ^ 128) × (limit < n) × (n ≤ distance)
+
+-- ---- nodes
+-- the order of the heap of nodes, whose greatest comes first
+abbrev pub compare_branches : Reverse Branch → Reverse Branch → Ordering
+compare_branches x y = nat_cmp y.0.distance x.0.distance
 
 module _ {D : ℕ} where
-  -- a cell of a node of that level
-  abbrev pub candidate_of : List ℤ → ℕ → Cell D → Candidate D
-  candidate_of point level c = record { distance = squared_distance c.rect point; is_row = level == 0; number = c.number; rect = c.rect }
+  -- a cell above the leaves
+  abbrev pub branch_of : List Interval → Cell D → Branch
+  branch_of target c = record { distance = box_distance c.rect target; key = key_of c }
 
-  abbrev pub queued : List ℤ → ℕ → Cell D → Reverse (Candidate D)
-  queued point level c = record { 0 = candidate_of point level c }
+  abbrev pub queued : List Interval → Cell D → Reverse Branch
+  queued target c = record { 0 = branch_of target c }
+
+  -- the cells that aren't farther than `most`
+  abbrev pub is_near : List Interval → ℕ → Cell D → Bool
+  is_near target most c = nat_le (box_distance c.rect target) most
+
+  -- these cells come into the heap; distances have 128 bits
+  pub record Queues (target : List Interval) (most : ℕ) (cells : List (Cell D)) (old new : List (Reverse Branch)) : Type 0 where
+    pub moved : IsPermutation (old ++ map (queued target) (filter (is_near target most) cells)) new
+    pub fits : All (λ c. box_distance c.rect target < 2 ^ 128) cells
+    pub order : KeepsHeap compare_branches old new
+
+  -- ---- rows
+  -- a cell of a leaf
+  abbrev pub candidate_of : List Interval → Cell D → Candidate D
+  candidate_of target c = record { distance = box_distance c.rect target; id = c.number; rect = c.rect }
 
   abbrev pub own_row : Candidate D → Row D
-  own_row c = record { id = c.number; rect = c.rect }
+  own_row c = record { id = c.id; rect = c.rect }
 
-  -- the order of the heap, whose greatest comes first
-  abbrev pub compare : Reverse (Candidate D) → Reverse (Candidate D) → Ordering
-  compare x y =
-      ordering_then (nat_cmp y.0.distance x.0.distance) (ordering_then (bool_cmp y.0.is_row x.0.is_row) (int_cmp y.0.number x.0.number))
+  abbrev pub compare : Candidate D → Candidate D → Ordering
+  compare x y = ordering_then (nat_cmp x.distance y.distance) (int_cmp x.id y.id)
 
-  abbrev pub own_key : Candidate D → ℕ
-  own_key c = unsigned_abs c.number
+  -- the rows kept: no more than are asked for, none too far, and in the order of a heap
+  pub record IsKept (q : Query D) (kept : List (Candidate D)) : Type 0 where
+    pub few : length kept ≤ q.k
+    pub within : All (λ c. c.distance ≤ q.limit) kept
+    pub ordered : IsHeap compare kept
 
-  abbrev pub own_level : Slab (NodeCells D) → Candidate D → ℕ
-  own_level a c = unwrap_or (level_at a (own_key c)) 0
+  -- what is farther than `most` is beyond the limit, or farther than as many rows as are asked for
+  pub record IsReach (q : Query D) (kept : List (Candidate D)) (most : ℕ) : Type 0 where
+    pub within : most ≤ q.limit
+    pub far : (n : ℕ) → most < n → (q.limit < n) ⊎ ((length kept ≡ q.k) × All (λ c. c.distance < n) kept)
 
-  -- the cells of the node come into the heap
-  abbrev pub QueuesCells : List ℤ → NodeCells D → List (Reverse (Candidate D)) → List (Reverse (Candidate D)) → Type 0
-  QueuesCells point n old new = IsPermutation (old ++ map (queued point n.level) n.cells) new
+  -- not in the answer: beyond the limit, or after as many rows as are asked for
+  abbrev pub IsOut : Query D → List (Candidate D) → Candidate D → Type 0
+  IsOut q kept c = IsBeyond q.limit c.distance ⊎ ((length kept ≡ q.k) × All (λ a. is_gt (compare a c) ≡ false) kept)
 
-  -- a row comes last in the answer; a node's cells come into the heap
-  pub record Takes (a : Slab (NodeCells D)) (point : List ℤ) (c : Candidate D) (rows rows1 : List (Row D))
-      (heap heap1 : List (Reverse (Candidate D))) : Type 0 where
-    pub row : rows1 ≡ rows ++ (if c.is_row then own_row c ∷ [] else [])
-    pub cells : IsPermutation (heap ++ (if c.is_row then [] else map (queued point (own_level a c)) (cells_at a (own_key c)))) heap1
-    pub order : KeepsHeap compare heap heap1
+  -- some rows are seen: each is kept or left out, and what was out stays out
+  pub record Keeps (q : Query D) (seen old new : List (Candidate D)) : Type 0 where
+    pub left : List (Candidate D)
+    pub same : IsPermutation (old ++ seen) (new ++ left)
+    pub out : All (IsOut q new) left
+    pub stays : (c : Candidate D) → IsOut q old c → IsOut q new c
+    pub kept : IsKept q new
 
-  -- the same, of the lists that a search keeps
-  abbrev pub TakesFrom : Arena D → List ℤ → Candidate D → Vec (Row D) Global → Vec (Row D) Global →
-      BinaryHeap (Reverse (Candidate D)) Global → BinaryHeap (Reverse (Candidate D)) Global → Type 0
-  TakesFrom t point c rows rows1 heap heap1 = Takes t.nodes point c rows.items rows1.items (heap_items heap) (heap_items heap1)
+  -- ---- a node
+  -- the rows of a leaf are seen; of another node's children those come into the heap that aren't too far
+  pub record Explores (q : Query D) (n : NodeCells D) (kept kept1 : List (Candidate D)) (heap heap1 : List (Reverse Branch)) : Type 0 where
+    pub rows : n.level ≡ 0 → Keeps q (map (candidate_of q.target) n.cells) kept kept1 × (heap1 ≡ heap)
+    pub nodes : (l : ℕ) → n.level ≡ suc l → (kept1 ≡ kept) × ((most : ℕ) × IsReach q kept most × Queues q.target most n.cells heap heap1)
+
+  -- ---- the answer
+  -- the rows of some candidates, in order
+  pub record IsOrdered (kept : List (Candidate D)) (rows : List (Row D)) : Type 0 where
+    pub sorted : List (Candidate D)
+    pub same : IsPermutation kept sorted
+    pub order : IsSorted compare sorted
+    pub own : rows ≡ map own_row sorted
+
+  -- whatever test tells the rows within the limit: of those that pass it, the first k in order
+  abbrev pub IsAnswer : Arena D → Query D → List (Row D) → Type 0
+  IsAnswer t q rows =
+      (near : Row D → Bool) → ((r : Row D) → IsBeyond q.limit (box_distance r.rect q.target) → near r ≡ false) →
+      ((r : Row D) → box_distance r.rect q.target ≤ q.limit → near r ≡ true) →
+      rows ≡ take q.k (filter near (sort_by (by_nearness_to q.target) (rows_in t)))
+
+  -- ---- the same of heaps
+  abbrev pub IsKeptIn : Query D → BinaryHeap (Candidate D) Global → Type 0
+  IsKeptIn q kept = IsKept q (heap_items kept)
+
+  abbrev pub KeepsFrom : Query D → List (Candidate D) → BinaryHeap (Candidate D) Global → BinaryHeap (Candidate D) Global → Type 0
+  KeepsFrom q seen old new = Keeps q seen (heap_items old) (heap_items new)
+
+  abbrev pub QueuesFrom : List Interval → ℕ → List (Cell D) → BinaryHeap (Reverse Branch) Global → BinaryHeap (Reverse Branch) Global → Type 0
+  QueuesFrom target most cells old new = Queues target most cells (heap_items old) (heap_items new)
+
+  abbrev pub ExploresFrom : Query D → NodeCells D → BinaryHeap (Candidate D) Global → BinaryHeap (Candidate D) Global →
+      BinaryHeap (Reverse Branch) Global → BinaryHeap (Reverse Branch) Global → Type 0
+  ExploresFrom q n kept kept1 branches branches1 = Explores q n (heap_items kept) (heap_items kept1) (heap_items branches) (heap_items branches1)

@@ -1,84 +1,92 @@
-//! The best first: what is nearest to the point is looked at next, whether it is a node or a row (Hjaltason, Samet 1999,
-//! "Distance browsing in spatial databases", section 3).
+//! The best first: the node that is nearest is looked at next (Hjaltason, Samet 1999, "Distance browsing in spatial
+//! databases", section 3), until it is farther than the rows kept (Roussopoulos, Kelley, Vincent 1995, "Nearest neighbor
+//! queries", section 3).
 //!
-//! No row below a node is nearer than its box. So a row that stands first in the heap is the next of the answer.
+//! No row below a node is nearer than its box. So a node that is farther than `k` rows that were seen has no row of the
+//! answer below it.
 
-ghost use Rattle.std.specs.Prelude.{◌≡◌, ◌<◌, ◌≤◌, [], IfOk, OnOk, false, unsigned_abs};
+ghost use Rattle.std.specs.Prelude.{◌≡◌, ◌<◌, ◌≤◌, [], ◌++◌, map, filter, nat_le, IfOk, OnOk, unsigned_abs};
+ghost use Rattle.std.specs.List.Sorted.{IsPermutation};
 ghost use Rattle.std.specs.BinaryHeap.{KeepsHeap, heap_items};
 ghost use Rattle.slab.specs.Slab.{ContainsKey};
 ghost use Rattle.rt_tree_node.specs.Whole.{IsWhole};
-ghost use Rattle.rt_tree_nearest.specs.Nearest.{nearest_rows, rows_in};
-ghost use Rattle.rt_tree_nearest.specs.Candidates.{compare, QueuesCells, TakesFrom};
+ghost use Rattle.rt_tree_nearest.specs.Candidates.{IsKept, QueuesFrom, ExploresFrom, IsAnswer};
 
-use crate::candidate::Candidate;
-use rt_tree_node::{Arena, Node, key_of, node_at};
+use crate::candidate::{Branch, Candidate};
+use crate::keep::{keep_rows, ordered, reach};
+use crate::query::Query;
+use rt_box::Rect;
+use rt_tree_node::{Arena, Node, node_at};
 use rt_tree_walk::Row;
 use std::alloc::{AllocError, Global};
 use std::cmp::Reverse;
 use std::collections::BinaryHeap;
 
-/// Puts the cells of a node into the heap.
-fn push_cells<const D: usize>(
-    heap: &mut BinaryHeap<Reverse<Candidate<D>>>,
+/// Puts the children of a node that aren't too far into the heap.
+fn push_children<const D: usize>(
+    branches: &mut BinaryHeap<Reverse<Branch>>,
+    target: &Rect<D>,
     node: &Node<D>,
-    point: &[i32; D],
+    most: u128,
 ) -> Result<(), AllocError>
-    ensures cells { OnOk result (QueuesCells point.now node.now (heap_items heap.old) (heap_items heap.new)) }
-    ensures order { OnOk result (KeepsHeap compare (heap_items heap.old) (heap_items heap.new)) }
+    ensures { OnOk result (QueuesFrom target.now most node.now.cells branches.old branches.new) }
 {
     for at in 0..node.len() {
-        let candidate = Candidate::new(&node.cell(at), node.level(), point);
-        heap.push(Reverse(candidate))?;
+        let branch = Branch::new(&node.cell(at), target);
+        if branch.distance <= most {
+            branches.push(Reverse(branch))?;
+        }
     }
     Ok(())
 }
 
-/// Takes what is nearest: a row comes next in the answer, and a node's cells into the heap.
-fn take<const D: usize>(
-    rows: &mut Vec<Row<D>>,
-    heap: &mut BinaryHeap<Reverse<Candidate<D>>>,
-    tree: &Arena<D>,
-    point: &[i32; D],
-    first: &Candidate<D>,
+/// Sees the rows of a leaf, or the children of another node.
+fn explore<const D: usize>(
+    kept: &mut BinaryHeap<Candidate<D>>,
+    branches: &mut BinaryHeap<Reverse<Branch>>,
+    query: &Query<D>,
+    node: &Node<D>,
 ) -> Result<(), AllocError>
-    requires few { D ≤ 3 }
-    requires present { first.now.is_row ≡ false → ContainsKey tree.now.nodes (unsigned_abs first.now.number) }
-    ensures { OnOk result (TakesFrom tree.now point.now first.now rows.old rows.new heap.old heap.new) }
+    requires { IsKept query.now (heap_items kept.old) }
+    ensures { OnOk result (ExploresFrom query.now node.now kept.old kept.new branches.old branches.new) }
 {
-    if first.is_row {
-        rows.push(first.row())?;
-        return Ok(());
+    if node.level() == 0 {
+        return keep_rows(kept, query, node);
     }
-    push_cells(heap, node_at(&tree.nodes, key_of(first.number)), point)
+    let most = reach(kept, query);
+    push_children(branches, &query.target, node, most)
 }
 
-/// The `k` rows whose boxes are nearest to the point, by squared distance and then by id; all rows if there are fewer. A
-/// point in a box, or on its edge, has the distance 0.
-///
-/// What is nearest is looked at first, so a search for few rows goes into few nodes.
-///
-/// # Errors
-///
-/// `AllocError` if no memory is left for what is returned or seen.
-pub fn nearest<const D: usize>(
+/// The rows that the query asks for, in order.
+pub(crate) fn browse<const D: usize>(
     alloc: Global,
     tree: &Arena<D>,
-    point: &[i32; D],
-    k: usize,
+    query: &Query<D>,
 ) -> Result<Vec<Row<D>>, AllocError>
     requires whole { IsWhole tree.now }
     requires settled { tree.now.pending.items ≡ [] }
     requires few { D ≤ 3 }
-    ensures { IfOk result (λ rows. rows.items ≡ nearest_rows point.now k (rows_in tree.now)) }
+    ensures { IfOk result (λ rows. IsAnswer tree.now query.now rows.items) }
 {
-    let mut rows = Vec::new(alloc);
-    let mut heap = BinaryHeap::new(alloc);
-    push_cells(&mut heap, node_at(&tree.nodes, tree.root), point)?;
-    while rows.len() < k {
-        match heap.pop() {
-            Some(Reverse(first)) => take(&mut rows, &mut heap, tree, point, &first)?,
-            None => return Ok(rows),
-        }
+    if query.k == 0 {
+        return Ok(Vec::new(alloc));
     }
-    Ok(rows)
+    let mut kept = BinaryHeap::new(alloc);
+    let mut branches = BinaryHeap::new(alloc);
+    branches.push(Reverse(Branch {
+        distance: 0,
+        key: tree.root,
+    }))?;
+    while let Some(Reverse(first)) = branches.pop() {
+        if first.distance > reach(&kept, query) {
+            return ordered(alloc, kept);
+        }
+        explore(
+            &mut kept,
+            &mut branches,
+            query,
+            node_at(&tree.nodes, first.key),
+        )?;
+    }
+    ordered(alloc, kept)
 }

@@ -1,22 +1,22 @@
-//! Distances from a point to boxes.
+//! Distances between boxes.
 //!
 //! They are squared, so they are whole numbers; only their order matters (`specs/Nearest.antt`).
 
-ghost use Rattle.std.specs.Prelude.{◌≡◌, ◌*◌, ◌^◌, ◌<◌, ◌≤◌, ◌≤ℤ◌, pos, slice_index_or};
-ghost use Rattle.rt_tree_nearest.specs.Nearest.{gap, squared_distance};
+ghost use Rattle.std.specs.Prelude.{◌≡◌, ◌*◌, ◌^◌, ◌≤◌, ◌≤ℤ◌};
+ghost use Rattle.rt_tree_nearest.specs.Nearest.{gap_between, box_distance};
 
 use rt_box::{Interval, Rect};
 
-/// How far the point is outside the interval on an axis: 0 if it is within, ends included.
-fn gap<const D: usize>(interval: Interval, point: &[i32; D], axis: usize) -> u32
-    requires within { axis < D }
-    requires ordered { interval.lo ≤ℤ interval.hi }
-    ensures { result ≡ gap interval (slice_index_or point.now axis (pos 0)) }
+/// How far apart the intervals are on an axis: 0 if they have a number in common.
+fn gap(one: Interval, other: Interval) -> u32
+    requires one { one.lo ≤ℤ one.hi }
+    requires other { other.lo ≤ℤ other.hi }
+    ensures { result ≡ gap_between one other }
 {
-    if point[axis] < interval.lo {
-        interval.lo.abs_diff(point[axis])
-    } else if interval.hi < point[axis] {
-        point[axis].abs_diff(interval.hi)
+    if other.hi < one.lo {
+        one.lo.abs_diff(other.hi)
+    } else if one.hi < other.lo {
+        other.lo.abs_diff(one.hi)
     } else {
         0
     }
@@ -30,13 +30,14 @@ fn square(number: u32) -> u128
     u128::from(u64::from(number) * u64::from(number))
 }
 
-/// The squared distance from the point to the box: 0 if it is within.
-pub(crate) fn squared_distance<const D: usize>(rect: &Rect<D>, point: &[i32; D]) -> u128
-    ensures { result ≡ squared_distance rect.now point.now }
+/// The squared distance between the boxes: 0 if they have a point in common.
+#[inline]
+pub(crate) fn squared_distance<const D: usize>(one: &Rect<D>, other: &Rect<D>) -> u128
+    ensures { result ≡ box_distance one.now other.now }
 {
     let mut distance: u128 = 0;
-    for axis in 0..rect.axes() {
-        distance += square(gap(rect.range(axis), point, axis));
+    for axis in 0..one.axes() {
+        distance += square(gap(one.range(axis), other.range(axis)));
     }
     distance
 }

@@ -39,10 +39,10 @@ module _ (capacity : ℕ) (cap : IsCapacity capacity) (n c : ℕ) (over : capaci
       omega (arith, p, half, five, few)
 
 -- a height below the power of two of the rows
-pub low : (level n rows : ℕ) → 1 ≤ n → 2 ^ level * n ≤ rows → rows ≤ 2 ^ 20 → level ≤ 20
-low level n rows some h most = elim (cases_lt 20 level) [
+pub low : (level n rows : ℕ) → 1 ≤ n → 2 ^ level * n ≤ rows → rows ≤ 2 ^ 31 → level ≤ 31
+low level n rows some h most = elim (cases_lt 31 level) [
   | inl more ↦
-      let p = pow_below 20 level more in
+      let p = pow_below 31 level more in
       let q = le-mul_of_pos_right (2 ^ level) some in
       absurd (omega (arith, p, q, h, most))
   | inr less ↦ less

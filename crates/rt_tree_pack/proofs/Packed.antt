@@ -81,7 +81,7 @@ module _ {D : ℕ} where
     pub root-present : ContainsKey t.nodes t.root
     root-present = present t.nodes t.root t.level so_far.opened.linked.root_level
 
-    pub low-enough : 1 ≤ length cells → length rows ≤ most_rows_of_a_tree → t.level ≤ 20
+    pub low-enough : 1 ≤ length cells → length rows ≤ most_rows_of_a_tree → t.level ≤ 31
     low-enough some most = low t.level (length cells) (length rows) some so_far.height most
 
     cap : IsCapacity t.capacity
