@@ -18,5 +18,5 @@ mod shown;
 
 pub use changes::{Change, Changes};
 pub use reply::{Reply, TreeDump};
-pub use rows::{Rows, RowsOf};
+pub use rows::{Rows, RowsOf, box_value_at};
 pub use shown::Shown;

@@ -35,7 +35,7 @@ pub enum Rows {
 
 /// The value of the column at that place, of a row that has no auxiliary values.
 #[inline]
-fn box_value_at<const D: usize>(row: &Row<D>, place: usize) -> Field<'_>
+pub fn box_value_at<const D: usize>(row: &Row<D>, place: usize) -> Field<'_>
     ensures { field_value result ≡ slice_index_or (box_values row.now) place Null }
 {
     // There are one to three axes.

@@ -1,5 +1,5 @@
 -- Numbers as text, and the coordinates of a box behind bars.
-use Rattle.std.proofs.Common.{◌≡◌, ℕ, ℤ, pos, negsuc, suc, ◌+◌, ◌<◌, ◌≤◌, List, [], ◌∷◌, ◌++◌, codes, length, take, map, FitsSigned, w32, w64, refl, ap, sym, append_assoc, append-nil, ◌∙◌, arith}
+use Rattle.std.proofs.Common.{◌≡◌, ℕ, ℤ, pos, negsuc, suc, ◌<◌, ◌≤◌, List, [], ◌∷◌, ◌++◌, codes, length, take, map, FitsSigned, w32, w64, refl, ap, sym, append_assoc, append-nil, ◌∙◌, arith}
 use Rattle.std.specs.Prelude.{slice_index_or, decimal, unsigned_abs}
 use Rattle.std.specs.Fmt.{signed_decimal}
 use Rattle.std.specs.List.{flat_map}

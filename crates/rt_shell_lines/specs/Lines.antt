@@ -86,6 +86,10 @@ lines_of_columns places rows = flat_map (columns_line places) (values_in rows)
 abbrev pub columns_between : List ℕ → ℕ → ℕ → Rows → List ℕ
 columns_between places from to rows = flat_map (columns_line places) (drop from (take to (values_in rows)))
 
+-- the lines of columns of rows without auxiliary values
+abbrev pub columns_of_boxes : {D : _} → List ℕ → List (Row D) → List ℕ
+columns_of_boxes places rows = flat_map (λ row. columns_line places (box_values row)) rows
+
 -- the row that came into the view of that name, or left it
 abbrev pub change_line : ViewChange → List ℕ
 change_line c = (if c.came then codes "+" else codes "-") ++ c.view ++ codes " " ++ row_line c.row

@@ -9,11 +9,11 @@ ghost use Rattle.std.specs.List.{flat_map};
 ghost use Rattle.rt_sql.specs.Token.{double};
 ghost use Rattle.rt_table_row.specs.Entries.{listed_values, field_value};
 ghost use Rattle.rt_reply.specs.Rows.{box_values, values_in};
-ghost use Rattle.rt_shell_lines.specs.Lines.{value_text, row_line, columns_line, row_at, column_at, after_bars, between_bars, rows_between, columns_between};
+ghost use Rattle.rt_shell_lines.specs.Lines.{value_text, row_line, columns_line, row_at, column_at, column_text, after_bars, between_bars, rows_between, columns_between, columns_of_boxes};
 
 use crate::value::first_quote;
 use itoa::write_digits;
-use rt_reply::Rows;
+use rt_reply::{Rows, box_value_at};
 use rt_sql_statement::Value;
 use rt_table_row::{Field, ListedRow, RowList};
 use rt_tree_walk::Row;
@@ -36,6 +36,9 @@ const MOST_BOX_LINE: usize = 93;
 
 /// How many such lines always fit.
 pub(crate) const BOXES_AT_ONCE: usize = 22;
+
+/// The most bytes of a number, and of a bar before it.
+const MOST_NUMBER: usize = 21;
 
 /// Puts a number so that it ends there, and answers where it starts.
 #[inline]
@@ -102,6 +105,77 @@ fn put_boxes<const D: usize>(bytes: &mut [u8], end: usize, rows: &[Row<D>]) -> u
         rest = before;
     }
     start
+}
+
+/// Puts the column at a place of a row without auxiliary values, so that it ends there, and answers where it starts; `None`
+/// if it is no number.
+#[inline]
+fn put_column<const D: usize>(
+    bytes: &mut [u8],
+    end: usize,
+    row: &Row<D>,
+    place: usize,
+) -> Option<usize>
+    requires room { MOST_DIGITS ≤ end }
+    requires within { end ≤ length bytes.old }
+    ensures put { IfSome result (λ start. drop start bytes.new ≡ column_text (box_values row.now) place ++ drop end bytes.old) }
+    ensures few { IfSome result (λ start. end ≤ start + MOST_DIGITS) }
+    ensures start { IfSome result (λ start. start ≤ end) }
+{
+    match box_value_at(row, place) {
+        Field::Number(number) => Some(put_number(bytes, end, number)),
+        Field::Auxiliary(_) => None,
+        Field::Missing => None,
+    }
+}
+
+/// Puts columns of a row without auxiliary values, each behind a bar, so that they end there, and answers where they start;
+/// `None` if one is no number.
+#[inline]
+fn put_columns_after_bars<const D: usize>(
+    bytes: &mut [u8],
+    end: usize,
+    row: &Row<D>,
+    places: &[usize],
+) -> Option<usize>
+    requires room { MOST_NUMBER * length places.now ≤ end }
+    requires within { end ≤ length bytes.old }
+    ensures put { IfSome result (λ start.
+        drop start bytes.new ≡ after_bars (column_text (box_values row.now)) places.now ++ drop end bytes.old) }
+    ensures few { IfSome result (λ start. end ≤ start + MOST_NUMBER * length places.now) }
+    ensures start { IfSome result (λ start. start ≤ end) }
+{
+    let mut start = end;
+    let mut rest = places;
+    while let Some((last, before)) = rest.split_last() {
+        start = put_column(bytes, start, row, *last)? - 1;
+        bytes[start] = b'|';
+        rest = before;
+    }
+    Some(start)
+}
+
+/// Puts the line of columns of a row without auxiliary values, so that it ends there, and answers where it starts; `None` if
+/// one is no number.
+#[inline]
+fn put_columns_line<const D: usize>(
+    bytes: &mut [u8],
+    end: usize,
+    row: &Row<D>,
+    places: &[usize],
+) -> Option<usize>
+    requires room { MOST_NUMBER * length places.now < end }
+    requires within { end ≤ length bytes.old }
+    ensures put { IfSome result (λ start.
+        drop start bytes.new ≡ columns_line places.now (box_values row.now) ++ drop end bytes.old) }
+    ensures start { IfSome result (λ start. start ≤ end) }
+{
+    bytes[end - 1] = b'\n';
+    let Some((first, rest)) = places.split_first() else {
+        return Some(end - 1);
+    };
+    let start = put_columns_after_bars(bytes, end - 1, row, rest)?;
+    put_column(bytes, start, row, *first)
 }
 
 /// The last part of some lines. They are put together from their end to their beginning: of a number's digits the last is
@@ -264,9 +338,58 @@ impl Lines {
         Some(())
     }
 
+    /// Puts the line of columns of a row without auxiliary values, if there is room for it.
+    #[inline]
+    fn put_box_columns<const D: usize>(&mut self, row: &Row<D>, places: &[usize]) -> Option<()>
+        ensures { IfSome result (λ _. self.new ≡ columns_line places.now (box_values row.now) ++ self.old) }
+    {
+        if self.start <= MOST_NUMBER.saturating_mul(places.len()) {
+            return None;
+        }
+        self.start = put_columns_line(&mut self.bytes, self.start, row, places)?;
+        Some(())
+    }
+
+    /// Puts the lines of columns of rows without auxiliary values, if there is room for them.
+    fn put_columns_of_boxes<const D: usize>(
+        &mut self,
+        rows: &[Row<D>],
+        places: &[usize],
+    ) -> Option<()>
+        ensures { IfSome result (λ _. self.new ≡ columns_of_boxes places.now rows.now ++ self.old) }
+    {
+        let mut rest = rows;
+        while let Some((last, before)) = rest.split_last() {
+            self.put_box_columns(last, places)?;
+            rest = before;
+        }
+        Some(())
+    }
+
     /// Puts the lines of the columns of the rows from one place to another, if there is room for them and no value takes more
     /// than a copy.
     pub(crate) fn put_columns_between(
+        &mut self,
+        rows: &Rows,
+        places: &[usize],
+        from: usize,
+        to: usize,
+    ) -> Option<()>
+        requires some { from ≤ to }
+        requires within { to ≤ length (values_in rows.now) }
+        ensures { IfSome result (λ _. self.new ≡ columns_between places.now from to rows.now ++ self.old) }
+    {
+        match rows {
+            Rows::One(boxes) => self.put_columns_of_boxes(&boxes[from..to], places),
+            Rows::Two(boxes) => self.put_columns_of_boxes(&boxes[from..to], places),
+            Rows::Three(boxes) => self.put_columns_of_boxes(&boxes[from..to], places),
+            Rows::Listed(_) => self.put_listed_columns(rows, places, from, to),
+        }
+    }
+
+    /// Puts the lines of the columns of the rows from one place to another, if there is room for them and no value takes more
+    /// than a copy: whatever the rows are.
+    fn put_listed_columns(
         &mut self,
         rows: &Rows,
         places: &[usize],

@@ -3,7 +3,7 @@
 //! Rows are written in two ways with the same bytes: short ones are put together by `lines` and written some at a
 //! time, as are all without auxiliary values, and others value by value. `specs/Lines.antt` names the bytes.
 
-ghost use Rattle.std.specs.Prelude.{◌≡◌, ◌<◌, ◌≤◌, ◌++◌, if◌then◌else◌, codes, length, IfOk};
+ghost use Rattle.std.specs.Prelude.{◌≡◌, ◌<◌, ◌≤◌, ◌++◌, if◌then◌else◌, codes, length, max, IfOk};
 ghost use Rattle.std.specs.Fmt.{signed_decimal};
 ghost use Rattle.std.specs.List.{flat_map};
 ghost use Rattle.rt_bytes.specs.Devices.{WritesTo};
@@ -26,6 +26,9 @@ use rt_tree_walk::Row;
 
 /// The most rows whose lines are put together before it is known that they fit.
 const ROWS_AT_ONCE: usize = 8;
+
+/// The most columns that are put together so, if they are numbers: as many mostly fit.
+const COLUMNS_AT_ONCE: usize = 96;
 
 /// Writes the lines of a reply: a line for each row that it shows, or for each change; the verdict on
 /// a tree, or its dump. After a fault a prefix of them is written.
@@ -54,6 +57,18 @@ fn write_shown<W: ByteWriter>(shown: &Shown, writer: &mut W) -> Result<(), Write
     }
 }
 
+/// How many rows are put together at most after as many as that, or fewer, did fit or didn't.
+fn most_at_once(most: usize, did_fit: bool) -> usize
+    requires { 1 ≤ most }
+    ensures some { 1 ≤ result }
+    ensures few { result ≤ max most ROWS_AT_ONCE }
+{
+    if did_fit {
+        return most;
+    }
+    ROWS_AT_ONCE.max(most / 2)
+}
+
 /// Writes the lines of the columns at these places, some rows at a time.
 fn write_columns<W: ByteWriter>(
     rows: &Rows,
@@ -63,12 +78,14 @@ fn write_columns<W: ByteWriter>(
     ensures { WritesTo W.ByteWriter writer.old writer.new result (lines_of_columns places.now rows.now) }
 {
     let mut lines = Lines::new();
-    let (mut from, mut at_once) = (0, ROWS_AT_ONCE);
+    let mut most = ROWS_AT_ONCE.max(COLUMNS_AT_ONCE / places.len().max(1));
+    let (mut from, mut at_once) = (0, most);
     while from < rows.len() {
         let to = from + at_once.min(rows.len() - from);
         let next = write_next_columns(&mut lines, rows, places, from, to, writer)?;
+        most = most_at_once(most, next == to);
         // Twice as many as were short enough last time.
-        at_once = ROWS_AT_ONCE.min(2 * (next - from));
+        at_once = most.min(2 * (next - from));
         from = next;
     }
     Ok(())

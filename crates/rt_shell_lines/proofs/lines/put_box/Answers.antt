@@ -1,4 +1,4 @@
-use Rattle.std.proofs.Common.{◌≡◌, ◌<◌, ◌+◌, ◌-◌, suc, ℕ, List, ◌++◌, codes, take, drop, length, FitsSigned, w32, w64, to_z-of_z, ap, ◌∙◌, arith, rules}
+use Rattle.std.proofs.Common.{◌≡◌, ◌<◌, ◌-◌, suc, ℕ, List, ◌++◌, codes, take, drop, length, FitsSigned, w32, w64, to_z-of_z, ap, ◌∙◌, arith, rules}
 use Rattle.std.specs.Fmt.{signed_decimal}
 use Rattle.std.specs.List.{flat_map}
 use Rattle.rt_box.specs.Rect.{coordinates}

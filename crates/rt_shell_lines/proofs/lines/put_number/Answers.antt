@@ -1,5 +1,4 @@
 use Rattle.std.proofs.Common.{arith, to_z-of_z}
-use Rattle.std.specs.Prelude.{unsigned_abs}
 use Rattle.rt_shell_lines.proofs.Numbers.{digits_fit}
 use Rattle.rt_shell_lines.proofs.lines.put_number.Goals as goal
 

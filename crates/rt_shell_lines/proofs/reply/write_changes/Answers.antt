@@ -1,6 +1,5 @@
-use Rattle.std.proofs.Common.{◌≡◌, List, arith, get_or}
+use Rattle.std.proofs.Common.{arith}
 use Rattle.rt_bytes.proofs.Writing.{Writes-failed}
-use Rattle.rt_table_row.specs.Views.{ViewChange}
 use Rattle.rt_reply.specs.Changes.{change_seen}
 use Rattle.rt_shell_lines.proofs.Sequences.{WritesAll-item, WritesPrefix-item}
 use Rattle.rt_shell_lines.specs.Lines.{change_line}

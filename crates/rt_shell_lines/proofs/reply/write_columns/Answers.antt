@@ -25,8 +25,10 @@ loop-from-preserved g c =
     let within : next ≤ length rows = omega (arith, c.in_ok-next.ensures.next.1, c.min.ensures, c.len-in-loop-from.ensures, c.loop-from.invariant.0) in
     let le : from ≤ next = omega (arith, on) in (
       within,
-      omega (arith, on, c.min-at_once.ensures),
-      omega (arith, c.min-at_once.ensures),
+      omega (arith, on, c.min-at_once.ensures, c.most_at_once-most.ensures.some),
+      omega (arith, c.min-at_once.ensures, c.most_at_once-most.ensures.few, c.loop-from.invariant.5),
       rw (← before_and_between line from next rows le)
           (WritesAll-trans _ _ _ _ _ _ (flat_map line (take from rows)) (flat_map line (drop from (take next rows))) c.loop-from.invariant.3 c.in_ok-next.ensures.written),
+      c.most_at_once-most.ensures.some,
+      omega (arith, c.most_at_once-most.ensures.few, c.loop-from.invariant.5),
     )

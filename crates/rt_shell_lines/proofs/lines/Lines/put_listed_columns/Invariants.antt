@@ -2,7 +2,7 @@ use Rattle.std.proofs.Common.{◌≡◌, ◌≤◌, ◌++◌, take, drop}
 use Rattle.std.specs.List.{flat_map}
 use Rattle.rt_reply.specs.Rows.{values_in}
 use Rattle.rt_shell_lines.specs.Lines.{columns_line}
-use Rattle.rt_shell_lines.proofs.lines.Lines.put_columns_between.Given as goal
+use Rattle.rt_shell_lines.proofs.lines.Lines.put_listed_columns.Given as goal
 
 -- the lines of the rows from this one on were put
 abbrev pub invariant-loop-at : goal.invariant-loop-at
