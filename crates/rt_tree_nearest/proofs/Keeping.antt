@@ -2,15 +2,20 @@
 use Rattle.std.proofs.Common.{◌≡◌, ℕ, ◌<◌, ◌≤◌, true, false, List, [], ◌∷◌, ◌++◌, length, Contains, Option, Some, None, IsSome, append-nil, append_assoc, arith, sym, subst, inl, inr}
 use Rattle.std.specs.List.{All}
 use Rattle.std.specs.List.Sorted.{IsPermutation}
-use Rattle.std.specs.BinaryHeap.{IsHeap, IsUpperBound, PopsGreatest}
+use Rattle.std.specs.BinaryHeap.{IsHeap, IsUpperBound, PopsGreatest, KeepsHeap, heap_items}
+use Rattle.std.specs.Prelude.{Vec}
+use Rattle.std.specs.declared.alloc.Global.{Global}
+use Rattle.std.specs.declared.collections.BinaryHeap.{BinaryHeap}
 use Rattle.std.specs.Option.{IfSome}
 use Rattle.std.proofs.lemmas.Bool.{true≢false, cases_lt}
 use Rattle.std.specs.Ordering.{is_lt, is_gt}
 use Rattle.std.proofs.lemmas.List.Elements.{All-nil, All-cons, All-tail, All-append, All-weaker, All-contains}
 use Rattle.std.proofs.lemmas.List.Sorted.{All-permutation, IsPermutation-refl, IsPermutation-sym, IsPermutation-trans, IsPermutation-cons, IsPermutation-to_front, IsPermutation-append_left, IsPermutation-append_right, IsPermutation-append_comm, length_permutation}
 use Rattle.rt_tree_nearest.specs.declared.candidate.Candidate.{Candidate}
+use Rattle.rt_tree_nearest.specs.declared.keep.Kept.{Kept}
+use Rattle.rt_tree_nearest.specs.declared.keep.Kept.TheVariants.{Few}
 use Rattle.rt_tree_nearest.specs.declared.query.Query.{Query}
-use Rattle.rt_tree_nearest.specs.Candidates.{compare, IsKept, IsReach, IsBeyond, IsOut, Keeps}
+use Rattle.rt_tree_nearest.specs.Candidates.{compare, IsKept, IsReach, IsBeyond, IsOut, Keeps, ReplacesFrom, items_in, IsKeptIn}
 use Rattle.rt_tree_nearest.proofs.Orders.{not-after_less, not-after_not-less, not-after_nearer, not-after_trans, top-last}
 
 -- what a heap that has no first says
@@ -46,8 +51,8 @@ module _ {D : ℕ} (q : Query D) where
 
   -- there is room for one more
   pub keeps-more : (old new : List (Candidate D)) (c : Candidate D) → IsKept q old → length old < q.k → c.distance ≤ q.limit →
-      IsPermutation (c ∷ old) new → IsHeap compare new → Keeps q (c ∷ []) old new
-  keeps-more old new c is room near moved ordered = record {
+      IsPermutation (c ∷ old) new → Keeps q (c ∷ []) old new
+  keeps-more old new c is room near moved = record {
     left = [];
     same = subst (λ (xs : List (Candidate D)). IsPermutation (old ++ c ∷ []) xs) (sym (append-nil new))
         (IsPermutation-trans (old ++ c ∷ []) (c ∷ old) new (IsPermutation-to_front old c) moved);
@@ -56,9 +61,18 @@ module _ {D : ℕ} (q : Query D) where
     kept = record {
       few = omega (arith, room, length_permutation (c ∷ old) new moved);
       within = All-permutation (λ d. d.distance ≤ q.limit) (c ∷ old) new moved (All-cons (λ d. d.distance ≤ q.limit) c old near is.within);
-      ordered = ordered;
     };
   }
+
+  -- the same, of a list that a row is pushed onto
+  pub keeps-listed : (old : Kept D) (rows : Vec (Candidate D) Global) (new : List (Candidate D)) (c : Candidate D) → old ≡ Few rows → IsKeptIn q old →
+      c.distance ≤ q.limit → IsPermutation (rows.items ++ c ∷ []) new → Keeps q (c ∷ []) (items_in old) new
+  keeps-listed old rows new c e is near moved =
+      subst (λ (kept : Kept D). IsKeptIn q kept → Keeps q (c ∷ []) (items_in kept) new) (sym e)
+      (λ few.
+      keeps-more rows.items new c few.rows few.shape near
+      (IsPermutation-trans (c ∷ rows.items) (rows.items ++ c ∷ []) new
+      (IsPermutation-sym (rows.items ++ c ∷ []) (c ∷ rows.items) (IsPermutation-to_front rows.items c)) moved)) is
 
   -- as many come before it as are asked for
   pub keeps-last : (kept : List (Candidate D)) (c last : Candidate D) → IsKept q kept → length kept ≡ q.k → IsUpperBound compare last kept →
@@ -77,7 +91,7 @@ module _ {D : ℕ} (q : Query D) where
   -- it takes the place of the last one
   module _ (old rest new : List (Candidate D)) (c last out : Candidate D) (is : IsKept q old) (full : length old ≡ q.k) (near : c.distance ≤ q.limit)
       (there : Contains old last) (less : is_lt (compare c last) ≡ true) (popped : IsPermutation old (out ∷ rest)) (top : IsUpperBound compare out old)
-      (pushed : IsPermutation (c ∷ rest) new) (ordered : IsHeap compare new) where
+      (pushed : IsPermutation (c ∷ rest) new) where
     before-last : is_gt (compare c last) ≡ false
     before-last = not-after_less c last less
 
@@ -90,7 +104,7 @@ module _ {D : ℕ} (q : Query D) where
     before-out : is_gt (compare c out) ≡ false
     before-out = not-after_trans c last out before-last (All-contains (λ a. is_gt (compare a out) ≡ false) old last olds there)
 
-    long : length new ≡ q.k
+    pub long : length new ≡ q.k
     long = omega (arith, length_permutation old (out ∷ rest) popped, length_permutation (c ∷ rest) new pushed, full)
 
     news : (d : Candidate D) → is_gt (compare c d) ≡ false → All (λ a. is_gt (compare a d) ≡ false) rest → All (λ a. is_gt (compare a d) ≡ false) new
@@ -120,19 +134,22 @@ module _ {D : ℕ} (q : Query D) where
         within = All-permutation (λ d. d.distance ≤ q.limit) (c ∷ rest) new pushed
             (All-cons (λ d. d.distance ≤ q.limit) c rest near
             (All-tail (λ d. d.distance ≤ q.limit) out rest (All-permutation (λ d. d.distance ≤ q.limit) old (out ∷ rest) popped is.within)));
-        ordered = ordered;
       };
     }
 
   -- the same, of what a heap's `pop` gives
-  pub keeps-popped : (old rest new : List (Candidate D)) (c last : Candidate D) (out : Option (Candidate D)) → IsKept q old → length old ≡ q.k →
-      c.distance ≤ q.limit → Contains old last → is_lt (compare c last) ≡ true → IsSome out → IfSome out (λ x. IsPermutation old (x ∷ rest)) →
-      IfSome out (λ x. PopsGreatest compare old x rest) → (IsHeap compare rest → IsPermutation (c ∷ rest) new × IsHeap compare new) → Keeps q (c ∷ []) old new
-  keeps-popped old rest new c last None is full near there less some popped top pushed = absurd (true≢false (sym some))
-  keeps-popped old rest new c last (Some out) is full near there less some popped top pushed =
-      let greatest = top is.ordered in
-      let more = pushed greatest.0 in
-      keeps-instead old rest new c last out is full near there less popped greatest.1 more.0 more.1
+  pub keeps-popped : (old rest new : BinaryHeap (Candidate D) Global) (c last : Candidate D) (out : Option (Candidate D)) → IsKept q (heap_items old) →
+      length (heap_items old) ≡ q.k → IsHeap compare (heap_items old) → c.distance ≤ q.limit → Contains (heap_items old) last → is_lt (compare c last) ≡ true →
+      IsSome out → IfSome out (λ x. IsPermutation (heap_items old) (x ∷ heap_items rest)) → IfSome out (λ x. PopsGreatest compare (heap_items old) x (heap_items rest)) →
+      IsPermutation (c ∷ heap_items rest) (heap_items new) → KeepsHeap compare (heap_items rest) (heap_items new) → ReplacesFrom q c old new
+  keeps-popped old rest new c last None is full ordered near there less some popped top pushed order = absurd (true≢false (sym some))
+  keeps-popped old rest new c last (Some out) is full ordered near there less some popped top pushed order =
+      let greatest = top ordered in
+      record {
+        keeps = keeps-instead (heap_items old) (heap_items rest) (heap_items new) c last out is full near there less popped greatest.1 pushed;
+        full = long (heap_items old) (heap_items rest) (heap_items new) c last out is full near there less popped greatest.1 pushed;
+        ordered = order greatest.0;
+      }
 
   -- some rows, and then some more
   pub keeps-then : (seen more old mid new : List (Candidate D)) → Keeps q seen old mid → Keeps q more mid new → Keeps q (seen ++ more) old new

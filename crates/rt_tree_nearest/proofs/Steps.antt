@@ -17,7 +17,7 @@ use Rattle.rt_tree_nearest.specs.declared.candidate.Candidate.{Candidate}
 use Rattle.rt_tree_nearest.specs.declared.candidate.Branch.{Branch}
 use Rattle.rt_tree_nearest.specs.declared.query.Query.{Query}
 use Rattle.rt_tree_nearest.specs.Nearest.{box_distance}
-use Rattle.rt_tree_nearest.specs.Candidates.{candidate_of, compare, compare_branches, IsReach, IsBeyond, IsOut, Keeps, Queues, Explores}
+use Rattle.rt_tree_nearest.specs.Candidates.{candidate_of, compare_branches, IsReach, IsBeyond, IsOut, Keeps, Queues, Explores}
 use Rattle.rt_tree_nearest.proofs.Orders.{top-nearest}
 use Rattle.rt_tree_nearest.proofs.Below.{rows_under, rows_below, keys_below, rows-node, IsNear}
 use Rattle.rt_tree_nearest.proofs.Searched.{Searched, Searched-moved, Searched-leaf, Searched-drop, Searched-node, shorter-leaf, shorter-node}
@@ -25,15 +25,14 @@ use Rattle.rt_tree_nearest.proofs.Searched.{Searched, Searched-moved, Searched-l
 module _ {D : ℕ} (q : Query D) (t : Arena D) (s : IsSettled t) where
   -- ---- the start: nothing is seen
   pub start : (root : Reverse Branch) (es : List (Reverse Branch)) → root.0.distance ≡ 0 → root.0.key ≡ t.root → IsPermutation (root ∷ []) es →
-      (kept : List (Candidate D)) → kept ≡ [] → IsHeap compare kept → Searched q t kept es
-  start root es none at moved kept empty ordered =
+      (kept : List (Candidate D)) → kept ≡ [] → Searched q t kept es
+  start root es none at moved kept empty =
       let level : level_at t.nodes root.0.key ≡ Some t.level = ap (level_at t.nodes) at ∙ s.whole.linked.root_level in
       Searched-moved q t kept (root ∷ []) es moved (subst (λ (cs : List (Candidate D)). Searched q t cs (root ∷ [])) (sym empty) (record {
         left = [];
         keeps = record {
           few = omega arith;
           within = All-nil (λ (c : Candidate D). c.distance ≤ q.limit);
-          ordered = subst (IsHeap compare) empty ordered;
         };
         near = All-cons (IsNear t q.target) root [] (record {
           near = λ i d h. omega (arith, none);

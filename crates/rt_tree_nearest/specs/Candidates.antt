@@ -1,5 +1,5 @@
 -- What a search keeps, and what it has still to see. No public clause cites this module.
-use Rattle.std.specs.Prelude.{◌≡◌, ℕ, ◌^◌, ◌<◌, ◌≤◌, ◌⊎◌, Bool, true, false, suc, List, ◌++◌, map, filter, take, length, All, nat_le}
+use Rattle.std.specs.Prelude.{◌≡◌, ℕ, ◌^◌, ◌<◌, ◌≤◌, ◌⊎◌, Bool, true, false, suc, List, [], ◌∷◌, ◌++◌, map, filter, take, length, All, nat_le}
 use Rattle.std.specs.declared.cmp.Ordering.{Ordering}
 use Rattle.std.specs.declared.cmp.Reverse.{Reverse}
 use Rattle.std.specs.Ordering.{ordering_then, nat_cmp, int_cmp, is_gt}
@@ -16,6 +16,8 @@ use Rattle.rt_tree_node.specs.Places.{key_of}
 use Rattle.rt_tree_walk.specs.declared.searching.Row.{Row}
 use Rattle.rt_tree_nearest.specs.declared.candidate.Candidate.{Candidate}
 use Rattle.rt_tree_nearest.specs.declared.candidate.Branch.{Branch}
+use Rattle.rt_tree_nearest.specs.declared.keep.Kept.{Kept}
+use Rattle.rt_tree_nearest.specs.declared.keep.Kept.TheVariants.{Few, Full}
 use Rattle.rt_tree_nearest.specs.declared.query.Query.{Query}
 use Rattle.rt_tree_nearest.specs.Nearest.{box_distance, by_nearness_to, rows_in}
 
@@ -57,11 +59,10 @@ module _ {D : ℕ} where
   abbrev pub compare : Candidate D → Candidate D → Ordering
   compare x y = ordering_then (nat_cmp x.distance y.distance) (int_cmp x.id y.id)
 
-  -- the rows kept: no more than are asked for, none too far, and in the order of a heap
+  -- the rows kept: no more than are asked for, and none too far
   pub record IsKept (q : Query D) (kept : List (Candidate D)) : Type 0 where
     pub few : length kept ≤ q.k
     pub within : All (λ c. c.distance ≤ q.limit) kept
-    pub ordered : IsHeap compare kept
 
   -- what is farther than `most` is beyond the limit, or farther than as many rows as are asked for
   pub record IsReach (q : Query D) (kept : List (Candidate D)) (most : ℕ) : Type 0 where
@@ -101,16 +102,33 @@ module _ {D : ℕ} where
       ((r : Row D) → box_distance r.rect q.target ≤ q.limit → near r ≡ true) →
       rows ≡ take q.k (filter near (sort_by (by_nearness_to q.target) (rows_in t)))
 
-  -- ---- the same of heaps
-  abbrev pub IsKeptIn : Query D → BinaryHeap (Candidate D) Global → Type 0
-  IsKeptIn q kept = IsKept q (heap_items kept)
+  -- ---- the same of lists and heaps
+  abbrev pub items_in : Kept D → List (Candidate D)
+  items_in (Few rows) = rows.items
+  items_in (Full heap) = heap_items heap
 
-  abbrev pub KeepsFrom : Query D → List (Candidate D) → BinaryHeap (Candidate D) Global → BinaryHeap (Candidate D) Global → Type 0
-  KeepsFrom q seen old new = Keeps q seen (heap_items old) (heap_items new)
+  -- a list has room for more; a heap has as many as are asked for, and its order
+  abbrev pub HasShape : Query D → Kept D → Type 0
+  HasShape q (Few rows) = length rows.items < q.k
+  HasShape q (Full heap) = (length (heap_items heap) ≡ q.k) × IsHeap compare (heap_items heap)
+
+  pub record IsKeptIn (q : Query D) (kept : Kept D) : Type 0 where
+    pub rows : IsKept q (items_in kept)
+    pub shape : HasShape q kept
+
+  pub record KeepsFrom (q : Query D) (seen : List (Candidate D)) (old new : Kept D) : Type 0 where
+    pub keeps : Keeps q seen (items_in old) (items_in new)
+    pub shape : HasShape q new
+
+  -- a row is seen, and a heap stays full
+  pub record ReplacesFrom (q : Query D) (c : Candidate D) (old new : BinaryHeap (Candidate D) Global) : Type 0 where
+    pub keeps : Keeps q (c ∷ []) (heap_items old) (heap_items new)
+    pub full : length (heap_items new) ≡ q.k
+    pub ordered : IsHeap compare (heap_items new)
 
   abbrev pub QueuesFrom : List Interval → ℕ → List (Cell D) → BinaryHeap (Reverse Branch) Global → BinaryHeap (Reverse Branch) Global → Type 0
   QueuesFrom target most cells old new = Queues target most cells (heap_items old) (heap_items new)
 
-  abbrev pub ExploresFrom : Query D → NodeCells D → BinaryHeap (Candidate D) Global → BinaryHeap (Candidate D) Global →
-      BinaryHeap (Reverse Branch) Global → BinaryHeap (Reverse Branch) Global → Type 0
-  ExploresFrom q n kept kept1 branches branches1 = Explores q n (heap_items kept) (heap_items kept1) (heap_items branches) (heap_items branches1)
+  pub record ExploresFrom (q : Query D) (n : NodeCells D) (kept kept1 : Kept D) (branches branches1 : BinaryHeap (Reverse Branch) Global) : Type 0 where
+    pub seen : Explores q n (items_in kept) (items_in kept1) (heap_items branches) (heap_items branches1)
+    pub shape : HasShape q kept1

@@ -10,10 +10,10 @@ ghost use Rattle.std.specs.List.Sorted.{IsPermutation};
 ghost use Rattle.std.specs.BinaryHeap.{KeepsHeap, heap_items};
 ghost use Rattle.slab.specs.Slab.{ContainsKey};
 ghost use Rattle.rt_tree_node.specs.Whole.{IsWhole};
-ghost use Rattle.rt_tree_nearest.specs.Candidates.{IsKept, QueuesFrom, ExploresFrom, IsAnswer};
+ghost use Rattle.rt_tree_nearest.specs.Candidates.{IsKeptIn, QueuesFrom, ExploresFrom, IsAnswer};
 
-use crate::candidate::{Branch, Candidate};
-use crate::keep::{keep_rows, ordered, reach};
+use crate::candidate::Branch;
+use crate::keep::{Kept, keep_rows, ordered, reach};
 use crate::query::Query;
 use rt_box::Rect;
 use rt_tree_node::{Arena, Node, node_at};
@@ -42,16 +42,17 @@ fn push_children<const D: usize>(
 
 /// Sees the rows of a leaf, or the children of another node.
 fn explore<const D: usize>(
-    kept: &mut BinaryHeap<Candidate<D>>,
+    alloc: Global,
+    kept: &mut Kept<D>,
     branches: &mut BinaryHeap<Reverse<Branch>>,
     query: &Query<D>,
     node: &Node<D>,
 ) -> Result<(), AllocError>
-    requires { IsKept query.now (heap_items kept.old) }
+    requires { IsKeptIn query.now kept.old }
     ensures { OnOk result (ExploresFrom query.now node.now kept.old kept.new branches.old branches.new) }
 {
     if node.level() == 0 {
-        return keep_rows(kept, query, node);
+        return keep_rows(alloc, kept, query, node);
     }
     let most = reach(kept, query);
     push_children(branches, &query.target, node, most)
@@ -71,7 +72,7 @@ pub(crate) fn browse<const D: usize>(
     if query.k == 0 {
         return Ok(Vec::new(alloc));
     }
-    let mut kept = BinaryHeap::new(alloc);
+    let mut kept = Kept::Few(Vec::new(alloc));
     let mut branches = BinaryHeap::new(alloc);
     branches.push(Reverse(Branch {
         distance: 0,
@@ -82,6 +83,7 @@ pub(crate) fn browse<const D: usize>(
             return ordered(alloc, kept);
         }
         explore(
+            alloc,
             &mut kept,
             &mut branches,
             query,

@@ -1,4 +1,4 @@
-use Rattle.std.proofs.Common.{◌≡◌, ◌≤◌, List, [], ◌∷◌, rules, arith, refl, subst}
+use Rattle.std.proofs.Common.{◌≡◌, ◌<◌, ◌≤◌, List, [], ◌∷◌, length, rules, arith, refl, ap, subst}
 use Rattle.std.specs.List.Sorted.{IsPermutation}
 use Rattle.std.specs.BinaryHeap.{heap_items}
 use Rattle.std.specs.declared.cmp.Reverse.{Reverse}
@@ -7,7 +7,8 @@ use Rattle.std.proofs.lemmas.Result.{IfOk-weaker}
 use Rattle.slab.specs.Slab.{ContainsKey}
 use Rattle.rt_tree_walk.proofs.Progress.{IsSettled}
 use Rattle.rt_tree_nearest.specs.declared.candidate.Branch.{Branch}
-use Rattle.rt_tree_nearest.specs.Candidates.{IsOrdered, IsAnswer}
+use Rattle.rt_tree_nearest.specs.declared.candidate.Candidate.{Candidate}
+use Rattle.rt_tree_nearest.specs.Candidates.{items_in, IsOrdered, IsAnswer}
 use Rattle.rt_tree_nearest.proofs.Searched.{Searched}
 use Rattle.rt_tree_nearest.proofs.Steps.{start, turn, stop, first-there}
 use Rattle.rt_tree_nearest.proofs.Answered.{answered}
@@ -16,13 +17,16 @@ use Rattle.rt_tree_nearest.proofs.browse.browse.Goals as goal
 pub loop-first-init : goal.loop-first-init
 loop-first-init g c =
     let s : IsSettled c.args.tree.now = record { whole = c.requires.whole; none = c.requires.settled } in
-    let kept = heap_items c.new-kept.result in
+    let q = c.args.query.now in
+    let kept : List (Candidate g.row.D) = c.new-2.result.items in
     let branches = heap_items c.push.new.self in
     let root : Reverse Branch = record { 0 = record { distance = 0; key = c.args.tree.now.root } } in
     let moved : IsPermutation (root ∷ []) branches =
     subst (λ (es : List (Reverse Branch)). IsPermutation (root ∷ es) branches) c.new-branches.ensures.items c.in_ok-push.ensures.permutation in
+    let room : length kept < q.k = omega (arith, ap length c.new-2.ensures.items, c.if-query-eq0.false) in
     record {
-      searched = start c.args.query.now c.args.tree.now s root branches refl refl moved kept c.new-kept.ensures.items c.new-kept.ensures.heap_order;
+      searched = start q c.args.tree.now s root branches refl refl moved kept c.new-2.ensures.items;
+      shape = room;
       ordered = c.in_ok-push.ensures.heap_order c.new-branches.ensures.heap_order;
     }
 
@@ -32,7 +36,7 @@ node_at-requires g c =
     let s : IsSettled t = record { whole = c.requires.whole; none = c.requires.settled } in
     let few : g.row.D ≤ 3 = c.requires.few in
     let x = c.in-Some.field-0 in
-    let there : ContainsKey t.nodes x.0.key = first-there c.args.query.now t s (heap_items c.loop-first.kept) (heap_items c.loop-first.branches) (heap_items c.pop.new.self) x
+    let there : ContainsKey t.nodes x.0.key = first-there c.args.query.now t s (items_in c.loop-first.kept) (heap_items c.loop-first.branches) (heap_items c.pop.new.self) x
     c.loop-first.invariant.searched c.in-Some.ensures.permutation in
     search rules
 
@@ -47,9 +51,9 @@ loop-first-smaller g c =
     let t = c.args.tree.now in
     let s : IsSettled t = record { whole = c.requires.whole; none = c.requires.settled } in
     let so = c.loop-first.invariant in
-    let step = turn c.args.query.now t s (heap_items c.loop-first.kept) (heap_items c.explore.new.kept) (heap_items c.loop-first.branches) (heap_items c.pop.new.self)
+    let step = turn c.args.query.now t s (items_in c.loop-first.kept) (items_in c.explore.new.kept) (heap_items c.loop-first.branches) (heap_items c.pop.new.self)
     (heap_items c.explore.new.branches) c.in-Some.field-0 c.node_at.result.now so.searched c.in-Some.ensures.permutation (c.in-Some.ensures.heap_order so.ordered).0
-    c.node_at.ensures c.in_ok-explore.ensures in
+    c.node_at.ensures c.in_ok-explore.ensures.seen in
     step.shorter
 
 pub loop-first-preserved : goal.loop-first-preserved
@@ -57,10 +61,10 @@ loop-first-preserved g c =
     let t = c.args.tree.now in
     let s : IsSettled t = record { whole = c.requires.whole; none = c.requires.settled } in
     let so = c.loop-first.invariant in
-    let step = turn c.args.query.now t s (heap_items c.loop-first.kept) (heap_items c.explore.new.kept) (heap_items c.loop-first.branches) (heap_items c.pop.new.self)
+    let step = turn c.args.query.now t s (items_in c.loop-first.kept) (items_in c.explore.new.kept) (heap_items c.loop-first.branches) (heap_items c.pop.new.self)
     (heap_items c.explore.new.branches) c.in-Some.field-0 c.node_at.result.now so.searched c.in-Some.ensures.permutation (c.in-Some.ensures.heap_order so.ordered).0
-    c.node_at.ensures c.in_ok-explore.ensures in
-    record { searched = step.searched; ordered = step.ordered }
+    c.node_at.ensures c.in_ok-explore.ensures.seen in
+    record { searched = step.searched; shape = c.in_ok-explore.ensures.shape; ordered = step.ordered }
 
 pub returns-then-first-reach : goal.returns-then-first-reach
 returns-then-first-reach g c =
@@ -68,7 +72,7 @@ returns-then-first-reach g c =
     let q = c.args.query.now in
     let s : IsSettled t = record { whole = c.requires.whole; none = c.requires.settled } in
     let so = c.loop-first.invariant in
-    let kept = heap_items c.loop-first.kept in
+    let kept = items_in c.loop-first.kept in
     let x = c.in-Some.field-0 in
     let done : Searched q t kept [] = stop q t s kept (heap_items c.loop-first.branches) (heap_items c.pop.new.self) x c.reach.result so.searched c.in-Some.ensures.permutation
     (c.in-Some.ensures.below_top so.ordered) c.reach.ensures (omega arith) (omega arith) in
@@ -81,7 +85,7 @@ returns g c =
     let q = c.args.query.now in
     let s : IsSettled t = record { whole = c.requires.whole; none = c.requires.settled } in
     let so = c.loop-first.invariant in
-    let kept = heap_items c.loop-first.kept in
+    let kept = items_in c.loop-first.kept in
     let branches = heap_items c.loop-first.branches in
     let none : branches ≡ [] = nil_from_length branches (omega (arith, c.in_default.ensures.none, c.loop-first.branches.data.ok)) in
     let done : Searched q t kept [] = subst (λ (es : List (Reverse Branch)). Searched q t kept es) none so.searched in
