@@ -1,14 +1,14 @@
 -- A tree that is made of a list of rows.
-use Rattle.std.proofs.Common.{◌≡◌, ℕ, ◌+◌, ◌-◌, ◌*◌, ◌≤◌, ◌^◌, Bool, true, ℤ, List, [], ◌∷◌, length, map, Option, None, Some, count_by, vec_capacity, arith, refl, ap, ◌∙◌, sym, subst}
+use Rattle.std.proofs.Common.{◌≡◌, ℕ, ◌+◌, ◌-◌, ◌*◌, ◌≤◌, ◌^◌, Bool, true, List, [], ◌∷◌, length, map, None, Some, count_by, vec_capacity, arith, refl, ap, ◌∙◌, sym, subst}
 use Rattle.std.proofs.Math.Nat.{mul-le-mul_left}
 use Rattle.std.proofs.lemmas.List.{length-map}
-use Rattle.slab.specs.Slab.{Slab, get, slab_len, Updates}
-use Rattle.indexmap.specs.IndexMap.{IndexMap, index_map_len}
+use Rattle.slab.specs.Slab.{Slab, Updates}
+use Rattle.indexmap.specs.IndexMap.{index_map_len}
 use Rattle.rt_box.specs.Capacity.{least_fill}
 use Rattle.rt_tree_node.specs.declared.arena.Arena.{Arena}
 use Rattle.rt_tree_node.specs.declared.cell.Cell.{Cell}
 use Rattle.rt_tree_node.specs.Node.{NodeCells}
-use Rattle.rt_tree_node.specs.Places.{numbers, count_rows}
+use Rattle.rt_tree_node.specs.Places.{numbers}
 use Rattle.rt_tree_node.specs.Whole.{row_count, most_rows_of_a_tree, HasRoom}
 use Rattle.rt_tree_place.proofs.Sums.{count-all}
 use Rattle.rt_tree_pack.specs.Packing.{IsBare, Packs, most_packed_nodes}
@@ -18,7 +18,7 @@ use Rattle.rt_tree_walk.specs.Outside.{outside}
 use Rattle.rt_tree_walk.proofs.Progress.{IsSettled}
 use Rattle.rt_tree_node.proofs.Counts.{count-cons}
 use Rattle.rt_tree.specs.TreeInside.{IsKept}
-use Rattle.rt_tree.specs.Packing.{ids, IsPackedOf}
+use Rattle.rt_tree.specs.Packing.{ids}
 use Rattle.rt_tree.specs.PackingInside.{cell_of, IsArenaOf}
 use Rattle.rt_tree.proofs.Fresh.{fresh-kept}
 use Rattle.rt_tree.proofs.Rows.{rows-counted}
