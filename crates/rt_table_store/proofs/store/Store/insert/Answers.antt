@@ -25,7 +25,7 @@ insert-requires g c =
     let absent : box_of i.tree.lists c.args.row.id ≡ None =
     no-box i.tree.lists c.is_in_shape.ensures i.auxiliary c.args.row.id (subst (λ (v : StoreLists g.row.D). has_id v.rows c.args.row.id ≡ false) (sym c.self.view_is) c.requires.absent) in
     let long = ap (λ (v : StoreLists g.row.D). length v.rows) c.self.view_is in
-    let few : length i.tree.lists.rows < 2 ^ 20 = omega (arith, long, c.requires.few, length-map i.tree.lists.rows (λ (e : RowEntry). joined i.tree.lists i.auxiliary e.id)) in
+    let few : length i.tree.lists.rows < 2 ^ 31 = omega (arith, long, c.requires.few, length-map i.tree.lists.rows (λ (e : RowEntry). joined i.tree.lists i.auxiliary e.id)) in
     let some : 1 ≤ i.tree.spare = subst (λ (v : StoreLists g.row.D). 1 ≤ v.room) (sym c.self.view_is) c.requires.room in
     rw (to_z-of_z w64 c.args.row.id fits) (search rules)
 
