@@ -1,9 +1,10 @@
 /*
- * juicedelta.h: the calls of Juicedelta for C99 and C++. Link with libjuicedelta.a. It keeps rows, each an id and a box of
- * whole numbers, in R*-trees of one, two or three axes, and runs scripts over tables of them.
+ * juicedelta.h: the calls for C99 and C++ of Juicedelta, which keeps rows, each an id and a box of whole numbers, in
+ * R*-trees of one, two or three axes, and runs scripts over tables of them. Link with libjuicedelta.a.
  *
  * Handles. A juicedelta_handle holds one object, a tree or a script shell, or nothing: then it is closed, as {0} is. The
- * caller owns the handle, and the library owns what it holds, until juicedelta_close. Never change or copy a handle.
+ * caller owns the handle, and the library owns what it holds, until juicedelta_close. Never change a handle, and never use
+ * two copies of one.
  *
  *     juicedelta_handle tree = {0};
  *     if (juicedelta_tree_open(&tree, 2, 51, keys[0], keys[1]) == JUICEDELTA_OK) ...
@@ -14,8 +15,8 @@
  * number for each axis. Many rows are a list of ids and a list of their boxes, one after another in the same order.
  * Lengths count the numbers, ids or bytes that a pointer leads to: 2 * axes for a box, axes for a point, and for a list of
  * boxes 2 * axes for each id that its list of ids has room for. With another length the call answers BAD_LENGTH.
- * Relations. A window finds the rows that touch it, lie within it, or hold it, as the caller chooses. A window without a
- * point touches no row and has none within it, and each row holds it.
+ * Relations. A window finds the rows that touch it, lie within it or hold it, as juicedelta_relation says. A window without
+ * a point touches no row and has none within it, and each row holds it.
  *
  * Answers. Each call answers JUICEDELTA_OK, or the first code of its comment that applies. No call ends the process. A call
  * that answers another code than OK changes neither an object nor an output argument, but BUFFER_TOO_SMALL writes `total`;
@@ -82,8 +83,7 @@ static inline int juicedelta_random_keys(uint64_t keys[2])
 extern "C" {
 #endif
 
-/* The number of the library's version. */
-uint32_t juicedelta_version(void);
+uint32_t juicedelta_version(void); /* The number of the library's version. */
 /* Writes the words of a code, or "unknown code", with no zero byte behind them, and their length. BUFFER_TOO_SMALL. */
 int32_t juicedelta_words(int32_t code, uint8_t *text, size_t length, uint64_t *total);
 /* Frees what the handle holds; the handle is closed then, and can be opened again. CLOSED. */
@@ -103,7 +103,7 @@ int32_t juicedelta_tree_open_dump(juicedelta_handle *handle, uint32_t axes, cons
 int32_t juicedelta_tree_insert(juicedelta_handle *handle, int64_t id, const int32_t *box, size_t length);
 /* Gives a row another box; nothing changes if it is the same. BAD_LENGTH, BAD_BOX, ID_MISSING, OUT_OF_MEMORY. */
 int32_t juicedelta_tree_move(juicedelta_handle *handle, int64_t id, const int32_t *box, size_t length);
-/* Removes a row, without memory for it. ID_MISSING. */
+/* Removes a row. It needs no memory. ID_MISSING. */
 int32_t juicedelta_tree_remove(juicedelta_handle *handle, int64_t id);
 /* Removes all rows, and frees their memory. Axes and capacity stay. OUT_OF_MEMORY: none is left for the new tree. */
 int32_t juicedelta_tree_clear(juicedelta_handle *handle);
@@ -117,8 +117,8 @@ int32_t juicedelta_tree_get(const juicedelta_handle *handle, int64_t id, int32_t
 /* Tells how many rows the window finds. BAD_RELATION, BAD_LENGTH, OUT_OF_MEMORY. */
 int32_t juicedelta_tree_count(const juicedelta_handle *handle, uint32_t relation, const int32_t *window, size_t length,
                               uint64_t *total);
-/* Writes the ids of the rows that the window finds, each once, in no stated order, and how many there are.
- * BAD_RELATION, BAD_LENGTH, OUT_OF_MEMORY, BUFFER_TOO_SMALL. */
+/* Writes the ids of the rows that the window finds to the start of `ids`, each once, in no stated order, and how many there
+ * are. BAD_RELATION, BAD_LENGTH, OUT_OF_MEMORY, BUFFER_TOO_SMALL. */
 int32_t juicedelta_tree_search(const juicedelta_handle *handle, uint32_t relation, const int32_t *window, size_t length,
                                int64_t *ids, size_t ids_length, uint64_t *total);
 /* As juicedelta_tree_search, and writes the boxes of these rows. */
