@@ -136,39 +136,33 @@ public:
 class Tree {
     juicedelta_handle tree = {};
     std::vector<int64_t> ids = std::vector<int64_t>(1 << 20);
-    static juicedelta_box2 of(const Box &box) { return {{box.min[0], box.min[1]}, {box.max[0], box.max[1]}}; }
+    static const int32_t *of(const Box &box) { return reinterpret_cast<const int32_t *>(&box); }
 
 public:
-    Tree() { juicedelta_tree2_open(&tree, 51, 1, 2); }
-    void insert(int64_t id, const Box &box)
-    {
-        juicedelta_box2 own = of(box);
-        juicedelta_tree2_insert(&tree, id, &own);
-    }
-    void remove(int64_t id, const Box &) { juicedelta_tree2_remove(&tree, id); }
+    Tree() { juicedelta_tree_open(&tree, 2, 51, 1, 2); }
+    void insert(int64_t id, const Box &box) { juicedelta_tree_insert(&tree, id, of(box), 4); }
+    void remove(int64_t id, const Box &) { juicedelta_tree_remove(&tree, id); }
     int64_t search(const Box &box)
     {
-        juicedelta_box2 own = of(box);
         uint64_t total = 0;
         int64_t sum = 0;
-        juicedelta_tree2_search(&tree, &own, ids.data(), ids.size(), &total);
+        juicedelta_tree_search(&tree, JUICEDELTA_TOUCHES, of(box), 4, ids.data(), ids.size(), &total);
         for (uint64_t at = 0; at < total; at++)
             sum += ids[at];
         return sum;
     }
     int64_t count(const Box &box)
     {
-        juicedelta_box2 own = of(box);
         uint64_t total = 0;
-        juicedelta_tree2_count(&tree, &own, &total);
+        juicedelta_tree_count(&tree, JUICEDELTA_TOUCHES, of(box), 4, &total);
         return int64_t(total);
     }
     int64_t nearest(const int32_t *at)
     {
-        juicedelta_point2 point = {{at[0], at[1]}};
-        juicedelta_row2 rows[10];
+        int64_t nearest[10];
+        int32_t boxes[40];
         uint64_t total = 0;
-        juicedelta_tree2_nearest(&tree, &point, rows, 10, &total);
+        juicedelta_tree_nearest(&tree, at, 2, nearest, 10, boxes, 40, &total);
         return int64_t(total);
     }
 };

@@ -47,12 +47,13 @@ static void grow(found *at, size_t room)
 }
 
 /* Searches the fences that have a point in common with the box. */
-static void find(juicedelta_handle *fences, const juicedelta_box2 *box, found *at)
+static void find(const juicedelta_handle *fences, const int32_t *box, found *at)
 {
     int32_t code;
     if (!at->ids)
         grow(at, 4);
-    while ((code = juicedelta_tree2_search(fences, box, at->ids, at->room, &at->length)) == JUICEDELTA_BUFFER_TOO_SMALL)
+    while ((code = juicedelta_tree_search(fences, JUICEDELTA_TOUCHES, box, 4, at->ids, at->room, &at->length))
+        == JUICEDELTA_BUFFER_TOO_SMALL)
         grow(at, 2 * at->length);
     must(code);
     if (at->length > 1)
@@ -70,15 +71,15 @@ static void tell(char what, int64_t fence, int64_t thing)
 }
 
 /* Moves a thing to a box, and tells what that means for each fence. */
-static void move(juicedelta_handle *fences, juicedelta_handle *things, int64_t thing, const juicedelta_box2 *box)
+static void move(const juicedelta_handle *fences, juicedelta_handle *things, int64_t thing, const int32_t *box)
 {
     static found before, after;
-    juicedelta_box2 old;
+    int32_t old[4];
     uint64_t i = 0, j = 0;
-    must(juicedelta_tree2_get(things, thing, &old));
-    find(fences, &old, &before);
+    must(juicedelta_tree_get(things, thing, old, 4));
+    find(fences, old, &before);
     find(fences, box, &after);
-    must(juicedelta_tree2_move(things, thing, box));
+    must(juicedelta_tree_move(things, thing, box, 4));
     while (i < before.length || j < after.length) {
         if (j == after.length || (i < before.length && before.ids[i] < after.ids[j]))
             tell('-', before.ids[i++], thing);
@@ -99,22 +100,16 @@ static int32_t below(int32_t limit)
     return (int32_t)((state >> 33) % (uint64_t)limit);
 }
 
-static juicedelta_box2 box_of(int32_t west, int32_t south, int32_t width, int32_t height)
-{
-    juicedelta_box2 box = {{west, south}, {west + width, south + height}};
-    return box;
-}
-
 static void fill(juicedelta_handle *tree, int64_t rows, int32_t widest)
 {
     uint64_t keys[2];
     if (juicedelta_random_keys(keys) != 0)
         exit(1);
-    must(juicedelta_tree2_open(tree, 51, keys[0], keys[1]));
+    must(juicedelta_tree_open(tree, 2, 51, keys[0], keys[1]));
     for (int64_t id = 1; id <= rows; id++) {
         int32_t west = below(MAP), south = below(MAP), width = below(widest), height = below(widest);
-        juicedelta_box2 box = box_of(west, south, width, height);
-        must(juicedelta_tree2_insert(tree, id, &box));
+        int32_t box[] = {west, south, west + width, south + height};
+        must(juicedelta_tree_insert(tree, id, box, 4));
     }
 }
 
@@ -128,11 +123,11 @@ int main(int argc, char **argv)
     clock_t begun = clock();
     for (int64_t i = 0; i < moves; i++) {
         int64_t thing = 1 + below((int32_t)rows);
-        juicedelta_box2 box;
-        must(juicedelta_tree2_get(&things, thing, &box));
+        int32_t box[4];
+        must(juicedelta_tree_get(&things, thing, box, 4));
         int32_t east = below(2 * STEP + 1) - STEP, north = below(2 * STEP + 1) - STEP;
-        box = box_of(box.min[0] + east, box.min[1] + north, box.max[0] - box.min[0], box.max[1] - box.min[1]);
-        move(&fences, &things, thing, &box);
+        box[0] += east, box[1] += north, box[2] += east, box[3] += north;
+        move(&fences, &things, thing, box);
     }
     if (is_timed)
         printf("left %ld, came %ld, moved inside %ld; %.2f us a move\n", counts['-'], counts['+'], counts['='],

@@ -3,30 +3,20 @@
  * makes the calls that the other bytes say beside a plain list (pair.h); or they are a script, which prints the same in
  * one piece and byte by byte.
  */
-#define AXES 1
-#include "pair.h"
-#define AXES 2
-#include "pair.h"
-#define AXES 3
 #include "pair.h"
 
 static void arm(long allocation) { (void)allocation; }
 static int disarm(void) { return 0; }
 
-#define CALLS(D)                                                                                                       \
-    static void calls##D(source *from)                                                                                 \
-    {                                                                                                                  \
-        pair##D pair;                                                                                                  \
-        pair##D##_open(&pair, 5 + below(from, 47));                                                                    \
-        while (from->length > 0)                                                                                       \
-            pair##D##_step(from, &pair);                                                                               \
-        pair##D##_same(&pair);                                                                                         \
-        pair##D##_close(&pair);                                                                                        \
-    }
-
-CALLS(1)
-CALLS(2)
-CALLS(3)
+static void calls(source *from, uint32_t axes)
+{
+    pair pair;
+    pair_open(&pair, axes, 5 + below(from, 47));
+    while (from->length > 0)
+        pair_step(from, &pair);
+    pair_same(&pair);
+    pair_close(&pair);
+}
 
 /* What a shell prints of a script that is fed in parts of `part` bytes. */
 static uint8_t *printed(const uint8_t *script, size_t length, size_t part, uint64_t *count, uint32_t *refused)
@@ -60,18 +50,10 @@ int LLVMFuzzerTestOneInput(const uint8_t *bytes, size_t length)
     /* A source without bytes is a generator. */
     static const uint8_t none = 0;
     source from = {length > 1 ? bytes + 1 : &none, length > 1 ? length - 1 : 0, 0};
-    switch (length > 0 ? bytes[0] % 4 : 0) {
-    case 1:
-        calls1(&from);
-        break;
-    case 2:
-        calls2(&from);
-        break;
-    case 3:
-        calls3(&from);
-        break;
-    default:
+    uint32_t axes = length > 0 ? bytes[0] % 4 : 0;
+    if (axes > 0)
+        calls(&from, axes);
+    else
         script(from.bytes, from.length);
-    }
     return 0;
 }

@@ -1,8 +1,8 @@
 /*
  * A tree and its oracle, a plain list, side by side: each step makes a call of both, and ends the program if their
- * answers differ. Include it with AXES defined as 1, 2 and 3 in turn; the oracle's calls are those of plain.c under the
- * names plain_.. The including file has `arm` and `disarm`: from arm(N) to disarm() the Nth allocation is refused, and
- * disarm() answers whether one was. With an `arm` that does nothing each call is made once.
+ * answers differ. The oracle's calls are those of plain.c under the names plain_.. The including file has `arm` and
+ * `disarm`: from arm(N) to disarm() the Nth allocation is refused, and disarm() answers whether one was. With an `arm`
+ * that does nothing each call is made once.
  */
 #ifndef PAIR_H
 #define PAIR_H
@@ -48,7 +48,8 @@ static uint32_t below(source *from, uint32_t n)
     return (uint32_t)(from->state >> 32) % n;
 }
 
-enum { IDS = 600, BUFFER = 700 };
+/* A box has up to six numbers, and where one is given there is room for eight, so that its length can be wrong. */
+enum { IDS = 600, BUFFER = 700, BOX = 6, ROOM = 8 };
 
 static int64_t an_id(source *from)
 {
@@ -61,6 +62,18 @@ static int32_t a_coordinate(source *from)
     uint32_t kind = below(from, 200);
     return kind == 0 ? INT32_MIN : kind == 1 ? INT32_MAX : (int32_t)below(from, 1000) - 500;
 }
+
+/* This length, or rarely another. */
+static size_t a_length(source *from, size_t length) { return below(from, 60) == 0 ? below(from, ROOM + 1) : length; }
+
+/* One of the three relations, or rarely no relation. */
+static uint32_t a_relation(source *from)
+{
+    static const uint32_t none[] = {3, 256, 1u << 31, UINT32_MAX};
+    return below(from, 60) == 0 ? none[below(from, 4)] : below(from, 3);
+}
+
+static int32_t cut(int64_t number) { return number > INT32_MAX ? INT32_MAX : number < INT32_MIN ? INT32_MIN : (int32_t)number; }
 
 static int by_number(const void *left, const void *right)
 {
@@ -75,15 +88,28 @@ static int is_untouched(const void *bytes, size_t from, size_t to)
     return from >= to || (at[from] == 0x5a && memcmp(at + from, at + from + 1, to - from - 1) == 0);
 }
 
-#define JOIN3(left, axes, right) left##axes##right
-#define JOIN(left, axes, right) JOIN3(left, axes, right)
-#define TREE(name) JOIN(juicedelta_tree, AXES, _##name)
-#define LIST(name) JOIN(plain_tree, AXES, _##name)
-#define PAIR(name) JOIN(pair, AXES, _##name)
-#define BOX JOIN(juicedelta_box, AXES, )
-#define ROW JOIN(juicedelta_row, AXES, )
-#define POINT JOIN(juicedelta_point, AXES, )
-#define TWO JOIN(pair, AXES, )
+/* The oracle's calls, each of the type of the library's. */
+#define PLAIN(name) extern __typeof__(juicedelta_##name) plain_##name
+PLAIN(words);
+PLAIN(close);
+PLAIN(tree_open);
+PLAIN(tree_open_dump);
+PLAIN(tree_insert);
+PLAIN(tree_move);
+PLAIN(tree_remove);
+PLAIN(tree_clear);
+PLAIN(tree_axes);
+PLAIN(tree_len);
+PLAIN(tree_get);
+PLAIN(tree_count);
+PLAIN(tree_search);
+PLAIN(tree_search_rows);
+PLAIN(tree_nearest);
+
+typedef struct pair {
+    uint32_t axes;
+    juicedelta_handle tree, list;
+} pair;
 
 /* Makes a call, with each of its allocations refused in turn first: then what it was given is untouched, and the rows
  * are as before. */
@@ -94,236 +120,305 @@ static int is_untouched(const void *bytes, size_t from, size_t to)
         if (!disarm() || (code) != JUICEDELTA_OUT_OF_MEMORY)                                                           \
             break;                                                                                                     \
         CHECK(untouched);                                                                                              \
-        PAIR(same)(pair);                                                                                              \
+        pair_same(pair);                                                                                               \
     }
 
-int32_t plain_close(juicedelta_handle *handle);
-#endif
+/* The lists that a call for rows writes. */
+typedef struct rows {
+    uint64_t total;
+    int64_t ids[BUFFER];
+    int32_t boxes[BOX * BUFFER + ROOM];
+} rows;
 
-int32_t LIST(open)(juicedelta_handle *handle, uint32_t capacity, uint64_t first_key, uint64_t second_key);
-int32_t LIST(insert)(juicedelta_handle *handle, int64_t id, const BOX *box);
-int32_t LIST(move)(juicedelta_handle *handle, int64_t id, const BOX *box);
-int32_t LIST(remove)(juicedelta_handle *handle, int64_t id);
-int32_t LIST(get)(juicedelta_handle *handle, int64_t id, BOX *box);
-int32_t LIST(len)(juicedelta_handle *handle, uint64_t *rows);
-int32_t LIST(search)(juicedelta_handle *handle, const BOX *box, int64_t *ids, size_t length, uint64_t *total);
-int32_t LIST(search_rows)(juicedelta_handle *handle, const BOX *box, ROW *rows, size_t length, uint64_t *total);
-int32_t LIST(count)(juicedelta_handle *handle, const BOX *box, uint64_t *total);
-int32_t LIST(nearest)(juicedelta_handle *handle, const POINT *point, ROW *rows, size_t length, uint64_t *total);
-int32_t LIST(open_dump)(juicedelta_handle *handle, const uint8_t *text, size_t length, uint64_t first_key, uint64_t second_key);
-int32_t LIST(clear)(juicedelta_handle *handle);
-
-typedef struct TWO {
-    juicedelta_handle tree, list;
-} TWO;
-
-static void PAIR(close)(TWO *pair)
+/* Fills the lists with 0x5a, which is_untouched looks for. */
+static void clear_rows(rows *rows)
 {
-    CHECK(juicedelta_close(&pair->tree) == JUICEDELTA_OK && plain_close(&pair->list) == JUICEDELTA_OK);
+    memset(rows, 0x5a, sizeof *rows);
+    rows->total = 77;
 }
 
-/* Both have the same rows. */
-static void PAIR(same)(TWO *pair)
+/* Nothing is written behind this many rows. */
+static int are_untouched(const pair *pair, const rows *rows, size_t from)
 {
-    static ROW rows[BUFFER], wanted[BUFFER];
-    uint64_t total = 0, all = 0, length = 0;
-    BOX space;
-    for (int axis = 0; axis < AXES; axis++)
-        space.min[axis] = INT32_MIN, space.max[axis] = INT32_MAX;
-    CHECK(TREE(search_rows)(&pair->tree, &space, rows, BUFFER, &total) == JUICEDELTA_OK);
-    CHECK(LIST(search_rows)(&pair->list, &space, wanted, BUFFER, &all) == JUICEDELTA_OK);
-    CHECK(TREE(len)(&pair->tree, &length) == JUICEDELTA_OK && length == total && total == all);
-    qsort(rows, total, sizeof *rows, by_number);
-    qsort(wanted, total, sizeof *wanted, by_number);
-    CHECK(memcmp(rows, wanted, total * sizeof *rows) == 0);
+    return is_untouched(rows->ids, from * sizeof *rows->ids, sizeof rows->ids)
+        && is_untouched(rows->boxes, from * 2 * pair->axes * sizeof *rows->boxes, sizeof rows->boxes);
 }
 
-static void PAIR(open)(TWO *pair, uint32_t capacity)
+/* Both have the same rows, in whatever order. */
+static int are_same(const pair *pair, const rows *left, const rows *right, size_t length)
+{
+    static struct row {
+        int64_t id;
+        int32_t box[BOX];
+    } sorted[2][BUFFER];
+    memset(sorted, 0, sizeof sorted);
+    for (size_t side = 0, width = 2 * pair->axes; side < 2; side++) {
+        const rows *from = side == 0 ? left : right;
+        for (size_t at = 0; at < length; at++) {
+            sorted[side][at].id = from->ids[at];
+            memcpy(sorted[side][at].box, &from->boxes[at * width], width * sizeof *from->boxes);
+        }
+        qsort(sorted[side], length, sizeof sorted[side][0], by_number);
+    }
+    return memcmp(sorted[0], sorted[1], length * sizeof sorted[0][0]) == 0;
+}
+
+/* Tree and list have the same rows, and as many axes. */
+static void pair_same(const pair *pair)
+{
+    static rows rows, wanted;
+    int32_t space[BOX];
+    size_t width = 2 * pair->axes;
+    uint64_t length = 0;
+    uint32_t axes = 0, list_axes = 0;
+    for (uint32_t axis = 0; axis < pair->axes; axis++)
+        space[axis] = INT32_MIN, space[pair->axes + axis] = INT32_MAX;
+    CHECK(juicedelta_tree_search_rows(&pair->tree, 0, space, width, rows.ids, BUFFER, rows.boxes, width * BUFFER, &rows.total) == 0);
+    CHECK(plain_tree_search_rows(&pair->list, 0, space, width, wanted.ids, BUFFER, wanted.boxes, width * BUFFER, &wanted.total) == 0);
+    CHECK(juicedelta_tree_len(&pair->tree, &length) == JUICEDELTA_OK && length == rows.total && length == wanted.total);
+    CHECK(are_same(pair, &rows, &wanted, length));
+    CHECK(juicedelta_tree_axes(&pair->tree, &axes) == JUICEDELTA_OK && axes == pair->axes);
+    CHECK(plain_tree_axes(&pair->list, &list_axes) == JUICEDELTA_OK && list_axes == axes);
+}
+
+static void pair_open(pair *pair, uint32_t axes, uint32_t capacity)
 {
     int32_t code;
-    *pair = (TWO){{NULL, 0}, {NULL, 0}};
+    memset(pair, 0, sizeof *pair);
+    pair->axes = axes;
     for (long turn = 1;; turn++) {
         arm(turn);
-        code = TREE(open)(&pair->tree, capacity, 3, 4);
+        code = juicedelta_tree_open(&pair->tree, axes, capacity, 3, 4);
         if (!disarm() || code != JUICEDELTA_OUT_OF_MEMORY)
             break;
         CHECK(juicedelta_close(&pair->tree) == JUICEDELTA_CLOSED);
     }
-    CHECK(code == JUICEDELTA_OK && LIST(open)(&pair->list, capacity, 3, 4) == JUICEDELTA_OK);
+    CHECK(code == JUICEDELTA_OK && plain_tree_open(&pair->list, axes, capacity, 3, 4) == JUICEDELTA_OK);
 }
 
-static BOX PAIR(box)(source *from, uint32_t most, int may_be_bad)
+static void pair_close(pair *pair)
 {
-    BOX box;
-    for (int axis = 0; axis < AXES; axis++) {
-        int64_t min = a_coordinate(from), max = min + below(from, most) - (may_be_bad && below(from, 60) == 0);
-        box.min[axis] = (int32_t)min;
-        box.max[axis] = max > INT32_MAX ? INT32_MAX : max < INT32_MIN ? INT32_MIN : (int32_t)max;
+    CHECK(juicedelta_close(&pair->tree) == JUICEDELTA_OK && plain_close(&pair->list) == JUICEDELTA_OK);
+}
+
+/* A box with sides below `most`, and rarely, by one in `bad`, with min above max on an axis. */
+static void a_box(source *from, const pair *pair, uint32_t most, uint32_t bad, int32_t *box)
+{
+    memset(box, 0, ROOM * sizeof *box);
+    for (uint32_t axis = 0; axis < pair->axes; axis++) {
+        int64_t min = a_coordinate(from), max = min + below(from, most);
+        box[axis] = (int32_t)min;
+        box[pair->axes + axis] = cut(below(from, bad) == 0 ? min - 1 - below(from, 9) : max);
     }
-    return box;
 }
 
-static void PAIR(search)(source *from, TWO *pair)
+/* A window of any size, or the box of a row with each end moved a little: then rows are within it, and hold it. */
+static void a_window(source *from, const pair *pair, int32_t *window)
 {
-    static int64_t ids[BUFFER], wanted[BUFFER];
-    BOX box = PAIR(box)(from, below(from, 4) == 0 ? 1000 : 100, 0);
-    size_t length = below(from, 4) == 0 ? below(from, 10) : BUFFER;
-    uint64_t total = 77, all = 0;
-    int32_t code;
-    memset(ids, 0x5a, sizeof ids);
-    TRY(code, TREE(search)(&pair->tree, &box, ids, length, &total), total == 77 && is_untouched(ids, 0, sizeof ids));
-    CHECK(code == LIST(search)(&pair->list, &box, wanted, length, &all) && total == all);
-    size_t written = code == JUICEDELTA_OK ? total : 0;
-    CHECK(is_untouched(ids, written * sizeof *ids, sizeof ids));
-    qsort(ids, written, sizeof *ids, by_number);
-    qsort(wanted, written, sizeof *wanted, by_number);
-    CHECK(memcmp(ids, wanted, written * sizeof *ids) == 0);
-    total = 77;
-    TRY(code, TREE(count)(&pair->tree, &box, &total), total == 77);
-    CHECK(code == JUICEDELTA_OK && total == all);
+    a_box(from, pair, below(from, 4) == 0 ? 1000 : 100, 40, window);
+    if (below(from, 2) == 0 && plain_tree_get(&pair->list, an_id(from), window, 2 * pair->axes) == JUICEDELTA_OK)
+        for (uint32_t end = 0; end < 2 * pair->axes; end++)
+            window[end] = cut((int64_t)window[end] + below(from, 5) - 2);
 }
 
-static void PAIR(search_rows)(source *from, TWO *pair)
+static void pair_search(source *from, const pair *pair)
 {
-    static ROW rows[BUFFER], wanted[BUFFER];
-    BOX box = PAIR(box)(from, below(from, 4) == 0 ? 1000 : 100, 0);
-    size_t length = below(from, 4) == 0 ? below(from, 10) : BUFFER;
-    uint64_t total = 77, all = 0;
-    int32_t code;
-    memset(rows, 0x5a, sizeof rows);
-    TRY(code, TREE(search_rows)(&pair->tree, &box, rows, length, &total), total == 77 && is_untouched(rows, 0, sizeof rows));
-    CHECK(code == LIST(search_rows)(&pair->list, &box, wanted, length, &all) && total == all);
-    size_t written = code == JUICEDELTA_OK ? total : 0;
-    CHECK(is_untouched(rows, written * sizeof *rows, sizeof rows));
-    qsort(rows, written, sizeof *rows, by_number);
-    qsort(wanted, written, sizeof *wanted, by_number);
-    CHECK(memcmp(rows, wanted, written * sizeof *rows) == 0);
+    static rows rows, wanted;
+    int32_t window[ROOM], code;
+    size_t length = a_length(from, 2 * pair->axes), room = below(from, 4) == 0 ? below(from, 10) : BUFFER;
+    uint32_t relation = a_relation(from);
+    a_window(from, pair, window);
+    clear_rows(&rows), clear_rows(&wanted);
+    TRY(code, juicedelta_tree_search(&pair->tree, relation, window, length, rows.ids, room, &rows.total),
+        rows.total == 77 && are_untouched(pair, &rows, 0));
+    CHECK(code == plain_tree_search(&pair->list, relation, window, length, wanted.ids, room, &wanted.total));
+    CHECK(rows.total == wanted.total);
+    size_t written = code == JUICEDELTA_OK ? rows.total : 0;
+    CHECK(is_untouched(rows.ids, written * sizeof *rows.ids, sizeof rows.ids));
+    CHECK(are_same(pair, &rows, &wanted, written));
+    rows.total = 77;
+    TRY(code, juicedelta_tree_count(&pair->tree, relation, window, length, &rows.total), rows.total == 77);
+    CHECK(code == plain_tree_count(&pair->list, relation, window, length, &wanted.total) && rows.total == wanted.total);
 }
 
-static void PAIR(nearest)(source *from, TWO *pair)
+static void pair_search_rows(source *from, const pair *pair)
 {
-    static ROW rows[BUFFER], wanted[BUFFER];
-    POINT point;
-    size_t length = below(from, 50) == 0 ? BUFFER : below(from, 7);
-    uint64_t total = 77, all = 0;
-    int32_t code;
-    for (int axis = 0; axis < AXES; axis++)
-        point.at[axis] = a_coordinate(from);
-    memset(rows, 0x5a, sizeof rows);
-    TRY(code, TREE(nearest)(&pair->tree, &point, rows, length, &total), total == 77 && is_untouched(rows, 0, sizeof rows));
-    CHECK(code == LIST(nearest)(&pair->list, &point, wanted, length, &all) && total == all);
-    CHECK(memcmp(rows, wanted, total * sizeof *rows) == 0 && is_untouched(rows, total * sizeof *rows, sizeof rows));
+    static rows rows, wanted;
+    int32_t window[ROOM], code;
+    size_t length = a_length(from, 2 * pair->axes), room = below(from, 4) == 0 ? below(from, 10) : BUFFER;
+    size_t boxes = 2 * pair->axes * room + (below(from, 60) == 0 ? 1 + below(from, ROOM) : 0);
+    uint32_t relation = a_relation(from);
+    a_window(from, pair, window);
+    clear_rows(&rows), clear_rows(&wanted);
+    TRY(code, juicedelta_tree_search_rows(&pair->tree, relation, window, length, rows.ids, room, rows.boxes, boxes, &rows.total),
+        rows.total == 77 && are_untouched(pair, &rows, 0));
+    CHECK(code
+        == plain_tree_search_rows(&pair->list, relation, window, length, wanted.ids, room, wanted.boxes, boxes, &wanted.total));
+    CHECK(rows.total == wanted.total);
+    size_t written = code == JUICEDELTA_OK ? rows.total : 0;
+    CHECK(are_untouched(pair, &rows, written) && are_same(pair, &rows, &wanted, written));
+}
+
+static void pair_nearest(source *from, const pair *pair)
+{
+    static rows rows, wanted;
+    int32_t point[ROOM] = {0}, code;
+    size_t length = a_length(from, pair->axes), room = below(from, 50) == 0 ? BUFFER : below(from, 7);
+    size_t boxes = 2 * pair->axes * room + (below(from, 60) == 0 ? 1 + below(from, ROOM) : 0);
+    for (uint32_t axis = 0; axis < pair->axes; axis++)
+        point[axis] = a_coordinate(from);
+    clear_rows(&rows), clear_rows(&wanted);
+    TRY(code, juicedelta_tree_nearest(&pair->tree, point, length, rows.ids, room, rows.boxes, boxes, &rows.total),
+        rows.total == 77 && are_untouched(pair, &rows, 0));
+    CHECK(code == plain_tree_nearest(&pair->list, point, length, wanted.ids, room, wanted.boxes, boxes, &wanted.total));
+    CHECK(rows.total == wanted.total && are_untouched(pair, &rows, code == JUICEDELTA_OK ? rows.total : 0));
+    /* The order counts here. */
+    CHECK(memcmp(rows.ids, wanted.ids, sizeof rows.ids) == 0 && memcmp(rows.boxes, wanted.boxes, sizeof rows.boxes) == 0);
+}
+
+static void pair_insert(source *from, pair *pair, int64_t id)
+{
+    int32_t box[ROOM], code;
+    size_t length = a_length(from, 2 * pair->axes);
+    a_box(from, pair, 60, 60, box);
+    TRY(code, juicedelta_tree_insert(&pair->tree, id, box, length), 1);
+    CHECK(code == plain_tree_insert(&pair->list, id, box, length));
 }
 
 /* A row moves to a near place, to any, or to its own. */
-static void PAIR(move)(source *from, TWO *pair, int64_t id)
+static void pair_move(source *from, pair *pair, int64_t id)
 {
-    BOX box = PAIR(box)(from, 60, 1);
-    int32_t code;
+    int32_t box[ROOM], code;
+    size_t length = a_length(from, 2 * pair->axes);
+    a_box(from, pair, 60, 60, box);
     if (below(from, 4) == 0)
-        LIST(get)(&pair->list, id, &box);
-    if (below(from, 2) == 0 && box.max[0] < INT32_MAX)
-        box.max[0]++;
-    TRY(code, TREE(move)(&pair->tree, id, &box), 1);
-    CHECK(code == LIST(move)(&pair->list, id, &box));
+        plain_tree_get(&pair->list, id, box, 2 * pair->axes);
+    if (below(from, 2) == 0 && box[pair->axes] < INT32_MAX)
+        box[pair->axes]++;
+    TRY(code, juicedelta_tree_move(&pair->tree, id, box, length), 1);
+    CHECK(code == plain_tree_move(&pair->list, id, box, length));
 }
 
-/* The tree's dump is opened by both in place of what they hold; and once with another byte, which may make it bad. */
-static void PAIR(dump)(source *from, TWO *pair)
+static void pair_remove(pair *pair, int64_t id)
 {
-    uint64_t total = 77, length = 77;
-    uint8_t none = 0x5a;
-    int32_t code;
-    TRY(code, TREE(dump)(&pair->tree, &none, 0, &length), length == 77);
-    CHECK(code == JUICEDELTA_BUFFER_TOO_SMALL && length > 0 && none == 0x5a);
-    uint8_t *text = malloc(length + 1);
-    CHECK(text != NULL);
-    memset(text, 0x5a, length + 1);
-    TRY(code, TREE(dump)(&pair->tree, text, length, &total), total == 77 && is_untouched(text, 0, length));
-    CHECK(code == JUICEDELTA_OK && total == length && text[length] == 0x5a);
-    TWO read = {{NULL, 0}, {NULL, 0}};
-    TRY(code, TREE(open_dump)(&read.tree, text, length, 1, 2), juicedelta_close(&read.tree) == JUICEDELTA_CLOSED);
-    CHECK(code == JUICEDELTA_OK && LIST(open_dump)(&read.list, text, length, 1, 2) == JUICEDELTA_OK);
-    PAIR(same)(&read);
-    PAIR(same)(pair);
-    CHECK(TREE(open_dump)(&read.tree, text, length, 1, 2) == JUICEDELTA_ALREADY_OPEN);
-    PAIR(close)(pair);
-    *pair = read;
+    arm(1);
+    int32_t code = juicedelta_tree_remove(&pair->tree, id);
+    CHECK(!disarm() && code == plain_tree_remove(&pair->list, id));
+}
 
-    TWO broken = {{NULL, 0}, {NULL, 0}};
+static void pair_get(source *from, const pair *pair, int64_t id)
+{
+    int32_t box[ROOM], wanted[ROOM];
+    size_t length = a_length(from, 2 * pair->axes);
+    memset(box, 0x5a, sizeof box);
+    memset(wanted, 0x5a, sizeof wanted);
+    arm(1);
+    int32_t code = juicedelta_tree_get(&pair->tree, id, box, length);
+    CHECK(!disarm() && code == plain_tree_get(&pair->list, id, wanted, length) && memcmp(box, wanted, sizeof box) == 0);
+}
+
+static void pair_len(const pair *pair)
+{
+    uint64_t rows = 77, all = 0;
+    arm(1);
+    CHECK(juicedelta_tree_len(&pair->tree, &rows) == JUICEDELTA_OK);
+    CHECK(!disarm() && plain_tree_len(&pair->list, &all) == JUICEDELTA_OK && rows == all);
+}
+
+static void pair_clear(pair *pair)
+{
+    int32_t code;
+    TRY(code, juicedelta_tree_clear(&pair->tree), 1);
+    CHECK(code == JUICEDELTA_OK && plain_tree_clear(&pair->list) == JUICEDELTA_OK);
+    pair_same(pair);
+}
+
+/* A dump with another byte, which may make it bad, or with another end, is opened by both. */
+static void pair_broken(source *from, const pair *pair, uint8_t *text, size_t length)
+{
+    struct pair broken = {pair->axes, {NULL, 0}, {NULL, 0}};
     static const char bytes[] = "0123456789- \n";
     uint8_t *changed = &text[below(from, (uint32_t)length)];
     *changed = below(from, 20) == 0 ? (uint8_t)below(from, 256) : (uint8_t)bytes[below(from, sizeof bytes - 1)];
     if (below(from, 20) == 0)
         length = below(from, (uint32_t)length);
-    code = TREE(open_dump)(&broken.tree, text, length, 1, 2);
-    int32_t plain = LIST(open_dump)(&broken.list, text, length, 1, 2);
+    int32_t code = juicedelta_tree_open_dump(&broken.tree, broken.axes, text, length, 1, 2);
+    int32_t plain = plain_tree_open_dump(&broken.list, broken.axes, text, length, 1, 2);
     CHECK(code == JUICEDELTA_OK || code == JUICEDELTA_BAD_DUMP);
     /* The list doesn't look for problems of the tree. */
     CHECK(code != JUICEDELTA_OK || plain == JUICEDELTA_OK);
     if (code == JUICEDELTA_OK)
-        PAIR(same)(&broken);
+        pair_same(&broken);
     CHECK(juicedelta_close(&broken.tree) == (code == JUICEDELTA_OK ? JUICEDELTA_OK : JUICEDELTA_CLOSED));
     CHECK(plain_close(&broken.list) == (plain == JUICEDELTA_OK ? JUICEDELTA_OK : JUICEDELTA_CLOSED));
+}
+
+/* The tree's dump is opened by both in place of what they hold. */
+static void pair_dump(source *from, pair *pair)
+{
+    uint64_t total = 77, length = 77;
+    uint8_t none = 0x5a;
+    int32_t code;
+    TRY(code, juicedelta_tree_dump(&pair->tree, &none, 0, &length), length == 77);
+    CHECK(code == JUICEDELTA_BUFFER_TOO_SMALL && length > 0 && none == 0x5a);
+    uint8_t *text = malloc(length + 1);
+    CHECK(text != NULL);
+    memset(text, 0x5a, length + 1);
+    TRY(code, juicedelta_tree_dump(&pair->tree, text, length, &total), total == 77 && is_untouched(text, 0, length));
+    CHECK(code == JUICEDELTA_OK && total == length && text[length] == 0x5a);
+    struct pair read = {pair->axes, {NULL, 0}, {NULL, 0}};
+    CHECK(juicedelta_tree_open_dump(&read.tree, pair->axes % 3 + 1, text, length, 1, 2) == JUICEDELTA_BAD_DUMP);
+    TRY(code, juicedelta_tree_open_dump(&read.tree, read.axes, text, length, 1, 2),
+        juicedelta_close(&read.tree) == JUICEDELTA_CLOSED);
+    CHECK(code == JUICEDELTA_OK && plain_tree_open_dump(&read.list, read.axes, text, length, 1, 2) == JUICEDELTA_OK);
+    pair_same(&read);
+    pair_same(pair);
+    CHECK(juicedelta_tree_open_dump(&read.tree, pair->axes, text, length, 1, 2) == JUICEDELTA_ALREADY_OPEN);
+    pair_close(pair);
+    *pair = read;
+    pair_broken(from, pair, text, length);
     free(text);
 }
 
 /* One call of both, or a few that belong together. */
-static void PAIR(step)(source *from, TWO *pair)
+static void pair_step(source *from, pair *pair)
 {
     int64_t id = an_id(from);
-    int32_t code;
-    BOX box, wanted;
-    uint64_t rows = 77, all = 0;
     switch (below(from, 14)) {
     case 0:
     case 1:
     case 2:
     case 3:
-        box = PAIR(box)(from, 60, 1);
-        TRY(code, TREE(insert)(&pair->tree, id, &box), 1);
-        CHECK(code == LIST(insert)(&pair->list, id, &box));
+        pair_insert(from, pair, id);
         break;
     case 4:
     case 5:
-        arm(1);
-        code = TREE(remove)(&pair->tree, id);
-        CHECK(!disarm() && code == LIST(remove)(&pair->list, id));
+        pair_remove(pair, id);
         break;
     case 6:
-        memset(&box, 0x5a, sizeof box);
-        memset(&wanted, 0x5a, sizeof wanted);
-        arm(1);
-        code = TREE(get)(&pair->tree, id, &box);
-        CHECK(!disarm() && code == LIST(get)(&pair->list, id, &wanted) && memcmp(&box, &wanted, sizeof box) == 0);
+        pair_get(from, pair, id);
         break;
     case 7:
-        PAIR(search)(from, pair);
+        pair_search(from, pair);
         break;
     case 8:
-        PAIR(search_rows)(from, pair);
+        pair_search_rows(from, pair);
         break;
     case 9:
-        PAIR(nearest)(from, pair);
+        pair_nearest(from, pair);
         break;
     case 10:
     case 11:
-        PAIR(move)(from, pair, id);
+        pair_move(from, pair, id);
         break;
     case 12:
-        arm(1);
-        CHECK(TREE(len)(&pair->tree, &rows) == JUICEDELTA_OK);
-        CHECK(!disarm() && LIST(len)(&pair->list, &all) == JUICEDELTA_OK && rows == all);
+        pair_len(pair);
         break;
     default:
-        if (below(from, 400) == 0) {
-            TRY(code, TREE(clear)(&pair->tree), 1);
-            CHECK(code == JUICEDELTA_OK && LIST(clear)(&pair->list) == JUICEDELTA_OK);
-            PAIR(same)(pair);
-        } else if (below(from, 40) == 0) {
-            PAIR(dump)(from, pair);
-        }
+        if (below(from, 400) == 0)
+            pair_clear(pair);
+        else if (below(from, 40) == 0)
+            pair_dump(from, pair);
     }
 }
-
-#undef AXES
+#endif

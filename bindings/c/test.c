@@ -8,12 +8,6 @@
  *   test refused CALLS  random calls beside the oracle, with each allocation refused in turn, and a script
  *   test rows ROWS      ROWS rows are inserted and removed
  */
-#define _GNU_SOURCE
-#define AXES 1
-#include "pair.h"
-#define AXES 2
-#include "pair.h"
-#define AXES 3
 #include "pair.h"
 
 /* ---- Memory ------------------------------------------------------------------------------------------------------ */
@@ -146,10 +140,13 @@ static void script_codes(void)
     CHECK(juicedelta_script_finish(&shell, &refused) == JUICEDELTA_OK && refused == 1);
     CHECK(juicedelta_script_finish(&shell, &refused) == JUICEDELTA_ENDED);
     CHECK(juicedelta_script_exec(&shell, buffer, 0) == JUICEDELTA_ENDED);
-    CHECK(juicedelta_tree2_len(&shell, &count) == JUICEDELTA_OTHER_KIND && count == 77);
-    CHECK(juicedelta_tree2_open(&tree, 5, 1, 2) == JUICEDELTA_OK);
+    CHECK(juicedelta_tree_open(&tree, 2, 5, 1, 2) == JUICEDELTA_OK);
+    CHECK(juicedelta_script_open(&tree, 5, 1, 2) == JUICEDELTA_ALREADY_OPEN);
     CHECK(juicedelta_script_exec(&tree, buffer, 0) == JUICEDELTA_OTHER_KIND);
+    CHECK(juicedelta_script_finish(&tree, &refused) == JUICEDELTA_OTHER_KIND && refused == 1);
     CHECK(juicedelta_script_output_length(&tree, &count) == JUICEDELTA_OTHER_KIND && count == 77);
+    CHECK(juicedelta_script_output(&tree, buffer, 4) == JUICEDELTA_OTHER_KIND);
+    CHECK(juicedelta_script_drop_output(&tree) == JUICEDELTA_OTHER_KIND);
     CHECK(juicedelta_close(&tree) == JUICEDELTA_OK);
     CHECK(juicedelta_close(&shell) == JUICEDELTA_OK);
     CHECK(juicedelta_close(&shell) == JUICEDELTA_CLOSED);
@@ -157,128 +154,243 @@ static void script_codes(void)
 
 /* ---- Trees ------------------------------------------------------------------------------------------------------- */
 
-#define CODES(D)                                                                                                        \
-    /* Each code that a bad argument gets, with nothing changed. */                                                    \
-    static void tree##D##_codes(void)                                                                                  \
-    {                                                                                                                  \
-        juicedelta_handle tree = {0}, shell = {0};                                                                     \
-        juicedelta_box##D box, upside, got;                                                                            \
-        uint64_t rows = 77, total = 77;                                                                                \
-        int64_t ids[1] = {77};                                                                                         \
-        juicedelta_row##D row = {77, {{0}, {0}}};                                                                      \
-        juicedelta_point##D point = {{0}};                                                                             \
-        uint8_t text[4] = {77};                                                                                        \
-        for (int axis = 0; axis < D; axis++) {                                                                         \
-            box.min[axis] = INT32_MIN, box.max[axis] = INT32_MAX;                                                      \
-            upside.min[axis] = axis, upside.max[axis] = axis - (axis == D - 1);                                        \
-        }                                                                                                              \
-        memset(&got, 7, sizeof got);                                                                                   \
-        CHECK(juicedelta_tree##D##_insert(&tree, 1, &box) == JUICEDELTA_CLOSED);                                       \
-        CHECK(juicedelta_tree##D##_move(&tree, 1, &box) == JUICEDELTA_CLOSED);                                         \
-        CHECK(juicedelta_tree##D##_remove(&tree, 1) == JUICEDELTA_CLOSED);                                             \
-        CHECK(juicedelta_tree##D##_get(&tree, 1, &got) == JUICEDELTA_CLOSED);                                          \
-        CHECK(juicedelta_tree##D##_len(&tree, &rows) == JUICEDELTA_CLOSED);                                            \
-        CHECK(juicedelta_tree##D##_clear(&tree) == JUICEDELTA_CLOSED);                                                 \
-        CHECK(juicedelta_tree##D##_search(&tree, &box, ids, 1, &total) == JUICEDELTA_CLOSED && total == 77);           \
-        CHECK(juicedelta_tree##D##_count(&tree, &box, &total) == JUICEDELTA_CLOSED);                                   \
-        CHECK(juicedelta_tree##D##_search_rows(&tree, &box, &row, 1, &total) == JUICEDELTA_CLOSED);                    \
-        CHECK(juicedelta_tree##D##_nearest(&tree, &point, &row, 1, &total) == JUICEDELTA_CLOSED);                      \
-        CHECK(juicedelta_tree##D##_dump(&tree, text, 4, &total) == JUICEDELTA_CLOSED);                                 \
-        CHECK(total == 77 && row.id == 77 && text[0] == 77);                                                           \
-        CHECK(juicedelta_tree##D##_open(&tree, 4, 1, 2) == JUICEDELTA_BAD_CAPACITY);                                   \
-        CHECK(juicedelta_tree##D##_open(&tree, 52, 1, 2) == JUICEDELTA_BAD_CAPACITY);                                  \
-        CHECK(juicedelta_tree##D##_open(&tree, 256 + 51, 1, 2) == JUICEDELTA_BAD_CAPACITY);                            \
-        CHECK(juicedelta_tree##D##_open_dump(&tree, text, 1, 1, 2) == JUICEDELTA_BAD_DUMP);                            \
-        CHECK(rows == 77 && got.min[0] == 0x07070707);                                                                 \
-        CHECK(juicedelta_tree##D##_open(&tree, 51, 1, 2) == JUICEDELTA_OK);                                            \
-        CHECK(juicedelta_tree##D##_open(&tree, 51, 1, 2) == JUICEDELTA_ALREADY_OPEN);                                  \
-        CHECK(juicedelta_tree##D##_open_dump(&tree, text, 0, 1, 2) == JUICEDELTA_ALREADY_OPEN);                        \
-        CHECK(juicedelta_tree##D##_insert(&tree, INT64_MIN, &box) == JUICEDELTA_OK);                                   \
-        CHECK(juicedelta_tree##D##_insert(&tree, INT64_MIN, &box) == JUICEDELTA_ID_TAKEN);                             \
-        CHECK(juicedelta_tree##D##_insert(&tree, 5, &upside) == JUICEDELTA_BAD_BOX);                                   \
-        CHECK(juicedelta_tree##D##_insert(&tree, INT64_MIN, &upside) == JUICEDELTA_BAD_BOX);                           \
-        CHECK(juicedelta_tree##D##_move(&tree, INT64_MIN, &upside) == JUICEDELTA_BAD_BOX);                             \
-        CHECK(juicedelta_tree##D##_move(&tree, 5, &upside) == JUICEDELTA_BAD_BOX);                                     \
-        CHECK(juicedelta_tree##D##_move(&tree, 5, &box) == JUICEDELTA_ID_MISSING);                                     \
-        CHECK(juicedelta_tree##D##_remove(&tree, 5) == JUICEDELTA_ID_MISSING);                                         \
-        CHECK(juicedelta_tree##D##_get(&tree, 5, &got) == JUICEDELTA_ID_MISSING);                                      \
-        CHECK(got.min[0] == 0x07070707);                                                                               \
-        CHECK(juicedelta_tree##D##_len(&tree, &rows) == JUICEDELTA_OK && rows == 1);                                   \
-        CHECK(juicedelta_tree##D##_get(&tree, INT64_MIN, &got) == JUICEDELTA_OK);                                      \
-        CHECK(memcmp(&got, &box, sizeof box) == 0);                                                                    \
-        CHECK(juicedelta_script_open(&shell, 51, 1, 2) == JUICEDELTA_OK);                                              \
-        CHECK(juicedelta_tree##D##_insert(&shell, 1, &box) == JUICEDELTA_OTHER_KIND);                                  \
-        CHECK(juicedelta_tree##D##_move(&shell, 1, &box) == JUICEDELTA_OTHER_KIND);                                    \
-        CHECK(juicedelta_tree##D##_remove(&shell, 1) == JUICEDELTA_OTHER_KIND);                                        \
-        CHECK(juicedelta_tree##D##_get(&shell, 1, &got) == JUICEDELTA_OTHER_KIND);                                     \
-        CHECK(juicedelta_tree##D##_len(&shell, &rows) == JUICEDELTA_OTHER_KIND);                                       \
-        CHECK(juicedelta_tree##D##_clear(&shell) == JUICEDELTA_OTHER_KIND);                                            \
-        CHECK(juicedelta_tree##D##_search(&shell, &box, ids, 1, &total) == JUICEDELTA_OTHER_KIND && total == 77);      \
-        CHECK(juicedelta_tree##D##_count(&shell, &box, &total) == JUICEDELTA_OTHER_KIND);                              \
-        CHECK(juicedelta_tree##D##_search_rows(&shell, &box, &row, 1, &total) == JUICEDELTA_OTHER_KIND);               \
-        CHECK(juicedelta_tree##D##_nearest(&shell, &point, &row, 1, &total) == JUICEDELTA_OTHER_KIND);                 \
-        CHECK(juicedelta_tree##D##_dump(&shell, text, 4, &total) == JUICEDELTA_OTHER_KIND);                            \
-        CHECK(total == 77 && row.id == 77 && text[0] == 77);                                                           \
-        CHECK(juicedelta_tree##D##_search(&tree, &box, ids, 0, &total) == JUICEDELTA_BUFFER_TOO_SMALL);                \
-        CHECK(total == 1 && ids[0] == 77);                                                                             \
-        CHECK(juicedelta_tree##D##_search_rows(&tree, &box, &row, 0, &total) == JUICEDELTA_BUFFER_TOO_SMALL);          \
-        CHECK(juicedelta_tree##D##_dump(&tree, text, 4, &total) == JUICEDELTA_BUFFER_TOO_SMALL && total > 4);          \
-        CHECK(row.id == 77 && text[0] == 77);                                                                          \
-        CHECK(juicedelta_tree##D##_search(&tree, &box, ids, 1, &total) == JUICEDELTA_OK && ids[0] == INT64_MIN);       \
-        CHECK(juicedelta_close(&shell) == JUICEDELTA_OK);                                                              \
-        CHECK(juicedelta_close(&tree) == JUICEDELTA_OK);                                                               \
-        CHECK(juicedelta_close(&tree) == JUICEDELTA_CLOSED);                                                           \
+/* The words of each code, of numbers that are none, and in buffers of each length. */
+static void words_of_codes(void)
+{
+    static const int32_t none[] = {INT32_MIN, -1, JUICEDELTA_BAD_RELATION + 1, 256, 65536, INT32_MAX};
+    for (int32_t at = -(int32_t)(sizeof none / sizeof *none); at <= JUICEDELTA_BAD_RELATION; at++) {
+        int32_t code = at < 0 ? none[-1 - at] : at;
+        for (size_t length = 0; length < 80; length++) {
+            uint8_t text[80], wanted[80];
+            uint64_t total = 77, all = 77;
+            memset(text, 0x5a, sizeof text);
+            memset(wanted, 0x5a, sizeof wanted);
+            int32_t answer = juicedelta_words(code, text, length, &total);
+            CHECK(answer == plain_words(code, wanted, length, &all) && total == all && memcmp(text, wanted, sizeof text) == 0);
+            CHECK(answer == (length < total ? JUICEDELTA_BUFFER_TOO_SMALL : JUICEDELTA_OK) && total >= 4);
+        }
     }
+}
 
-CODES(1)
-CODES(2)
-CODES(3)
+/* What calls write; it is filled with 0x5a before. */
+typedef struct outputs {
+    uint64_t total;
+    int64_t ids[2];
+    int32_t boxes[2 * BOX + 1];
+    uint32_t axes;
+    uint8_t text[4];
+} outputs;
+
+/* A box with min above max on each axis. */
+static const int32_t upside[ROOM] = {8, 7, 6, 5, 4, 3, 2, 1};
+
+/* Each call on a tree answers this code, whatever else is wrong with it, and writes nothing. */
+static void refuse_all(juicedelta_handle *handle, int32_t code)
+{
+    outputs to;
+    memset(&to, 0x5a, sizeof to);
+    for (size_t length = 0; length <= ROOM; length++) {
+        CHECK(juicedelta_tree_insert(handle, 1, upside, length) == code);
+        CHECK(juicedelta_tree_move(handle, 1, upside, length) == code);
+        CHECK(juicedelta_tree_get(handle, 1, to.boxes, length) == code);
+        CHECK(juicedelta_tree_count(handle, 3, upside, length, &to.total) == code);
+        CHECK(juicedelta_tree_search(handle, 3, upside, length, to.ids, 2, &to.total) == code);
+        CHECK(juicedelta_tree_search_rows(handle, 3, upside, length, to.ids, 2, to.boxes, length, &to.total) == code);
+        CHECK(juicedelta_tree_nearest(handle, upside, length, to.ids, 2, to.boxes, length, &to.total) == code);
+    }
+    CHECK(juicedelta_tree_remove(handle, 1) == code);
+    CHECK(juicedelta_tree_clear(handle) == code);
+    CHECK(juicedelta_tree_axes(handle, &to.axes) == code);
+    CHECK(juicedelta_tree_len(handle, &to.total) == code);
+    CHECK(juicedelta_tree_dump(handle, to.text, 4, &to.total) == code);
+    CHECK(is_untouched(&to, 0, sizeof to));
+}
+
+/* A tree of so many axes refuses each wrong length of a box and of a point, before it looks at the box or the id. */
+static void refuse_lengths(juicedelta_handle *tree, size_t axes)
+{
+    outputs to;
+    memset(&to, 0x5a, sizeof to);
+    for (size_t length = 0; length <= ROOM; length++) {
+        if (length != axes)
+            CHECK(juicedelta_tree_nearest(tree, upside, length, to.ids, 0, to.boxes, 0, &to.total) == JUICEDELTA_BAD_LENGTH);
+        if (length == 2 * axes)
+            continue;
+        CHECK(juicedelta_tree_insert(tree, INT64_MIN, upside, length) == JUICEDELTA_BAD_LENGTH);
+        CHECK(juicedelta_tree_move(tree, 5, upside, length) == JUICEDELTA_BAD_LENGTH);
+        CHECK(juicedelta_tree_get(tree, 5, to.boxes, length) == JUICEDELTA_BAD_LENGTH);
+        for (uint32_t relation = 0; relation < 4; relation++) {
+            int32_t code = relation < 3 ? JUICEDELTA_BAD_LENGTH : JUICEDELTA_BAD_RELATION;
+            CHECK(juicedelta_tree_count(tree, relation, upside, length, &to.total) == code);
+            CHECK(juicedelta_tree_search(tree, relation, upside, length, to.ids, 0, &to.total) == code);
+            CHECK(juicedelta_tree_search_rows(tree, relation, upside, length, to.ids, 0, to.boxes, 0, &to.total) == code);
+        }
+    }
+    CHECK(is_untouched(&to, 0, sizeof to));
+}
+
+/* And each wrong length of a list of boxes. */
+static void refuse_lists(const juicedelta_handle *tree, size_t axes)
+{
+    outputs to;
+    memset(&to, 0x5a, sizeof to);
+    for (size_t ids = 0; ids <= 2; ids++)
+        for (size_t boxes = 0; boxes <= 2 * BOX + 1; boxes++) {
+            if (boxes == 2 * axes * ids)
+                continue;
+            CHECK(juicedelta_tree_nearest(tree, upside, axes, to.ids, ids, to.boxes, boxes, &to.total) == JUICEDELTA_BAD_LENGTH);
+            for (uint32_t relation = 0; relation < 4; relation++)
+                CHECK(juicedelta_tree_search_rows(tree, relation, upside, 2 * axes, to.ids, ids, to.boxes, boxes, &to.total)
+                    == (relation < 3 ? JUICEDELTA_BAD_LENGTH : JUICEDELTA_BAD_RELATION));
+        }
+    CHECK(is_untouched(&to, 0, sizeof to));
+}
+
+/* The codes of the calls that open; the handle stays closed. */
+static void open_codes(void)
+{
+    static const uint32_t axes[] = {0, 4, 256 + 2, UINT32_MAX}, capacities[] = {0, 4, 52, 256 + 51, UINT32_MAX};
+    juicedelta_handle tree = {0};
+    const uint8_t *text = (const uint8_t *)"rtree 2 5 1 1 0\n";
+    for (size_t at = 0; at < sizeof axes / sizeof *axes; at++) {
+        CHECK(juicedelta_tree_open(&tree, axes[at], 52, 1, 2) == JUICEDELTA_BAD_AXES);
+        CHECK(juicedelta_tree_open_dump(&tree, axes[at], text, 16, 1, 2) == JUICEDELTA_BAD_AXES);
+    }
+    for (size_t at = 0; at < sizeof capacities / sizeof *capacities; at++)
+        CHECK(juicedelta_tree_open(&tree, 2, capacities[at], 1, 2) == JUICEDELTA_BAD_CAPACITY);
+    CHECK(juicedelta_tree_open_dump(&tree, 2, text, 16, 1, 2) == JUICEDELTA_BAD_DUMP);
+    CHECK(juicedelta_tree_open_dump(&tree, 2, text, 0, 1, 2) == JUICEDELTA_BAD_DUMP);
+    refuse_all(&tree, JUICEDELTA_CLOSED);
+    CHECK(juicedelta_close(&tree) == JUICEDELTA_CLOSED);
+}
+
+/* The codes of a tree with so many axes, with nothing changed. */
+static void tree_codes(uint32_t axes)
+{
+    juicedelta_handle tree = {0}, shell = {0};
+    size_t width = 2 * axes;
+    int32_t box[BOX], got[BOX];
+    uint32_t told = 77;
+    outputs to;
+    for (uint32_t axis = 0; axis < axes; axis++)
+        box[axis] = INT32_MIN + (int32_t)axis, box[axes + axis] = INT32_MAX - (int32_t)axis;
+    memset(&to, 0x5a, sizeof to);
+    CHECK(juicedelta_tree_open(&tree, axes, 51, 1, 2) == JUICEDELTA_OK);
+    CHECK(juicedelta_tree_axes(&tree, &told) == JUICEDELTA_OK && told == axes);
+    CHECK(juicedelta_tree_open(&tree, 4, 52, 1, 2) == JUICEDELTA_ALREADY_OPEN);
+    CHECK(juicedelta_tree_open_dump(&tree, 4, to.text, 0, 1, 2) == JUICEDELTA_ALREADY_OPEN);
+    CHECK(juicedelta_tree_insert(&tree, INT64_MIN, box, width) == JUICEDELTA_OK);
+    CHECK(juicedelta_tree_insert(&tree, INT64_MIN, box, width) == JUICEDELTA_ID_TAKEN);
+    CHECK(juicedelta_tree_insert(&tree, 5, upside, width) == JUICEDELTA_BAD_BOX);
+    CHECK(juicedelta_tree_insert(&tree, INT64_MIN, upside, width) == JUICEDELTA_BAD_BOX);
+    CHECK(juicedelta_tree_move(&tree, INT64_MIN, upside, width) == JUICEDELTA_BAD_BOX);
+    CHECK(juicedelta_tree_move(&tree, 5, upside, width) == JUICEDELTA_BAD_BOX);
+    CHECK(juicedelta_tree_move(&tree, 5, box, width) == JUICEDELTA_ID_MISSING);
+    CHECK(juicedelta_tree_remove(&tree, 5) == JUICEDELTA_ID_MISSING);
+    CHECK(juicedelta_tree_get(&tree, 5, to.boxes, width) == JUICEDELTA_ID_MISSING);
+    refuse_lengths(&tree, axes);
+    refuse_lists(&tree, axes);
+    CHECK(juicedelta_script_open(&shell, 51, 1, 2) == JUICEDELTA_OK);
+    CHECK(juicedelta_tree_open(&shell, axes, 51, 1, 2) == JUICEDELTA_ALREADY_OPEN);
+    refuse_all(&shell, JUICEDELTA_OTHER_KIND);
+    CHECK(juicedelta_close(&shell) == JUICEDELTA_OK);
+    CHECK(is_untouched(&to, 0, sizeof to));
+    CHECK(juicedelta_tree_search(&tree, 0, box, width, to.ids, 0, &to.total) == JUICEDELTA_BUFFER_TOO_SMALL && to.total == 1);
+    CHECK(juicedelta_tree_search_rows(&tree, 0, box, width, to.ids, 0, to.boxes, 0, &to.total) == JUICEDELTA_BUFFER_TOO_SMALL);
+    CHECK(juicedelta_tree_dump(&tree, to.text, 4, &to.total) == JUICEDELTA_BUFFER_TOO_SMALL && to.total > 4);
+    CHECK(is_untouched(&to, sizeof to.total, sizeof to));
+    CHECK(juicedelta_tree_len(&tree, &to.total) == JUICEDELTA_OK && to.total == 1);
+    CHECK(juicedelta_tree_search(&tree, 0, box, width, to.ids, 2, &to.total) == JUICEDELTA_OK && to.ids[0] == INT64_MIN);
+    CHECK(juicedelta_tree_get(&tree, INT64_MIN, got, width) == JUICEDELTA_OK && memcmp(got, box, width * sizeof *box) == 0);
+    CHECK(juicedelta_close(&tree) == JUICEDELTA_OK);
+    refuse_all(&tree, JUICEDELTA_CLOSED);
+}
+
+/* The window finds the only row by these relations. */
+static void found(const juicedelta_handle *tree, uint32_t axes, const int32_t *window, const int *relations)
+{
+    for (uint32_t relation = 0; relation < 3; relation++) {
+        uint64_t total = 77;
+        CHECK(juicedelta_tree_count(tree, relation, window, 2 * axes, &total) == JUICEDELTA_OK);
+        CHECK(total == (uint64_t)relations[relation]);
+    }
+}
+
+/* What touches, is within and holds a row from 0 to 10 on each axis. */
+static void relations(uint32_t axes)
+{
+    static const struct {
+        int32_t min, max;
+        int relations[3];
+    } windows[] = {
+        {0, 10, {1, 1, 1}}, {-1, 11, {1, 1, 0}}, {INT32_MIN, INT32_MAX, {1, 1, 0}}, {0, 9, {1, 0, 1}}, {1, 10, {1, 0, 1}},
+        {4, 4, {1, 0, 1}}, {10, 20, {1, 0, 0}}, {-5, 0, {1, 0, 0}}, {11, 20, {0, 0, 0}}, {-5, -1, {0, 0, 0}},
+        /* Windows without a point. */
+        {4, 3, {0, 0, 1}}, {10, 0, {0, 0, 1}}, {20, 15, {0, 0, 1}}, {INT32_MAX, INT32_MIN, {0, 0, 1}},
+    };
+    juicedelta_handle tree = {0};
+    int32_t box[BOX] = {0}, window[BOX];
+    for (uint32_t axis = 0; axis < axes; axis++)
+        box[axes + axis] = 10;
+    CHECK(juicedelta_tree_open(&tree, axes, 5, 1, 2) == JUICEDELTA_OK);
+    CHECK(juicedelta_tree_insert(&tree, 1, box, 2 * axes) == JUICEDELTA_OK);
+    for (size_t at = 0; at < sizeof windows / sizeof *windows; at++) {
+        for (uint32_t axis = 0; axis < axes; axis++)
+            window[axis] = windows[at].min, window[axes + axis] = windows[at].max;
+        found(&tree, axes, window, windows[at].relations);
+    }
+    /* One axis is enough for a window to have no point, or to miss the row. */
+    for (uint32_t axis = 0; axis < axes; axis++) {
+        memcpy(window, box, sizeof box);
+        window[axis] = 7, window[axes + axis] = 6;
+        found(&tree, axes, window, (const int[]){0, 0, 1});
+        window[axis] = 11, window[axes + axis] = 12;
+        found(&tree, axes, window, (const int[]){0, 0, 0});
+        window[axis] = 5, window[axes + axis] = 12;
+        found(&tree, axes, window, (const int[]){1, 0, 0});
+    }
+    CHECK(juicedelta_close(&tree) == JUICEDELTA_OK);
+}
 
 /* Handles that are opened and closed over and over. */
 static void again(int times)
 {
-    juicedelta_box2 box = {{0, 0}, {1, 1}};
+    static const char script[] = "CREATE VIRTUAL TABLE t USING rtree_i32(id, a, b);";
+    static const int32_t box[] = {0, 0, 1, 1};
     for (int turn = 0; turn < times; turn++) {
         juicedelta_handle tree = {0}, shell = {0};
         uint64_t keys[2];
         CHECK(juicedelta_random_keys(keys) == 0);
-        CHECK(juicedelta_tree2_open(&tree, 5, keys[0], keys[1]) == JUICEDELTA_OK);
+        CHECK(juicedelta_tree_open(&tree, 2, 5, keys[0], keys[1]) == JUICEDELTA_OK);
         CHECK(juicedelta_script_open(&shell, 5, keys[0], keys[1]) == JUICEDELTA_OK);
         for (int id = 0; id < 12; id++)
-            CHECK(juicedelta_tree2_insert(&tree, id, &box) == JUICEDELTA_OK);
-        CHECK(juicedelta_script_exec(&shell, (const uint8_t *)"CREATE VIRTUAL TABLE t USING rtree_i32(id, a, b);", 49) == JUICEDELTA_OK);
+            CHECK(juicedelta_tree_insert(&tree, id, box, 4) == JUICEDELTA_OK);
+        CHECK(juicedelta_script_exec(&shell, (const uint8_t *)script, sizeof script - 1) == JUICEDELTA_OK);
         CHECK(juicedelta_close(&shell) == JUICEDELTA_OK);
         CHECK(juicedelta_close(&tree) == JUICEDELTA_OK);
     }
 }
 
 /* Random calls of two trees by turns, each beside its own list. */
-#define RANDOM(D)                                                                                                      \
-    static void random##D(uint32_t capacity, int calls)                                                                \
-    {                                                                                                                  \
-        source from = {NULL, 0, 88172645463325252u};                                                                   \
-        pair##D pairs[2];                                                                                              \
-        pair##D##_open(&pairs[0], capacity);                                                                           \
-        pair##D##_open(&pairs[1], capacity);                                                                           \
-        for (int call = 0; call < calls; call++)                                                                       \
-            pair##D##_step(&from, &pairs[below(&from, 2)]);                                                            \
-        for (int place = 0; place < 2; place++) {                                                                      \
-            pair##D##_same(&pairs[place]);                                                                             \
-            pair##D##_close(&pairs[place]);                                                                            \
-        }                                                                                                              \
+static void random_calls(uint32_t axes, uint32_t capacity, int calls)
+{
+    source from = {NULL, 0, 88172645463325252u};
+    pair pairs[2];
+    pair_open(&pairs[0], axes, capacity);
+    pair_open(&pairs[1], axes, capacity);
+    for (int call = 0; call < calls; call++)
+        pair_step(&from, &pairs[below(&from, 2)]);
+    for (int place = 0; place < 2; place++) {
+        pair_same(&pairs[place]);
+        pair_close(&pairs[place]);
     }
-
-RANDOM(1)
-RANDOM(2)
-RANDOM(3)
+}
 
 static void all_random(int calls)
 {
-    for (int round = 0; round < 2; round++) {
-        uint32_t capacity = round == 0 ? 5 : 51;
-        random1(capacity, calls);
-        random2(capacity, calls);
-        random3(capacity, calls);
+    for (uint32_t axes = 1; axes <= 3; axes++) {
+        random_calls(axes, 5, calls);
+        random_calls(axes, 51, calls);
     }
 }
 
@@ -314,28 +426,44 @@ static void refused_script(void)
     }
 }
 
+/* How many rows a window of a tree with two axes finds. */
+static uint64_t count_of(const juicedelta_handle *tree, uint32_t relation, int32_t west, int32_t south, int32_t east,
+                         int32_t north)
+{
+    const int32_t window[] = {west, south, east, north};
+    uint64_t total = 77;
+    CHECK(juicedelta_tree_count(tree, relation, window, 4, &total) == JUICEDELTA_OK);
+    return total;
+}
+
 /* So many rows come, a fifth of them move, they are found, and half of them go. */
 static void many(int32_t rows)
 {
     juicedelta_handle tree = {0};
-    juicedelta_box2 space = {{INT32_MIN, INT32_MIN}, {INT32_MAX, INT32_MAX}}, box = {{0, 0}, {9, 9}}, got;
-    uint64_t total;
-    CHECK(juicedelta_tree2_open(&tree, 51, 1, 2) == JUICEDELTA_OK);
+    int32_t got[4];
+    uint64_t more = rows < 1048576;
+    CHECK(juicedelta_tree_open(&tree, 2, 51, 1, 2) == JUICEDELTA_OK);
     for (int32_t row = 0; row < rows; row++) {
-        juicedelta_box2 own = {{row % 1024 * 10, row / 1024 * 10}, {row % 1024 * 10 + 9, row / 1024 * 10 + 9}};
-        CHECK(juicedelta_tree2_insert(&tree, row, &own) == JUICEDELTA_OK);
+        int32_t west = row % 1024 * 10, south = row / 1024 * 10;
+        const int32_t own[] = {west, south, west + 9, south + 9};
+        CHECK(juicedelta_tree_insert(&tree, row, own, 4) == JUICEDELTA_OK);
     }
     for (int32_t row = 0; row < rows; row += 5) {
-        juicedelta_box2 own = {{row % 1024 * 10, row / 1024 * 10 + 1}, {row % 1024 * 10 + 9, row / 1024 * 10 + 10}};
-        CHECK(juicedelta_tree2_move(&tree, row, &own) == JUICEDELTA_OK);
-        CHECK(juicedelta_tree2_get(&tree, row, &got) == JUICEDELTA_OK && memcmp(&got, &own, sizeof own) == 0);
+        int32_t west = row % 1024 * 10, south = row / 1024 * 10 + 1;
+        const int32_t own[] = {west, south, west + 9, south + 9};
+        CHECK(juicedelta_tree_move(&tree, row, own, 4) == JUICEDELTA_OK);
+        CHECK(juicedelta_tree_get(&tree, row, got, 4) == JUICEDELTA_OK && memcmp(got, own, sizeof own) == 0);
     }
-    CHECK(juicedelta_tree2_insert(&tree, -1, &box) == (rows == 1048576 ? JUICEDELTA_TREE_FULL : JUICEDELTA_OK));
-    CHECK(juicedelta_tree2_count(&tree, &space, &total) == JUICEDELTA_OK && total == (uint64_t)rows + (rows < 1048576));
-    CHECK(juicedelta_tree2_get(&tree, rows - 1, &got) == JUICEDELTA_OK && got.min[0] == (rows - 1) % 1024 * 10);
+    CHECK(juicedelta_tree_insert(&tree, -1, (const int32_t[]){0, 0, 9, 9}, 4) == (more ? JUICEDELTA_OK : JUICEDELTA_TREE_FULL));
+    CHECK(count_of(&tree, JUICEDELTA_TOUCHES, INT32_MIN, INT32_MIN, INT32_MAX, INT32_MAX) == (uint64_t)rows + more);
+    /* Rows 2 to 5 and 1026 to 1029 lie within the first, and row 2 alone holds the second. */
+    CHECK(count_of(&tree, JUICEDELTA_WITHIN, 11, 0, 65, 19) == 4 + 4);
+    CHECK(count_of(&tree, JUICEDELTA_HOLDS, 24, 4, 25, 5) == 1);
+    CHECK(count_of(&tree, JUICEDELTA_HOLDS, 25, 4, 24, 5) == (uint64_t)rows + more);
+    CHECK(juicedelta_tree_get(&tree, rows - 1, got, 4) == JUICEDELTA_OK && got[0] == (rows - 1) % 1024 * 10);
     for (int32_t row = 0; row < rows; row += 2)
-        CHECK(juicedelta_tree2_remove(&tree, row) == JUICEDELTA_OK);
-    CHECK(juicedelta_tree2_count(&tree, &space, &total) == JUICEDELTA_OK && total == (uint64_t)rows / 2 + (rows < 1048576));
+        CHECK(juicedelta_tree_remove(&tree, row) == JUICEDELTA_OK);
+    CHECK(count_of(&tree, JUICEDELTA_WITHIN, INT32_MIN, INT32_MIN, INT32_MAX, INT32_MAX) == (uint64_t)rows / 2 + more);
     CHECK(juicedelta_close(&tree) == JUICEDELTA_OK);
 }
 
@@ -348,9 +476,12 @@ int main(int count, char **words)
         CHECK(juicedelta_version() == JUICEDELTA_VERSION_NUMBER);
         scripts();
         script_codes();
-        tree1_codes();
-        tree2_codes();
-        tree3_codes();
+        words_of_codes();
+        open_codes();
+        for (uint32_t axes = 1; axes <= 3; axes++) {
+            tree_codes(axes);
+            relations(axes);
+        }
         all_random(number);
         again(1000);
     } else if (strcmp(part, "refused") == 0) {

@@ -4,24 +4,27 @@
 //     shops.insert(1, {{10, 5}, {14, 9}});
 //     for (std::int64_t id : shops.search({{0, 0}, {20, 8}})) ...
 //
-// A tree or a shell owns what it holds. It can be moved, not copied; what was moved from is closed. It is used by one
-// thread at a time, so no method is const. A call that is refused throws an Error with its code, and changes nothing but
-// where juicedelta.h says so. Boxes hold both ends. A thread keeps the memory that its searches write to, 1 MiB at most; a
-// search that needs more than is kept runs twice.
+// A tree or a shell owns what it holds. It can be moved, not copied; what was moved from is closed. Methods that are const may
+// be called by several threads at once; any other method may overlap no call on the same object, which the program sees to.
+// A call that is refused throws an Error with its code, and changes nothing but where juicedelta.h says so. Boxes hold both
+// ends. A thread keeps the memory that its searches write to, 1 MiB at most; a search that needs more than is kept runs twice.
 #ifndef JUICEDELTA_HPP
 #define JUICEDELTA_HPP
 
 #include "juicedelta.h"
 
 #include <algorithm>
+#include <array>
 #include <cstddef>
 #include <cstdint>
+#include <cstring>
 #include <new>
 #include <optional>
 #include <random>
 #include <stdexcept>
 #include <string>
 #include <string_view>
+#include <type_traits>
 #include <utility>
 #include <vector>
 #if __cplusplus >= 202002L
@@ -32,17 +35,17 @@ namespace juicedelta {
 // A call that was refused.
 class Error : public std::runtime_error {
 public:
-    explicit Error(std::int32_t code) : std::runtime_error(words(code)), code_(static_cast<juicedelta_code>(code)) {}
+    explicit Error(std::int32_t code) : std::runtime_error(Words(code).text), code_(static_cast<juicedelta_code>(code)) {}
     juicedelta_code code() const noexcept { return code_; }
 private:
-    static const char *words(std::int32_t code)
-    {
-        static const char *const all[] = {"done", "nothing is held", "an object of another kind is held",
-            "an object is held already", "the capacity is not from 5 to 51", "on some axis min is above max", "the id is taken",
-            "no row has that id", "the result is longer than the buffer", "no memory is left", "the tree has 1,048,576 rows",
-            "the script has ended", "the script is longer than 2^63 bytes", "the text is not the dump of a sound tree"};
-        return code >= 0 && code <= JUICEDELTA_BAD_DUMP ? all[code] : "unknown code";
-    }
+    struct Words {
+        char text[200] = {}; // More than any code has, and a zero byte.
+        explicit Words(std::int32_t code)
+        {
+            std::uint64_t length;
+            juicedelta_words(code, reinterpret_cast<std::uint8_t *>(text), sizeof text - 1, &length);
+        }
+    };
     juicedelta_code code_;
 };
 
@@ -56,22 +59,22 @@ inline void check(std::int32_t code, std::int32_t other = JUICEDELTA_OK)
 // The library's version: 1002003 stands for 1.2.3. That of the header is JUICEDELTA_VERSION_NUMBER.
 inline std::uint32_t version() noexcept { return juicedelta_version(); }
 
-namespace detail {
-// The types and calls for trees of D axes.
-template <int D> struct Calls;
-#define JUICEDELTA_CALL(D, NAME) static constexpr auto NAME = juicedelta_tree##D##_##NAME;
-#define JUICEDELTA_CALLS(D)                                                                                            \
-    template <> struct Calls<D> {                                                                                      \
-        using Box = juicedelta_box##D; using Point = juicedelta_point##D; using Row = juicedelta_row##D;               \
-        JUICEDELTA_CALL(D, open) JUICEDELTA_CALL(D, open_dump) JUICEDELTA_CALL(D, dump) JUICEDELTA_CALL(D, clear)       \
-        JUICEDELTA_CALL(D, insert) JUICEDELTA_CALL(D, remove) JUICEDELTA_CALL(D, move) JUICEDELTA_CALL(D, get)          \
-        JUICEDELTA_CALL(D, len) JUICEDELTA_CALL(D, count) JUICEDELTA_CALL(D, search) JUICEDELTA_CALL(D, search_rows)    \
-        JUICEDELTA_CALL(D, nearest)                                                                                    \
-    };
-JUICEDELTA_CALLS(1) JUICEDELTA_CALLS(2) JUICEDELTA_CALLS(3)
-#undef JUICEDELTA_CALLS
-#undef JUICEDELTA_CALL
+// Boxes, points and rows of D axes.
+template <int D> struct Box {
+    std::array<std::int32_t, D> min, max;
+};
+template <int D> struct Point {
+    std::array<std::int32_t, D> at;
+};
+template <int D> struct Row {
+    std::int64_t id;
+    Box<D> box;
+};
 
+// Which rows a window finds: those with a box that has a point in common with it, lies within it, or holds it.
+enum class Relation : std::uint32_t { touches = JUICEDELTA_TOUCHES, within = JUICEDELTA_WITHIN, holds = JUICEDELTA_HOLDS };
+
+namespace detail {
 // Opens by a call that takes two random words behind the others.
 template <class Call, class... Words> void open(Call call, juicedelta_handle *handle, Words... words)
 {
@@ -101,11 +104,27 @@ template <class Items, class Call> Items filled(std::size_t room, Call call)
 // The memory that a thread's searches write to. A search takes it out, since a program's own `operator new` may search too.
 class Kept {
 public:
-    static std::vector<std::byte> take() { return is_over ? std::vector<std::byte>() : std::exchange(own.bytes, {}); }
+    static std::vector<std::byte> take()
+    {
+        auto bytes = is_over ? std::vector<std::byte>() : std::exchange(own.bytes, {});
+        if (bytes.empty())
+            bytes.resize(512);
+        return bytes;
+    }
     static void put(std::vector<std::byte> bytes) noexcept
     {
         if (!is_over)
             own.bytes = std::move(bytes);
+    }
+    // Makes these bytes more than so many, unless that is too much to keep.
+    static void widen(std::vector<std::byte> &bytes, std::size_t needed) noexcept
+    {
+        constexpr std::size_t most = 1 << 20;
+        try {
+            if (needed <= most)
+                bytes = std::vector<std::byte>(std::min(2 * needed, most));
+        } catch (const std::bad_alloc &) { // No more is kept then.
+        }
     }
 private:
     ~Kept() { is_over = true; } // Other objects of the thread may search when they end.
@@ -116,29 +135,50 @@ private:
 inline thread_local Kept Kept::own;
 inline thread_local bool Kept::is_over = false;
 
-// The items that a search writes. If the kept memory is too small it is called again, and more is kept.
-template <class Item, class Search> std::vector<Item> found(Search search)
+// The ids that a search writes. If the kept memory is too small it is called again, and more is kept.
+template <class Search> std::vector<std::int64_t> found_ids(Search search)
 {
-    constexpr std::size_t most = 1 << 20;
     std::vector<std::byte> bytes = Kept::take();
-    if (bytes.empty())
-        bytes.resize(512);
-    auto front = reinterpret_cast<Item *>(bytes.data());
+    auto front = reinterpret_cast<std::int64_t *>(bytes.data());
     std::uint64_t total = 0;
-    std::int32_t code = search(front, bytes.size() / sizeof(Item), &total);
+    std::int32_t code = search(front, bytes.size() / sizeof *front, &total);
     check(code, JUICEDELTA_BUFFER_TOO_SMALL);
-    std::vector<Item> items(front, front + (code == JUICEDELTA_OK ? total : 0));
+    std::vector<std::int64_t> ids(front, front + (code == JUICEDELTA_OK ? total : 0));
     if (code == JUICEDELTA_BUFFER_TOO_SMALL) {
-        items = filled<std::vector<Item>>(static_cast<std::size_t>(total), search);
-        const std::size_t needed = items.size() * sizeof(Item);
-        try {
-            if (needed <= most)
-                bytes = std::vector<std::byte>(std::min(2 * needed, most));
-        } catch (const std::bad_alloc &) { // No more is kept then.
-        }
+        ids = filled<std::vector<std::int64_t>>(static_cast<std::size_t>(total), search);
+        Kept::widen(bytes, ids.size() * sizeof *front);
     }
     Kept::put(std::move(bytes));
-    return items;
+    return ids;
+}
+
+// The rows that a search writes, as a list of ids and one of boxes, to such memory.
+template <int D, class Search> std::vector<Row<D>> found_rows(Search search)
+{
+    std::vector<std::byte> bytes = Kept::take(), more, *used = &bytes;
+    for (;;) {
+        const std::size_t room = used->size() / sizeof(Row<D>);
+        auto ids = reinterpret_cast<std::int64_t *>(used->data());
+        auto boxes = reinterpret_cast<std::int32_t *>(ids + room);
+        std::uint64_t total = 0;
+        std::int32_t code = search(ids, room, boxes, 2 * D * room, &total);
+        check(code, JUICEDELTA_BUFFER_TOO_SMALL);
+        if (code == JUICEDELTA_BUFFER_TOO_SMALL) {
+            used = &more;
+            more.resize(static_cast<std::size_t>(total) * sizeof(Row<D>));
+            continue;
+        }
+        std::vector<Row<D>> rows(static_cast<std::size_t>(total));
+        for (auto &row : rows) {
+            row.id = *ids++;
+            std::memcpy(&row.box, boxes, sizeof row.box);
+            boxes += 2 * D;
+        }
+        if (used == &more)
+            Kept::widen(bytes, more.size());
+        Kept::put(std::move(bytes));
+        return rows;
+    }
 }
 
 // A handle that is closed at its end.
@@ -150,77 +190,97 @@ public:
     ~Owner() { close(); }
     void close() noexcept { juicedelta_close(&handle_); } // Closing twice does nothing.
     juicedelta_handle *handle() noexcept { return &handle_; } // For the calls of juicedelta.h. It stays the owner's.
+    const juicedelta_handle *handle() const noexcept { return &handle_; }
 private:
     juicedelta_handle handle_ = {};
 };
 } // namespace detail
-template <int D> using Box = typename detail::Calls<D>::Box;
-template <int D> using Point = typename detail::Calls<D>::Point;
-template <int D> using Row = typename detail::Calls<D>::Row;
 
 // A map from ids to boxes of D axes, 1 to 3, that is searched by boxes.
 template <int D> class Tree : public detail::Owner {
+    static_assert(D >= 1 && D <= 3, "a tree has one, two or three axes");
 public:
     // No rows, in nodes of at most `capacity` cells.
-    explicit Tree(std::uint32_t capacity = 51) { detail::open(Calls::open, handle(), capacity); }
+    explicit Tree(std::uint32_t capacity = 51) { detail::open(juicedelta_tree_open, handle(), D, capacity); }
     // The rows of a dump, which `dump` or a script's `.nodes` wrote.
     static Tree from_dump(std::string_view text)
     {
         Tree tree(Closed{});
-        detail::open(Calls::open_dump, tree.handle(), detail::bytes_of(text), text.size());
+        detail::open(juicedelta_tree_open_dump, tree.handle(), D, detail::bytes_of(text), text.size());
         return tree;
     }
-    void insert(std::int64_t id, const Box<D> &box) { check(Calls::insert(handle(), id, &box)); }
-    void remove(std::int64_t id) { check(Calls::remove(handle(), id)); }
+    void insert(std::int64_t id, const Box<D> &box) { check(juicedelta_tree_insert(handle(), id, numbers(box), 2 * D)); }
+    void remove(std::int64_t id) { check(juicedelta_tree_remove(handle(), id)); }
     // Gives the row with that id this box.
-    void move(std::int64_t id, const Box<D> &box) { check(Calls::move(handle(), id, &box)); }
-    std::optional<Box<D>> get(std::int64_t id)
+    void move(std::int64_t id, const Box<D> &box) { check(juicedelta_tree_move(handle(), id, numbers(box), 2 * D)); }
+    void clear() { check(juicedelta_tree_clear(handle())); }
+    std::optional<Box<D>> get(std::int64_t id) const
     {
         Box<D> box;
-        std::int32_t code = Calls::get(handle(), id, &box);
+        std::int32_t code = juicedelta_tree_get(handle(), id, reinterpret_cast<std::int32_t *>(&box), 2 * D);
         check(code, JUICEDELTA_ID_MISSING);
         return code == JUICEDELTA_OK ? std::optional(box) : std::nullopt;
     }
-    std::size_t size() { return number(Calls::len); }
-    // The ids of the rows that touch the box, in no stated order, the rows with their boxes, and how many they are.
-    std::vector<std::int64_t> search(const Box<D> &box) { return found<std::int64_t>(Calls::search, box); }
-    std::vector<Row<D>> search_rows(const Box<D> &box) { return found<Row<D>>(Calls::search_rows, box); }
-    std::size_t count(const Box<D> &box) { return number(Calls::count, &box); }
-    // The `most` rows nearest to the point, the nearest first, of equal ones the lower id first.
-    std::vector<Row<D>> nearest(const Point<D> &point, std::size_t most = 1)
+    std::size_t size() const
     {
-        auto nearest = [&](auto... to) { return Calls::nearest(handle(), &point, to...); };
-        return detail::filled<std::vector<Row<D>>>(std::min(most, size()), nearest);
+        std::uint64_t rows = 0;
+        check(juicedelta_tree_len(handle(), &rows));
+        return static_cast<std::size_t>(rows);
+    }
+    // The ids of the rows that the window finds, in no stated order, the rows with their boxes, and how many they are.
+    std::vector<std::int64_t> search(const Box<D> &window, Relation relation = Relation::touches) const
+    {
+        return detail::found_ids(asking(juicedelta_tree_search, window, relation));
+    }
+    std::vector<Row<D>> search_rows(const Box<D> &window, Relation relation = Relation::touches) const
+    {
+        return detail::found_rows<D>(asking(juicedelta_tree_search_rows, window, relation));
+    }
+    std::size_t count(const Box<D> &window, Relation relation = Relation::touches) const
+    {
+        std::uint64_t rows = 0;
+        check(asking(juicedelta_tree_count, window, relation)(&rows));
+        return static_cast<std::size_t>(rows);
     }
 #if __cplusplus >= 202002L
     // Writes the ids to the start of the span, if it has room for all. Answers how many there are.
-    std::size_t search(const Box<D> &box, std::span<std::int64_t> ids)
+    std::size_t search(const Box<D> &window, std::span<std::int64_t> ids, Relation relation = Relation::touches) const
     {
         std::int64_t none;
         std::uint64_t total = 0;
-        check(Calls::search(handle(), &box, ids.empty() ? &none : ids.data(), ids.size(), &total), JUICEDELTA_BUFFER_TOO_SMALL);
+        auto search = asking(juicedelta_tree_search, window, relation);
+        check(search(ids.empty() ? &none : ids.data(), ids.size(), &total), JUICEDELTA_BUFFER_TOO_SMALL);
         return static_cast<std::size_t>(total);
     }
 #endif
-    std::string dump()
+    // The `most` rows nearest to the point, the nearest first, of equal ones the lower id first.
+    std::vector<Row<D>> nearest(const Point<D> &point, std::size_t most = 1) const
     {
-        return detail::filled<std::string>(4096, [&](char *to, auto... more) { return Calls::dump(handle(), (std::uint8_t *)to, more...); });
+        const std::size_t rows = std::min(most, size());
+        return detail::found_rows<D>([&](auto ids, std::size_t room, auto boxes, std::size_t, std::uint64_t *total) {
+            *total = rows;
+            return room < rows ? std::int32_t{JUICEDELTA_BUFFER_TOO_SMALL}
+                               : juicedelta_tree_nearest(handle(), point.at.data(), D, ids, rows, boxes, 2 * D * rows, total);
+        });
     }
-    void clear() { check(Calls::clear(handle())); }
+    std::string dump() const
+    {
+        return detail::filled<std::string>(4096, [&](char *to, auto... more) {
+            return juicedelta_tree_dump(handle(), reinterpret_cast<std::uint8_t *>(to), more...);
+        });
+    }
 private:
-    using Calls = detail::Calls<D>;
     struct Closed {};
     explicit Tree(Closed) {}
-    template <class Call, class... Words> std::size_t number(Call call, Words... words)
+    // The calls take a box as its minima, and behind them its maxima, which it is.
+    static_assert(std::is_standard_layout_v<Box<D>> && sizeof(Box<D>) == 2 * D * sizeof(std::int32_t));
+    static const std::int32_t *numbers(const Box<D> &box) noexcept { return reinterpret_cast<const std::int32_t *>(&box); }
+    // A call for the rows that a window finds, which takes the buffers.
+    template <class Call> auto asking(Call call, const Box<D> &window, Relation relation) const
     {
-        std::uint64_t number = 0;
-        check(call(handle(), words..., &number));
-        return static_cast<std::size_t>(number);
-    }
-    // The items that a search of this tree finds.
-    template <class Item, class Call> std::vector<Item> found(Call call, const Box<D> &box)
-    {
-        return detail::found<Item>([&](auto... to) { return call(handle(), &box, to...); });
+        return [this, call, &window, relation](auto... to) {
+            return call(handle(), static_cast<std::uint32_t>(relation), numbers(window), 2 * D, to...);
+        };
     }
 };
 
