@@ -6,16 +6,20 @@ import array
 import copy
 import ctypes
 import doctest
+import faulthandler
 import multiprocessing
 import os
 import pickle
 import random
+import signal
 import sys
+import threading
+import time
 from concurrent.futures import ProcessPoolExecutor
 
 sys.path.insert(0, os.path.dirname(os.path.abspath(__file__)))
 import juicedelta  # noqa: E402
-from juicedelta import Change, Item, JuicedeltaError, RTree, Shell, StatementRefused, _calls, _trees  # noqa: E402
+from juicedelta import Change, Item, JuicedeltaError, RTree, Shell, StatementRefused, _calls, _owner, _trees  # noqa: E402
 
 
 def refused(call, *words):
@@ -47,9 +51,22 @@ class Whole:
         return self.number
 
 
-def touching(plain, box):
-    axes = len(box) // 2
-    return {id: it for id, it in plain.items() if all(it[k] <= box[k + axes] and box[k] <= it[k + axes] for k in range(axes))}
+RELATIONS = ("touches", "within", "holds")
+
+
+def related(plain, relation, box):
+    """The rows that have that relation to the box, by its definition on each axis."""
+    axes = range(len(box) // 2)
+
+    def is_inside(inner, outer):
+        is_empty = any(inner[k] > inner[k + len(axes)] for k in axes)
+        return is_empty or all(outer[k] <= inner[k] and inner[k + len(axes)] <= outer[k + len(axes)] for k in axes)
+
+    def touches(row):
+        return all(max(row[k], box[k]) <= min(row[k + len(axes)], box[k + len(axes)]) for k in axes)
+
+    holds = {"touches": touches, "within": lambda row: is_inside(row, box), "holds": lambda row: is_inside(box, row)}[relation]
+    return {id: row for id, row in plain.items() if holds(row)}
 
 
 def by_distance(plain, point):
@@ -77,11 +94,17 @@ def test_random(dimension, capacity, turns):
             assert refused(tree.move, id, box) == (0 if id in plain else 7)
             plain.update({id: box} if id in plain else {})
         elif kind == 3:
-            found = touching(plain, box)
-            assert sorted(tree.intersection(box)) == sorted(found) and tree.count(box) == len(found)
-            assert {row.id: row.bbox for row in tree.intersection(box, objects=True)} == found
+            if turn % 2:
+                box = tuple(low + [n + random.randrange(-20, 300) for n in low])
+            for relation, search in zip(RELATIONS, (tree.intersection, tree.contains, tree.covering)):
+                found = related(plain, relation, box)
+                assert sorted(search(box)) == sorted(found) and tree.count(box, relation) == len(found)
+                assert {row.id: row.bbox for row in search(box, objects=True)} == found
+            assert tree.count(box) == tree.count(box, relation="touches")
         elif kind == 4:
-            assert list(tree.nearest(low, 5)) == by_distance(plain, low)[:5]
+            ids = by_distance(plain, low)[:5]
+            assert list(tree.nearest(low, 5)) == ids
+            assert list(tree.nearest(low, 5, objects=True)) == [Item(id, plain[id]) for id in ids]
         else:
             assert len(tree) == len(plain) and (id in tree) == (id in plain)
     assert sorted(tree) == sorted(plain) and all(tree.box(id) == box for id, box in plain.items())
@@ -92,22 +115,31 @@ def test_random(dimension, capacity, turns):
 
 
 def test_codes():
-    """Each code, but 11 and 9; the package has no way to 2, 3, 8 and 12, so they are tried below it."""
-    tree, closed, line = RTree(), RTree(), RTree(1)
+    """Each code, but 11 and 9; the package has no way to 2, 3, 8, 12, 14, 15 and 16, so they are tried below it."""
+    tree, closed, shell, total = RTree(), RTree(), Shell(), ctypes.c_uint64()
+    box = _trees._packed(tree._form.box, (0, 0, 1, 1))
+    ids, handle, to = array.array("q", [0]), ctypes.byref(_calls.Handle()), ctypes.byref(total)
     tree.insert(1, (0, 0, 1, 1))
     closed.close()
-    assert refused(closed.insert, 1, (0, 0, 1, 1)) == 1
-    assert refused(line._do, tree._remove, 1) == 2
-    assert refused(tree._do, tree._open, 51, 1, 2) == 3
+    for call in (closed.insert, closed.move):
+        assert refused(call, 1, (0, 0, 1, 1)) == 1
+    assert refused(closed.__len__) == refused(closed.dump) == refused(closed.intersection, (0, 0, 1, 1)) == 1
+    assert _calls.tree_remove(shell._at, 1) == 2
+    assert _calls.tree_open(tree._at, 2, 51, 1, 2) == 3
     assert refused(tree.insert, 2, (0, 2, 1, 1)) == refused(tree.move, 1, (0, 2, 1, 1)) == 5
     assert refused(tree.insert, 1, (0, 0, 1, 1)) == 6
     assert refused(tree.delete, 2) == refused(tree.delete, 2, (0, 0, 1, 1)) == refused(tree.move, 2, (0, 0, 1, 1)) == 7
-    ids, total = array.array("q", [0]), ctypes.c_uint64()
-    assert refused(tree._do, tree._search, _trees._packed(tree._box, (0, 0, 1, 1)), ids.buffer_info()[0], 0, ctypes.byref(total)) == 8
+    assert _calls.tree_search(tree._at, 0, box, 4, ids.buffer_info()[0], 0, to) == 8
     assert refused(RTree.from_dump, "rtree 2 5 1 0\n") == 13
-    assert JuicedeltaError(12).code == 12 and str(JuicedeltaError(12)) == "the script is longer than 2^63 bytes"
-    assert str(JuicedeltaError(3)) == "an object is held already"
+    assert _calls.tree_insert(tree._at, 2, box, 3) == _calls.tree_count(tree._at, 0, box, 2, to) == 14
+    assert _calls.tree_open(handle, 4, 51, 1, 2) == _calls.tree_open_dump(handle, 0, b"", 0, 1, 2) == 15
+    assert _calls.tree_count(tree._at, 3, box, 4, to) == 16
+    words = [str(JuicedeltaError(code)) for code in range(1, 17)]
+    assert words[2] == "an object is held already" and words[11] == "the script is longer than 2^63 bytes"
+    assert len(set(words)) == 16 and "unknown code" not in words and str(JuicedeltaError(17)) == "unknown code"
     raised(ValueError, "not (0, 0, 1, 2)", tree.delete, 1, (0, 0, 1, 2))
+    for relation in ("inside", "", None, 1):
+        raised(ValueError, "'touches', 'within' or 'holds'", tree.count, (0, 0, 1, 1), relation)
     assert len(tree) == 1 and tree.box(1) == (0, 0, 1, 1)
     tree.delete(1, [0, 0, 1, 1])
     assert len(tree) == 0
@@ -119,7 +151,8 @@ def test_numbers():
     for coordinates in ((0, 0, 1), (0, 0, 1, 2**31), (0, 0.5, 1, 1), "0011"):
         for call in (tree.insert, tree.move, tree.delete):
             raised(ValueError, "whole numbers of 32 bits", call, 1, coordinates)
-        raised(ValueError, "whole numbers of 32 bits", tree.intersection, coordinates)
+        for call in (tree.intersection, tree.contains, tree.covering, tree.count):
+            raised(ValueError, "whole numbers of 32 bits", call, coordinates)
     for id in (1.5, 1.0, "1", None, 2**63, -(2**63) - 1):
         for call in (tree.insert, tree.move, tree.delete):
             raised(ValueError, "ids are whole numbers", call, id, box)
@@ -166,15 +199,20 @@ def test_owners():
         raised(TypeError, "RTree objects can't be copied or pickled", way, tree)
         raised(TypeError, "Shell objects can't be copied or pickled", way, shell)
     assert refused(tree.__init__, 2, 52) == 4 and list(tree) == [1] and shell.execute(" * FROM t;") == ["1|2|3"]
-    close, answers = _calls.library.juicedelta_close, []
-    _calls.library.juicedelta_close = lambda at: answers.append(close(at))
+    close, answers = _calls.close, []
+
+    def closes(at):
+        answers.append(close(at))
+        return answers[-1]
+
+    _owner.close = _trees.close = closes
     tree.__init__(3)
     shell.__init__()
     assert answers == [0, 0] and len(tree) == 0 and refused(tree.insert, 1, (0, 0, 0, 1, 1, 1)) == 0
     assert shell.execute("SELECT * FROM t; SELECT") == ["refused 1 5: no such table"]
     shell.__init__()
     assert shell.rows("") == []
-    _calls.library.juicedelta_close = close
+    _owner.close = _trees.close = close
 
 
 def fails(code):
@@ -199,6 +237,182 @@ def test_errors():
                 assert type(it) is kind and is_whole(it)
             assert is_whole(raised(kind, "", executor.submit(fails, code).result, 60))
             assert is_whole(raised(kind, "", pool.apply_async(fails, [code]).get, 60))
+
+
+def started(*calls):
+    """A thread for each call, and a list of the errors that they raise."""
+    errors = []
+
+    def run(call):
+        try:
+            call()
+        except BaseException as error:
+            errors.append(error)
+
+    threads = [threading.Thread(target=run, args=[call], daemon=True) for call in calls]
+    for thread in threads:
+        thread.start()
+    return threads, errors
+
+
+def joined(threads, errors):
+    for thread in threads:
+        thread.join(120)
+        assert not thread.is_alive()
+    if errors:
+        raise errors[0]
+
+
+def test_order():
+    """Calls that read are made at once, one that writes waits for them, and a later read for that. One that raises holds up none."""
+    box = (0, 0, 1, 1)
+    reads = {
+        "tree_search": lambda tree: tree.intersection(box), "tree_search_rows": lambda tree: tree.contains(box, True),
+        "tree_count": lambda tree: tree.count(box), "tree_get": lambda tree: tree.box(1), "tree_len": len,
+        "tree_nearest": lambda tree: tree.nearest((0, 0)), "tree_dump": lambda tree: tree.dump(),
+    }
+    writes = {
+        "tree_insert": lambda tree: tree.insert(2, box), "tree_move": lambda tree: tree.move(1, box), "close": lambda tree: tree.close(),
+        "tree_remove": lambda tree: tree.delete(1), "tree_clear": lambda tree: tree.clear(),
+    }
+    calls = {name: getattr(_trees, name) for name in (*reads, *writes)}
+    for name in reads:
+        assert not calls[name]._flags_ & ctypes._FUNCFLAG_PYTHONAPI
+
+    def pair(read, write):
+        tree, inside, go, said = RTree(), threading.Barrier(3), threading.Event(), []
+        tree.insert(1, box)
+
+        def reads_slowly(*words):
+            inside.wait(60)
+            go.wait(60)
+            said.append("read")
+            return calls[read](*words)
+
+        def writes_now(*words):
+            said.append("write")
+            return calls[write](*words)
+
+        setattr(_trees, read, reads_slowly)
+        readers = started(lambda: reads[read](tree), lambda: reads[read](tree))
+        inside.wait(60)
+        setattr(_trees, read, calls[read])
+        setattr(_trees, write, writes_now)
+        writer = started(lambda: writes[write](tree))
+        for _ in range(5000):
+            if not tree._guard.writes:
+                time.sleep(0.001)
+        late = started(lambda: said.append(refused(reads[read], tree)))
+        time.sleep(0.02)
+        assert said == []
+        go.set()
+        for it in (readers, writer, late):
+            joined(*it)
+        assert said == ["read", "read", "write", 1 if write == "close" else 7 if (read, write) == ("tree_get", "tree_remove") else 0]
+        setattr(_trees, write, calls[write])
+        assert not tree._guard.reads and not tree._guard.writes
+
+    for read in reads:
+        pair(read, "tree_insert")
+    for write in writes:
+        pair("tree_search", write)
+    tree = RTree()
+    tree.insert(1, box)
+    for name, call in {**reads, **writes}.items():
+        if name != "close":
+            setattr(_trees, name, lambda *words: 1 // 0)
+            raised(ZeroDivisionError, "", call, tree)
+            setattr(_trees, name, calls[name])
+            joined(*started(lambda: tree.move(1, (0, 0, 2, 2)), lambda: tree.move(1, box)))
+            assert len(tree) == 1 and list(tree.intersection((2, 2, 2, 2))) in ([], [1])
+
+
+def test_threads():
+    """Four threads read a tree while a fifth writes to it, beside plain lists.
+
+    The rows in the west stay as they are, so what is found there is known. Those in the east move about and always have one place, and
+    those in the north come and go.
+    """
+
+    def boxes(ids, west, south):
+        corners = {id: (west + random.randrange(900), south + random.randrange(900)) for id in ids}
+        return {id: (x, y, x + random.randrange(90), y + random.randrange(90)) for id, (x, y) in corners.items()}
+
+    tree, west, east, north = RTree(2, 8), boxes(range(300), -2000, 0), boxes(range(300, 600), 1000, 0), {}
+    is_over, turns = threading.Event(), [0] * 4
+    for id, box in {**west, **east}.items():
+        tree.insert(id, box)
+    asked = []
+    for box in boxes(range(60), -2000, 0).values():
+        found = [related(west, relation, box) for relation in RELATIONS]
+        asked.append((box, found, by_distance(west, (-9000, box[1]))[:3]))
+
+    def reads(thread):
+        rolls = random.Random(thread)
+        while not is_over.is_set() or turns[thread] < 50:
+            (box, found, near), id = rolls.choice(asked), rolls.randrange(300)
+            for relation, search, rows in zip(RELATIONS, (tree.intersection, tree.contains, tree.covering), found):
+                assert sorted(search(box)) == sorted(rows) and tree.count(box, relation) == len(rows)
+            assert {row.id: row.bbox for row in tree.intersection(box, True)} == found[0]
+            assert list(tree.nearest((-9000, box[1]), 3)) == near and tree.box(id) == west[id] and id in tree
+            assert tree.count((1000, 0, 3000, 3000)) == 300 and sorted(tree.contains((1000, 0, 3000, 3000))) == sorted(east)
+            assert 600 <= len(tree) <= 700
+            if turns[thread] % 20 == 0:
+                copied = RTree.from_dump(tree.dump())
+                assert {row.id: row.bbox for row in copied.contains((-2000, 0, -900, 1000), True)} == west
+                assert 600 <= len(copied) <= 700 and sorted(copied.contains((1000, 0, 3000, 3000))) == sorted(east)
+            turns[thread] += 1
+
+    def writes():
+        try:
+            for turn in range(4000):
+                id = random.randrange(600, 700)
+                if turn % 2:
+                    (row, box), = boxes([random.choice(list(east))], 1000, 0).items()
+                    tree.move(row, box)
+                    east[row] = box
+                elif id in north:
+                    tree.delete(id, north.pop(id))
+                else:
+                    north.update(boxes([id], 0, 5000))
+                    tree.insert(id, north[id])
+        finally:
+            is_over.set()
+
+    interval = sys.getswitchinterval()
+    sys.setswitchinterval(1e-5)
+    joined(*started(writes, *[lambda thread=thread: reads(thread) for thread in range(4)]))
+    sys.setswitchinterval(interval)
+    whole = (-(2**31), -(2**31), 2**31 - 1, 2**31 - 1)
+    assert {row.id: row.bbox for row in tree.intersection(whole, True)} == {**west, **east, **north} and min(turns) >= 50
+
+
+def test_signals():
+    """A handler of signals may use the tree that it interrupts the use of, and no thread waits for ever."""
+    tree, boxes, handled, is_over = RTree(), [(0, 0, n, n) for n in range(1, 9)], [], threading.Event()
+    tree.insert(0, boxes[0])
+
+    def handles(*_):
+        tree.move(0, random.choice(boxes))
+        handled.append(tree.count(boxes[0]) + len(list(tree.intersection(boxes[0], True))))
+
+    def reads():
+        while not is_over.is_set():
+            assert 0 in tree and tree.count(boxes[0]) >= 1
+
+    faulthandler.dump_traceback_later(120, exit=True)
+    others, before = started(reads, reads), signal.signal(signal.SIGALRM, handles)
+    signal.setitimer(signal.ITIMER_REAL, 0.002, 0.002)
+    while len(handled) < 200:
+        tree.insert(1, boxes[1])
+        assert sorted(tree.intersection(boxes[0])) == [0, 1] and tree.count(boxes[0], "holds") == 2
+        tree.delete(1)
+    signal.setitimer(signal.ITIMER_REAL, 0)
+    signal.signal(signal.SIGALRM, before)
+    is_over.set()
+    joined(*others)
+    faulthandler.cancel_dump_traceback_later()
+    assert set(handled) <= {2, 3, 4} and not tree._guard.reads and not tree._guard.writes
 
 
 def test_full():
@@ -359,9 +573,9 @@ def test_version():
 
 def test_memory():
     tree = RTree()
-    packed = _trees._packed(tree._box, (0, 0, 1, 1))
+    packed = _trees._packed(tree._form.box, (0, 0, 1, 1))
     os.write(2, b"<")
-    code = tree._insert(tree._at, 1, packed)
+    code = _calls.tree_insert(tree._at, 1, packed, 4)
     os.write(2, b">")
     assert code == 9 and len(tree) == 0
 
@@ -374,7 +588,7 @@ def main(words):
     for dimension in (1, 2, 3):
         for capacity in (5, 51):
             test_random(dimension, capacity, 3000)
-    for test in (test_codes, test_numbers, test_options):
+    for test in (test_codes, test_numbers, test_options, test_order, test_threads, test_signals):
         test()
     assert Item(1, (0, 1)) == (1, (0, 1))
     if words == ["trees"]:
@@ -383,7 +597,7 @@ def main(words):
         test()
     for test in (test_many_rows, test_random_changes, test_version, test_full):
         test()
-    if doctest.testmod(juicedelta) != (0, 14):
+    if doctest.testmod(juicedelta) != (0, 15):
         raise SystemExit("a doctest fails, or isn't found")
 
 

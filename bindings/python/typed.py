@@ -3,7 +3,7 @@
 from typing import Iterator, List, Tuple, Union
 
 import juicedelta
-from juicedelta import Change, Item, JuicedeltaError, RTree, Shell, StatementRefused, Value
+from juicedelta import Change, Item, JuicedeltaError, Relation, RTree, Shell, StatementRefused, Value
 
 
 class Id:
@@ -17,16 +17,24 @@ def trees(either: bool) -> None:
     tree.insert(Id(), [5, 5, 6, 6])
     tree.move(1, range(4))
     box: Tuple[int, ...] = tree.box(1)
-    number: int = tree.count(box) + len(tree) + tree.dimension
+    number: int = tree.count(box) + tree.count(box, relation="within") + len(tree) + tree.dimension
+    relation: Relation = "holds"
+    number += tree.count(box, relation)
     ids: Iterator[int] = tree.intersection(box)
     ids = tree.intersection(box, objects=False)
+    ids = tree.contains(box)
+    ids = tree.covering(box, False)
     ids = tree.nearest((0, 0))
     ids = tree.nearest((0, 0), 2, False)
     rows: Iterator[Item] = tree.intersection(box, True)
     rows = tree.intersection(box, objects=True)
+    rows = tree.contains(box, True)
+    rows = tree.covering(box, objects=True)
     rows = tree.nearest((0, 0), 2, True)
     rows = tree.nearest((0, 0), objects=True)
     both: Union[Iterator[int], Iterator[Item]] = tree.intersection(box, either)
+    both = tree.contains(box, either)
+    both = tree.covering(box, objects=either)
     both = tree.nearest((0, 0), 2, either)
     both = tree.nearest((0, 0), objects=either)
     item: Item = next(rows)
@@ -63,6 +71,7 @@ def wrong(tree: RTree, shell: Shell) -> None:
     tree.insert(1.5, (0, 0, 1, 1))  # type: ignore[arg-type]
     tree.move(1, (0.5, 0, 1, 1))  # type: ignore[arg-type]
     tree.count("0011")  # type: ignore[arg-type]
+    tree.count((0, 0, 1, 1), "inside")  # type: ignore[arg-type]
     tree.search((0, 0, 1, 1))  # type: ignore[attr-defined]
     next(tree.intersection((0, 0, 1, 1))).bbox  # type: ignore[attr-defined]
     next(tree.nearest((0, 0), objects=True)) + 1  # type: ignore[operator]

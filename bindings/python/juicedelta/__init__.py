@@ -1,15 +1,16 @@
 """R*-trees of boxes of whole numbers, and scripts over tables of them, by the library of Juicedelta.
 
 The library is the file that JUICEDELTA_LIBRARY names, else lib/libjuicedelta.so of the checkout, else the installed one.
-A call holds the interpreter's lock, so calls of several threads come one after the other.
+Several threads may use one tree: its calls that read run side by side, without the interpreter's lock, and those that
+write alone. A shell is used by one thread at a time.
 """
 
 from ._errors import JuicedeltaError, StatementRefused
 from ._script import Change, Value
 from ._shells import Shell
-from ._trees import Item, RTree
+from ._trees import Item, Relation, RTree
 
-__all__ = ["Change", "Item", "JuicedeltaError", "RTree", "Shell", "StatementRefused", "Value"]
+__all__ = ["Change", "Item", "JuicedeltaError", "Relation", "RTree", "Shell", "StatementRefused", "Value"]
 __version__ = "0.1.0"
 __license__ = "Apache-2.0"
 

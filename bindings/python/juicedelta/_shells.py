@@ -5,7 +5,9 @@ from __future__ import annotations
 import ctypes
 from typing import List, SupportsIndex, Tuple
 
-from ._calls import SCRIPT_CALLS, Call, Owner, capacity_of
+from ._calls import script_drop_output, script_exec, script_finish, script_open, script_output, script_output_length
+from ._errors import accept
+from ._owner import Owner, capacity_of
 from ._script import Change, Value, begun_by, changes_of, ended, lines_of, refusal_of, rows_of
 
 _SHORT = 1000  # For a text of this many characters, where it stops is computed only if that matters.
@@ -25,15 +27,8 @@ class Shell(Owner):
     (['refused 8 5: no such table'], [])
     """
 
-    _open: Call
-    _exec: Call
-    _finish: Call
-    _output_length: Call
-    _output: Call
-    _drop_output: Call
-
     def __init__(self, capacity: SupportsIndex = 51) -> None:
-        self._hold(SCRIPT_CALLS, "_open", capacity_of(capacity))
+        self._hold(script_open, capacity_of(capacity))
         # What was fed stops where this text does.
         self._begun = ""
 
@@ -67,7 +62,7 @@ class Shell(Owner):
 
     def finish(self) -> List[str]:
         """Ends the script, and answers the lines that its end prints: a last statement without `;` is refused."""
-        self._do(self._finish, ctypes.byref(ctypes.c_uint32()))
+        accept(script_finish(self._at, ctypes.byref(ctypes.c_uint32())))
         self._begun = ""
         return lines_of(self._printed())
 
@@ -80,16 +75,17 @@ class Shell(Owner):
 
     def _fed(self, text: str, begun: str) -> str:
         data = text.encode()
-        self._do(self._exec, data, len(data))
+        accept(script_exec(self._at, data, len(data)))
         self._begun = begun
         return self._printed()
 
     def _printed(self) -> str:
-        length = self._number(self._output_length)
-        if length == 0:
+        length = ctypes.c_uint64()
+        accept(script_output_length(self._at, ctypes.byref(length)))
+        if length.value == 0:
             return ""
-        buffer = ctypes.create_string_buffer(length)
-        self._do(self._output, buffer, length)
-        self._do(self._drop_output)
+        buffer = ctypes.create_string_buffer(length.value)
+        accept(script_output(self._at, buffer, length.value))
+        accept(script_drop_output(self._at))
         # A statement that is no UTF-8 is refused, so that all that is printed is UTF-8.
         return buffer.raw.decode()

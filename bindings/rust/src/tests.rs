@@ -4,7 +4,8 @@ use std::alloc::{GlobalAlloc, Layout, System};
 use std::cell::Cell;
 use std::io::Write;
 
-use crate::{check, version, Error, Handle, Rect, Shell, Tree};
+use crate::calls::{self, Handle};
+use crate::{check, version, Error, Rect, Relation, Row, Shell, Tree};
 
 /// What a thread allocated: how often, and how many bytes it holds, and held at most. Refuses the allocation at `refused`.
 #[derive(Clone, Copy)]
@@ -57,49 +58,146 @@ fn cube<const D: usize>(min: i32, max: i32) -> Rect<D> {
     Rect { min: [min; D], max: [max; D] }
 }
 
-fn is_send<T: Send>(_: &T) {}
+fn is_shared<T: Send + Sync>(_: &T) {}
 
-macro_rules! tree {
-    ($D:literal) => {
-        let mut tree = Tree::<$D>::with_capacity(5)?;
-        is_send(&tree);
-        for id in 0..200 {
-            tree.insert(id.into(), &cube(10 * id, 10 * id + 5))?;
-        }
-        tree.remove(100)?;
-        assert_eq!((tree.len()?, tree.count(&cube(0, 2000))?, tree.count(&cube(995, 1012))?), (199, 199, 2));
-        assert_eq!(tree.search(&cube(0, 2000))?.len(), 199);
-        let rows = tree.search_rows(&cube(45, 45))?;
-        assert_eq!((rows.len(), rows[0].id, rows[0].rect), (1, 4, cube(40, 45)));
-        let ids = |most| tree.nearest(&[-10; $D], most).map(|rows| rows.iter().map(|row| row.id).collect::<Vec<_>>());
-        assert_eq!((ids(3)?, ids(0)?, ids(1000)?.len()), (vec![0, 1, 2], vec![], 199));
-        assert_eq!((tree.get(7)?, tree.get(100)?), (Some(cube(70, 75)), None));
-        tree.update(7, &cube(-20, 0))?;
-        assert_eq!((tree.nearest(&[-10; $D], 1)?[0].id, tree.count(&cube(70, 75))?, tree.len()?), (7, 0, 199));
-        assert_eq!(tree.update(7, &cube(1, 0)), Err(Error::BadBox));
-        assert_eq!(tree.update(100, &cube(0, 1)), Err(Error::IdMissing));
-        let dump = tree.dump()?;
-        tree.update(7, &cube(-20, 0))?;
-        assert_eq!((tree.get(7)?, tree.dump()?), (Some(cube(-20, 0)), dump));
-        let read = Tree::<$D>::from_dump(&tree.dump()?)?;
-        assert_eq!((read.len()?, read.get(199)?, read.count(&cube(995, 1012))?), (199, Some(cube(1990, 1995)), 2));
-        tree.clear()?;
-        assert_eq!((tree.is_empty()?, tree.search(&cube(0, 2000))?), (true, vec![]));
-    };
+fn sorted(mut ids: Vec<i64>) -> Vec<i64> {
+    ids.sort_unstable();
+    ids
+}
+
+fn calls_of_trees<const D: usize>() -> Result<(), Error> {
+    let mut tree = Tree::<D>::with_capacity(5)?;
+    is_shared(&tree);
+    for id in 0..200 {
+        tree.insert(id.into(), &cube(10 * id, 10 * id + 5))?;
+    }
+    tree.remove(100)?;
+    assert_eq!((tree.len()?, tree.count(&cube(0, 2000))?, tree.count(&cube(995, 1012))?), (199, 199, 2));
+    assert_eq!(tree.search(&cube(0, 2000))?.len(), 199);
+    let rows = tree.search_rows(&cube(45, 45))?;
+    assert_eq!((rows.len(), rows[0].id, rows[0].rect), (1, 4, cube(40, 45)));
+    let ids = |most| tree.nearest(&[-10; D], most).map(|rows| rows.iter().map(|row| row.id).collect::<Vec<_>>());
+    assert_eq!((ids(3)?, ids(0)?, ids(1000)?.len()), (vec![0, 1, 2], vec![], 199));
+    assert_eq!((tree.get(7)?, tree.get(100)?), (Some(cube(70, 75)), None));
+    tree.update(7, &cube(-20, 0))?;
+    assert_eq!((tree.nearest(&[-10; D], 1)?[0].id, tree.count(&cube(70, 75))?, tree.len()?), (7, 0, 199));
+    assert_eq!(tree.nearest(&[-10; D], 2)?[0], Row { id: 7, rect: cube(-20, 0) });
+    assert_eq!(tree.update(7, &cube(1, 0)), Err(Error::BadBox));
+    assert_eq!(tree.update(100, &cube(0, 1)), Err(Error::IdMissing));
+    let dump = tree.dump()?;
+    tree.update(7, &cube(-20, 0))?;
+    assert_eq!((tree.get(7)?, tree.dump()?), (Some(cube(-20, 0)), dump));
+    let read = Tree::<D>::from_dump(&tree.dump()?)?;
+    assert_eq!((read.len()?, read.get(199)?, read.count(&cube(995, 1012))?), (199, Some(cube(1990, 1995)), 2));
+    assert_eq!(format!("{read:?}"), format!("Tree {{ axes: {D}, len: Ok(199), .. }}"));
+    tree.clear()?;
+    assert_eq!((tree.is_empty()?, tree.search(&cube(0, 2000))?), (true, vec![]));
+    Ok(())
 }
 
 #[test]
 fn trees() -> Result<(), Error> {
-    tree!(1);
-    tree!(2);
-    tree!(3);
+    calls_of_trees::<1>()?;
+    calls_of_trees::<2>()?;
+    calls_of_trees::<3>()
+}
+
+/// A sequence that looks random and is always the same.
+fn numbers() -> impl FnMut(i32) -> i32 {
+    let mut state = 1u64;
+    move |below| {
+        state = state.wrapping_mul(6364136223846793005).wrapping_add(1442695040888963407);
+        ((state >> 33) % below as u64) as i32
+    }
+}
+
+/// Whether a row finds a window, axis by axis.
+fn is_related<const D: usize>(relation: Relation, row: &Rect<D>, window: &Rect<D>) -> bool {
+    let is_inside = |inner: &Rect<D>, outer: &Rect<D>| {
+        (0..D).any(|k| inner.min[k] > inner.max[k])
+            || (0..D).all(|k| outer.min[k] <= inner.min[k] && inner.max[k] <= outer.max[k])
+    };
+    match relation {
+        Relation::Touches => (0..D).all(|k| row.min[k].max(window.min[k]) <= row.max[k].min(window.max[k])),
+        Relation::Within => is_inside(row, window),
+        Relation::Holds => is_inside(window, row),
+    }
+}
+
+/// Searches beside a loop over all rows. One window in eight has no point.
+fn relations_of<const D: usize>() -> Result<(), Error> {
+    let (mut below, mut tree, mut rows) = (numbers(), Tree::<D>::with_capacity(8)?, vec![]);
+    let mut draw = |least: i32, widest: i32| {
+        let min = [(); D].map(|()| below(100));
+        Rect { min, max: min.map(|at| at + least + below(widest)) }
+    };
+    for id in 0..300 {
+        let row = Row { id, rect: draw(0, 20) };
+        tree.insert(id, &row.rect)?;
+        rows.push(row);
+    }
+    let mut found = [0; 3];
+    for turn in 0..300 {
+        let window = if turn % 8 == 0 { draw(-9, 12) } else { draw(0, 1 + turn % 90) };
+        for relation in [Relation::Touches, Relation::Within, Relation::Holds] {
+            let plain: Vec<_> = rows.iter().filter(|row| is_related(relation, &row.rect, &window)).copied().collect();
+            let mut own = tree.search_rows_where(relation, &window)?;
+            own.sort_unstable_by_key(|row| row.id);
+            assert_eq!(own, plain, "{relation:?} {window:?}");
+            assert!(sorted(tree.search_where(relation, &window)?).into_iter().eq(plain.iter().map(|row| row.id)));
+            assert_eq!(tree.count_where(relation, &window)?, plain.len() as u64);
+            found[relation as usize] += plain.len();
+        }
+    }
+    assert!(found.iter().all(|&rows| rows > 100), "{found:?}");
+    Ok(())
+}
+
+#[test]
+fn relations() -> Result<(), Error> {
+    relations_of::<1>()?;
+    relations_of::<2>()?;
+    relations_of::<3>()
+}
+
+// Between writes, which need the tree alone, the threads of a scope read it side by side.
+#[test]
+fn threads() -> Result<(), Error> {
+    let (mut tree, rows) = (Tree::<2>::with_capacity(5)?, 500);
+    for id in 0..rows {
+        tree.insert(id.into(), &cube(id, id + 3))?;
+    }
+    for shift in 1..4 {
+        let begun = std::sync::Barrier::new(4);
+        let read = |thread: i32| -> Result<(), Error> {
+            begun.wait();
+            for at in (thread..rows).step_by(4) {
+                let window = cube(at, at);
+                let wanted: Vec<i64> = ((at - 2 - shift).max(0)..=at).map(i64::from).collect();
+                assert_eq!(sorted(tree.search(&window)?), wanted);
+                assert_eq!(tree.count_where(Relation::Holds, &window)?, wanted.len() as u64);
+                assert_eq!(tree.search_rows(&window)?.len(), wanted.len());
+                assert_eq!(tree.get(at.into())?, Some(cube(at, at + 2 + shift)));
+                assert_eq!((tree.nearest(&[-1, -1], 1)?[0].id, tree.len()?), (0, rows as u64));
+            }
+            assert_eq!(Tree::<2>::from_dump(&tree.dump()?)?.len()?, rows as u64);
+            Ok(())
+        };
+        std::thread::scope(|scope| {
+            let threads = [0, 1, 2, 3].map(|thread| scope.spawn(move || read(thread)));
+            threads.into_iter().try_for_each(|thread| thread.join().unwrap())
+        })?;
+        for id in 0..rows {
+            tree.update(id.into(), &cube(id, id + 3 + shift))?;
+        }
+    }
     Ok(())
 }
 
 #[test]
 fn shells() -> Result<(), Error> {
     let mut shell = Shell::with_capacity(5)?;
-    is_send(&shell);
+    is_shared(&shell);
     assert_eq!(shell.execute("CREATE VIRTUAL TABLE t USING rtree_i32(id, a, b); INSERT INTO t VAL")?, "");
     assert_eq!(
         shell.execute("UES (1, 2, 3); SELECT * FROM t; SELECT * FROM u;")?,
@@ -110,23 +208,41 @@ fn shells() -> Result<(), Error> {
     Ok(())
 }
 
-// But `Ended`, `TreeFull` and `OutOfMemory`. The methods have no way to `BufferTooSmall` and `TooLong`.
+// But `Ended`, `TreeFull` and `OutOfMemory`. The methods have no way to most of these, so they are tried below them.
 #[test]
 fn codes() -> Result<(), Error> {
-    let mut tree = Tree::<2>::new()?;
-    let rect = cube(0, 1);
+    let (mut tree, rect) = (Tree::<2>::new()?, cube(0, 1));
     tree.insert(1, &rect)?;
     assert_eq!(Tree::<2>(Handle::default()).len(), Err(Error::Closed));
-    assert_eq!(Tree::<1>(Tree::<2>::new()?.0).len(), Err(Error::OtherKind));
-    assert_eq!(tree.open(51, 1, 2), Err(Error::AlreadyOpen));
+    assert_eq!(Tree::<1>(Shell::new()?.0).len(), Err(Error::OtherKind));
+    // SAFETY: the handle is open, and stays as it is; no window is read.
+    unsafe {
+        assert_eq!(check(calls::juicedelta_tree_open(&mut tree.0, 2, 51, 1, 2)), Err(Error::AlreadyOpen));
+        assert_eq!(check(calls::juicedelta_tree_open(&mut Handle::default(), 4, 51, 1, 2)), Err(Error::BadAxes));
+        let count = |relation, length| calls::juicedelta_tree_count(&tree.0, relation, [0; 4].as_ptr(), length, &mut 0);
+        assert_eq!((check(count(3, 4)), check(count(0, 2))), (Err(Error::BadRelation), Err(Error::BadLength)));
+        let search = calls::juicedelta_tree_search(&tree.0, 0, [0; 4].as_ptr(), 4, [0].as_mut_ptr(), 0, &mut 0);
+        assert_eq!(check(search), Err(Error::BufferTooSmall));
+    }
     assert_eq!(Tree::<2>::with_capacity(4).err(), Some(Error::BadCapacity));
     assert_eq!(tree.insert(2, &cube(1, 0)), Err(Error::BadBox));
     assert_eq!(tree.insert(1, &rect), Err(Error::IdTaken));
     assert_eq!(tree.remove(2), Err(Error::IdMissing));
     assert_eq!(Tree::<2>::from_dump(b"rtree 2 5 1 0\n").err(), Some(Error::BadDump));
-    assert_eq!((check(8), check(12)), (Err(Error::BufferTooSmall), Err(Error::TooLong)));
-    assert_eq!((tree.len()?, Error::IdTaken.to_string().as_str()), (1, "the id is taken"));
+    assert_eq!((tree.len()?, tree.get(1)?), (1, Some(rect)));
     Ok(())
+}
+
+#[test]
+fn words() {
+    for (place, error) in Error::ALL.into_iter().enumerate() {
+        assert_eq!((error as usize, check(error as i32)), (place + 1, Err(error)));
+        assert!(error.to_string().len() > 8 && error.to_string() != "unknown code");
+    }
+    assert_eq!((check(0), Error::IdTaken.to_string().as_str()), (Ok(()), "the id is taken"));
+    assert_eq!(Error::BadRelation.to_string(), "a relation is touches, within or holds");
+    fn is_error<T: std::error::Error + Send + Sync + 'static>(_: T) {}
+    is_error(Error::Ended);
 }
 
 #[test]
@@ -144,9 +260,7 @@ fn line(rows: i32) -> Result<Tree<1>, Error> {
 
 /// Whether a search finds the first `rows` rows of the line.
 fn finds(tree: &Tree<1>, rows: i32) -> Result<bool, Error> {
-    let mut ids = tree.search(&cube(0, rows - 1))?;
-    ids.sort_unstable();
-    Ok(ids.into_iter().eq(0..rows.into()))
+    Ok(sorted(tree.search(&cube(0, rows - 1))?).into_iter().eq(0..rows.into()))
 }
 
 // A search allocates its result and nothing else, once the thread has memory enough.
@@ -158,9 +272,11 @@ fn results() -> Result<(), Error> {
         let before = COUNTS.get();
         assert!(finds(&tree, rows)?);
         assert_eq!(COUNTS.get().allocations - before.allocations, usize::from(rows > 0));
+        let found = tree.search_rows(&cube(0, rows - 1))?;
+        assert!(found.len() == rows as usize && found.iter().all(|row| row.rect == cube(row.id as i32, row.id as i32)));
+        drop(found);
         assert_eq!(COUNTS.get().held, before.held);
     }
-    assert!(tree.search_rows(&cube(0, 999))?.iter().all(|row| row.rect == cube(row.id as i32, row.id as i32)));
     Ok(())
 }
 
@@ -174,12 +290,12 @@ fn refused(nth: usize) -> Result<Option<Error>, Error> {
     Ok(refused)
 }
 
-// The third allocation is memory to keep, which the search can do without.
+// It allocates little memory, enough memory, and the result.
 #[test]
 fn refusals() {
     for nth in 1..=4 {
         let answer = std::thread::spawn(move || refused(nth)).join().unwrap();
-        assert_eq!(answer, Ok((nth < 3).then_some(Error::OutOfMemory)));
+        assert_eq!(answer, Ok((nth < 4).then_some(Error::OutOfMemory)));
     }
 }
 
