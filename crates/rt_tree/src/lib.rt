@@ -17,10 +17,10 @@
 //! - `nearest` lists the rows whose boxes are nearest to a point, `within` those of them within a distance, and
 //!   `nearest_to` the rows nearest to a box.
 //!
-//! Stands on `rt_tree_node`, `rt_tree_walk`, `rt_tree_nearest`, `rt_tree_place`, `rt_tree_remove` and `rt_tree_pack`, and on `rt_check` for
-//! the tree from outside. Definitions: `specs/Lists.antt` (a tree from outside), `Rows.antt`, `Boxes.antt`, `Changes.antt`
-//! (insertion, removal and replacement), `Search.antt`, `Way.antt`, `Packing.antt`
-//! (a tree of a list of rows), and `specs/Nearest.antt` of `rt_tree_nearest`.
+//! Stands on `rt_tree_node`, `rt_tree_walk`, `rt_tree_nearest`, `rt_tree_place`, `rt_tree_remove` and `rt_tree_pack`, and on
+//! `rt_check` for the tree from outside. Definitions: `specs/Lists.antt` (a tree from outside), `Rows.antt`, `Boxes.antt`,
+//! `Changes.antt` (insertion, removal and replacement), `Search.antt`, `Way.antt`, `Packing.antt` (a tree of a list of rows),
+//! and `specs/Nearest.antt` of `rt_tree_nearest`.
 #![tactic(auto)]
 
 mod packing;

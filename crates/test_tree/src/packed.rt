@@ -1,5 +1,7 @@
 //! Trees that are packed at once, held against those that `faults/plain_tree.py` packs.
 
+ghost use Rattle.std.specs.Prelude.{◌≤◌};
+
 use rt_box::{Capacity, Rect};
 use rt_bytes::Sink;
 use rt_check_dump::{AnyShadow, write_dump};
@@ -51,8 +53,10 @@ fn rect<const D: usize>(id: i64) -> Result<Rect<D>, Fail>
         lo[axis] = i32::try_from(place(id, axis)).unwrap_or(0);
         hi[axis] = lo[axis].wrapping_add(side);
     }
-    let rect = Rect::new(lo, hi).ok_or("no box")?;
-    Ok(rect)
+    match Rect::new(lo, hi) {
+        Some(rect) => Ok(rect),
+        None => Err(Fail::from("no box")),
+    }
 }
 
 /// A tree of so many rows, with the ids 1, 2 and so on.
@@ -95,10 +99,7 @@ fn thirteen_points_make_three_leaves(rt: HostRuntime) -> Result<(), Fail> {
         return Err(Fail::from("no tree"));
     };
     let mut sink = Sink::new(rt.alloc());
-    let _ = write_dump(
-        &AnyShadow::One(tree.shadow(rt.alloc(), keys)?),
-        &mut sink,
-    );
+    let _ = write_dump(&AnyShadow::One(tree.shadow(rt.alloc(), keys)?), &mut sink);
     assert!(rt; sink.bytes() == THIRTEEN_POINTS.as_bytes());
     assert!(rt; (tree.len(), tree.depth(), tree.node_count()) == (13, 2, 4));
     assert!(rt; tree.get(&13) == Rect::new([0], [0]));
