@@ -48,7 +48,7 @@ typedef enum juicedelta_code {
     JUICEDELTA_ID_MISSING = 7,       /* no row has that id */
     JUICEDELTA_BUFFER_TOO_SMALL = 8, /* the result is longer than the buffer */
     JUICEDELTA_OUT_OF_MEMORY = 9,    /* no memory is left */
-    JUICEDELTA_TREE_FULL = 10,       /* the tree has 1,048,576 rows */
+    JUICEDELTA_TREE_FULL = 10,       /* the tree has as many rows as a tree may have */
     JUICEDELTA_ENDED = 11,           /* the script has ended */
     JUICEDELTA_TOO_LONG = 12,        /* the script is longer than 2^63 bytes */
     JUICEDELTA_BAD_DUMP = 13,        /* the text is not the dump of a sound tree */

@@ -208,7 +208,8 @@ fn shells() -> Result<(), Error> {
     Ok(())
 }
 
-// But `Ended`, `TreeFull` and `OutOfMemory`. The methods have no way to most of these, so they are tried below them.
+// But `Ended` and `OutOfMemory`, and `TreeFull`: no machine of a test has memory for so many rows. The methods have no way to
+// most of these, so they are tried below them.
 #[test]
 fn codes() -> Result<(), Error> {
     let (mut tree, rect) = (Tree::<2>::new()?, cube(0, 1));
@@ -311,9 +312,8 @@ fn output() -> Result<(), Error> {
 }
 
 #[test]
-fn full() -> Result<(), Error> {
-    let mut tree = line(1 << 20)?;
-    assert_eq!(tree.insert(-1, &cube(0, 0)), Err(Error::TreeFull));
+fn many() -> Result<(), Error> {
+    let tree = line(1 << 20)?;
     assert_eq!((tree.len()?, tree.count(&cube(7, 1006))?), (1 << 20, 1000));
     let before = COUNTS.get().held;
     COUNTS.set(Counts { most_held: before, ..COUNTS.get() });
