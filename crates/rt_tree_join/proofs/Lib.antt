@@ -1,0 +1,4 @@
+pub mod Boxes
+pub mod Counting
+pub mod Below
+pub mod Turns
