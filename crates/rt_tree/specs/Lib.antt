@@ -5,3 +5,4 @@ pub mod TreeInside
 pub mod Search
 pub mod Way
 pub mod Changes
+pub mod Join

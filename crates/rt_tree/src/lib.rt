@@ -14,14 +14,17 @@
 //! - `search` lists the rows that a window admits, and counts the nodes that it went into; `search_into` appends them to a
 //!   list of the caller's, and `count` says how many they are.
 //! - `nearest` lists the rows whose boxes are nearest to a point.
+//! - `join` lists the pairs of rows, one of each of two trees, whose boxes touch.
 //!
-//! Stands on `rt_tree_node`, `rt_tree_walk`, `rt_tree_nearest`, `rt_tree_place` and `rt_tree_remove`, and on `rt_check` for
-//! the tree from outside. Definitions: `specs/Lists.antt` (a tree from outside), `Rows.antt`, `Boxes.antt`, `Changes.antt`
-//! (insertion, removal and replacement), `Search.antt`, `Way.antt`, and `specs/Nearest.antt` of `rt_tree_nearest`.
+//! Stands on `rt_tree_node`, `rt_tree_walk`, `rt_tree_nearest`, `rt_tree_join`, `rt_tree_place` and `rt_tree_remove`, and on
+//! `rt_check` for the tree from outside. Definitions: `specs/Lists.antt` (a tree from outside), `Rows.antt`, `Boxes.antt`,
+//! `Changes.antt` (insertion, removal and replacement), `Search.antt`, `Join.antt`, `Way.antt`, and `specs/Nearest.antt` of
+//! `rt_tree_nearest`.
 #![tactic(auto)]
 
 mod tree;
 
+pub use rt_tree_join::Pair;
 pub use rt_tree_node::Work;
 pub use rt_tree_walk::{Found, Row};
 pub use tree::{MOST_ROWS_OF_A_TREE, Tree};

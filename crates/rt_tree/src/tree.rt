@@ -13,12 +13,14 @@ ghost use Rattle.rt_tree.specs.Rows.{box_of, rows_of, GainsRow, LosesRow};
 ghost use Rattle.rt_tree.specs.Boxes.{HasBoxes};
 ghost use Rattle.rt_tree.specs.Changes.{IsInsertion, IsRemoval, ReplacesOther};
 ghost use Rattle.rt_tree.specs.Search.{FindsIn, FindsInAfter, CountsIn};
+ghost use Rattle.rt_tree.specs.Join.{JoinsIn};
 ghost use Rattle.rt_tree_walk.specs.Search.{StaysInFront};
 ghost use Rattle.rt_tree_nearest.specs.Nearest.{nearest_rows};
 
 use indexmap::IndexMap;
 use rt_box::{Capacity, Rect, Window};
 use rt_check::Shadow;
+use rt_tree_join::{Pair, join};
 use rt_tree_nearest::nearest;
 use rt_tree_node::{Arena, Node, Work, add_node, leaves_facts};
 use rt_tree_place::{insert_row, levels_are_few, nodes_are_few};
@@ -254,8 +256,8 @@ impl<const D: usize> Tree<D> {
         self.arena.leaves.keys().as_slice()
     }
 
-    // The walks over nodes are calls on the arena, which is hidden here. So `shadow`, `search`, `search_into`, `count` and
-    // `nearest` forward to them, and state the results of the tree from outside.
+    // The walks over nodes are calls on the arena, which is hidden here. So `shadow`, `search`, `search_into`, `count`,
+    // `nearest` and `join` forward to them, and state the results of the tree from outside.
 
     /// The tree from outside: its nodes in preorder, numbered from 1, and its row entries by rising id. Look-ups in it
     /// hash by `keys`.
@@ -356,6 +358,20 @@ impl<const D: usize> Tree<D> {
         ensures { IfOk result (λ rows. rows.items ≡ nearest_rows point.now k (rows_of self.now.lists)) }
     {
         nearest(alloc, &self.arena, point, k)
+    }
+
+    /// The pairs of rows, one of this tree and one of the other, whose boxes touch, each pair once, in no stated order. A
+    /// common point is enough, be it on an edge.
+    ///
+    /// Both trees are gone through together: two nodes are looked at only if their boxes touch.
+    ///
+    /// # Errors
+    ///
+    /// `AllocError` if no memory is left for the pairs, or for the list of the pairs of nodes that are still to come.
+    pub fn join(&self, alloc: Global, other: &Tree<D>) -> Result<Vec<Pair>, AllocError>
+        ensures { IfOk result (λ pairs. JoinsIn self.now.lists other.now.lists pairs.items) }
+    {
+        join(alloc, &self.arena, &other.arena)
     }
 
     /// Makes room for `more` further rows. The room grows by as many rows as there are, except those that a tree may not get
