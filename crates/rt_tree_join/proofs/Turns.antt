@@ -12,10 +12,11 @@ use Rattle.rt_tree_nearest.specs.Nearest.{rows_in}
 use Rattle.rt_tree_join.specs.declared.due.Due.{Due}
 use Rattle.rt_tree_join.specs.declared.due.Subtree.{Subtree}
 use Rattle.rt_tree_join.specs.declared.joining.Pair.{Pair}
-use Rattle.rt_tree_join.specs.Join.{touching_pairs, Joins}
+use Rattle.rt_tree_join.specs.Join.{has_ids, touching_pairs, Joins}
 use Rattle.rt_tree_join.specs.Due.{IsDue, count_due, steps_due, StartsWith, Goes}
 use Rattle.rt_tree_join.proofs.Below.{rows-none, whole-tree}
 use Rattle.rt_tree_join.proofs.Counting.{right-none}
+use Rattle.rt_tree_join.proofs.Once.{pairs-once}
 
 module _ {D : ℕ} where
   -- the pairs so far and those below what is due are all
@@ -85,7 +86,10 @@ module _ {D : ℕ} where
             let after = ap (sum_by c) goes.is ∙ sum_by-append c rest goes.more in
             omega (arith, before, after, goes.fewer)
 
-    pub Joining-end : (pairs : List Pair) (due : List (Due D)) → due ≡ [] → Joining t u pairs due → Joins t u pairs
-    Joining-end pairs due none so = λ test.
-        let empty : sum_by (count_due t u test) due ≡ 0 = ap (sum_by (count_due t u test)) none in
-        omega (arith, so.each test, empty)
+    pub Joining-end : IsSettled t → IsSettled u → (pairs : List Pair) (due : List (Due D)) → due ≡ [] → Joining t u pairs due → Joins t u pairs
+    Joining-end s v pairs due none so = record { each = all; once = λ left right. omega (arith, all (has_ids left right), pairs-once left right t u s v) }
+      where
+        all : (test : Pair → Bool) → count_by test pairs ≡ count_by test (touching_pairs (rows_in t) (rows_in u))
+        all test =
+            let empty : sum_by (count_due t u test) due ≡ 0 = ap (sum_by (count_due t u test)) none in
+            omega (arith, so.each test, empty)

@@ -1,5 +1,6 @@
 use Rattle.std.proofs.Common.{◌≡◌, ◌≤◌, [], ◌-◌, take, append-nil, rules, ap, ◌∙◌}
 use Rattle.rt_tree_join.specs.Due.{IsDue}
+use Rattle.rt_tree_walk.proofs.Progress.{IsSettled}
 use Rattle.rt_tree_join.proofs.Turns.{Joining-start, next-due, Joining-step, steps-less, Joining-end}
 use Rattle.rt_tree_join.proofs.joining.join.Goals as goal
 
@@ -26,7 +27,9 @@ loop-next-preserved g c =
 
 pub returns : goal.returns
 returns g c =
+    let s : IsSettled c.args.left.now = record { whole = c.requires.left_whole; none = c.requires.left_settled } in
+    let v : IsSettled c.args.right.now = record { whole = c.requires.right_whole; none = c.requires.right_settled } in
     let none : c.loop-next.due.items ≡ [] =
     c.in_default.ensures.items ∙ append-nil c.pop.new.self.items ∙ c.in_default.ensures.rest
     ∙ ap (λ n. take (n - 1) c.loop-next.due.items) c.in_default.ensures.cases.0 in
-    Joining-end c.args.left.now c.args.right.now c.loop-next.pairs.items c.loop-next.due.items none c.loop-next.invariant
+    Joining-end c.args.left.now c.args.right.now s v c.loop-next.pairs.items c.loop-next.due.items none c.loop-next.invariant
