@@ -7,3 +7,4 @@ pub mod Way
 pub mod Changes
 pub mod Packing
 pub mod PackingInside
+pub mod Join

@@ -14,6 +14,7 @@ ghost use Rattle.rt_tree.specs.Boxes.{HasBoxes};
 ghost use Rattle.rt_tree.specs.Changes.{IsInsertion, IsRemoval, ReplacesOther};
 ghost use Rattle.rt_tree.specs.Packing.{ids, IsPackedOf};
 ghost use Rattle.rt_tree.specs.Search.{FindsIn, FindsInAfter, CountsIn};
+ghost use Rattle.rt_tree.specs.Join.{JoinsIn};
 ghost use Rattle.rt_tree_pack.specs.Packing.{IsFaultOf};
 ghost use Rattle.rt_tree_walk.specs.Search.{StaysInFront};
 ghost use Rattle.rt_tree_nearest.specs.Nearest.{nearest_rows, rows_within, nearest_rows_to};
@@ -21,6 +22,7 @@ ghost use Rattle.rt_tree_nearest.specs.Nearest.{nearest_rows, rows_within, neare
 use crate::packing::{bare_arena, pack_rows};
 use rt_box::{Capacity, Rect, Window};
 use rt_check::Shadow;
+use rt_tree_join::{Pair, join};
 use rt_tree_nearest::{nearest, nearest_to, within};
 use rt_tree_node::{Arena, Node, Work, leaves_facts};
 use rt_tree_pack::PackFault;
@@ -273,8 +275,8 @@ impl<const D: usize> Tree<D> {
         self.arena.leaves.keys().as_slice()
     }
 
-    // The walks over nodes are calls on the arena, which is hidden here. So `shadow`, `search`, `search_into`, `count` and
-    // `nearest` forward to them, and state the results of the tree from outside.
+    // The walks over nodes are calls on the arena, which is hidden here. So `shadow`, `search`, `search_into`, `count`,
+    // `nearest` and `join` forward to them, and state the results of the tree from outside.
 
     /// The tree from outside: its nodes in preorder, numbered from 1, and its row entries by rising id. Look-ups in it
     /// hash by `keys`.
@@ -414,6 +416,20 @@ impl<const D: usize> Tree<D> {
         ensures { IfOk result (λ rows. rows.items ≡ nearest_rows_to rect.now k (rows_of self.now.lists)) }
     {
         nearest_to(alloc, &self.arena, rect, k)
+    }
+
+    /// The pairs of rows, one of this tree and one of the other, whose boxes touch, each pair once, in no stated order. A
+    /// common point is enough, be it on an edge.
+    ///
+    /// Both trees are gone through together: two nodes are looked at only if their boxes touch.
+    ///
+    /// # Errors
+    ///
+    /// `AllocError` if no memory is left for the pairs, or for the list of the pairs of nodes that are still to come.
+    pub fn join(&self, alloc: Global, other: &Tree<D>) -> Result<Vec<Pair>, AllocError>
+        ensures { IfOk result (λ pairs. JoinsIn self.now.lists other.now.lists pairs.items) }
+    {
+        join(alloc, &self.arena, &other.arena)
     }
 
     /// Makes room for `more` further rows. The room grows by as many rows as there are, so that many reservations of one row

@@ -23,7 +23,7 @@ fn coordinate(step: i64) -> i32 {
 }
 
 /// The box of the row with that id.
-fn rect(id: i64) -> Result<Rect<3>, Fail> {
+pub(crate) fn rect(id: i64) -> Result<Rect<3>, Fail> {
     let (x, y, z) = (id, id.wrapping_mul(5), id.wrapping_mul(7));
     let first = [coordinate(x), coordinate(y), coordinate(z)];
     let second = [

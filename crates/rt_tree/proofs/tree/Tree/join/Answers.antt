@@ -1,0 +1,26 @@
+use Rattle.std.proofs.Common.{◌≡◌, List, ap, sym, ◌∙◌}
+use Rattle.std.specs.List.{count_by}
+use Rattle.std.proofs.lemmas.Result.{IfOk-weaker}
+use Rattle.rt_tree_walk.specs.declared.searching.Row.{Row}
+use Rattle.rt_tree_nearest.specs.Nearest.{rows_in}
+use Rattle.rt_tree_join.specs.Join.{touching_pairs, Joins}
+use Rattle.rt_tree.specs.Join.{JoinsIn}
+use Rattle.rt_tree.specs.Lists.{TreeLists}
+use Rattle.rt_tree.specs.Rows.{rows_of}
+use Rattle.rt_tree.proofs.Kept.{settled}
+use Rattle.rt_tree.proofs.Nearby.{rows-listed}
+use Rattle.rt_tree.proofs.tree.Tree.join.Goals as goal
+
+pub returns : goal.returns
+returns g c =
+    let t = c.self.inside.arena in
+    let u = c.other.inside.arena in
+    let own : rows_in t ≡ rows_of c.args.self.now.lists =
+    sym (rows-listed t (settled c.self.inside c.self.invariant)) ∙ ap (λ (v : TreeLists g.row.D). rows_of v.lists) c.self.view_is in
+    let others : rows_in u ≡ rows_of c.args.other.now.lists =
+    sym (rows-listed u (settled c.other.inside c.other.invariant)) ∙ ap (λ (v : TreeLists g.row.D). rows_of v.lists) c.other.view_is in
+    IfOk-weaker c.join.result (λ pairs. Joins t u pairs.items) (λ pairs. JoinsIn c.args.self.now.lists c.args.other.now.lists pairs.items)
+    (λ pairs h. λ test.
+    h test ∙ ap (λ (rows : List (Row g.row.D)). count_by test (touching_pairs rows (rows_in u))) own
+    ∙ ap (λ (rows : List (Row g.row.D)). count_by test (touching_pairs (rows_of c.args.self.now.lists) rows)) others)
+    c.join.ensures

@@ -1,0 +1,5 @@
+pub mod Boxes
+pub mod Counting
+pub mod Below
+pub mod Once
+pub mod Turns

@@ -1,0 +1,150 @@
+//! Joins: the pairs of rows whose boxes touch.
+//!
+//! A stack holds the pairs of nodes that are due. Of the two nodes that come next, that of the higher level is opened
+//! against the other; the rows of two leaves are compared.
+
+ghost use Rattle.std.specs.Prelude.{◌≡◌, ◌≤◌, ◌++◌, [], map, IfOk, OnOk};
+ghost use Rattle.std.specs.List.{filter};
+ghost use Rattle.rt_tree_node.specs.Whole.{IsWhole};
+ghost use Rattle.rt_tree_join.specs.Join.{Joins};
+ghost use Rattle.rt_tree_join.specs.Due.{IsDue, StartsWith, GoesOn, pairs_of_row, pairs_of_leaves};
+
+use crate::due::{Due, Side, Subtree, open};
+use crate::touching::touching_cells;
+use rt_box::Rect;
+use rt_tree_node::{Arena, Cell, Node, node_at};
+use std::alloc::{AllocError, Global};
+use std::mem;
+
+/// Two rows, one of each tree.
+#[derive(Clone, Copy, Debug, PartialEq, Eq)]
+pub struct Pair {
+    /// The id of the left tree's row.
+    pub left: i64,
+    /// The id of the right tree's row.
+    pub right: i64,
+}
+
+/// Pairs a row of the left tree with the rows of a leaf of the right one whose boxes touch its box.
+fn pair_row<const D: usize>(
+    pairs: &mut Vec<Pair>,
+    row: &Cell<D>,
+    leaf: &Node<D>,
+) -> Result<(), AllocError>
+    ensures { OnOk result (pairs.new.items ≡ pairs.old.items ++ pairs_of_row leaf.now.cells row.now) }
+{
+    let bits = touching_cells(leaf, &row.rect);
+    pairs.reserve(bits.count_ones() as usize)?;
+    let alloc = *pairs.allocator();
+    let mut list = mem::replace(pairs, Vec::new(alloc));
+    let left = row.number;
+    let mut rest = bits;
+    while rest != 0 {
+        let right = leaf.cell(rest.trailing_zeros() as usize).number;
+        list.push_reserved(Pair { left, right });
+        rest &= rest - 1;
+    }
+    *pairs = list;
+    Ok(())
+}
+
+/// Pairs the rows of two leaves. Only those of the left leaf are looked at that touch the box around the right one.
+fn pair_leaves<const D: usize>(
+    pairs: &mut Vec<Pair>,
+    left: &Node<D>,
+    right: &Node<D>,
+    rect: &Rect<D>,
+) -> Result<(), AllocError>
+    ensures { OnOk result (pairs.new.items ≡ pairs.old.items ++ pairs_of_leaves rect.now left.now.cells right.now.cells) }
+{
+    let bits = touching_cells(left, rect);
+    let mut rest = bits;
+    while rest != 0 {
+        let row = left.cell(rest.trailing_zeros() as usize);
+        pair_row(pairs, &row, right)?;
+        rest &= rest - 1;
+    }
+    Ok(())
+}
+
+/// Takes the two nodes that come next: opens that of the higher level, or pairs the rows of two leaves.
+fn visit<const D: usize>(
+    pairs: &mut Vec<Pair>,
+    due: &mut Vec<Due<D>>,
+    left: &Arena<D>,
+    right: &Arena<D>,
+    next: &Due<D>,
+) -> Result<(), AllocError>
+    requires left_whole { IsWhole left.now }
+    requires left_settled { left.now.pending.items ≡ [] }
+    requires right_whole { IsWhole right.now }
+    requires right_settled { right.now.pending.items ≡ [] }
+    requires few { D ≤ 3 }
+    requires due { IsDue left.now right.now next.now }
+    ensures { OnOk result (GoesOn left.now right.now next.now pairs.old pairs.new due.old due.new) }
+{
+    if next.left.level < next.right.level {
+        let node = node_at(&right.nodes, next.right.key);
+        return open(due, Side::Right, node, &next.left);
+    }
+    let node = node_at(&left.nodes, next.left.key);
+    if next.left.level > 0 {
+        return open(due, Side::Left, node, &next.right);
+    }
+    let other = node_at(&right.nodes, next.right.key);
+    pair_leaves(pairs, node, other, &next.right.rect)
+}
+
+/// What is due at first: the two roots, unless a tree has no rows.
+fn first_due<const D: usize>(
+    alloc: Global,
+    left: &Arena<D>,
+    right: &Arena<D>,
+) -> Result<Vec<Due<D>>, AllocError>
+    requires left_whole { IsWhole left.now }
+    requires left_settled { left.now.pending.items ≡ [] }
+    requires right_whole { IsWhole right.now }
+    requires right_settled { right.now.pending.items ≡ [] }
+    requires few { D ≤ 3 }
+    ensures { IfOk result (λ due. StartsWith left.now right.now due.items) }
+{
+    let mut due = Vec::new(alloc);
+    let Some(first) = Subtree::root(left) else {
+        return Ok(due);
+    };
+    let Some(second) = Subtree::root(right) else {
+        return Ok(due);
+    };
+    due.push(Due {
+        left: first,
+        right: second,
+    })?;
+    Ok(due)
+}
+
+/// The pairs of rows, one of each tree, whose boxes touch: each pair once, in no stated order.
+///
+/// It looks at the pairs of nodes whose boxes touch, from the roots down, and at no others.
+///
+/// # Errors
+///
+/// `AllocError` if no memory is left for the pairs, or for the list of the pairs of nodes that are due.
+pub fn join<const D: usize>(
+    alloc: Global,
+    left: &Arena<D>,
+    right: &Arena<D>,
+) -> Result<Vec<Pair>, AllocError>
+    requires left_whole { IsWhole left.now }
+    requires left_settled { left.now.pending.items ≡ [] }
+    requires right_whole { IsWhole right.now }
+    requires right_settled { right.now.pending.items ≡ [] }
+    requires few { D ≤ 3 }
+    ensures { IfOk result (λ pairs. Joins left.now right.now pairs.items) }
+{
+    let mut pairs = Vec::new(alloc);
+    let mut due = first_due(alloc, left, right)?;
+    while let Some(next) = due.pop() {
+        visit(&mut pairs, &mut due, left, right, &next)?;
+    }
+    Ok(pairs)
+}
