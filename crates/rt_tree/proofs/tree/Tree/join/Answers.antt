@@ -20,7 +20,10 @@ returns g c =
     let others : rows_in u ≡ rows_of c.args.other.now.lists =
     sym (rows-listed u (settled c.other.inside c.other.invariant)) ∙ ap (λ (v : TreeLists g.row.D). rows_of v.lists) c.other.view_is in
     IfOk-weaker c.join.result (λ pairs. Joins t u pairs.items) (λ pairs. JoinsIn c.args.self.now.lists c.args.other.now.lists pairs.items)
-    (λ pairs h. λ test.
-    h test ∙ ap (λ (rows : List (Row g.row.D)). count_by test (touching_pairs rows (rows_in u))) own
-    ∙ ap (λ (rows : List (Row g.row.D)). count_by test (touching_pairs (rows_of c.args.self.now.lists) rows)) others)
+    (λ pairs h. record {
+      each = λ test.
+          h.each test ∙ ap (λ (rows : List (Row g.row.D)). count_by test (touching_pairs rows (rows_in u))) own
+          ∙ ap (λ (rows : List (Row g.row.D)). count_by test (touching_pairs (rows_of c.args.self.now.lists) rows)) others;
+      once = h.once;
+    })
     c.join.ensures
