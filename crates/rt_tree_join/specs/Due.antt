@@ -10,6 +10,7 @@ use Rattle.rt_tree_node.specs.Node.{NodeCells}
 use Rattle.rt_tree_node.specs.Places.{key_of, leaf_cells_at, cells_at, level_at, hull_at}
 use Rattle.rt_tree_walk.specs.declared.searching.Row.{Row}
 use Rattle.rt_tree_walk.specs.Search.{row_of}
+use Rattle.rt_tree_walk.specs.Visits.{picked}
 use Rattle.rt_tree_walk.specs.Preorder.{keys_in}
 use Rattle.rt_tree_nearest.specs.Nearest.{rows_in}
 use Rattle.rt_tree_join.specs.declared.joining.Pair.{Pair}
@@ -36,6 +37,10 @@ module _ {D : ℕ} where
   -- the same of several rows
   abbrev pub pairs_of_rows : Side → List (Cell D) → List (Cell D) → List Pair
   pairs_of_rows side others cells = flat_map (pairs_of_row side others) cells
+
+  -- the same of those whose bits are set
+  abbrev pub pairs_picked : Side → List (Cell D) → List (Cell D) → ℕ → List Pair
+  pairs_picked side others cells bits = pairs_of_rows side others (picked cells bits)
 
   -- the box holds those of the rows
   abbrev pub AreHeld : List Interval → List (Cell D) → Type 0

@@ -5,9 +5,8 @@
 
 ghost use Rattle.std.specs.Prelude.{◌≡◌, ◌^◌, ◌<◌, ◌≤◌, ◌++◌, [], length, IfOk, OnOk};
 ghost use Rattle.rt_tree_node.specs.Whole.{IsWhole};
-ghost use Rattle.rt_tree_walk.specs.Visits.{picked};
 ghost use Rattle.rt_tree_join.specs.Join.{Joins};
-ghost use Rattle.rt_tree_join.specs.Due.{IsDue, StartsWith, GoesOn, AreHeld, PairsLeaves, pair_of_ids, pairs_of_row, pairs_of_rows};
+ghost use Rattle.rt_tree_join.specs.Due.{IsDue, StartsWith, GoesOn, AreHeld, PairsLeaves, pair_of_ids, pairs_of_row, pairs_picked};
 
 use crate::due::{Due, Side, Subtree, open};
 use crate::touching::touching_cells;
@@ -76,7 +75,7 @@ fn pair_rows<const D: usize>(
     other: &Node<D>,
 ) -> Result<(), AllocError>
     requires { bits < 2 ^ length leaf.now.cells }
-    ensures { OnOk result (pairs.new.items ≡ pairs.old.items ++ pairs_of_rows side other.now.cells (picked leaf.now.cells bits)) }
+    ensures { OnOk result (pairs.new.items ≡ pairs.old.items ++ pairs_picked side other.now.cells leaf.now.cells bits) }
 {
     leaf.facts();
     let mut rest = bits;
