@@ -11,7 +11,6 @@ use Rattle.rt_tree_node.specs.declared.arena.Arena.{Arena}
 use Rattle.rt_tree_node.specs.declared.cell.Cell.{Cell}
 use Rattle.rt_tree_node.specs.Node.{NodeCells}
 use Rattle.rt_tree_node.specs.Places.{key_of, cells_at, level_at, hull_at, level_of, cells_of}
-use Rattle.rt_tree_node.proofs.Counts.{count-append}
 use Rattle.rt_tree_node.proofs.Places.{leaf-at_leaf, leaf-at_inner}
 use Rattle.rt_tree_walk.specs.declared.searching.Row.{Row}
 use Rattle.rt_tree_walk.specs.Search.{row_of}
@@ -24,9 +23,9 @@ use Rattle.rt_tree_join.specs.declared.joining.Pair.{Pair}
 use Rattle.rt_tree_join.specs.declared.due.Due.{Due}
 use Rattle.rt_tree_join.specs.declared.due.Side.TheVariants.{Left, Right}
 use Rattle.rt_tree_join.specs.Join.{touch, touching_pairs}
-use Rattle.rt_tree_join.specs.Due.{subtree_of, child_due, opened, pairs_of_leaves, keys_of_subtree, rows_of_subtree, IsSubtree, IsDue, count_due, steps_due, Goes}
+use Rattle.rt_tree_join.specs.Due.{subtree_of, child_due, opened, AreHeld, keys_of_subtree, rows_of_subtree, IsSubtree, IsDue, count_due, steps_due, Goes}
 use Rattle.rt_tree_join.proofs.Boxes.{touch-apart, touch-apart_swapped}
-use Rattle.rt_tree_join.proofs.Counting.{sum-filtered, sum-filter_le, sum-mapped, sum-scaled, sum-scaled_left, additive, left-joined, right-joined, right-none, pairs-apart, leaves-counted}
+use Rattle.rt_tree_join.proofs.Counting.{sum-filtered, sum-filter_le, sum-mapped, sum-scaled, sum-scaled_left, additive, left-joined, right-joined, right-none, pairs-apart}
 
 flat-flat : {X Y Z : Type 0} (f : Y → List Z) (g : X → List Y) (xs : List X) → flat_map f (flat_map g xs) ≡ flat_map (λ x. flat_map f (g x)) xs
 flat-flat f g [] = refl
@@ -206,28 +205,30 @@ module _ {D : ℕ} where
 
     -- ---- two leaves
     module _ (node other : NodeCells D) (got : get t.nodes next.left.key ≡ Some node) (got_other : get u.nodes next.right.key ≡ Some other)
-        (low : next.left.level ≡ 0) (low_other : next.right.level ≡ 0) (pairs pairs1 : List Pair) (due : List (Due D))
-        (is : pairs1 ≡ pairs ++ pairs_of_leaves next.right.rect node.cells other.cells) where
+        (low : next.left.level ≡ 0) (low_other : next.right.level ≡ 0) where
       rows-left : rows_of_subtree t next.left ≡ map row_of node.cells
       rows-left = ap (λ n. rows_under t.nodes n next.left.key) low ∙ rows-leaf t next.left.key (so.left.there ∙ ap Some low) ∙ ap (λ o. map row_of (cells_of o)) got
 
       rows-right : rows_of_subtree u next.right ≡ map row_of other.cells
       rows-right = ap (λ n. rows_under u.nodes n next.right.key) low_other ∙ rows-leaf u next.right.key (so.right.there ∙ ap Some low_other) ∙ ap (λ o. map row_of (cells_of o)) got_other
 
-      inside : All (λ r. Holds next.right.rect r.rect) (map row_of other.cells)
-      inside = subst (All (λ r. Holds next.right.rect r.rect)) rows-right so.right.holds
+      pub held-left : AreHeld next.left.rect node.cells
+      held-left = subst (All (λ r. Holds next.left.rect r.rect)) rows-left so.left.holds
 
-      pub goes-leaves : Goes t u next pairs pairs1 due due
-      goes-leaves = record {
+      pub held-right : AreHeld next.right.rect other.cells
+      held-right = subst (All (λ r. Holds next.right.rect r.rect)) rows-right so.right.holds
+
+      pub goes-leaves : (pairs pairs1 : List Pair) (due : List (Due D)) →
+          ((test : Pair → Bool) → count_by test pairs1 ≡ count_by test pairs + count_by test (touching_pairs (map row_of node.cells) (map row_of other.cells))) →
+          Goes t u next pairs pairs1 due due
+      goes-leaves pairs pairs1 due is = record {
         more = [];
         is = sym (append-nil due);
         nodes = All-nil (IsDue t u);
         each = λ test.
-            let new = ap (count_by test) is ∙ count-append test pairs (pairs_of_leaves next.right.rect node.cells other.cells) in
-            let all = leaves-counted test next.right.rect node.cells other.cells inside
-            ∙ ap (λ rows. count_by test (touching_pairs rows (map row_of other.cells))) (sym rows-left)
+            let all = ap (λ rows. count_by test (touching_pairs rows (map row_of other.cells))) (sym rows-left)
             ∙ ap (λ others. count_by test (touching_pairs (rows_of_subtree t next.left) others)) (sym rows-right) in
-            omega (arith, new, all);
+            omega (arith, is test, all);
         fewer =
             let one = keys-some t next.left.level next.left.key in
             let two = keys-some u next.right.level next.right.key in

@@ -59,6 +59,9 @@ meets-within (x ∷ a) (z ∷ b) (y ∷ r) (w ∷ s) h k m =
 pub touch-swap : (a b : List Interval) → touch a b ≡ true → touch b a ≡ true
 touch-swap a b e = (touch-decides b a).1 (meets-swap a b ((touch-decides a b).0 e))
 
+pub touch-same : (a b : List Interval) → touch a b ≡ touch b a
+touch-same a b = same_from_decides {P = touch a b ≡ true} (touch a b) (touch b a) ((λ e. e), (λ e. e)) (touch-swap b a, touch-swap a b)
+
 pub touch-apart : (a b r s : List Interval) → Holds a r → Holds b s → touch a b ≡ false → touch r s ≡ false
 touch-apart a b r s h k e = elim (cases_Bool (touch r s)) [
   | inl both ↦ absurd (true≢false (sym ((touch-decides a b).1 (meets-within a b r s h k ((touch-decides r s).0 both))) ∙ e))

@@ -3,21 +3,23 @@ use Rattle.std.proofs.Common.{◌≡◌, ℕ, ◌+◌, ◌*◌, ◌≤◌, Bool,
 use Rattle.std.specs.List.{All, count_by, sum_by, filter, flat_map}
 use Rattle.std.proofs.lemmas.Bool.{cases_Bool}
 use Rattle.std.proofs.lemmas.List.{map-append}
-use Rattle.std.proofs.lemmas.List.Concat.{flat_map-append}
-use Rattle.std.proofs.lemmas.List.Elements.{All-head, All-tail, filter-append}
+use Rattle.std.proofs.lemmas.List.Concat.{flat_map-append, flat_map_single}
+use Rattle.std.proofs.Math.Path.{fun_ext}
+use Rattle.std.proofs.lemmas.List.Elements.{All-nil, All-cons, All-head, All-tail, filter-append}
 use Rattle.std.proofs.lemmas.List.Sums.{sum_by-cons}
 use Rattle.rt_box.specs.declared.interval.Interval.{Interval}
 use Rattle.rt_box.specs.Rect.{Holds}
 use Rattle.rt_box.proofs.Holding.{Holds_refl}
 use Rattle.rt_tree_node.specs.declared.cell.Cell.{Cell}
-use Rattle.rt_tree_node.proofs.Counts.{count-append}
+use Rattle.rt_tree_node.proofs.Counts.{count-append, count-cons}
 use Rattle.rt_tree_walk.specs.declared.searching.Row.{Row}
 use Rattle.rt_tree_walk.specs.Search.{row_of}
 use Rattle.rt_tree_nearest.proofs.Same.{count-joined}
 use Rattle.rt_tree_join.specs.declared.joining.Pair.{Pair}
 use Rattle.rt_tree_join.specs.Join.{touch, pair_of, pairs_with, touching_pairs}
-use Rattle.rt_tree_join.specs.Due.{pair_cells, pairs_of_row, pairs_of_leaves}
-use Rattle.rt_tree_join.proofs.Boxes.{touch-apart_swapped}
+use Rattle.rt_tree_join.specs.Due.{pair_cells, pairs_of_row, pairs_of_rows}
+use Rattle.rt_tree_join.specs.declared.due.Side.TheVariants.{Left, Right}
+use Rattle.rt_tree_join.proofs.Boxes.{touch-apart, touch-apart_swapped, touch-same}
 
 -- ---- sums
 module _ {X : Type 0} (f : X → ℕ) (p : X → Bool) where
@@ -113,31 +115,68 @@ module _ {D : ℕ} where
         ∙ pairs-apart rs others (All-tail (λ x. Holds a x.rect) r rs in_a) in_b
 
   -- ---- pairs of leaves' cells
-  row-pairs : (others : List (Cell D)) (c : Cell D) → pairs_with (map row_of others) (row_of c) ≡ pairs_of_row others c
+  row-pairs : (others : List (Cell D)) (c : Cell D) → pairs_with (map row_of others) (row_of c) ≡ pairs_of_row Left others c
   row-pairs [] c = refl
   row-pairs (e ∷ es) c = by (touch c.rect e.rect) (row-pairs es c)
     where
-      by : (b : Bool) → pairs_with (map row_of es) (row_of c) ≡ pairs_of_row es c →
+      by : (b : Bool) → pairs_with (map row_of es) (row_of c) ≡ pairs_of_row Left es c →
           map (pair_of (row_of c)) (cond b (row_of e ∷ filter (λ s. touch c.rect s.rect) (map row_of es)) (filter (λ s. touch c.rect s.rect) (map row_of es)))
-          ≡ map (pair_cells c) (cond b (e ∷ filter (λ x. touch c.rect x.rect) es) (filter (λ x. touch c.rect x.rect) es))
-      by true rest = ap (λ l. pair_cells c e ∷ l) rest
+          ≡ map (pair_cells Left c) (cond b (e ∷ filter (λ x. touch c.rect x.rect) es) (filter (λ x. touch c.rect x.rect) es))
+      by true rest = ap (λ l. pair_cells Left c e ∷ l) rest
       by false rest = rest
 
-  leaf-pairs : (others cells : List (Cell D)) → touching_pairs (map row_of cells) (map row_of others) ≡ flat_map (pairs_of_row others) cells
+  leaf-pairs : (others cells : List (Cell D)) → touching_pairs (map row_of cells) (map row_of others) ≡ pairs_of_rows Left others cells
   leaf-pairs others [] = refl
   leaf-pairs others (c ∷ cs) =
       ap (λ l. l ++ touching_pairs (map row_of cs) (map row_of others)) (row-pairs others c)
-      ∙ ap (λ l. pairs_of_row others c ++ l) (leaf-pairs others cs)
+      ∙ ap (λ l. pairs_of_row Left others c ++ l) (leaf-pairs others cs)
 
-  -- the rows of two leaves, of which only those are looked at that touch the box around the right one
-  pub leaves-counted : (test : Pair → Bool) (rect : List Interval) (cells others : List (Cell D)) → All (λ s. Holds rect s.rect) (map row_of others) →
-      count_by test (pairs_of_leaves rect cells others) ≡ count_by test (touching_pairs (map row_of cells) (map row_of others))
-  leaves-counted test rect cells others inside =
+  -- the left rows that touch the box around the right leaf
+  pub left-counted : (test : Pair → Bool) (rect : List Interval) (cells others : List (Cell D)) → All (λ s. Holds rect s.rect) (map row_of others) →
+      count_by test (pairs_of_rows Left others (filter (λ c. touch rect c.rect) cells)) ≡ count_by test (touching_pairs (map row_of cells) (map row_of others))
+  left-counted test rect cells others inside =
       let p : Cell D → Bool = λ c. touch rect c.rect in
-      let f : Cell D → ℕ = λ c. count_by test (pairs_of_row others c) in
+      let f : Cell D → ℕ = λ c. count_by test (pairs_of_row Left others c) in
       let apart : (c : Cell D) → p c ≡ false → f c ≡ 0 = λ c e.
       ap (count_by test) (sym (row-pairs others c) ∙ none-with c.rect rect (λ r s h k. touch-apart_swapped c.rect rect r s h k e) (map row_of others) inside (row_of c) (Holds_refl c.rect)) in
-      count-joined test (pairs_of_row others) (filter p cells)
+      count-joined test (pairs_of_row Left others) (filter p cells)
       ∙ sum-filtered f p cells (λ i d h. apart (get_or cells i d))
-      ∙ sym (count-joined test (pairs_of_row others) cells)
+      ∙ sym (count-joined test (pairs_of_row Left others) cells)
       ∙ ap (count_by test) (sym (leaf-pairs others cells))
+
+  -- the left rows that touch one right row
+  column : (test : Pair → Bool) (cells : List (Cell D)) (e : Cell D) →
+      count_by test (touching_pairs (map row_of cells) (row_of e ∷ [])) ≡ count_by test (pairs_of_row Right cells e)
+  column test [] e = refl
+  column test (c ∷ cs) e =
+      by (touch c.rect e.rect) (column test cs e)
+      ∙ ap (λ b. count_by test (map (pair_cells Right e) (cond b (c ∷ filter (λ x. touch e.rect x.rect) cs) (filter (λ x. touch e.rect x.rect) cs)))) (touch-same c.rect e.rect)
+    where
+      by : (b : Bool) → count_by test (touching_pairs (map row_of cs) (row_of e ∷ [])) ≡ count_by test (pairs_of_row Right cs e) →
+          count_by test (map (pair_of (row_of c)) (cond b (row_of e ∷ []) []) ++ touching_pairs (map row_of cs) (row_of e ∷ []))
+          ≡ count_by test (map (pair_cells Right e) (cond b (c ∷ filter (λ x. touch e.rect x.rect) cs) (filter (λ x. touch e.rect x.rect) cs)))
+      by true rest =
+          omega (
+            arith,
+            count-cons test (pair_of (row_of c) (row_of e)) (touching_pairs (map row_of cs) (row_of e ∷ [])),
+            count-cons test (pair_cells Right e c) (pairs_of_row Right cs e),
+            rest,
+          )
+      by false rest = rest
+
+  -- the right rows that touch the box around the left leaf
+  pub right-counted : (test : Pair → Bool) (rect : List Interval) (cells others : List (Cell D)) → All (λ r. Holds rect r.rect) (map row_of cells) →
+      count_by test (pairs_of_rows Right cells (filter (λ e. touch rect e.rect) others)) ≡ count_by test (touching_pairs (map row_of cells) (map row_of others))
+  right-counted test rect cells others inside =
+      let p : Cell D → Bool = λ e. touch rect e.rect in
+      let f : Cell D → ℕ = λ e. count_by test (pairs_of_row Right cells e) in
+      let n : List (Row D) → ℕ = λ ss. count_by test (touching_pairs (map row_of cells) ss) in
+      let apart : (e : Cell D) → p e ≡ false → f e ≡ 0 = λ e none.
+      sym (column test cells e)
+      ∙ ap (count_by test) (pairs-apart rect e.rect (λ r s h k. touch-apart rect e.rect r s h k none) (map row_of cells) (row_of e ∷ []) inside
+      (All-cons (λ (s : Row D). Holds e.rect s.rect) (row_of e) [] (Holds_refl e.rect) (All-nil (λ (s : Row D). Holds e.rect s.rect)))) in
+      count-joined test (pairs_of_row Right cells) (filter p others)
+      ∙ sum-filtered f p others (λ i d h. apart (get_or others i d))
+      ∙ ap (λ (g : Cell D → ℕ). sum_by g others) (fun_ext (λ e. sym (column test cells e)))
+      ∙ sym (additive n (ap (count_by test) (right-none (map row_of cells))) (right-joined test (map row_of cells)) (λ (e : Cell D). row_of e ∷ []) others)
+      ∙ ap n (flat_map_single row_of others)

@@ -1,7 +1,7 @@
 -- No pair comes twice, since no id does.
-use Rattle.std.proofs.Common.{◌≡◌, ℕ, ◌≤◌, Bool, true, false, cond, ℤ, List, [], ◌∷◌, map, get_or, arith, refl, ap, sym, ◌∙◌, subst, inl, inr}
+use Rattle.std.proofs.Common.{◌≡◌, ℕ, ◌≤◌, Bool, true, false, cond, ℤ, List, [], ◌∷◌, map, get_or, arith, ap, inl, inr}
 use Rattle.std.specs.Prelude.{◌&&◌}
-use Rattle.std.specs.List.{All, count_by, sum_by, filter}
+use Rattle.std.specs.List.{count_by, filter}
 use Rattle.std.specs.Ordering.{int_eq}
 use Rattle.std.proofs.lemmas.Bool.{cases_Bool}
 use Rattle.std.proofs.lemmas.List.Sums.{sum_by-le-sum_by}
@@ -13,7 +13,6 @@ use Rattle.rt_tree_walk.proofs.Progress.{IsSettled}
 use Rattle.rt_tree_nearest.specs.Nearest.{rows_in}
 use Rattle.rt_tree_nearest.proofs.Below.{ids-apart}
 use Rattle.rt_tree_nearest.proofs.Same.{count-joined}
-use Rattle.rt_tree_join.specs.declared.joining.Pair.{Pair}
 use Rattle.rt_tree_join.specs.Join.{touch, pair_of, pairs_with, touching_pairs, has_ids}
 
 both-le : (a b : Bool) → ◌≤◌ (cond (a && b) 1 0) (cond b 1 0)

@@ -1,5 +1,5 @@
 -- What is due in the middle of a join. No public clause cites this module.
-use Rattle.std.specs.Prelude.{◌≡◌, ℕ, ◌+◌, ◌-◌, ◌*◌, ◌<◌, Bool, List, [], ◌++◌, Option, Some, None, All, length, map, count_by, sum_by, Vec}
+use Rattle.std.specs.Prelude.{◌≡◌, ℕ, ℤ, ◌+◌, ◌-◌, ◌*◌, ◌<◌, Bool, List, [], ◌++◌, Option, Some, None, All, length, map, count_by, sum_by, Vec}
 use Rattle.std.specs.List.{filter, flat_map}
 use Rattle.std.specs.declared.alloc.Global.{Global}
 use Rattle.rt_box.specs.declared.interval.Interval.{Interval}
@@ -10,6 +10,7 @@ use Rattle.rt_tree_node.specs.Node.{NodeCells}
 use Rattle.rt_tree_node.specs.Places.{key_of, leaf_cells_at, cells_at, level_at, hull_at}
 use Rattle.rt_tree_walk.specs.declared.searching.Row.{Row}
 use Rattle.rt_tree_walk.specs.Search.{row_of}
+use Rattle.rt_tree_walk.specs.Visits.{picked}
 use Rattle.rt_tree_walk.specs.Preorder.{keys_in}
 use Rattle.rt_tree_nearest.specs.Nearest.{rows_in}
 use Rattle.rt_tree_join.specs.declared.joining.Pair.{Pair}
@@ -19,18 +20,36 @@ use Rattle.rt_tree_join.specs.declared.due.Side.{Side}
 use Rattle.rt_tree_join.specs.declared.due.Side.TheVariants.{Left, Right}
 use Rattle.rt_tree_join.specs.Join.{touch, touching_pairs}
 
+-- a row of one tree, and one of the other
+abbrev pub pair_of_ids : Side → ℤ → ℤ → Pair
+pair_of_ids Left id other = record { left = id; right = other }
+pair_of_ids Right id other = record { left = other; right = id }
+
 module _ {D : ℕ} where
   -- ---- what one node gives
-  abbrev pub pair_cells : Cell D → Cell D → Pair
-  pair_cells c e = record { left = c.number; right = e.number }
+  abbrev pub pair_cells : Side → Cell D → Cell D → Pair
+  pair_cells side c e = pair_of_ids side c.number e.number
 
-  -- a row with the rows of a leaf that touch it
-  abbrev pub pairs_of_row : List (Cell D) → Cell D → List Pair
-  pairs_of_row others c = map (pair_cells c) (filter (λ e. touch c.rect e.rect) others)
+  -- a row of one tree with the rows of a leaf of the other that touch it
+  abbrev pub pairs_of_row : Side → List (Cell D) → Cell D → List Pair
+  pairs_of_row side others c = map (pair_cells side c) (filter (λ e. touch c.rect e.rect) others)
 
-  -- the same of each row of a leaf that touches the box
-  abbrev pub pairs_of_leaves : List Interval → List (Cell D) → List (Cell D) → List Pair
-  pairs_of_leaves rect cells others = flat_map (pairs_of_row others) (filter (λ c. touch rect c.rect) cells)
+  -- the same of several rows
+  abbrev pub pairs_of_rows : Side → List (Cell D) → List (Cell D) → List Pair
+  pairs_of_rows side others cells = flat_map (pairs_of_row side others) cells
+
+  -- the same of those whose bits are set
+  abbrev pub pairs_picked : Side → List (Cell D) → List (Cell D) → ℕ → List Pair
+  pairs_picked side others cells bits = pairs_of_rows side others (picked cells bits)
+
+  -- the box holds those of the rows
+  abbrev pub AreHeld : List Interval → List (Cell D) → Type 0
+  AreHeld rect cells = All (λ (r : Row D). Holds rect r.rect) (map row_of cells)
+
+  -- the pairs of the rows of two leaves whose boxes touch come last, in some order
+  abbrev pub PairsLeaves : List (Cell D) → List (Cell D) → Vec Pair Global → Vec Pair Global → Type 0
+  PairsLeaves left right old new = (test : Pair → Bool) →
+      count_by test new.items ≡ count_by test old.items + count_by test (touching_pairs (map row_of left) (map row_of right))
 
   abbrev pub subtree_of : ℕ → Cell D → Subtree D
   subtree_of level c = record { key = key_of c; level = level; rect = c.rect }

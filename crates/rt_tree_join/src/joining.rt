@@ -3,11 +3,10 @@
 //! A stack holds the pairs of nodes that are due. Of the two nodes that come next, that of the higher level is opened
 //! against the other; the rows of two leaves are compared.
 
-ghost use Rattle.std.specs.Prelude.{◌≡◌, ◌≤◌, ◌++◌, [], map, IfOk, OnOk};
-ghost use Rattle.std.specs.List.{filter};
+ghost use Rattle.std.specs.Prelude.{◌≡◌, ◌^◌, ◌<◌, ◌≤◌, ◌++◌, [], length, IfOk, OnOk};
 ghost use Rattle.rt_tree_node.specs.Whole.{IsWhole};
 ghost use Rattle.rt_tree_join.specs.Join.{Joins};
-ghost use Rattle.rt_tree_join.specs.Due.{IsDue, StartsWith, GoesOn, pairs_of_row, pairs_of_leaves};
+ghost use Rattle.rt_tree_join.specs.Due.{IsDue, StartsWith, GoesOn, AreHeld, PairsLeaves, pair_of_ids, pairs_of_row, pairs_picked};
 
 use crate::due::{Due, Side, Subtree, open};
 use crate::touching::touching_cells;
@@ -25,46 +24,88 @@ pub struct Pair {
     pub right: i64,
 }
 
-/// Pairs a row of the left tree with the rows of a leaf of the right one whose boxes touch its box.
+impl Pair {
+    /// A row of one tree, and one of the other.
+    #[inline]
+    fn of(side: Side, row: i64, other: i64) -> Pair
+        ensures { result ≡ pair_of_ids side row other }
+    {
+        match side {
+            Side::Left => Pair {
+                left: row,
+                right: other,
+            },
+            Side::Right => Pair {
+                left: other,
+                right: row,
+            },
+        }
+    }
+}
+
+/// Pairs a row of one tree with the rows of a leaf of the other whose boxes touch its box.
 fn pair_row<const D: usize>(
     pairs: &mut Vec<Pair>,
+    side: Side,
     row: &Cell<D>,
     leaf: &Node<D>,
 ) -> Result<(), AllocError>
-    ensures { OnOk result (pairs.new.items ≡ pairs.old.items ++ pairs_of_row leaf.now.cells row.now) }
+    ensures { OnOk result (pairs.new.items ≡ pairs.old.items ++ pairs_of_row side leaf.now.cells row.now) }
 {
     let bits = touching_cells(leaf, &row.rect);
     pairs.reserve(bits.count_ones() as usize)?;
     let alloc = *pairs.allocator();
     let mut list = mem::replace(pairs, Vec::new(alloc));
-    let left = row.number;
     let mut rest = bits;
     while rest != 0 {
-        let right = leaf.cell(rest.trailing_zeros() as usize).number;
-        list.push_reserved(Pair { left, right });
+        let other = leaf.cell(rest.trailing_zeros() as usize);
+        list.push_reserved(Pair::of(side, row.number, other.number));
         rest &= rest - 1;
     }
     *pairs = list;
     Ok(())
 }
 
-/// Pairs the rows of two leaves. Only those of the left leaf are looked at that touch the box around the right one.
-fn pair_leaves<const D: usize>(
+/// Pairs the rows of those cells of a leaf whose bits are set with the rows of a leaf of the other tree.
+fn pair_rows<const D: usize>(
     pairs: &mut Vec<Pair>,
-    left: &Node<D>,
-    right: &Node<D>,
-    rect: &Rect<D>,
+    side: Side,
+    leaf: &Node<D>,
+    bits: u64,
+    other: &Node<D>,
 ) -> Result<(), AllocError>
-    ensures { OnOk result (pairs.new.items ≡ pairs.old.items ++ pairs_of_leaves rect.now left.now.cells right.now.cells) }
+    requires { bits < 2 ^ length leaf.now.cells }
+    ensures { OnOk result (pairs.new.items ≡ pairs.old.items ++ pairs_picked side other.now.cells leaf.now.cells bits) }
 {
-    let bits = touching_cells(left, rect);
+    leaf.facts();
     let mut rest = bits;
     while rest != 0 {
-        let row = left.cell(rest.trailing_zeros() as usize);
-        pair_row(pairs, &row, right)?;
+        let row = leaf.cell(rest.trailing_zeros() as usize);
+        pair_row(pairs, side, &row, other)?;
         rest &= rest - 1;
     }
     Ok(())
+}
+
+/// Pairs the rows of two leaves. Of either leaf only those rows can have a partner that touch the box around the other; each
+/// of the fewer ones is then compared with the rows of the other leaf.
+fn pair_leaves<const D: usize>(
+    pairs: &mut Vec<Pair>,
+    left: &Node<D>,
+    left_rect: &Rect<D>,
+    right: &Node<D>,
+    right_rect: &Rect<D>,
+) -> Result<(), AllocError>
+    requires left { AreHeld left_rect.now left.now.cells }
+    requires right { AreHeld right_rect.now right.now.cells }
+    ensures { OnOk result (PairsLeaves left.now.cells right.now.cells pairs.old pairs.new) }
+{
+    let rows = touching_cells(left, right_rect);
+    let others = touching_cells(right, left_rect);
+    if rows.count_ones() <= others.count_ones() {
+        return pair_rows(pairs, Side::Left, left, rows, right);
+    }
+    pair_rows(pairs, Side::Right, right, others, left)
 }
 
 /// Takes the two nodes that come next: opens that of the higher level, or pairs the rows of two leaves.
@@ -92,7 +133,7 @@ fn visit<const D: usize>(
         return open(due, Side::Left, node, &next.right);
     }
     let other = node_at(&right.nodes, next.right.key);
-    pair_leaves(pairs, node, other, &next.right.rect)
+    pair_leaves(pairs, node, &next.left.rect, other, &next.right.rect)
 }
 
 /// What is due at first: the two roots, unless a tree has no rows.

@@ -7,7 +7,7 @@ use Rattle.rt_tree_join.proofs.joining.pair_row.Given as goal
 abbrev pub invariant-loop-rest : goal.invariant-loop-rest
 invariant-loop-rest g l = record {
   below : l.rest < 2 ^ length l.leaf.cells;
-  all : l.list.items ++ map (pair_cells l.fn.row) (picked l.leaf.cells l.rest) ≡ l.fn.pairs.items ++ pairs_of_row l.leaf.cells l.fn.row;
+  all : l.list.items ++ map (pair_cells l.fn.side l.fn.row) (picked l.leaf.cells l.rest) ≡ l.fn.pairs.items ++ pairs_of_row l.fn.side l.leaf.cells l.fn.row;
   room : vec_len l.list + length (picked l.leaf.cells l.rest) ≤ vec_capacity l.list;
 }
 
