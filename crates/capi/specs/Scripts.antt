@@ -75,14 +75,14 @@ abbrev pub FinishesTelling : ℕ → Script → Script → Code → Type 0
 FinishesTelling refused old new code =
     (result : Result Status Code) × Finishes old new result × (code ≡ code_of_end result) × TellsEnd refused result
 
--- the length of the output. The shell stays
-abbrev pub HasLength : ℕ → Script → Script → Code → Type 0
-HasLength count old new Done = (new ≡ old) × (count ≡ length old.output.bytes)
-HasLength count old new code = ⊥
+-- the length of the output
+abbrev pub HasLength : ℕ → Script → Code → Type 0
+HasLength count script Done = count ≡ length script.output.bytes
+HasLength count script code = ⊥
 
--- the output is copied. The shell stays
-abbrev pub CopiesOutput : List ℕ → List ℕ → Script → Script → Code → Type 0
-CopiesOutput before after old new code = (new ≡ old) × Copies old.output.bytes before after code
+-- the output is copied
+abbrev pub CopiesOutput : List ℕ → List ℕ → Script → Code → Type 0
+CopiesOutput before after script code = Copies script.output.bytes before after code
 
 -- there is no output
 abbrev pub DropsOutput : Script → Script → Code → Type 0

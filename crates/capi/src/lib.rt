@@ -13,18 +13,19 @@
 //! them), `Buffers.antt`. `Loading.antt` and `Windows.antt` are for proofs here.
 #![tactic(auto)]
 
+mod answer;
 mod buffer;
 mod code;
 mod dump;
+mod edit;
 mod handle;
 mod keys;
-mod line;
 mod load;
-mod plain;
-mod plane;
+mod numbers;
 mod query;
+mod relation;
 mod script;
-mod space;
 mod tree;
 mod version;
 mod window;
+mod words;

@@ -9,6 +9,10 @@
 mod handle;
 mod loose;
 mod object;
+mod pass;
+mod words;
 
 pub use handle::Handle;
 pub use object::{HeldTree, Object, Script};
+pub use pass::{Lease, Pass};
+pub use words::Words;
