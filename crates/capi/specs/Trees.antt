@@ -76,6 +76,11 @@ module _ {D : ℕ} where
     pub sorted : IsSortedByKey (λ c. c.number) int_cmp cells
     pub turns : InsertsInTurn (empty_lists s.capacity) cells kept.tree.lists
 
+-- the number of axes
+abbrev pub TellsAxes : ℕ → ℕ → Code → Type 0
+TellsAxes axes told Done = told ≡ axes
+TellsAxes axes told code = ⊥
+
 abbrev pub MakesTree : ℕ → ℕ → Result Object Code → Type 0
 MakesTree axes capacity (Ok object) = IsTree axes (λ D. IsNew capacity) object
 MakesTree axes capacity (Err code) = MakesNoTree axes capacity code
@@ -170,11 +175,6 @@ module _ {D : ℕ} where
   abbrev pub OfBox : List ℤ → (List ℤ → List ℤ → TreeLists D → TreeLists D → Code → Type 0) → TreeLists D → TreeLists D → Code → Type 0
   OfBox numbers says old new code =
       Sized (length numbers) (2 * D) (says (take D numbers) (drop D numbers) old new code) ((code ≡ BadLength) × (new ≡ old))
-
-  -- the number of axes
-  abbrev pub TellsAxes : ℕ → Code → Type 0
-  TellsAxes axes Done = axes ≡ D
-  TellsAxes axes code = ⊥
 
   -- the number of rows
   abbrev pub Counts : ℕ → TreeLists D → Code → Type 0

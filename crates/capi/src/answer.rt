@@ -16,7 +16,7 @@ pub struct Answer {
 }
 
 /// The answer of a call that read by the lease.
-pub fn answer(code: Code, lease: Lease) -> Answer
+pub fn hand_back(code: Code, lease: Lease) -> Answer
     ensures { Returns code lease result }
 {
     Answer {

@@ -75,7 +75,7 @@ pub fn insert<const D: usize>(tree: &mut Tree<D>, id: i64, numbers: &[i32]) -> C
     ensures { OfBox numbers.now (Inserts id) tree.old tree.new result }
 {
     match ends(numbers) {
-        Some((min, max)) => insert_between(tree, id, min, max),
+        Some((min, max)) => insert_between(tree, id, *min, *max),
         None => Code::BadLength,
     }
 }
@@ -111,7 +111,7 @@ pub fn replace<const D: usize>(tree: &mut Tree<D>, id: i64, numbers: &[i32]) -> 
     ensures { OfBox numbers.now (Moves id) tree.old tree.new result }
 {
     match ends(numbers) {
-        Some((min, max)) => replace_between(tree, id, min, max),
+        Some((min, max)) => replace_between(tree, id, *min, *max),
         None => Code::BadLength,
     }
 }

@@ -1,30 +1,41 @@
 //! Boxes and rows as the numbers that a caller has of them.
 
-ghost use Rattle.std.specs.Prelude.{◌≡◌, ◌+◌, ◌*◌, ◌≤◌, ◌↔◌, ◌++◌, IsTrue, length, take, drop};
+ghost use Rattle.std.specs.Prelude.{◌≡◌, ◌≢◌, ◌+◌, ◌*◌, ◌≤◌, ◌↔◌, IsTrue, MatchOption, length};
 ghost use Rattle.capi.specs.Buffers.{Copies};
 ghost use Rattle.capi.specs.declared.code.Code.TheVariants.{Done};
-ghost use Rattle.capi.specs.Numbers.{IsSplit, ids_of, numbers_of, box_numbers};
+ghost use Rattle.capi.specs.Numbers.{IsSplit, Writes, ids_of, numbers_of, box_numbers};
 
 use rt_box::Rect;
 use rt_tree::Row;
 
 /// The least and the greatest number of a box on each axis, or `None` unless there are two numbers for each.
-pub fn ends<const D: usize>(numbers: &[i32]) -> Option<([i32; D], [i32; D])>
-    ensures { IsSplit D numbers.now result }
+pub fn ends<const D: usize>(numbers: &[i32]) -> Option<(&[i32; D], &[i32; D])>
+    ensures { MatchOption result (length numbers.now ≢ 2 * D) (λ ends. IsSplit D numbers.now ends.0.now ends.1.now) }
 {
     let (min, rest) = numbers.split_first_chunk::<D>()?;
     let max = rest.as_array::<D>()?;
-    Some((*min, *max))
+    Some((min, max))
+}
+
+/// Writes numbers into the buffer, from that place on.
+fn write_at(numbers: &[i32], buffer: &mut [i32], at: usize)
+    requires { at + length numbers.now ≤ length buffer.old }
+    ensures { Writes numbers.now at buffer.old buffer.new }
+{
+    for place in 0..numbers.len() {
+        buffer[at + place] = numbers[place];
+    }
 }
 
 /// Writes the numbers of a box into the buffer, from that place on.
 pub fn write_box<const D: usize>(rect: &Rect<D>, buffer: &mut [i32], at: usize)
     requires { at + 2 * D ≤ length buffer.old }
-    ensures { buffer.new ≡ take at buffer.old ++ (numbers_of rect.now ++ drop (at + 2 * D) buffer.old) }
+    ensures written { Writes (numbers_of rect.now) at buffer.old buffer.new }
+    ensures count { length (numbers_of rect.now) ≡ 2 * D }
 {
-    let middle = at + D;
-    buffer[at..middle].copy_from_slice(&rect.lo());
-    buffer[middle..middle + D].copy_from_slice(&rect.hi());
+    rect.facts();
+    write_at(&rect.lo(), buffer, at);
+    write_at(&rect.hi(), buffer, at + D);
 }
 
 /// Writes the ids of the rows to the start of the buffer.

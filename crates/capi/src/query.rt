@@ -14,9 +14,10 @@ use rt_tree::{Found, Row, Tree};
 use std::alloc::{AllocError, Global};
 
 /// Writes the number of axes.
-pub fn axes<const D: usize>(_tree: &Tree<D>, axes: &mut u32) -> Code
+pub fn tell_axes<const D: usize>(_tree: &Tree<D>, axes: &mut u32) -> Code
     requires { D ≤ 3 }
-    ensures { TellsAxes {D = D} axes.new result }
+    ensures told { TellsAxes D axes.new result }
+    ensures kept { result ≢ Done → axes.new ≡ axes.old }
 {
     *axes = D as u32;
     Code::Done
@@ -92,7 +93,7 @@ pub fn count<const D: usize>(
     let Some((min, max)) = ends(window) else {
         return Code::BadLength;
     };
-    count_related(alloc, tree, relation, &min, &max, total)
+    count_related(alloc, tree, relation, min, max, total)
 }
 
 /// The rows that lie so to the box from `min` to `max`.
@@ -187,7 +188,7 @@ pub fn search<const D: usize>(
     let Some((min, max)) = ends(window) else {
         return Code::BadLength;
     };
-    search_related(alloc, tree, relation, &min, &max, ids, total)
+    search_related(alloc, tree, relation, min, max, ids, total)
 }
 
 /// Writes the ids and the boxes of the rows that lie so to the box from `min` to `max`, in no stated order, and their number.
@@ -240,7 +241,7 @@ pub fn search_rows<const D: usize>(
     let Some((min, max)) = ends(window) else {
         return Code::BadLength;
     };
-    search_rows_related(alloc, tree, relation, &min, &max, ids, boxes, total)
+    search_rows_related(alloc, tree, relation, min, max, ids, boxes, total)
 }
 
 /// Writes the ids and the boxes of the rows nearest to the point, nearest first, and how many they are: as many as there is

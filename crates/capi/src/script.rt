@@ -7,7 +7,7 @@ ghost use Rattle.capi.specs.Calls.{Opens, OnScript, OfScript, IsScript};
 ghost use Rattle.capi.specs.Scripts.{IsNewScript, MakesScript, Executes, Finishes, FinishesTelling, HasLength, CopiesOutput, DropsOutput};
 ghost use Rattle.capi.specs.Trees.{MakesNone};
 
-use crate::answer::{Answer, answer};
+use crate::answer::{Answer, hand_back};
 use crate::buffer::copy_to;
 use crate::code::Code;
 use crate::handle::fill;
@@ -179,7 +179,7 @@ pub extern "C" fn juicedelta_script_output_length(
         Some(Object::Script(script)) => measure(script, length),
         Some(_) => Code::OtherKind,
     };
-    answer(code, lease)
+    hand_back(code, lease)
 }
 
 /// Copies the output.
@@ -200,7 +200,7 @@ pub extern "C" fn juicedelta_script_output(
         Some(Object::Script(script)) => copy_to(script.output.bytes(), buffer),
         Some(_) => Code::OtherKind,
     };
-    answer(code, lease)
+    hand_back(code, lease)
 }
 
 /// Drops the output.

@@ -1,19 +1,20 @@
 //! The calls on trees.
 
-ghost use Rattle.std.specs.Prelude.{◌≡◌, ◌≢◌, pos};
+ghost use Rattle.std.specs.Prelude.{◌≡◌, ◌≢◌, pos, Some};
+ghost use Rattle.capi.specs.Codes.{number_of};
 ghost use Rattle.rt_handle.specs.Passes.{IsOf, IsSame};
 ghost use Rattle.capi.specs.Calls.{Opens, OnTree, OfTree, IsTree};
 ghost use Rattle.capi.specs.Trees.{IsNew, MakesNoTree, MakesTree, IsOfDump, LoadsNone, OfBox, Inserts, Moves, Removes, Clears};
 ghost use Rattle.capi.specs.Trees.{TellsAxes, Counts, GetsInto, OfWindow, CountsRelated, Searches, SearchesRows, FindsNearestRows, Dumps};
 
-use crate::answer::{Answer, answer};
+use crate::answer::{Answer, hand_back};
 use crate::code::Code;
 use crate::dump::{dump_line, dump_plane, dump_space};
 use crate::edit::{clear, insert, new_tree, remove, replace};
 use crate::handle::fill;
 use crate::keys::Keys;
 use crate::load::load_dump;
-use crate::query::{axes, count, get, len, nearest, search, search_rows};
+use crate::query::{count, get, len, nearest, search, search_rows, tell_axes};
 use rt_handle::{Handle, Object, Pass, Words};
 use std::alloc::Global;
 
@@ -82,6 +83,17 @@ pub extern "C" fn juicedelta_tree_open_dump(
     }
 }
 
+fn insert_into(object: &mut Object, id: i64, numbers: &[i32]) -> Code
+    ensures { OnTree (Some object.old) (Some object.new) (λ D old. OfBox numbers.now (Inserts id) old.tree) (number_of result) }
+{
+    match object {
+        Object::Line(kept) => insert(&mut kept.tree, id, numbers),
+        Object::Plane(kept) => insert(&mut kept.tree, id, numbers),
+        Object::Space(kept) => insert(&mut kept.tree, id, numbers),
+        Object::Script(_) => Code::OtherKind,
+    }
+}
+
 /// Inserts a row.
 #[unsafe(no_mangle)]
 pub extern "C" fn juicedelta_tree_insert(
@@ -95,14 +107,20 @@ pub extern "C" fn juicedelta_tree_insert(
     let Some(mut object) = handle.take(alloc) else {
         return Code::Closed.number();
     };
-    let code = match &mut *object {
-        Object::Line(kept) => insert(&mut kept.tree, id, numbers),
-        Object::Plane(kept) => insert(&mut kept.tree, id, numbers),
-        Object::Space(kept) => insert(&mut kept.tree, id, numbers),
-        Object::Script(_) => Code::OtherKind,
-    };
+    let code = insert_into(&mut object, id, numbers);
     handle.put(object);
     code.number()
+}
+
+fn replace_in(object: &mut Object, id: i64, numbers: &[i32]) -> Code
+    ensures { OnTree (Some object.old) (Some object.new) (λ D old. OfBox numbers.now (Moves id) old.tree) (number_of result) }
+{
+    match object {
+        Object::Line(kept) => replace(&mut kept.tree, id, numbers),
+        Object::Plane(kept) => replace(&mut kept.tree, id, numbers),
+        Object::Space(kept) => replace(&mut kept.tree, id, numbers),
+        Object::Script(_) => Code::OtherKind,
+    }
 }
 
 /// Gives a row another box.
@@ -118,14 +136,20 @@ pub extern "C" fn juicedelta_tree_move(
     let Some(mut object) = handle.take(alloc) else {
         return Code::Closed.number();
     };
-    let code = match &mut *object {
-        Object::Line(kept) => replace(&mut kept.tree, id, numbers),
-        Object::Plane(kept) => replace(&mut kept.tree, id, numbers),
-        Object::Space(kept) => replace(&mut kept.tree, id, numbers),
-        Object::Script(_) => Code::OtherKind,
-    };
+    let code = replace_in(&mut object, id, numbers);
     handle.put(object);
     code.number()
+}
+
+fn remove_from(object: &mut Object, id: i64) -> Code
+    ensures { OnTree (Some object.old) (Some object.new) (λ D old. Removes id old.tree) (number_of result) }
+{
+    match object {
+        Object::Line(kept) => remove(&mut kept.tree, id),
+        Object::Plane(kept) => remove(&mut kept.tree, id),
+        Object::Space(kept) => remove(&mut kept.tree, id),
+        Object::Script(_) => Code::OtherKind,
+    }
 }
 
 /// Removes a row.
@@ -136,12 +160,7 @@ pub extern "C" fn juicedelta_tree_remove(alloc: Global, handle: &mut Handle, id:
     let Some(mut object) = handle.take(alloc) else {
         return Code::Closed.number();
     };
-    let code = match &mut *object {
-        Object::Line(kept) => remove(&mut kept.tree, id),
-        Object::Plane(kept) => remove(&mut kept.tree, id),
-        Object::Space(kept) => remove(&mut kept.tree, id),
-        Object::Script(_) => Code::OtherKind,
-    };
+    let code = remove_from(&mut object, id);
     handle.put(object);
     code.number()
 }
@@ -172,19 +191,19 @@ pub extern "C" fn juicedelta_tree_axes(
     axes: &mut u32,
 ) -> Answer
     requires { IsOf pass.at pass.held handle.now }
-    ensures told { OfTree pass.held (λ D tree. TellsAxes {D = D} axes.new) result.code }
+    ensures told { OfTree pass.held (λ D tree. TellsAxes D axes.new) result.code }
     ensures kept { result.code ≢ pos 0 → axes.new ≡ axes.old }
     ensures pass { IsSame pass result.pass }
 {
     let lease = pass.open();
     let code = match lease.peek(handle) {
         None => Code::Closed,
-        Some(Object::Line(kept)) => axes(&kept.tree, axes),
-        Some(Object::Plane(kept)) => axes(&kept.tree, axes),
-        Some(Object::Space(kept)) => axes(&kept.tree, axes),
+        Some(Object::Line(kept)) => tell_axes(&kept.tree, axes),
+        Some(Object::Plane(kept)) => tell_axes(&kept.tree, axes),
+        Some(Object::Space(kept)) => tell_axes(&kept.tree, axes),
         Some(Object::Script(_)) => Code::OtherKind,
     };
-    answer(code, lease)
+    hand_back(code, lease)
 }
 
 /// The number of rows.
@@ -207,7 +226,7 @@ pub extern "C" fn juicedelta_tree_len(
         Some(Object::Space(kept)) => len(&kept.tree, rows),
         Some(Object::Script(_)) => Code::OtherKind,
     };
-    answer(code, lease)
+    hand_back(code, lease)
 }
 
 /// The box of a row.
@@ -231,7 +250,7 @@ pub extern "C" fn juicedelta_tree_get(
         Some(Object::Space(kept)) => get(&kept.tree, id, numbers),
         Some(Object::Script(_)) => Code::OtherKind,
     };
-    answer(code, lease)
+    hand_back(code, lease)
 }
 
 /// The number of rows that lie so to a window.
@@ -257,7 +276,7 @@ pub extern "C" fn juicedelta_tree_count(
         Some(Object::Space(kept)) => count(alloc, &kept.tree, relation, window, total),
         Some(Object::Script(_)) => Code::OtherKind,
     };
-    answer(code, lease)
+    hand_back(code, lease)
 }
 
 /// The ids of the rows that lie so to a window.
@@ -285,7 +304,7 @@ pub extern "C" fn juicedelta_tree_search(
         Some(Object::Space(kept)) => search(alloc, &kept.tree, relation, window, ids, total),
         Some(Object::Script(_)) => Code::OtherKind,
     };
-    answer(code, lease)
+    hand_back(code, lease)
 }
 
 /// The rows that lie so to a window.
@@ -315,7 +334,7 @@ pub extern "C" fn juicedelta_tree_search_rows(
         Some(Object::Space(kept)) => search_rows(alloc, &kept.tree, relation, window, ids, boxes, total),
         Some(Object::Script(_)) => Code::OtherKind,
     };
-    answer(code, lease)
+    hand_back(code, lease)
 }
 
 /// The rows nearest to a point.
@@ -343,7 +362,7 @@ pub extern "C" fn juicedelta_tree_nearest(
         Some(Object::Space(kept)) => nearest(alloc, &kept.tree, point, ids, boxes, total),
         Some(Object::Script(_)) => Code::OtherKind,
     };
-    answer(code, lease)
+    hand_back(code, lease)
 }
 
 /// The dump as text.
@@ -368,5 +387,5 @@ pub extern "C" fn juicedelta_tree_dump(
         Some(Object::Space(kept)) => dump_space(alloc, kept, text, total),
         Some(Object::Script(_)) => Code::OtherKind,
     };
-    answer(code, lease)
+    hand_back(code, lease)
 }

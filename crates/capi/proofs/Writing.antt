@@ -1,0 +1,17 @@
+-- Numbers written into a buffer one by one.
+use Rattle.std.proofs.Common.{◌≡◌, ℕ, ◌+◌, ◌<◌, ℤ, pos, List, [], ◌∷◌, ◌++◌, length, get_or, set, take, drop, arith, refl, sym, ap, ◌∙◌}
+use Rattle.std.proofs.lemmas.List.{take_more, take_more_set, drop-set-lt, drop-drop}
+use Rattle.std.proofs.Math.Seq.{append-assoc}
+
+pub front_more : (old b ns : List ℤ) (at k : ℕ) (v : ℤ) → k < length ns → at + k < length b → take (at + k) b ≡ take at old ++ take k ns →
+    v ≡ get_or ns k (pos 0) → take (at + (k + 1)) (set b (at + k) v) ≡ take at old ++ take (k + 1) ns
+front_more old b ns at k v within room front is =
+    let one : at + (k + 1) ≡ at + k + 1 = omega arith in
+    ap (λ n. take n (set b (at + k) v)) one ∙ take_more_set b (at + k) v room ∙ ap (λ l. l ++ v ∷ []) front
+    ∙ append-assoc (take at old) (take k ns) (v ∷ []) ∙ ap (λ w. take at old ++ (take k ns ++ w ∷ [])) is ∙ ap (λ l. take at old ++ l) (sym (take_more ns k (pos 0) within))
+
+pub back_more : (old b : List ℤ) (at k : ℕ) (v : ℤ) → drop (at + k) b ≡ drop (at + k) old → drop (at + (k + 1)) (set b (at + k) v) ≡ drop (at + (k + 1)) old
+back_more old b at k v back =
+    let one : at + k + 1 ≡ at + (k + 1) = omega arith in
+    drop-set-lt (at + (k + 1)) b (at + k) v (omega arith) ∙ ap (λ n. drop n b) (sym one) ∙ sym (drop-drop 1 (at + k) b)
+    ∙ ap (drop 1) back ∙ drop-drop 1 (at + k) old ∙ ap (λ n. drop n old) one
