@@ -4,3 +4,4 @@ pub mod Entries
 pub mod Loaded
 pub mod Picking
 pub mod Reaching
+pub mod Writing
