@@ -1,41 +1,41 @@
--- A shadow that was read, as one of its kind.
-use Rattle.std.proofs.Common.{ℕ, List, Some, None, Result, Ok, Err, subst}
-use Rattle.rt_check.specs.Shadow.{ShadowLists}
-use Rattle.rt_check.specs.Conditions.{IsSound}
+-- What is loaded of a shadow is loaded of its text.
+use Rattle.std.proofs.Common.{◌≡◌, ℕ, List, Result, Ok, Err, refl, sym, subst, ◌∙◌, ap}
 use Rattle.rt_check_dump.specs.declared.dump.AnyShadow.{AnyShadow}
-use Rattle.rt_check_dump.specs.Faults.{IsTextOf}
-use Rattle.rt_handle.specs.declared.object.HeldTree.{HeldTree}
+use Rattle.rt_handle.specs.declared.object.Object.{Object}
 use Rattle.capi.specs.declared.code.Code.{Code}
-use Rattle.capi.specs.declared.code.Code.TheVariants.{Done, Closed, OtherKind, AlreadyOpen, BadCapacity, BadBox, IdTaken, IdMissing, BufferTooSmall, OutOfMemory, TreeFull, Ended, TooLong, BadDump}
-use Rattle.capi.specs.Loading.{ReadsText, Loads, IsOfKind, LoadsDump}
+use Rattle.capi.specs.declared.code.Code.TheVariants.{Done, Closed, OtherKind, AlreadyOpen, BadCapacity, BadBox, IdTaken, IdMissing, BufferTooSmall, OutOfMemory, TreeFull, Ended, TooLong, BadDump, BadLength, BadAxes, BadRelation}
+use Rattle.capi.specs.Loading.{ReadsText, LoadsAny, LoadsDump}
+use Rattle.capi.specs.Trees.{IsAxes, IsAnySound, axes_of}
 
-module _ {D : ℕ} (of_kind : ShadowLists D → AnyShadow) (text : List ℕ) where
-  -- what is loaded of the shadow is loaded of its text
-  pub loads-text : (any : AnyShadow) (s : ShadowLists D) → ReadsText text (Ok any) → IsOfKind of_kind any (Some s) → (result : Result (HeldTree D) Code) → Loads s result → LoadsDump of_kind text result
-  loads-text any s read is (Ok kept) h = (s, (subst (λ (a : AnyShadow). IsTextOf a text) is.0 read.0, h.0), h.1)
-  loads-text any s read is (Err BadDump) h = λ other dump. h (subst IsSound (is.1 other (read.1 (of_kind other) dump.0)) dump.1)
-  loads-text any s read is (Err TreeFull) h = (s, (subst (λ (a : AnyShadow). IsTextOf a text) is.0 read.0, h.0), h.1)
-  loads-text any s read is (Err OutOfMemory) h = tt
-  loads-text any s read is (Err Done) h = absurd h
-  loads-text any s read is (Err Closed) h = absurd h
-  loads-text any s read is (Err OtherKind) h = absurd h
-  loads-text any s read is (Err AlreadyOpen) h = absurd h
-  loads-text any s read is (Err BadCapacity) h = absurd h
-  loads-text any s read is (Err BadBox) h = absurd h
-  loads-text any s read is (Err IdTaken) h = absurd h
-  loads-text any s read is (Err IdMissing) h = absurd h
-  loads-text any s read is (Err BufferTooSmall) h = absurd h
-  loads-text any s read is (Err Ended) h = absurd h
-  loads-text any s read is (Err TooLong) h = absurd h
+module _ (axes : ℕ) (is_axes : IsAxes axes) (text : List ℕ) where
+  pub loads-text : (any : AnyShadow) → ReadsText text (Ok any) → axes_of any ≡ axes → (result : Result Object Code) → LoadsAny any result → LoadsDump axes text result
+  loads-text any read same (Ok object) h = (any, (same, read.0, h.0), h.1)
+  loads-text any read same (Err BadDump) h = (is_axes, λ other dump. h (subst IsAnySound (read.1 other dump.1) dump.2))
+  loads-text any read same (Err TreeFull) h = (any, (same, read.0, h.0), h.1)
+  loads-text any read same (Err OutOfMemory) h = is_axes
+  loads-text any read same (Err Done) h = absurd h
+  loads-text any read same (Err Closed) h = absurd h
+  loads-text any read same (Err OtherKind) h = absurd h
+  loads-text any read same (Err AlreadyOpen) h = absurd h
+  loads-text any read same (Err BadCapacity) h = absurd h
+  loads-text any read same (Err BadBox) h = absurd h
+  loads-text any read same (Err IdTaken) h = absurd h
+  loads-text any read same (Err IdMissing) h = absurd h
+  loads-text any read same (Err BufferTooSmall) h = absurd h
+  loads-text any read same (Err Ended) h = absurd h
+  loads-text any read same (Err TooLong) h = absurd h
+  loads-text any read same (Err BadLength) h = absurd h
+  loads-text any read same (Err BadAxes) h = absurd h
+  loads-text any read same (Err BadRelation) h = absurd h
 
-  -- a shadow of another kind is none of this one
-  pub loads-other : (any : AnyShadow) → ReadsText text (Ok any) → IsOfKind of_kind any None → LoadsDump of_kind text (Err BadDump)
-  loads-other any read is = λ other dump. is other (read.1 (of_kind other) dump.0)
+  -- a shadow of another number of axes is none of this one
+  pub loads-other : (any : AnyShadow) → ReadsText text (Ok any) → (axes_of any ≡ axes → ⊥) → LoadsDump axes text (Err BadDump)
+  loads-other any read is = (is_axes, λ other dump. is (sym (ap axes_of (read.1 other dump.1)) ∙ dump.0))
 
   -- a text that isn't read is that of none
-  pub loads-none : (code : Code) → ReadsText text (Err code) → LoadsDump of_kind text (Err code)
-  loads-none BadDump h = λ other dump. h (of_kind other, dump.0)
-  loads-none OutOfMemory h = tt
+  pub loads-none : (code : Code) → ReadsText text (Err code) → LoadsDump axes text (Err code)
+  loads-none BadDump h = (is_axes, λ other dump. h (other, dump.1))
+  loads-none OutOfMemory h = is_axes
   loads-none TreeFull h = absurd h
   loads-none Done h = absurd h
   loads-none Closed h = absurd h
@@ -48,3 +48,6 @@ module _ {D : ℕ} (of_kind : ShadowLists D → AnyShadow) (text : List ℕ) whe
   loads-none BufferTooSmall h = absurd h
   loads-none Ended h = absurd h
   loads-none TooLong h = absurd h
+  loads-none BadLength h = absurd h
+  loads-none BadAxes h = absurd h
+  loads-none BadRelation h = absurd h

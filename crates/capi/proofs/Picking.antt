@@ -1,4 +1,4 @@
--- What a window finds of a tree, as the rows that have a point in common with a box.
+-- What a window finds of a tree, as the rows whose boxes lie so to a box.
 use Rattle.std.proofs.Common.{◌≡◌, ℕ, ◌+◌, Bool, true, false, cond, ◌&&◌, ℤ, List, [], ◌∷◌, All, count_by, if◌then◌else◌, arith, refl, sym, ap, ◌∙◌}
 use Rattle.std.specs.List.{AllZip, filter}
 use Rattle.std.specs.Prelude.{int_le}
@@ -18,9 +18,10 @@ use Rattle.rt_tree_walk.specs.declared.searching.Row.{Row}
 use Rattle.rt_tree_walk.specs.Search.{AsksAdmitted}
 use Rattle.rt_tree_walk.proofs.Ints.{int_le-true, int_le-from}
 use Rattle.rt_tree_walk.proofs.Listed.{All-flat}
-use Rattle.capi.specs.Touching.{HasCommonPoint, Picks, FindsTouching}
-use Rattle.capi.specs.Touching.Picks.{none, this, other}
-use Rattle.capi.specs.Windows.{AdmitsTouching}
+use Rattle.capi.specs.Relations.{Relates, Picks, FindsRelated}
+use Rattle.capi.specs.Relations.Picks.{none, this, other}
+use Rattle.capi.specs.Windows.{AdmitsRelated}
+use Rattle.capi.specs.declared.relation.Relation.{Relation}
 use Rattle.capi.proofs.Reaching.{clash}
 
 -- whether each coordinate is in its interval
@@ -106,17 +107,17 @@ module _ {D : ℕ} where
       All-map (λ (r : Row D). IsBox D r.rect) row_in (leaf_cells s.nodes)
       (All-flat IsBoxed f s.nodes (All-weaker (λ (n : NodeRow D). All IsBoxed n.cells) (λ n. All IsBoxed (f n)) (λ n all. cells_of_leaf IsBoxed (is_leaf n) n.cells all) s.nodes has))
 
-  pub finds_touching : (s : ShadowLists D) (window : List Interval) (min max : List ℤ) (rows : List (Row D)) → HasBoxes s →
-      AdmitsTouching D min max window → All (λ r. Admits window r.rect) rows →
-      ((test : Row D → Bool) → AsksAdmitted window test → count_by test rows ≡ count_by test (rows_of s)) → FindsTouching s min max rows
-  finds_touching s window min max rows has touching admitted each =
+  pub finds_related : (relation : Relation) (s : ShadowLists D) (window : List Interval) (min max : List ℤ) (rows : List (Row D)) → HasBoxes s →
+      AdmitsRelated D relation min max window → All (λ r. Admits window r.rect) rows →
+      ((test : Row D → Bool) → AsksAdmitted window test → count_by test rows ≡ count_by test (rows_of s)) → FindsRelated relation s min max rows
+  finds_related relation s window min max rows has related admitted each =
       let test : Row D → Bool = λ r. admits window (coordinates r.rect) in
-      let Touches : Row D → Type 0 = λ r. HasCommonPoint min max r.rect in
+      let Lies : Row D → Type 0 = λ r. Relates relation min max r.rect in
       let all : All (λ r. test r ≡ true) rows = All-weaker (λ (r : Row D). Admits window r.rect) (λ r. test r ≡ true) (λ r h. admits-from window (coordinates r.rect) h) rows admitted in record {
         picked = filter test (rows_of s);
-        picks = pick_by Touches test (rows_of s) (All-weaker (λ (r : Row D). IsBox D r.rect) (Tells Touches test) (λ r is. (
-          (λ e. (touching r.rect is).0 (admits-true window (coordinates r.rect) e)),
-          (λ h. admits-from window (coordinates r.rect) ((touching r.rect is).1 h)),
+        picks = pick_by Lies test (rows_of s) (All-weaker (λ (r : Row D). IsBox D r.rect) (Tells Lies test) (λ r is. (
+          (λ e. (related r.rect is).0 (admits-true window (coordinates r.rect) e)),
+          (λ h. admits-from window (coordinates r.rect) ((related r.rect is).1 h)),
         )) (rows_of s) (boxes_of_rows s has));
         same = λ t. ap (count_by t) (sym (filter_all test rows all)) ∙ sym (count_filtered t test rows)
             ∙ each (λ r. t r && test r) (λ r e. admits-true window (coordinates r.rect) (both_true (t r) (test r) e).1)

@@ -1,5 +1,5 @@
--- What a call leaves in the caller's buffer (own).
-use Rattle.std.specs.Prelude.{◌≡◌, ◌<◌, ◌≤◌, ℕ, List, ◌++◌, length, drop}
+-- The caller's lists and buffers, and what a call leaves in them (own).
+use Rattle.std.specs.Prelude.{◌≡◌, ◌≢◌, ◌<◌, ◌≤◌, ℕ, List, ◌++◌, length, drop}
 use Rattle.capi.specs.declared.code.Code.{Code}
 use Rattle.capi.specs.declared.code.Code.TheVariants.{Done, BufferTooSmall, OutOfMemory}
 
@@ -13,3 +13,7 @@ Copies items before after code = ⊥
 abbrev pub GivesText : List ℕ → List ℕ → List ℕ → ℕ → ℕ → Code → Type 0
 GivesText text before after told total OutOfMemory = (after ≡ before) × (total ≡ told)
 GivesText text before after told total code = (total ≡ length text) × Copies text before after code
+
+-- a list has the wanted length, and the call says the one; or it has another length, and the call says the other
+abbrev pub Sized : ℕ → ℕ → Type 0 → Type 0 → Type 0
+Sized long wanted right wrong = (long ≡ wanted → right) × (long ≢ wanted → wrong)

@@ -1,9 +1,11 @@
+pub mod Answers
 pub mod Buffers
 pub mod Calls
 pub mod Codes
 pub mod Loading
-pub mod Plain
+pub mod Numbers
+pub mod Relations
 pub mod Scripts
-pub mod Touching
 pub mod Trees
 pub mod Windows
+pub mod Words

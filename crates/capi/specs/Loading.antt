@@ -1,17 +1,19 @@
 -- How a dump is loaded, step by step. No contract of an exported call cites this module.
-use Rattle.std.specs.Prelude.{◌≡◌, ℕ, ◌≤◌, ◌<◌, ℤ, List, length, Bool, true, All, count_by, Option, Some, None, Result, Ok, Err}
+use Rattle.std.specs.Prelude.{◌≡◌, ℕ, ◌≤◌, ◌<◌, ℤ, List, length, Bool, true, All, count_by, Result, Ok, Err}
 use Rattle.rt_check.specs.declared.node.RawCell.{RawCell}
 use Rattle.rt_check.specs.Shadow.{ShadowLists}
 use Rattle.rt_check.specs.Conditions.{IsSound, is_ordered, times_named}
 use Rattle.rt_check_dump.specs.declared.dump.AnyShadow.{AnyShadow}
 use Rattle.rt_check_dump.specs.Faults.{IsTextOf, IsDump}
 use Rattle.rt_handle.specs.declared.object.HeldTree.{HeldTree}
+use Rattle.rt_handle.specs.declared.object.Object.{Object}
 use Rattle.rt_tree.specs.Lists.{TreeLists, empty_lists}
 use Rattle.rt_tree.specs.Rows.{row_in, rows_of}
+use Rattle.rt_tree_node.specs.Whole.{most_rows_of_a_tree}
 use Rattle.rt_tree_walk.specs.declared.searching.Row.{Row}
 use Rattle.capi.specs.declared.code.Code.{Code}
 use Rattle.capi.specs.declared.code.Code.TheVariants.{BadDump, TreeFull, OutOfMemory}
-use Rattle.capi.specs.Trees.{most_rows, InsertsInTurn, HasRowsOf, IsOfDump, LoadsNone}
+use Rattle.capi.specs.Trees.{InsertsInTurn, HasRowsOf, IsAnySound, IsTreeOf, row_count, IsOfDump, LoadsNone}
 
 -- the text is the dump of this shadow, and of no other; or of none
 abbrev pub ReadsText : List ℕ → Result AnyShadow Code → Type 0
@@ -37,7 +39,7 @@ module _ {D : ℕ} where
   abbrev pub GivesTree : ℕ → List (RawCell D) → Result (TreeLists D) Code → Type 0
   GivesTree capacity cells (Ok tree) =
       HasCells cells tree.lists × (tree.lists.capacity ≡ capacity) × InsertsInTurn (empty_lists capacity) cells tree.lists
-  GivesTree capacity cells (Err TreeFull) = most_rows < length cells
+  GivesTree capacity cells (Err TreeFull) = most_rows_of_a_tree < length cells
   GivesTree capacity cells (Err OutOfMemory) = Unit {0}
   GivesTree capacity cells (Err code) = ⊥
 
@@ -45,17 +47,19 @@ module _ {D : ℕ} where
   abbrev pub Loads : ShadowLists D → Result (HeldTree D) Code → Type 0
   Loads s (Ok kept) = IsSound s × HasRowsOf s kept
   Loads s (Err BadDump) = ¬ IsSound s
-  Loads s (Err TreeFull) = IsSound s × (most_rows < length (rows_of s))
+  Loads s (Err TreeFull) = IsSound s × (most_rows_of_a_tree < length (rows_of s))
   Loads s (Err OutOfMemory) = Unit {0}
   Loads s (Err code) = ⊥
 
-module _ {D : ℕ} (of_kind : ShadowLists D → AnyShadow) where
-  -- the shadow is this one of the kind, and no other; or it is of another kind
-  abbrev pub IsOfKind : AnyShadow → Option (ShadowLists D) → Type 0
-  IsOfKind any (Some s) = (any ≡ of_kind s) × ((other : ShadowLists D) → of_kind other ≡ any → other ≡ s)
-  IsOfKind any None = (other : ShadowLists D) → of_kind other ≡ any → ⊥
+-- the text is loaded as an object, or why it isn't
+abbrev pub LoadsDump : ℕ → List ℕ → Result Object Code → Type 0
+LoadsDump axes text (Ok object) = IsOfDump axes text object
+LoadsDump axes text (Err code) = LoadsNone axes text code
 
-  -- the text is loaded, or why it isn't
-  abbrev pub LoadsDump : List ℕ → Result (HeldTree D) Code → Type 0
-  LoadsDump text (Ok kept) = IsOfDump of_kind text kept
-  LoadsDump text (Err code) = LoadsNone of_kind text code
+-- a shadow in which the checker finds no problem is loaded as an object, if it has no more rows than a tree may have
+abbrev pub LoadsAny : AnyShadow → Result Object Code → Type 0
+LoadsAny any (Ok object) = IsAnySound any × IsTreeOf any object
+LoadsAny any (Err BadDump) = ¬ IsAnySound any
+LoadsAny any (Err TreeFull) = IsAnySound any × (most_rows_of_a_tree < row_count any)
+LoadsAny any (Err OutOfMemory) = Unit {0}
+LoadsAny any (Err code) = ⊥

@@ -1,5 +1,5 @@
 -- What a call does to a tree, by its code (own).
-use Rattle.std.specs.Prelude.{◌≡◌, ◌≢◌, ℕ, ◌^◌, ◌<◌, ◌≤◌, Bool, ℤ, ◌≤ℤ◌, List, [], ◌∷◌, ◌++◌, length, map, count_by, Result, Ok, Err, Some, None, IsSome}
+use Rattle.std.specs.Prelude.{◌≡◌, ◌≢◌, ℕ, ◌*◌, ◌<◌, ◌≤◌, Bool, ℤ, ◌≤ℤ◌, List, [], ◌∷◌, ◌++◌, length, take, drop, count_by, Option, Result, Ok, Err, Some, None, IsSome}
 use Rattle.std.specs.List.{AllZip}
 use Rattle.std.specs.List.Sorted.{IsPermutation, IsSortedByKey}
 use Rattle.std.specs.Ordering.{int_cmp}
@@ -10,29 +10,42 @@ use Rattle.rt_check.specs.declared.node.RawCell.{RawCell}
 use Rattle.rt_check.specs.Shadow.{ShadowLists}
 use Rattle.rt_check.specs.Conditions.{IsSound, leaf_cells}
 use Rattle.rt_check_dump.specs.declared.dump.AnyShadow.{AnyShadow}
+use Rattle.rt_check_dump.specs.declared.dump.AnyShadow.TheVariants.{One, Two, Three}
 use Rattle.rt_check_dump.specs.Dump.{shadow_text}
 use Rattle.rt_check_dump.specs.Faults.{IsTextOf}
 use Rattle.rt_handle.specs.declared.object.HeldTree.{HeldTree}
+use Rattle.rt_handle.specs.declared.object.Object.{Object}
+use Rattle.rt_handle.specs.declared.object.Object.TheVariants.{Line, Plane, Space}
 use Rattle.rt_tree.specs.Lists.{TreeLists, empty_lists}
 use Rattle.rt_tree.specs.Rows.{box_in, box_of, rows_of, GainsRow, LosesRow}
 use Rattle.rt_tree.specs.Changes.{IsInsertion, IsRemoval, IsReplacement}
+use Rattle.rt_tree_node.specs.Whole.{most_rows_of_a_tree}
 use Rattle.rt_tree_node.specs.declared.arena.Work.{Work}
 use Rattle.rt_tree_nearest.specs.Nearest.{nearest_rows}
 use Rattle.rt_tree_walk.specs.declared.searching.Row.{Row}
-use Rattle.capi.specs.Buffers.{Copies, GivesText}
-use Rattle.capi.specs.Touching.{FindsTouching}
+use Rattle.capi.specs.Calls.{IsTree}
+use Rattle.capi.specs.Buffers.{Copies, GivesText, Sized}
+use Rattle.capi.specs.Numbers.{ids_of, numbers_of, box_numbers}
+use Rattle.capi.specs.Relations.{FindsRelated, IsNumberOfRelation}
 use Rattle.capi.specs.declared.code.Code.{Code}
-use Rattle.capi.specs.declared.code.Code.TheVariants.{Done, BadCapacity, BadBox, IdTaken, IdMissing, OutOfMemory, TreeFull, BadDump}
+use Rattle.capi.specs.declared.code.Code.TheVariants.{Done, BadCapacity, BadBox, IdTaken, IdMissing, BufferTooSmall, OutOfMemory, TreeFull, BadDump, BadLength, BadAxes, BadRelation}
+use Rattle.capi.specs.declared.relation.Relation.{Relation}
 
--- the most rows of a tree
-abbrev pub most_rows : ℕ
-most_rows = 2 ^ 20
+abbrev pub IsAxes : ℕ → Type 0
+IsAxes axes = (1 ≤ axes) × (axes ≤ 3)
 
--- why there is no tree
+-- why there is no object whose nodes have that many cells at most
 abbrev pub MakesNone : ℕ → Code → Type 0
 MakesNone capacity BadCapacity = ¬ IsCapacity capacity
-MakesNone capacity OutOfMemory = Unit {0}
+MakesNone capacity OutOfMemory = IsCapacity capacity
 MakesNone capacity code = ⊥
+
+-- why there is no tree of that many axes
+abbrev pub MakesNoTree : ℕ → ℕ → Code → Type 0
+MakesNoTree axes capacity BadAxes = ¬ IsAxes axes
+MakesNoTree axes capacity BadCapacity = IsAxes axes × (¬ IsCapacity capacity)
+MakesNoTree axes capacity OutOfMemory = IsAxes axes × IsCapacity capacity
+MakesNoTree axes capacity code = ⊥
 
 module _ {D : ℕ} where
   -- a tree of no rows whose nodes have that many cells at most
@@ -63,25 +76,58 @@ module _ {D : ℕ} where
     pub sorted : IsSortedByKey (λ c. c.number) int_cmp cells
     pub turns : InsertsInTurn (empty_lists s.capacity) cells kept.tree.lists
 
-  -- the text is the dump of the shadow, which is of the kind that the number of axes gives, and the checker finds no problem
-  -- in it
-  abbrev pub IsSoundDump : (ShadowLists D → AnyShadow) → List ℕ → ShadowLists D → Type 0
-  IsSoundDump of_kind text s = IsTextOf (of_kind s) text × IsSound s
+-- the number of axes
+abbrev pub TellsAxes : ℕ → ℕ → Code → Type 0
+TellsAxes axes told Done = told ≡ axes
+TellsAxes axes told code = ⊥
 
-  -- the tree has the rows of a shadow of which the text is the dump
-  abbrev pub IsOfDump : (ShadowLists D → AnyShadow) → List ℕ → HeldTree D → Type 0
-  IsOfDump of_kind text kept = (s : ShadowLists D) × IsSoundDump of_kind text s × HasRowsOf s kept
+abbrev pub MakesTree : ℕ → ℕ → Result Object Code → Type 0
+MakesTree axes capacity (Ok object) = IsTree axes (λ D. IsNew capacity) object
+MakesTree axes capacity (Err code) = MakesNoTree axes capacity code
 
-  -- Why there is no tree of the text: it is the dump of no such shadow, or of one with more rows than a tree may have, or
-  -- no memory is left.
-  abbrev pub LoadsNone : (ShadowLists D → AnyShadow) → List ℕ → Code → Type 0
-  LoadsNone of_kind text BadDump = (s : ShadowLists D) → ¬ IsSoundDump of_kind text s
-  LoadsNone of_kind text TreeFull = (s : ShadowLists D) × IsSoundDump of_kind text s × (most_rows < length (rows_of s))
-  LoadsNone of_kind text OutOfMemory = Unit {0}
-  LoadsNone of_kind text code = ⊥
+-- the number of axes of a shadow, its number of rows, and that the checker finds no problem in it
+abbrev pub axes_of : AnyShadow → ℕ
+axes_of (One s) = 1
+axes_of (Two s) = 2
+axes_of (Three s) = 3
 
+abbrev pub row_count : AnyShadow → ℕ
+row_count (One s) = length (rows_of s)
+row_count (Two s) = length (rows_of s)
+row_count (Three s) = length (rows_of s)
+
+abbrev pub IsAnySound : AnyShadow → Type 0
+IsAnySound (One s) = IsSound s
+IsAnySound (Two s) = IsSound s
+IsAnySound (Three s) = IsSound s
+
+-- the object is a tree with the rows of the shadow
+abbrev pub IsTreeOf : AnyShadow → Object → Type 0
+IsTreeOf (One s) (Line kept) = HasRowsOf s kept
+IsTreeOf (Two s) (Plane kept) = HasRowsOf s kept
+IsTreeOf (Three s) (Space kept) = HasRowsOf s kept
+IsTreeOf any object = ⊥
+
+-- the text is the dump of the shadow, which has that many axes, and the checker finds no problem in it
+abbrev pub IsSoundDump : ℕ → List ℕ → AnyShadow → Type 0
+IsSoundDump axes text any = (axes_of any ≡ axes) × IsTextOf any text × IsAnySound any
+
+-- the object is a tree with the rows of a shadow of which the text is the dump
+abbrev pub IsOfDump : ℕ → List ℕ → Object → Type 0
+IsOfDump axes text object = (any : AnyShadow) × IsSoundDump axes text any × IsTreeOf any object
+
+-- Why there is no tree of the text: a tree has not that many axes, the text is the dump of no such shadow, or of one with more
+-- rows than a tree may have, or no memory is left.
+abbrev pub LoadsNone : ℕ → List ℕ → Code → Type 0
+LoadsNone axes text BadAxes = ¬ IsAxes axes
+LoadsNone axes text BadDump = IsAxes axes × ((any : AnyShadow) → ¬ IsSoundDump axes text any)
+LoadsNone axes text TreeFull = (any : AnyShadow) × IsSoundDump axes text any × (most_rows_of_a_tree < row_count any)
+LoadsNone axes text OutOfMemory = IsAxes axes
+LoadsNone axes text code = ⊥
+
+module _ {D : ℕ} where
   -- The row is inserted by the rules, in a tree of the same capacity. Or, in this order, the box has a least number above its
-  -- greatest, the id is taken, there are 2^20 rows, or no memory is left; the rows are then unchanged.
+  -- greatest, the id is taken, there are as many rows as a tree may have, or no memory is left; the rows are then unchanged.
   abbrev pub Inserts : ℤ → List ℤ → List ℤ → TreeLists D → TreeLists D → Code → Type 0
   Inserts id min max old new Done =
       (rect : List Interval) × (los rect ≡ min) × (his rect ≡ max) × (box_of old.lists id ≡ None) × GainsRow old.lists new.lists id rect ×
@@ -89,9 +135,9 @@ module _ {D : ℕ} where
   Inserts id min max old new BadBox = (¬ AllZip ◌≤ℤ◌ min max) × (new ≡ old)
   Inserts id min max old new IdTaken = AllZip ◌≤ℤ◌ min max × IsSome (box_of old.lists id) × (new ≡ old)
   Inserts id min max old new TreeFull =
-      AllZip ◌≤ℤ◌ min max × (box_of old.lists id ≡ None) × (most_rows ≤ length old.lists.rows) × (new ≡ old)
+      AllZip ◌≤ℤ◌ min max × (box_of old.lists id ≡ None) × (most_rows_of_a_tree ≤ length old.lists.rows) × (new ≡ old)
   Inserts id min max old new OutOfMemory =
-      AllZip ◌≤ℤ◌ min max × (box_of old.lists id ≡ None) × (length old.lists.rows < most_rows) × (new.lists ≡ old.lists)
+      AllZip ◌≤ℤ◌ min max × (box_of old.lists id ≡ None) × (length old.lists.rows < most_rows_of_a_tree) × (new.lists ≡ old.lists)
   Inserts id min max old new code = ⊥
 
   -- the row with that id gets the box by the rules, in a tree of the same capacity; if it has it already, the tree stays
@@ -124,43 +170,86 @@ module _ {D : ℕ} where
   Clears capacity old new OutOfMemory = new ≡ old
   Clears capacity old new code = ⊥
 
-  -- the row's box, as the caller has boxes; or there is no such row. The tree is unchanged
-  abbrev pub GetsInto : {B : Type 0} → (List Interval → B) → ℤ → B → TreeLists D → TreeLists D → Code → Type 0
-  GetsInto of_rect id told old new Done = (new ≡ old) × ((rect : List Interval) × (box_of old.lists id ≡ Some rect) × (told ≡ of_rect rect))
-  GetsInto of_rect id told old new IdMissing = (new ≡ old) × (box_of old.lists id ≡ None)
-  GetsInto of_rect id told old new code = ⊥
+  -- Of the numbers of a box, first the least on each axis and then the greatest, the call says this of the two; or they are more
+  -- or fewer, and nothing changes.
+  abbrev pub OfBox : List ℤ → (List ℤ → List ℤ → TreeLists D → TreeLists D → Code → Type 0) → TreeLists D → TreeLists D → Code → Type 0
+  OfBox numbers says old new code =
+      Sized (length numbers) (2 * D) (says (take D numbers) (drop D numbers) old new code) ((code ≡ BadLength) × (new ≡ old))
 
-  -- the number of rows. The tree is unchanged
-  abbrev pub Counts : ℕ → TreeLists D → TreeLists D → Code → Type 0
-  Counts rows old new Done = (new ≡ old) × (rows ≡ length old.lists.rows)
-  Counts rows old new code = ⊥
+  -- the number of rows
+  abbrev pub Counts : ℕ → TreeLists D → Code → Type 0
+  Counts rows tree Done = rows ≡ length tree.lists.rows
+  Counts rows tree code = ⊥
 
-  -- how many rows have a point in common with the box; or no memory is left. The tree is unchanged
-  abbrev pub CountsTouching : List ℤ → List ℤ → ℕ → ℕ → TreeLists D → TreeLists D → Code → Type 0
-  CountsTouching min max told total old new Done =
-      (new ≡ old) × ((rows : List (Row D)) × FindsTouching old.lists min max rows × (total ≡ length rows))
-  CountsTouching min max told total old new OutOfMemory = (new ≡ old) × (total ≡ told)
-  CountsTouching min max told total old new code = ⊥
+  -- the numbers of the row's box; or there is no such row
+  abbrev pub Gets : ℤ → List ℤ → TreeLists D → Code → Type 0
+  Gets id told tree Done = (rect : List Interval) × (box_of tree.lists id ≡ Some rect) × (told ≡ numbers_of rect)
+  Gets id told tree IdMissing = box_of tree.lists id ≡ None
+  Gets id told tree code = ⊥
 
-  -- what the caller gets of the rows is in its buffer, and their number is told; or no memory is left
-  abbrev pub Gives : {X : Type 0} → (Row D → X) → List (Row D) → List X → List X → ℕ → ℕ → Code → Type 0
-  Gives of_row rows before after told total OutOfMemory = (after ≡ before) × (total ≡ told)
-  Gives of_row rows before after told total code = (total ≡ length rows) × Copies (map of_row rows) before after code
+  -- the same, if the buffer is as long as such a box; else its length is wrong
+  abbrev pub GetsInto : ℤ → List ℤ → List ℤ → TreeLists D → Code → Type 0
+  GetsInto id before after tree code = Sized (length before) (2 * D) (Gets id after tree code) (code ≡ BadLength)
 
-  -- the same of the rows that have a point in common with the box. The tree is unchanged
-  abbrev pub Searches : {X : Type 0} → (Row D → X) → List ℤ → List ℤ → List X → List X → ℕ → ℕ → TreeLists D → TreeLists D → Code → Type 0
-  Searches of_row min max before after told total old new OutOfMemory = (new ≡ old) × (after ≡ before) × (total ≡ told)
-  Searches of_row min max before after told total old new code =
-      (new ≡ old) × ((rows : List (Row D)) × FindsTouching old.lists min max rows × Gives of_row rows before after told total code)
+  -- how many rows lie so to the window; or no memory is left
+  abbrev pub CountsRelated : ℕ → Relation → List ℤ → List ℤ → TreeLists D → Code → Type 0
+  CountsRelated total relation min max tree Done = (rows : List (Row D)) × FindsRelated relation tree.lists min max rows × (total ≡ length rows)
+  CountsRelated total relation min max tree OutOfMemory = Unit {0}
+  CountsRelated total relation min max tree code = ⊥
 
-  -- the same of the rows nearest to the point, as many as the buffer holds, so that it is never too short. The tree
-  -- is unchanged
-  abbrev pub FindsNearest : {X : Type 0} → (Row D → X) → List ℤ → List X → List X → ℕ → ℕ → TreeLists D → TreeLists D → Code → Type 0
-  FindsNearest of_row point before after told total old new Done =
-      (new ≡ old) × Gives of_row (nearest_rows point (length before) (rows_of old.lists)) before after told total Done
-  FindsNearest of_row point before after told total old new OutOfMemory = (new ≡ old) × (after ≡ before) × (total ≡ told)
-  FindsNearest of_row point before after told total old new code = ⊥
+  -- the ids of the rows are in the caller's buffer, and their number is told; or no memory is left
+  abbrev pub Gives : List (Row D) → List ℤ → List ℤ → ℕ → ℕ → Code → Type 0
+  Gives rows before after told total OutOfMemory = (after ≡ before) × (total ≡ told)
+  Gives rows before after told total code = (total ≡ length rows) × Copies (ids_of rows) before after code
 
-  -- the text of the tree's dump is in the caller's buffer, and its length is told. The tree is unchanged
-  abbrev pub Dumps : List ℕ → List ℕ → ℕ → ℕ → TreeLists D → TreeLists D → Code → Type 0
-  Dumps before after told total old new code = (new ≡ old) × GivesText (shadow_text old.lists) before after told total code
+  -- the same of the rows that lie so to the window
+  abbrev pub Searches : List ℤ → List ℤ → ℕ → ℕ → Relation → List ℤ → List ℤ → TreeLists D → Code → Type 0
+  Searches before after told total relation min max tree OutOfMemory = (after ≡ before) × (total ≡ told)
+  Searches before after told total relation min max tree code =
+      (rows : List (Row D)) × FindsRelated relation tree.lists min max rows × Gives rows before after told total code
+
+  -- The ids of the rows are in one buffer, and the numbers of their boxes in the other, row after row; both have room for as many
+  -- rows. Or the rows are more, and both are as before; or no memory is left.
+  abbrev pub GivesRows : List (Row D) → List ℤ → List ℤ → List ℤ → List ℤ → ℕ → ℕ → Code → Type 0
+  GivesRows rows ids new_ids boxes new_boxes told total OutOfMemory = (new_ids ≡ ids) × (new_boxes ≡ boxes) × (total ≡ told)
+  GivesRows rows ids new_ids boxes new_boxes told total BufferTooSmall =
+      (total ≡ length rows) × Copies (ids_of rows) ids new_ids BufferTooSmall × (new_boxes ≡ boxes)
+  GivesRows rows ids new_ids boxes new_boxes told total code =
+      (total ≡ length rows) × Copies (ids_of rows) ids new_ids code × Copies (box_numbers rows) boxes new_boxes code
+
+  -- the same of the rows that lie so to the window, if there is room for as many boxes as ids; else a length is wrong
+  abbrev pub SearchesFitting : List ℤ → List ℤ → List ℤ → List ℤ → ℕ → ℕ → Relation → List ℤ → List ℤ → TreeLists D → Code → Type 0
+  SearchesFitting ids new_ids boxes new_boxes told total relation min max tree OutOfMemory = (new_ids ≡ ids) × (new_boxes ≡ boxes) × (total ≡ told)
+  SearchesFitting ids new_ids boxes new_boxes told total relation min max tree code =
+      (rows : List (Row D)) × FindsRelated relation tree.lists min max rows × GivesRows rows ids new_ids boxes new_boxes told total code
+
+  abbrev pub SearchesRows : List ℤ → List ℤ → List ℤ → List ℤ → ℕ → ℕ → Relation → List ℤ → List ℤ → TreeLists D → Code → Type 0
+  SearchesRows ids new_ids boxes new_boxes told total relation min max tree code = Sized (length boxes) (length ids * (2 * D))
+      (SearchesFitting ids new_ids boxes new_boxes told total relation min max tree code) (code ≡ BadLength)
+
+  -- Of the number of a relation, and of the numbers of a window, the call says this; or the number is that of no relation; or they
+  -- are more or fewer than the tree's axes ask for.
+  abbrev pub OfRelation : Option Relation → List ℤ → (Relation → List ℤ → List ℤ → TreeLists D → Code → Type 0) → TreeLists D → Code → Type 0
+  OfRelation None numbers says tree code = code ≡ BadRelation
+  OfRelation (Some relation) numbers says tree code =
+      Sized (length numbers) (2 * D) (says relation (take D numbers) (drop D numbers) tree code) (code ≡ BadLength)
+
+  abbrev pub OfWindow : ℕ → List ℤ → (Relation → List ℤ → List ℤ → TreeLists D → Code → Type 0) → TreeLists D → Code → Type 0
+  OfWindow number numbers says tree code = (relation : Option Relation) × IsNumberOfRelation number relation × OfRelation relation numbers says tree code
+
+  -- the same of the rows nearest to the point, as many as there is room for, so that the buffers are never too short
+  abbrev pub FindsNearest : List ℤ → List ℤ → List ℤ → List ℤ → List ℤ → ℕ → ℕ → TreeLists D → Code → Type 0
+  FindsNearest point ids new_ids boxes new_boxes told total tree Done =
+      GivesRows (nearest_rows point (length ids) (rows_of tree.lists)) ids new_ids boxes new_boxes told total Done
+  FindsNearest point ids new_ids boxes new_boxes told total tree OutOfMemory = (new_ids ≡ ids) × (new_boxes ≡ boxes) × (total ≡ told)
+  FindsNearest point ids new_ids boxes new_boxes told total tree code = ⊥
+
+  -- if the point has a number for each axis, and there is room for as many boxes as ids; else a length is wrong
+  abbrev pub FindsNearestRows : List ℤ → List ℤ → List ℤ → List ℤ → List ℤ → ℕ → ℕ → TreeLists D → Code → Type 0
+  FindsNearestRows point ids new_ids boxes new_boxes told total tree code = Sized (length point) D
+      (Sized (length boxes) (length ids * (2 * D)) (FindsNearest point ids new_ids boxes new_boxes told total tree code) (code ≡ BadLength))
+      (code ≡ BadLength)
+
+  -- the text of the tree's dump is in the caller's buffer, and its length is told
+  abbrev pub Dumps : List ℕ → List ℕ → ℕ → ℕ → TreeLists D → Code → Type 0
+  Dumps before after told total tree code = GivesText (shadow_text tree.lists) before after told total code

@@ -1,22 +1,27 @@
 -- What windows admit. No contract of an exported call cites this module.
-use Rattle.std.specs.Prelude.{ℕ, ◌↔◌, ℤ, ◌≤ℤ◌, List}
+use Rattle.std.specs.Prelude.{ℕ, ◌↔◌, ℤ, List}
 use Rattle.std.specs.List.{AllZip}
 use Rattle.rt_box.specs.declared.interval.Interval.{Interval}
+use Rattle.rt_box.specs.declared.operator.Operator.{Operator}
+use Rattle.rt_box.specs.Operators.{Keeps}
 use Rattle.rt_box.specs.Rect.{IsBox, los, his}
 use Rattle.rt_box.specs.Window.{Admits}
-use Rattle.capi.specs.Touching.{HasCommonPoint}
+use Rattle.capi.specs.Relations.{Relates}
+use Rattle.capi.specs.declared.relation.Relation.{Relation}
 
--- the box begins on each axis no later than max, and ends no sooner than min
-abbrev pub Reaches : List ℤ → List ℤ → List Interval → Type 0
-Reaches min max rect = AllZip ◌≤ℤ◌ (los rect) max × AllZip ◌≤ℤ◌ min (his rect)
+-- on each axis the one comparison holds of the box's least number, and the other of its greatest
+abbrev pub Compared : Operator → List ℤ → Operator → List ℤ → List Interval → Type 0
+Compared first least second greatest rect = AllZip (Keeps first) (los rect) least × AllZip (Keeps second) (his rect) greatest
 
--- of the boxes with that many axes the window admits none; those that reach that far; those that have a point in common
--- with the box from min to max
+-- of the boxes with that many axes the window admits none; those that compare so; those that lie so to the window from min
+-- to max
 abbrev pub AdmitsNone : ℕ → List Interval → Type 0
 AdmitsNone axes window = (rect : List Interval) → IsBox axes rect → Admits window rect → ⊥
 
-abbrev pub AdmitsReaching : ℕ → List ℤ → List ℤ → List Interval → Type 0
-AdmitsReaching axes min max window = (rect : List Interval) → IsBox axes rect → (Admits window rect ↔ Reaches min max rect)
+abbrev pub AdmitsCompared : ℕ → Operator → List ℤ → Operator → List ℤ → List Interval → Type 0
+AdmitsCompared axes first least second greatest window =
+    (rect : List Interval) → IsBox axes rect → (Admits window rect ↔ Compared first least second greatest rect)
 
-abbrev pub AdmitsTouching : ℕ → List ℤ → List ℤ → List Interval → Type 0
-AdmitsTouching axes min max window = (rect : List Interval) → IsBox axes rect → (Admits window rect ↔ HasCommonPoint min max rect)
+abbrev pub AdmitsRelated : ℕ → Relation → List ℤ → List ℤ → List Interval → Type 0
+AdmitsRelated axes relation min max window =
+    (rect : List Interval) → IsBox axes rect → (Admits window rect ↔ Relates relation min max rect)

@@ -34,6 +34,12 @@ pub enum Code {
     TooLong,
     /// The text isn't the dump of a sound tree with that many axes.
     BadDump,
+    /// A box, a point or a list has another length than the tree's axes ask for.
+    BadLength,
+    /// A tree has one, two or three axes.
+    BadAxes,
+    /// A relation is one of three.
+    BadRelation,
 }
 
 impl Code {
@@ -56,6 +62,9 @@ impl Code {
             Code::Ended => 11,
             Code::TooLong => 12,
             Code::BadDump => 13,
+            Code::BadLength => 14,
+            Code::BadAxes => 15,
+            Code::BadRelation => 16,
         }
     }
 }

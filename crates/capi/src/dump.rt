@@ -2,15 +2,17 @@
 
 ghost use Rattle.capi.specs.Buffers.{GivesText};
 ghost use Rattle.rt_check_dump.specs.Dump.{any_text};
+ghost use Rattle.capi.specs.Trees.{Dumps};
 
 use crate::buffer::copy_to;
 use crate::code::Code;
 use rt_bytes::Sink;
 use rt_check_dump::{AnyShadow, write_dump};
+use rt_handle::HeldTree;
 use std::alloc::Global;
 
 /// Writes the text of a dump to the start of the buffer, and its length in bytes to `total`.
-pub fn dump(alloc: Global, shadow: AnyShadow, buffer: &mut [u8], total: &mut u64) -> Code
+fn dump(alloc: Global, shadow: AnyShadow, buffer: &mut [u8], total: &mut u64) -> Code
     ensures { GivesText (any_text shadow) buffer.old buffer.new total.old total.new result }
 {
     let mut sink = Sink::new(alloc);
@@ -20,4 +22,34 @@ pub fn dump(alloc: Global, shadow: AnyShadow, buffer: &mut [u8], total: &mut u64
     let text = sink.bytes();
     *total = text.len() as u64;
     copy_to(text, buffer)
+}
+
+/// Writes the dump of a tree of one axis.
+pub fn dump_line(alloc: Global, kept: &HeldTree<1>, buffer: &mut [u8], total: &mut u64) -> Code
+    ensures { Dumps buffer.old buffer.new total.old total.new kept.now.tree result }
+{
+    let Ok(shadow) = kept.tree.shadow(alloc, kept.keys) else {
+        return Code::OutOfMemory;
+    };
+    dump(alloc, AnyShadow::One(shadow), buffer, total)
+}
+
+/// Writes the dump of a tree of two axes.
+pub fn dump_plane(alloc: Global, kept: &HeldTree<2>, buffer: &mut [u8], total: &mut u64) -> Code
+    ensures { Dumps buffer.old buffer.new total.old total.new kept.now.tree result }
+{
+    let Ok(shadow) = kept.tree.shadow(alloc, kept.keys) else {
+        return Code::OutOfMemory;
+    };
+    dump(alloc, AnyShadow::Two(shadow), buffer, total)
+}
+
+/// Writes the dump of a tree of three axes.
+pub fn dump_space(alloc: Global, kept: &HeldTree<3>, buffer: &mut [u8], total: &mut u64) -> Code
+    ensures { Dumps buffer.old buffer.new total.old total.new kept.now.tree result }
+{
+    let Ok(shadow) = kept.tree.shadow(alloc, kept.keys) else {
+        return Code::OutOfMemory;
+    };
+    dump(alloc, AnyShadow::Three(shadow), buffer, total)
 }

@@ -6,22 +6,23 @@ ghost use Rattle.std.specs.Ordering.{int_cmp};
 ghost use Rattle.rt_check.specs.Conditions.{is_ordered, leaf_cells, IsSound};
 ghost use Rattle.rt_tree.specs.Rows.{box_in, box_of, rows_of, GainsRow};
 ghost use Rattle.rt_tree.specs.Changes.{IsInsertion};
-ghost use Rattle.capi.specs.Trees.{InsertsInTurn, most_rows};
-ghost use Rattle.capi.specs.Loading.{ReadsText, AreUnique, AreOrdered, HasCells, GivesTree, Loads};
+ghost use Rattle.rt_tree_node.specs.Whole.{most_rows_of_a_tree};
+ghost use Rattle.capi.specs.Trees.{InsertsInTurn, axes_of, IsAxes};
+ghost use Rattle.capi.specs.Loading.{ReadsText, AreUnique, AreOrdered, HasCells, GivesTree, Loads, LoadsAny, LoadsDump};
 
 use crate::code::Code;
-use crate::tree::MOST_ROWS_OF_A_TREE;
+use crate::keys::Keys;
 use rt_box::{Capacity, Rect};
 use rt_check::{RawCell, Shadow, check};
 use rt_check_dump::laws::dumps_are_read;
 use rt_check_dump::{AnyShadow, DumpFault, read_dump};
-use rt_handle::HeldTree;
-use rt_tree::{Tree, Work};
+use rt_handle::{HeldTree, Object};
+use rt_tree::{MOST_ROWS_OF_A_TREE, Tree, Work};
 use std::alloc::{AllocError, Global};
 use std::hash::RandomState;
 
 /// The shadow of which the text is the dump.
-pub fn read(alloc: Global, keys: RandomState, text: &[u8]) -> Result<AnyShadow, Code>
+fn read(alloc: Global, keys: RandomState, text: &[u8]) -> Result<AnyShadow, Code>
     ensures { ReadsText text.now result }
 {
     dumps_are_read();
@@ -71,7 +72,7 @@ fn insert_cell<const D: usize>(tree: &mut Tree<D>, cell: &RawCell<D>) -> Work
     requires few { D ≤ 3 }
     requires ordered { is_ordered cell.now ≡ true }
     requires absent { box_of tree.old.lists cell.now.number ≡ None }
-    requires most { length tree.old.lists.rows < most_rows }
+    requires most { length tree.old.lists.rows < most_rows_of_a_tree }
     requires spare { 1 ≤ tree.old.spare }
     ensures row { GainsRow tree.old.lists tree.new.lists cell.now.number (box_in cell.now) }
     ensures insertion { IsInsertion tree.old.lists tree.new.lists cell.now.number (box_in cell.now) result }
@@ -89,7 +90,7 @@ fn insert_all<const D: usize>(tree: &mut Tree<D>, cells: &[RawCell<D>])
     requires few { D ≤ 3 }
     requires unique { AreUnique cells.now }
     requires ordered { AreOrdered cells.now }
-    requires most { length cells.now ≤ most_rows }
+    requires most { length cells.now ≤ most_rows_of_a_tree }
     requires empty { rows_of tree.old.lists ≡ [] }
     requires spare { length cells.now ≤ tree.old.spare }
     ensures rows { HasCells cells.now tree.new.lists }
@@ -162,7 +163,7 @@ fn load_sound<const D: usize>(
 }
 
 /// A tree with the rows of the shadow, if the checker finds no problem in the shadow.
-pub fn load<const D: usize>(
+fn load<const D: usize>(
     alloc: Global,
     keys: RandomState,
     shadow: &Shadow<D>,
@@ -174,6 +175,54 @@ pub fn load<const D: usize>(
     match is_sound(alloc, shadow) {
         Ok(true) => load_sound(alloc, keys, shadow),
         Ok(false) => Err(Code::BadDump),
+        Err(_) => Err(Code::OutOfMemory),
+    }
+}
+
+/// A tree of as many axes with the rows of the shadow.
+fn load_any(alloc: Global, keys: RandomState, shadow: &AnyShadow) -> Result<Object, Code>
+    ensures { LoadsAny shadow.now result }
+{
+    match shadow {
+        AnyShadow::One(shadow) => Ok(Object::Line(load(alloc, keys, shadow)?)),
+        AnyShadow::Two(shadow) => Ok(Object::Plane(load(alloc, keys, shadow)?)),
+        AnyShadow::Three(shadow) => Ok(Object::Space(load(alloc, keys, shadow)?)),
+    }
+}
+
+/// The number of axes of the shadow.
+fn shadow_axes(shadow: &AnyShadow) -> u32
+    ensures axes { result ≡ axes_of shadow.now }
+    ensures some { IsAxes result }
+{
+    match shadow {
+        AnyShadow::One(_) => 1,
+        AnyShadow::Two(_) => 2,
+        AnyShadow::Three(_) => 3,
+    }
+}
+
+/// A tree of that many axes with the rows of the shadow of which the text is the dump.
+fn load_text(alloc: Global, axes: u32, keys: RandomState, text: &[u8]) -> Result<Object, Code>
+    requires { IsAxes axes }
+    ensures { LoadsDump axes text.now result }
+{
+    let shadow = read(alloc, keys, text)?;
+    if shadow_axes(&shadow) != axes {
+        return Err(Code::BadDump);
+    }
+    load_any(alloc, keys, &shadow)
+}
+
+/// A tree of that many axes with the rows of a dump.
+pub fn load_dump(alloc: Global, axes: u32, keys: &Keys, text: &[u8]) -> Result<Object, Code>
+    ensures { LoadsDump axes text.now result }
+{
+    if axes < 1 || axes > 3 {
+        return Err(Code::BadAxes);
+    }
+    match RandomState::new(keys) {
+        Ok(keys) => load_text(alloc, axes, keys, text),
         Err(_) => Err(Code::OutOfMemory),
     }
 }

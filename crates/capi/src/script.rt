@@ -1,26 +1,27 @@
 //! Script shells.
 
-ghost use Rattle.std.specs.Prelude.{◌≡◌, ◌≢◌, pos, Some};
-ghost use Rattle.capi.specs.Codes.{number_of};
+ghost use Rattle.std.specs.Prelude.{◌≡◌, ◌≢◌, pos};
+ghost use Rattle.rt_handle.specs.Passes.{IsOf, IsSame};
 ghost use Rattle.capi.specs.declared.code.Code.TheVariants.{Done};
-ghost use Rattle.capi.specs.Calls.{Opens, OnScript, IsScript};
+ghost use Rattle.capi.specs.Calls.{Opens, OnScript, OfScript, IsScript};
 ghost use Rattle.capi.specs.Scripts.{IsNewScript, MakesScript, Executes, Finishes, FinishesTelling, HasLength, CopiesOutput, DropsOutput};
 ghost use Rattle.capi.specs.Trees.{MakesNone};
 
+use crate::answer::{Answer, hand_back};
 use crate::buffer::copy_to;
 use crate::code::Code;
 use crate::handle::fill;
 use crate::keys::Keys;
 use rt_box::Capacity;
 use rt_bytes::{Sink, Status};
-use rt_handle::{Handle, Object, Script};
+use rt_handle::{Handle, Object, Pass, Script, Words};
 use rt_shell::{FeedFault, Options, Shell};
 use std::alloc::Global;
 use std::hash::RandomState;
 use std::mem::replace;
 
 /// A shell without input so far.
-fn new_script(alloc: Global, capacity: u32, keys: &Keys) -> Result<Script, Code>
+fn new_script(alloc: Global, capacity: u32, keys: &Keys) -> Result<Object, Code>
     ensures { MakesScript capacity result }
 {
     let Ok(greatest) = u8::try_from(capacity) else {
@@ -38,10 +39,10 @@ fn new_script(alloc: Global, capacity: u32, keys: &Keys) -> Result<Script, Code>
         echo: false,
     };
     match Shell::new(alloc, keys, &options) {
-        Ok(shell) => Ok(Script {
+        Ok(shell) => Ok(Object::Script(Script {
             shell: Some(shell),
             output: Sink::new(alloc),
-        }),
+        })),
         Err(_) => Err(Code::OutOfMemory),
     }
 }
@@ -92,11 +93,10 @@ pub extern "C" fn juicedelta_script_open(
         first: first_key,
         second: second_key,
     };
-    let script = match new_script(alloc, capacity, &keys) {
-        Ok(script) => script,
-        Err(code) => return code.number(),
-    };
-    fill(alloc, handle, Object::Script(script)).number()
+    match new_script(alloc, capacity, &keys) {
+        Ok(object) => fill(alloc, handle, object).number(),
+        Err(code) => code.number(),
+    }
 }
 
 /// Feeds the shell the next bytes of its script.
@@ -153,64 +153,49 @@ pub extern "C" fn juicedelta_script_finish(
     code.number()
 }
 
-fn measure(object: &Object, length: &mut u64) -> Code
-    ensures counted { OnScript (Some object.now) (Some object.now) (HasLength length.new) (number_of result) }
-    ensures kept { result ≢ Done → length.new ≡ length.old }
+fn measure(script: &Script, length: &mut u64) -> Code
+    ensures { HasLength length.new script.now result }
 {
-    match object {
-        Object::Script(script) => {
-            *length = script.output.bytes().len() as u64;
-            Code::Done
-        }
-        _ => Code::OtherKind,
-    }
+    *length = script.output.bytes().len() as u64;
+    Code::Done
 }
 
 /// The length of the output.
 #[unsafe(no_mangle)]
 pub extern "C" fn juicedelta_script_output_length(
-    alloc: Global,
-    handle: &mut Handle,
+    handle: &Words,
+    pass: Pass,
     length: &mut u64,
-) -> i32
-    ensures counted { OnScript handle.old.held handle.new.held (HasLength length.new) result }
-    ensures kept { result ≢ pos 0 → length.new ≡ length.old }
+) -> Answer
+    requires { IsOf pass.at pass.held handle.now }
+    ensures counted { OfScript pass.held (HasLength length.new) result.code }
+    ensures kept { result.code ≢ pos 0 → length.new ≡ length.old }
+    ensures pass { IsSame pass result.pass }
 {
-    let Some(object) = handle.take(alloc) else {
-        return Code::Closed.number();
+    let lease = pass.open();
+    let code = match lease.peek(handle) {
+        None => Code::Closed,
+        Some(Object::Script(script)) => measure(script, length),
+        Some(_) => Code::OtherKind,
     };
-    let code = measure(&object, length);
-    handle.put(object);
-    code.number()
-}
-
-fn copy_output(object: &Object, buffer: &mut [u8]) -> Code
-    ensures copied { OnScript (Some object.now) (Some object.now)
-        (CopiesOutput buffer.old buffer.new) (number_of result) }
-    ensures kept { result ≢ Done → buffer.new ≡ buffer.old }
-{
-    match object {
-        Object::Script(script) => copy_to(script.output.bytes(), buffer),
-        _ => Code::OtherKind,
-    }
+    hand_back(code, lease)
 }
 
 /// Copies the output.
 #[unsafe(no_mangle)]
-pub extern "C" fn juicedelta_script_output(
-    alloc: Global,
-    handle: &mut Handle,
-    buffer: &mut [u8],
-) -> i32
-    ensures copied { OnScript handle.old.held handle.new.held (CopiesOutput buffer.old buffer.new) result }
-    ensures kept { result ≢ pos 0 → buffer.new ≡ buffer.old }
+pub extern "C" fn juicedelta_script_output(handle: &Words, pass: Pass, buffer: &mut [u8]) -> Answer
+    requires { IsOf pass.at pass.held handle.now }
+    ensures copied { OfScript pass.held (CopiesOutput buffer.old buffer.new) result.code }
+    ensures kept { result.code ≢ pos 0 → buffer.new ≡ buffer.old }
+    ensures pass { IsSame pass result.pass }
 {
-    let Some(object) = handle.take(alloc) else {
-        return Code::Closed.number();
+    let lease = pass.open();
+    let code = match lease.peek(handle) {
+        None => Code::Closed,
+        Some(Object::Script(script)) => copy_to(script.output.bytes(), buffer),
+        Some(_) => Code::OtherKind,
     };
-    let code = copy_output(&object, buffer);
-    handle.put(object);
-    code.number()
+    hand_back(code, lease)
 }
 
 /// Drops the output.

@@ -1,141 +1,389 @@
-//! Trees of any number of axes.
+//! The calls on trees.
 
-ghost use Rattle.std.specs.Prelude.{◌≡◌, ◌≢◌, ◌≤◌};
-ghost use Rattle.capi.specs.declared.code.Code.TheVariants.{Done};
-ghost use Rattle.capi.specs.Trees.{Makes, Inserts, Moves, Removes, GetsInto, Counts, Clears};
+ghost use Rattle.std.specs.Prelude.{◌≡◌, ◌≢◌, pos, Some};
+ghost use Rattle.capi.specs.Codes.{number_of};
+ghost use Rattle.rt_handle.specs.Passes.{IsOf, IsSame};
+ghost use Rattle.capi.specs.Calls.{Opens, OnTree, OfTree, IsTree};
+ghost use Rattle.capi.specs.Trees.{IsNew, MakesNoTree, MakesTree, IsOfDump, LoadsNone, OfBox, Inserts, Moves, Removes, Clears};
+ghost use Rattle.capi.specs.Trees.{TellsAxes, Counts, GetsInto, OfWindow, CountsRelated, Searches, SearchesRows, FindsNearestRows, Dumps};
 
+use crate::answer::{Answer, hand_back};
 use crate::code::Code;
+use crate::dump::{dump_line, dump_plane, dump_space};
+use crate::edit::{clear, insert, new_tree, remove, replace};
+use crate::handle::fill;
 use crate::keys::Keys;
-use crate::plain::FromRect;
-use rt_box::{Capacity, Rect};
-use rt_handle::HeldTree;
-use rt_tree::Tree;
+use crate::load::load_dump;
+use crate::query::{count, get, len, nearest, search, search_rows, tell_axes};
+use rt_handle::{Handle, Object, Pass, Words};
 use std::alloc::Global;
-use std::hash::RandomState;
 
-/// The most rows of a tree.
-pub const MOST_ROWS_OF_A_TREE: usize = 1 << 20;
-
-/// A tree without rows.
-pub fn new_tree<const D: usize>(
-    alloc: Global,
-    capacity: u32,
-    keys: &Keys,
-) -> Result<HeldTree<D>, Code>
-    requires some { 1 ≤ D }
-    requires few { D ≤ 3 }
-    ensures { Makes capacity result }
+/// A tree of that many axes without rows.
+fn new_object(alloc: Global, axes: u32, capacity: u32, keys: &Keys) -> Result<Object, Code>
+    ensures { MakesTree axes capacity result }
 {
-    let Ok(greatest) = u8::try_from(capacity) else {
-        return Err(Code::BadCapacity);
+    match axes {
+        1 => Ok(Object::Line(new_tree(alloc, capacity, keys)?)),
+        2 => Ok(Object::Plane(new_tree(alloc, capacity, keys)?)),
+        3 => Ok(Object::Space(new_tree(alloc, capacity, keys)?)),
+        _ => Err(Code::BadAxes),
+    }
+}
+
+/// Opens a tree.
+#[unsafe(no_mangle)]
+pub extern "C" fn juicedelta_tree_open(
+    alloc: Global,
+    handle: &mut Handle,
+    axes: u32,
+    capacity: u32,
+    first_key: u64,
+    second_key: u64,
+) -> i32
+    ensures { Opens handle.old.held handle.new.held
+        (IsTree axes (λ D. IsNew capacity)) (MakesNoTree axes capacity) result }
+{
+    if let Some(object) = handle.take(alloc) {
+        handle.put(object);
+        return Code::AlreadyOpen.number();
+    }
+    let keys = Keys {
+        first: first_key,
+        second: second_key,
     };
-    let Some(capacity) = Capacity::new(greatest) else {
-        return Err(Code::BadCapacity);
+    match new_object(alloc, axes, capacity, &keys) {
+        Ok(object) => fill(alloc, handle, object).number(),
+        Err(code) => code.number(),
+    }
+}
+
+/// Opens a tree with the rows of a dump.
+#[unsafe(no_mangle)]
+pub extern "C" fn juicedelta_tree_open_dump(
+    alloc: Global,
+    handle: &mut Handle,
+    axes: u32,
+    text: &[u8],
+    first_key: u64,
+    second_key: u64,
+) -> i32
+    ensures { Opens handle.old.held handle.new.held (IsOfDump axes text.now) (LoadsNone axes text.now) result }
+{
+    if let Some(object) = handle.take(alloc) {
+        handle.put(object);
+        return Code::AlreadyOpen.number();
+    }
+    let keys = Keys {
+        first: first_key,
+        second: second_key,
     };
-    let Ok(keys) = RandomState::new(keys) else {
-        return Err(Code::OutOfMemory);
-    };
-    match Tree::new(alloc, keys, capacity) {
-        Ok(tree) => Ok(HeldTree {
-            tree,
-            keys,
-            capacity,
-        }),
-        Err(_) => Err(Code::OutOfMemory),
+    match load_dump(alloc, axes, &keys, text) {
+        Ok(object) => fill(alloc, handle, object).number(),
+        Err(code) => code.number(),
+    }
+}
+
+fn insert_into(object: &mut Object, id: i64, numbers: &[i32]) -> Code
+    ensures { OnTree (Some object.old) (Some object.new) (λ D old. OfBox numbers.now (Inserts id) old.tree) (number_of result) }
+{
+    match object {
+        Object::Line(kept) => insert(&mut kept.tree, id, numbers),
+        Object::Plane(kept) => insert(&mut kept.tree, id, numbers),
+        Object::Space(kept) => insert(&mut kept.tree, id, numbers),
+        Object::Script(_) => Code::OtherKind,
     }
 }
 
 /// Inserts a row.
-pub fn insert<const D: usize>(tree: &mut Tree<D>, id: i64, min: [i32; D], max: [i32; D]) -> Code
-    requires some { 1 ≤ D }
-    requires few { D ≤ 3 }
-    ensures { Inserts id min.entry max.entry tree.old tree.new result }
+#[unsafe(no_mangle)]
+pub extern "C" fn juicedelta_tree_insert(
+    alloc: Global,
+    handle: &mut Handle,
+    id: i64,
+    numbers: &[i32],
+) -> i32
+    ensures { OnTree handle.old.held handle.new.held (λ D old. OfBox numbers.now (Inserts id) old.tree) result }
 {
-    let Some(rect) = Rect::new(min, max) else {
-        return Code::BadBox;
+    let Some(mut object) = handle.take(alloc) else {
+        return Code::Closed.number();
     };
-    if tree.get(&id).is_some() {
-        return Code::IdTaken;
-    }
-    if tree.len() >= MOST_ROWS_OF_A_TREE {
-        return Code::TreeFull;
-    }
-    if tree.reserve(1).is_err() {
-        return Code::OutOfMemory;
-    }
-    let _ = tree.insert(&id, &rect);
-    Code::Done
+    let code = insert_into(&mut object, id, numbers);
+    handle.put(object);
+    code.number()
 }
 
-/// Gives the row with that id another box.
-pub fn replace<const D: usize>(tree: &mut Tree<D>, id: i64, min: [i32; D], max: [i32; D]) -> Code
-    requires some { 1 ≤ D }
-    requires few { D ≤ 3 }
-    ensures { Moves id min.entry max.entry tree.old tree.new result }
+fn replace_in(object: &mut Object, id: i64, numbers: &[i32]) -> Code
+    ensures { OnTree (Some object.old) (Some object.new) (λ D old. OfBox numbers.now (Moves id) old.tree) (number_of result) }
 {
-    let Some(rect) = Rect::new(min, max) else {
-        return Code::BadBox;
+    match object {
+        Object::Line(kept) => replace(&mut kept.tree, id, numbers),
+        Object::Plane(kept) => replace(&mut kept.tree, id, numbers),
+        Object::Space(kept) => replace(&mut kept.tree, id, numbers),
+        Object::Script(_) => Code::OtherKind,
+    }
+}
+
+/// Gives a row another box.
+#[unsafe(no_mangle)]
+pub extern "C" fn juicedelta_tree_move(
+    alloc: Global,
+    handle: &mut Handle,
+    id: i64,
+    numbers: &[i32],
+) -> i32
+    ensures { OnTree handle.old.held handle.new.held (λ D old. OfBox numbers.now (Moves id) old.tree) result }
+{
+    let Some(mut object) = handle.take(alloc) else {
+        return Code::Closed.number();
     };
-    if !tree.contains(&id) {
-        return Code::IdMissing;
+    let code = replace_in(&mut object, id, numbers);
+    handle.put(object);
+    code.number()
+}
+
+fn remove_from(object: &mut Object, id: i64) -> Code
+    ensures { OnTree (Some object.old) (Some object.new) (λ D old. Removes id old.tree) (number_of result) }
+{
+    match object {
+        Object::Line(kept) => remove(&mut kept.tree, id),
+        Object::Plane(kept) => remove(&mut kept.tree, id),
+        Object::Space(kept) => remove(&mut kept.tree, id),
+        Object::Script(_) => Code::OtherKind,
     }
-    if tree.reserve(1).is_err() {
-        return Code::OutOfMemory;
-    }
-    tree.replace(&id, &rect);
-    Code::Done
 }
 
 /// Removes a row.
-pub fn remove<const D: usize>(tree: &mut Tree<D>, id: i64) -> Code
-    requires some { 1 ≤ D }
-    requires few { D ≤ 3 }
-    ensures { Removes id tree.old tree.new result }
+#[unsafe(no_mangle)]
+pub extern "C" fn juicedelta_tree_remove(alloc: Global, handle: &mut Handle, id: i64) -> i32
+    ensures { OnTree handle.old.held handle.new.held (λ D old. Removes id old.tree) result }
 {
-    if tree.get(&id).is_none() {
-        return Code::IdMissing;
-    }
-    let _ = tree.remove(&id);
-    Code::Done
+    let Some(mut object) = handle.take(alloc) else {
+        return Code::Closed.number();
+    };
+    let code = remove_from(&mut object, id);
+    handle.put(object);
+    code.number()
 }
 
-/// Writes the box of the row with that id.
-pub fn get<const D: usize, B: FromRect<D>>(tree: &Tree<D>, id: i64, place: &mut B) -> Code
-    requires some { 1 ≤ D }
-    requires few { D ≤ 3 }
-    ensures found { GetsInto B.of_rect id place.new tree.now tree.now result }
-    ensures kept { result ≢ Done → place.new ≡ place.old }
+/// Takes all rows out.
+#[unsafe(no_mangle)]
+pub extern "C" fn juicedelta_tree_clear(alloc: Global, handle: &mut Handle) -> i32
+    ensures { OnTree handle.old.held handle.new.held (λ D old. Clears old.capacity old.tree) result }
 {
-    match tree.get(&id) {
-        Some(rect) => {
-            *place = B::from_rect(&rect);
-            Code::Done
-        }
-        None => Code::IdMissing,
-    }
+    let Some(mut object) = handle.take(alloc) else {
+        return Code::Closed.number();
+    };
+    let code = match &mut *object {
+        Object::Line(kept) => clear(alloc, kept),
+        Object::Plane(kept) => clear(alloc, kept),
+        Object::Space(kept) => clear(alloc, kept),
+        Object::Script(_) => Code::OtherKind,
+    };
+    handle.put(object);
+    code.number()
 }
 
-/// Writes the number of rows.
-pub fn len<const D: usize>(tree: &Tree<D>, rows: &mut u64) -> Code
-    ensures { Counts rows.new tree.now tree.now result }
+/// The number of axes.
+#[unsafe(no_mangle)]
+pub extern "C" fn juicedelta_tree_axes(handle: &Words, pass: Pass, axes: &mut u32) -> Answer
+    requires { IsOf pass.at pass.held handle.now }
+    ensures told { OfTree pass.held (λ D tree. TellsAxes D axes.new) result.code }
+    ensures kept { result.code ≢ pos 0 → axes.new ≡ axes.old }
+    ensures pass { IsSame pass result.pass }
 {
-    *rows = tree.len() as u64;
-    Code::Done
+    let lease = pass.open();
+    let code = match lease.peek(handle) {
+        None => Code::Closed,
+        Some(Object::Line(kept)) => tell_axes(&kept.tree, axes),
+        Some(Object::Plane(kept)) => tell_axes(&kept.tree, axes),
+        Some(Object::Space(kept)) => tell_axes(&kept.tree, axes),
+        Some(Object::Script(_)) => Code::OtherKind,
+    };
+    hand_back(code, lease)
 }
 
-/// Removes all rows. The tree's memory is freed, and a new tree takes its place.
-pub fn clear<const D: usize>(alloc: Global, kept: &mut HeldTree<D>) -> Code
-    requires some { 1 ≤ D }
-    requires few { D ≤ 3 }
-    ensures tree { Clears kept.new.capacity kept.old.tree kept.new.tree result }
-    ensures keys { kept.new.keys ≡ kept.old.keys }
-    ensures capacity { kept.new.capacity ≡ kept.old.capacity }
+/// The number of rows.
+#[unsafe(no_mangle)]
+pub extern "C" fn juicedelta_tree_len(handle: &Words, pass: Pass, rows: &mut u64) -> Answer
+    requires { IsOf pass.at pass.held handle.now }
+    ensures told { OfTree pass.held (λ D. Counts rows.new) result.code }
+    ensures kept { result.code ≢ pos 0 → rows.new ≡ rows.old }
+    ensures pass { IsSame pass result.pass }
 {
-    match Tree::new(alloc, kept.keys, kept.capacity) {
-        Ok(tree) => {
-            kept.tree = tree;
-            Code::Done
-        }
-        Err(_) => Code::OutOfMemory,
-    }
+    let lease = pass.open();
+    let code = match lease.peek(handle) {
+        None => Code::Closed,
+        Some(Object::Line(kept)) => len(&kept.tree, rows),
+        Some(Object::Plane(kept)) => len(&kept.tree, rows),
+        Some(Object::Space(kept)) => len(&kept.tree, rows),
+        Some(Object::Script(_)) => Code::OtherKind,
+    };
+    hand_back(code, lease)
+}
+
+/// The box of a row.
+#[unsafe(no_mangle)]
+pub extern "C" fn juicedelta_tree_get(
+    handle: &Words,
+    pass: Pass,
+    id: i64,
+    numbers: &mut [i32],
+) -> Answer
+    requires { IsOf pass.at pass.held handle.now }
+    ensures told { OfTree pass.held (λ D. GetsInto id numbers.old numbers.new) result.code }
+    ensures kept { result.code ≢ pos 0 → numbers.new ≡ numbers.old }
+    ensures pass { IsSame pass result.pass }
+{
+    let lease = pass.open();
+    let code = match lease.peek(handle) {
+        None => Code::Closed,
+        Some(Object::Line(kept)) => get(&kept.tree, id, numbers),
+        Some(Object::Plane(kept)) => get(&kept.tree, id, numbers),
+        Some(Object::Space(kept)) => get(&kept.tree, id, numbers),
+        Some(Object::Script(_)) => Code::OtherKind,
+    };
+    hand_back(code, lease)
+}
+
+/// The number of rows that lie so to a window.
+#[unsafe(no_mangle)]
+pub extern "C" fn juicedelta_tree_count(
+    alloc: Global,
+    handle: &Words,
+    pass: Pass,
+    relation: u32,
+    window: &[i32],
+    total: &mut u64,
+) -> Answer
+    requires { IsOf pass.at pass.held handle.now }
+    ensures told { OfTree pass.held (λ D. OfWindow relation window.now (CountsRelated total.new)) result.code }
+    ensures kept { result.code ≢ pos 0 → total.new ≡ total.old }
+    ensures pass { IsSame pass result.pass }
+{
+    let lease = pass.open();
+    let code = match lease.peek(handle) {
+        None => Code::Closed,
+        Some(Object::Line(kept)) => count(alloc, &kept.tree, relation, window, total),
+        Some(Object::Plane(kept)) => count(alloc, &kept.tree, relation, window, total),
+        Some(Object::Space(kept)) => count(alloc, &kept.tree, relation, window, total),
+        Some(Object::Script(_)) => Code::OtherKind,
+    };
+    hand_back(code, lease)
+}
+
+/// The ids of the rows that lie so to a window.
+#[unsafe(no_mangle)]
+pub extern "C" fn juicedelta_tree_search(
+    alloc: Global,
+    handle: &Words,
+    pass: Pass,
+    relation: u32,
+    window: &[i32],
+    ids: &mut [i64],
+    total: &mut u64,
+) -> Answer
+    requires { IsOf pass.at pass.held handle.now }
+    ensures told { OfTree pass.held
+        (λ D. OfWindow relation window.now (Searches ids.old ids.new total.old total.new)) result.code }
+    ensures kept { result.code ≢ pos 0 → result.code ≢ pos 8 → (ids.new ≡ ids.old) × (total.new ≡ total.old) }
+    ensures pass { IsSame pass result.pass }
+{
+    let lease = pass.open();
+    let code = match lease.peek(handle) {
+        None => Code::Closed,
+        Some(Object::Line(kept)) => search(alloc, &kept.tree, relation, window, ids, total),
+        Some(Object::Plane(kept)) => search(alloc, &kept.tree, relation, window, ids, total),
+        Some(Object::Space(kept)) => search(alloc, &kept.tree, relation, window, ids, total),
+        Some(Object::Script(_)) => Code::OtherKind,
+    };
+    hand_back(code, lease)
+}
+
+/// The rows that lie so to a window.
+#[unsafe(no_mangle)]
+pub extern "C" fn juicedelta_tree_search_rows(
+    alloc: Global,
+    handle: &Words,
+    pass: Pass,
+    relation: u32,
+    window: &[i32],
+    ids: &mut [i64],
+    boxes: &mut [i32],
+    total: &mut u64,
+) -> Answer
+    requires { IsOf pass.at pass.held handle.now }
+    ensures told { OfTree pass.held
+        (λ D. OfWindow relation window.now (SearchesRows ids.old ids.new boxes.old boxes.new total.old total.new)) result.code }
+    ensures kept { result.code ≢ pos 0 → result.code ≢ pos 8 →
+        (ids.new ≡ ids.old) × (boxes.new ≡ boxes.old) × (total.new ≡ total.old) }
+    ensures pass { IsSame pass result.pass }
+{
+    let lease = pass.open();
+    let code = match lease.peek(handle) {
+        None => Code::Closed,
+        Some(Object::Line(kept)) => search_rows(
+            alloc, &kept.tree, relation, window, ids, boxes, total,
+        ),
+        Some(Object::Plane(kept)) => search_rows(
+            alloc, &kept.tree, relation, window, ids, boxes, total,
+        ),
+        Some(Object::Space(kept)) => search_rows(
+            alloc, &kept.tree, relation, window, ids, boxes, total,
+        ),
+        Some(Object::Script(_)) => Code::OtherKind,
+    };
+    hand_back(code, lease)
+}
+
+/// The rows nearest to a point.
+#[unsafe(no_mangle)]
+pub extern "C" fn juicedelta_tree_nearest(
+    alloc: Global,
+    handle: &Words,
+    pass: Pass,
+    point: &[i32],
+    ids: &mut [i64],
+    boxes: &mut [i32],
+    total: &mut u64,
+) -> Answer
+    requires { IsOf pass.at pass.held handle.now }
+    ensures told { OfTree pass.held
+        (λ D. FindsNearestRows point.now ids.old ids.new boxes.old boxes.new total.old total.new) result.code }
+    ensures kept { result.code ≢ pos 0 → (ids.new ≡ ids.old) × (boxes.new ≡ boxes.old) × (total.new ≡ total.old) }
+    ensures pass { IsSame pass result.pass }
+{
+    let lease = pass.open();
+    let code = match lease.peek(handle) {
+        None => Code::Closed,
+        Some(Object::Line(kept)) => nearest(alloc, &kept.tree, point, ids, boxes, total),
+        Some(Object::Plane(kept)) => nearest(alloc, &kept.tree, point, ids, boxes, total),
+        Some(Object::Space(kept)) => nearest(alloc, &kept.tree, point, ids, boxes, total),
+        Some(Object::Script(_)) => Code::OtherKind,
+    };
+    hand_back(code, lease)
+}
+
+/// The dump as text.
+#[unsafe(no_mangle)]
+pub extern "C" fn juicedelta_tree_dump(
+    alloc: Global,
+    handle: &Words,
+    pass: Pass,
+    text: &mut [u8],
+    total: &mut u64,
+) -> Answer
+    requires { IsOf pass.at pass.held handle.now }
+    ensures told { OfTree pass.held (λ D. Dumps text.old text.new total.old total.new) result.code }
+    ensures kept { result.code ≢ pos 0 → result.code ≢ pos 8 → (text.new ≡ text.old) × (total.new ≡ total.old) }
+    ensures pass { IsSame pass result.pass }
+{
+    let lease = pass.open();
+    let code = match lease.peek(handle) {
+        None => Code::Closed,
+        Some(Object::Line(kept)) => dump_line(alloc, kept, text, total),
+        Some(Object::Plane(kept)) => dump_plane(alloc, kept, text, total),
+        Some(Object::Space(kept)) => dump_space(alloc, kept, text, total),
+        Some(Object::Script(_)) => Code::OtherKind,
+    };
+    hand_back(code, lease)
 }

@@ -1,2 +1,4 @@
+pub mod Lending
+pub mod Passing
 pub mod Sent
 pub mod Values

@@ -4,7 +4,8 @@ use Rattle.std.proofs.lemmas.List.Elements.{All-get_or}
 use Rattle.rt_check.specs.declared.node.RawCell.{RawCell}
 use Rattle.rt_check.specs.Conditions.{is_ordered}
 use Rattle.rt_tree.specs.Rows.{row_in, box_of}
-use Rattle.capi.specs.Trees.{InsertsInTurn, most_rows}
+use Rattle.rt_tree_node.specs.Whole.{most_rows_of_a_tree}
+use Rattle.capi.specs.Trees.{InsertsInTurn}
 use Rattle.capi.specs.Trees.InsertsInTurn.{none, more}
 use Rattle.capi.proofs.Cells.{counted-more, none-before, absent, entries-so_far}
 use Rattle.capi.proofs.load.insert_all.Goals as goal
@@ -27,7 +28,7 @@ insert_cell-requires g c =
     let within : i < length cells = c.loop-cell-test.true in
     let ordered : is_ordered cell ≡ true = ap is_ordered c.cell-item.is ∙ All-get_or (λ (x : RawCell g.row.D). is_ordered x ≡ true) cells i cell within c.requires.ordered in
     let missing : box_of tree cell.number ≡ None = absent cells i tree cell.number rows (none-before cells i cell within c.cell-item.is c.requires.unique) in
-    let most : length tree.rows < most_rows = omega (arith, entries-so_far cells i tree c.is_in_shape.ensures rows (omega arith), c.requires.most) in
+    let most : length tree.rows < most_rows_of_a_tree = omega (arith, entries-so_far cells i tree c.is_in_shape.ensures rows (omega arith), c.requires.most) in
     let spare : 1 ≤ c.loop-cell.tree.spare = omega arith in
     search rules
 
