@@ -2,6 +2,7 @@ pub mod Cells
 pub mod Dumped
 pub mod Entries
 pub mod Loaded
+mod OnTrees
 pub mod Picking
 pub mod Reaching
 pub mod Writing

@@ -1,6 +1,9 @@
 -- Numbers written into a buffer one by one.
-use Rattle.std.proofs.Common.{◌≡◌, ℕ, ◌+◌, ◌<◌, ℤ, pos, List, [], ◌∷◌, ◌++◌, length, get_or, set, take, drop, arith, refl, sym, ap, ◌∙◌}
-use Rattle.std.proofs.lemmas.List.{append_assoc, length-append, take_more, take_more_set, drop-set-lt, drop-drop}
+use Rattle.std.proofs.Common.{◌≡◌, ℕ, ◌+◌, ◌*◌, ◌<◌, ℤ, pos, List, [], ◌∷◌, ◌++◌, length, get_or, set, take, drop, arith, refl, sym, ap, ◌∙◌}
+use Rattle.std.proofs.lemmas.List.{append_assoc, length-append, take_more, take_more_set, drop-set-lt, drop-drop, flat_map_more}
+use Rattle.std.specs.List.{flat_map}
+use Rattle.rt_tree_walk.specs.declared.searching.Row.{Row}
+use Rattle.capi.specs.Numbers.{numbers_of, box_numbers}
 
 pub front_more : (old b ns : List ℤ) (at k : ℕ) (v : ℤ) → k < length ns → at + k < length b → take (at + k) b ≡ take at old ++ take k ns →
     v ≡ get_or ns k (pos 0) → take (at + (k + 1)) (set b (at + k) v) ≡ take at old ++ take (k + 1) ns
@@ -28,3 +31,14 @@ back_then old one two ns ms at first second =
     let long : at + length (ns ++ ms) ≡ at + length ns + length ms = omega (arith, length-append ns ms) in
     ap (λ n. drop n two) long ∙ second ∙ sym (drop-drop (length ms) (at + length ns) one) ∙ ap (drop (length ms)) first
     ∙ drop-drop (length ms) (at + length ns) old ∙ ap (λ n. drop n old) (sym long)
+
+-- the numbers of one row more
+pub boxes_more : {D : ℕ} (rows : List (Row D)) (k : ℕ) (d row : Row D) → k < length rows → row ≡ get_or rows k d →
+    box_numbers (take (k + 1) rows) ≡ box_numbers (take k rows) ++ numbers_of row.rect
+boxes_more rows k d row within is =
+    ap box_numbers (take_more rows k d within) ∙ sym (flat_map_more (λ r. numbers_of r.rect) [] (take k rows) (get_or rows k d))
+    ∙ ap (λ r. box_numbers (take k rows) ++ numbers_of r.rect) (sym is)
+
+-- one more time
+pub times_more : (i n : ℕ) → (i + 1) * n ≡ i * n + n
+times_more i n = omega arith

@@ -1,8 +1,10 @@
 -- What a call does to a script shell, by its code (own).
 use Rattle.std.specs.Prelude.{◌≡◌, ℕ, List, [], length, Option, Some, None, Result, Ok, Err, false}
+use Rattle.rt_box.specs.Capacity.{IsCapacity}
 use Rattle.rt_bytes.specs.declared.device.WriteFault.{WriteFault}
 use Rattle.rt_bytes.specs.declared.outcome.Status.{Status}
 use Rattle.rt_bytes.specs.declared.outcome.Status.TheVariants.{Clean, Refused}
+use Rattle.rt_handle.specs.declared.object.Object.{Object}
 use Rattle.rt_handle.specs.declared.object.Script.{Script}
 use Rattle.rt_shell.specs.declared.engine.Flow.{Flow}
 use Rattle.rt_shell.specs.declared.shell.FeedFault.{FeedFault}
@@ -12,6 +14,7 @@ use Rattle.rt_shell.specs.Shell.{HasPrinted, Feeds, Ends}
 use Rattle.capi.specs.declared.code.Code.{Code}
 use Rattle.capi.specs.declared.code.Code.TheVariants.{Done, OutOfMemory, Ended, TooLong}
 use Rattle.capi.specs.Buffers.{Copies}
+use Rattle.capi.specs.Calls.{IsScript}
 use Rattle.capi.specs.Trees.{MakesNone}
 
 -- a shell without input so far, which goes on after a refusal
@@ -23,8 +26,8 @@ IsNewShell capacity (Some shell) = HasPrinted (record { capacity = capacity; bai
 abbrev pub IsNewScript : ℕ → Script → Type 0
 IsNewScript capacity script = IsNewShell capacity script.shell × (script.output.bytes ≡ [])
 
-abbrev pub MakesScript : ℕ → Result Script Code → Type 0
-MakesScript capacity (Ok script) = IsNewScript capacity script
+abbrev pub MakesScript : ℕ → Result Object Code → Type 0
+MakesScript capacity (Ok object) = IsCapacity capacity × IsScript (IsNewScript capacity) object
 MakesScript capacity (Err code) = MakesNone capacity code
 
 -- a write fails only if no memory is left

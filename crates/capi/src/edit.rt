@@ -42,12 +42,7 @@ pub fn new_tree<const D: usize>(
 }
 
 /// Inserts a row with the box from `min` to `max`.
-fn insert_between<const D: usize>(
-    tree: &mut Tree<D>,
-    id: i64,
-    min: [i32; D],
-    max: [i32; D],
-) -> Code
+fn insert_between<const D: usize>(tree: &mut Tree<D>, id: i64, min: [i32; D], max: [i32; D]) -> Code
     requires some { 1 ≤ D }
     requires few { D ≤ 3 }
     ensures { Inserts id min.entry max.entry tree.old tree.new result }

@@ -3,14 +3,21 @@
 //! Each call answers the number of a `Code`. No call ends the process, and one that refuses leaves the handle as it was.
 //! `bindings/c/juicedelta.h` declares the calls for C.
 //!
-//! An export can't be generic. So `line`, `plane` and `space` hold the calls for one, two and three axes: each takes the
-//! object out of the handle, hands a tree of its kind to a generic function of `tree`, `query` or `dump`, and puts the
-//! object back. `load` makes a tree of the rows of a dump.
+//! The exports stand in `tree`, `script`, `handle`, `words` and `version`. A call that writes takes the object out of the
+//! handle, works on it, and puts it back. A call that reads takes the handle's words and a pass, and gives the pass back in
+//! an `Answer`. A pass has no bytes, so on x86-64 C reads an `Answer` as its code in one register.
 //!
-//! Stands on `rt_handle`, and in proofs on `rt_table_store`. Definitions: `specs/Codes.antt` (numbers), `Calls.antt`
-//! (what a call does to what a handle holds), `Trees.antt` and `Scripts.antt` (what it does to a tree and to a script
-//! shell), `Touching.antt` (the rows that have a point in common with a box), `Plain.antt` (rows and boxes as C has
-//! them), `Buffers.antt`. `Loading.antt` and `Windows.antt` are for proofs here.
+//! An export can't be generic. So it looks which tree the object is, and hands it to a generic function: of `edit` (what
+//! changes a tree), `query` (what is read of it), `dump` (its text) or `load` (a tree made of the rows of a dump).
+//! `numbers` holds the boxes and rows as C has them, `relation` how a box may lie to a window, `window` a window of the
+//! tree for each relation, `buffer` the copies into the caller's buffers, `keys` the keys of the hashes, `code` what a call
+//! answers, and `answer` what a call that reads answers.
+//!
+//! Stands on `rt_handle`, and in proofs on `rt_table_store`. Definitions: `specs/Codes.antt` (the numbers and words of
+//! codes), `Calls.antt` (what a call does to what a handle holds, or reads of it), `Answers.antt` (how the pass comes back),
+//! `Trees.antt` and `Scripts.antt` (what a call does to a tree and to a script shell), `Relations.antt` (each relation is
+//! defined once, there, by the points of boxes), `Numbers.antt` (boxes and rows as C has them), `Buffers.antt`, and
+//! `Words.antt`. `Loading.antt` and `Windows.antt` are for proofs here.
 #![tactic(auto)]
 
 mod answer;

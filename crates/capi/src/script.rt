@@ -21,7 +21,7 @@ use std::hash::RandomState;
 use std::mem::replace;
 
 /// A shell without input so far.
-fn new_script(alloc: Global, capacity: u32, keys: &Keys) -> Result<Script, Code>
+fn new_script(alloc: Global, capacity: u32, keys: &Keys) -> Result<Object, Code>
     ensures { MakesScript capacity result }
 {
     let Ok(greatest) = u8::try_from(capacity) else {
@@ -39,10 +39,10 @@ fn new_script(alloc: Global, capacity: u32, keys: &Keys) -> Result<Script, Code>
         echo: false,
     };
     match Shell::new(alloc, keys, &options) {
-        Ok(shell) => Ok(Script {
+        Ok(shell) => Ok(Object::Script(Script {
             shell: Some(shell),
             output: Sink::new(alloc),
-        }),
+        })),
         Err(_) => Err(Code::OutOfMemory),
     }
 }
@@ -93,11 +93,10 @@ pub extern "C" fn juicedelta_script_open(
         first: first_key,
         second: second_key,
     };
-    let script = match new_script(alloc, capacity, &keys) {
-        Ok(script) => script,
-        Err(code) => return code.number(),
-    };
-    fill(alloc, handle, Object::Script(script)).number()
+    match new_script(alloc, capacity, &keys) {
+        Ok(object) => fill(alloc, handle, object).number(),
+        Err(code) => code.number(),
+    }
 }
 
 /// Feeds the shell the next bytes of its script.
@@ -184,11 +183,7 @@ pub extern "C" fn juicedelta_script_output_length(
 
 /// Copies the output.
 #[unsafe(no_mangle)]
-pub extern "C" fn juicedelta_script_output(
-    handle: &Words,
-    pass: Pass,
-    buffer: &mut [u8],
-) -> Answer
+pub extern "C" fn juicedelta_script_output(handle: &Words, pass: Pass, buffer: &mut [u8]) -> Answer
     requires { IsOf pass.at pass.held handle.now }
     ensures copied { OfScript pass.held (CopiesOutput buffer.old buffer.new) result.code }
     ensures kept { result.code ≢ pos 0 → buffer.new ≡ buffer.old }

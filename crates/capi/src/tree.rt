@@ -185,11 +185,7 @@ pub extern "C" fn juicedelta_tree_clear(alloc: Global, handle: &mut Handle) -> i
 
 /// The number of axes.
 #[unsafe(no_mangle)]
-pub extern "C" fn juicedelta_tree_axes(
-    handle: &Words,
-    pass: Pass,
-    axes: &mut u32,
-) -> Answer
+pub extern "C" fn juicedelta_tree_axes(handle: &Words, pass: Pass, axes: &mut u32) -> Answer
     requires { IsOf pass.at pass.held handle.now }
     ensures told { OfTree pass.held (λ D tree. TellsAxes D axes.new) result.code }
     ensures kept { result.code ≢ pos 0 → axes.new ≡ axes.old }
@@ -208,11 +204,7 @@ pub extern "C" fn juicedelta_tree_axes(
 
 /// The number of rows.
 #[unsafe(no_mangle)]
-pub extern "C" fn juicedelta_tree_len(
-    handle: &Words,
-    pass: Pass,
-    rows: &mut u64,
-) -> Answer
+pub extern "C" fn juicedelta_tree_len(handle: &Words, pass: Pass, rows: &mut u64) -> Answer
     requires { IsOf pass.at pass.held handle.now }
     ensures told { OfTree pass.held (λ D. Counts rows.new) result.code }
     ensures kept { result.code ≢ pos 0 → rows.new ≡ rows.old }
@@ -329,9 +321,15 @@ pub extern "C" fn juicedelta_tree_search_rows(
     let lease = pass.open();
     let code = match lease.peek(handle) {
         None => Code::Closed,
-        Some(Object::Line(kept)) => search_rows(alloc, &kept.tree, relation, window, ids, boxes, total),
-        Some(Object::Plane(kept)) => search_rows(alloc, &kept.tree, relation, window, ids, boxes, total),
-        Some(Object::Space(kept)) => search_rows(alloc, &kept.tree, relation, window, ids, boxes, total),
+        Some(Object::Line(kept)) => search_rows(
+            alloc, &kept.tree, relation, window, ids, boxes, total,
+        ),
+        Some(Object::Plane(kept)) => search_rows(
+            alloc, &kept.tree, relation, window, ids, boxes, total,
+        ),
+        Some(Object::Space(kept)) => search_rows(
+            alloc, &kept.tree, relation, window, ids, boxes, total,
+        ),
         Some(Object::Script(_)) => Code::OtherKind,
     };
     hand_back(code, lease)
