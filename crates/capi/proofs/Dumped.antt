@@ -1,5 +1,5 @@
 -- What is loaded of a shadow is loaded of its text.
-use Rattle.std.proofs.Common.{◌≡◌, ℕ, List, Result, Ok, Err, refl, sym, subst, ◌∙◌, ap}
+use Rattle.std.proofs.Common.{◌≡◌, ℕ, List, Result, Ok, Err, sym, subst, ◌∙◌, ap}
 use Rattle.rt_check_dump.specs.declared.dump.AnyShadow.{AnyShadow}
 use Rattle.rt_handle.specs.declared.object.Object.{Object}
 use Rattle.capi.specs.declared.code.Code.{Code}

@@ -15,7 +15,7 @@ use Rattle.rt_box.specs.Window.{Admits, Narrows, IsUnlimited}
 use Rattle.rt_box.proofs.Made.{IsOrdered}
 use Rattle.rt_box.proofs.Lists.{AllZip-get_or_both}
 use Rattle.rt_box.proofs.Narrowing.{length-coordinates, Admits-narrowed, Admits-unlimited}
-use Rattle.capi.specs.Relations.{HasCommonPoint, LiesIn, LiesInBox, Relates}
+use Rattle.capi.specs.Relations.{HasCommonPoint, Relates}
 use Rattle.capi.specs.Windows.{Compared}
 use Rattle.capi.specs.declared.relation.Relation.TheVariants.{Within, Holds}
 

@@ -1,7 +1,6 @@
 -- Numbers written into a buffer one by one.
-use Rattle.std.proofs.Common.{◌≡◌, ℕ, ◌+◌, ◌*◌, ◌<◌, ℤ, pos, List, [], ◌∷◌, ◌++◌, length, get_or, set, take, drop, arith, refl, sym, ap, ◌∙◌}
+use Rattle.std.proofs.Common.{◌≡◌, ℕ, ◌+◌, ◌*◌, ◌<◌, ℤ, pos, List, [], ◌∷◌, ◌++◌, length, get_or, set, take, drop, arith, sym, ap, ◌∙◌}
 use Rattle.std.proofs.lemmas.List.{append_assoc, length-append, take_more, take_more_set, drop-set-lt, drop-drop, flat_map_more}
-use Rattle.std.specs.List.{flat_map}
 use Rattle.rt_tree_walk.specs.declared.searching.Row.{Row}
 use Rattle.capi.specs.Numbers.{numbers_of, box_numbers}
 

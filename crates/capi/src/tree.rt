@@ -84,7 +84,8 @@ pub extern "C" fn juicedelta_tree_open_dump(
 }
 
 fn insert_into(object: &mut Object, id: i64, numbers: &[i32]) -> Code
-    ensures { OnTree (Some object.old) (Some object.new) (λ D old. OfBox numbers.now (Inserts id) old.tree) (number_of result) }
+    ensures { OnTree (Some object.old) (Some object.new)
+        (λ D old. OfBox numbers.now (Inserts id) old.tree) (number_of result) }
 {
     match object {
         Object::Line(kept) => insert(&mut kept.tree, id, numbers),
@@ -113,7 +114,8 @@ pub extern "C" fn juicedelta_tree_insert(
 }
 
 fn replace_in(object: &mut Object, id: i64, numbers: &[i32]) -> Code
-    ensures { OnTree (Some object.old) (Some object.new) (λ D old. OfBox numbers.now (Moves id) old.tree) (number_of result) }
+    ensures { OnTree (Some object.old) (Some object.new)
+        (λ D old. OfBox numbers.now (Moves id) old.tree) (number_of result) }
 {
     match object {
         Object::Line(kept) => replace(&mut kept.tree, id, numbers),
@@ -312,8 +314,8 @@ pub extern "C" fn juicedelta_tree_search_rows(
     total: &mut u64,
 ) -> Answer
     requires { IsOf pass.at pass.held handle.now }
-    ensures told { OfTree pass.held
-        (λ D. OfWindow relation window.now (SearchesRows ids.old ids.new boxes.old boxes.new total.old total.new)) result.code }
+    ensures told { OfTree pass.held (λ D. OfWindow relation window.now
+        (SearchesRows ids.old ids.new boxes.old boxes.new total.old total.new)) result.code }
     ensures kept { result.code ≢ pos 0 → result.code ≢ pos 8 →
         (ids.new ≡ ids.old) × (boxes.new ≡ boxes.old) × (total.new ≡ total.old) }
     ensures pass { IsSame pass result.pass }

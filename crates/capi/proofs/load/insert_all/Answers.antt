@@ -1,4 +1,4 @@
-use Rattle.std.proofs.Common.{◌≡◌, ℕ, ◌^◌, ◌<◌, ◌≤◌, true, cond, List, [], ◌∷◌, ◌++◌, take, length, slice_index_or, None, arith, rules, count_by, refl, ap, sym, ◌∙◌, subst, ◌+◌}
+use Rattle.std.proofs.Common.{◌≡◌, ℕ, ◌<◌, ◌≤◌, true, cond, List, [], ◌∷◌, ◌++◌, take, length, slice_index_or, None, arith, rules, count_by, refl, ap, sym, ◌∙◌, subst, ◌+◌}
 use Rattle.std.proofs.lemmas.List.{take_more}
 use Rattle.std.proofs.lemmas.List.Elements.{All-get_or}
 use Rattle.rt_check.specs.declared.node.RawCell.{RawCell}

@@ -1,4 +1,4 @@
-use Rattle.std.proofs.Common.{◌≡◌, ℤ, pos, arith, rules, get_or, slice_index_or, FitsSigned, w32, to_z-of_z}
+use Rattle.std.proofs.Common.{pos, arith, rules, slice_index_or, FitsSigned, w32, to_z-of_z}
 use Rattle.capi.proofs.Writing.{front_more, back_more}
 use Rattle.capi.proofs.numbers.write_at.Goals as goal
 

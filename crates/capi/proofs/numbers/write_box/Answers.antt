@@ -1,4 +1,4 @@
-use Rattle.std.proofs.Common.{◌≡◌, ◌+◌, length, arith, sym, subst}
+use Rattle.std.proofs.Common.{◌≡◌, ◌+◌, length, arith, subst}
 use Rattle.rt_box.specs.Rect.{los, his}
 use Rattle.capi.specs.Numbers.{Writes}
 use Rattle.capi.proofs.Reaching.{length-los}

@@ -1,6 +1,6 @@
-use Rattle.std.proofs.Common.{◌≡◌, ℕ, ◌+◌, ◌*◌, ◌++◌, length, take, drop, arith, sym, ap, subst, ◌∙◌}
+use Rattle.std.proofs.Common.{◌≡◌, ◌+◌, ◌*◌, ◌++◌, length, take, drop, arith, sym, ap, ◌∙◌}
 use Rattle.std.proofs.lemmas.List.{length-append, drop-drop}
-use Rattle.capi.specs.Numbers.{Writes, numbers_of, box_numbers}
+use Rattle.capi.specs.Numbers.{numbers_of, box_numbers}
 use Rattle.capi.proofs.Writing.{boxes_more, times_more}
 use Rattle.capi.proofs.numbers.write_boxes.Goals as goal
 

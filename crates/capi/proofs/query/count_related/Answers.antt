@@ -1,4 +1,3 @@
-use Rattle.std.proofs.Common.{refl}
 use Rattle.capi.proofs.Picking.{finds_related}
 use Rattle.capi.proofs.query.count_related.Goals as goal
 
