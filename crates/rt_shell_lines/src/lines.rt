@@ -118,7 +118,8 @@ fn put_column<const D: usize>(
 ) -> Option<usize>
     requires room { MOST_DIGITS ≤ end }
     requires within { end ≤ length bytes.old }
-    ensures put { IfSome result (λ start. drop start bytes.new ≡ column_text (box_values row.now) place ++ drop end bytes.old) }
+    ensures put { IfSome result (λ start.
+        drop start bytes.new ≡ column_text (box_values row.now) place ++ drop end bytes.old) }
     ensures few { IfSome result (λ start. end ≤ start + MOST_DIGITS) }
     ensures start { IfSome result (λ start. start ≤ end) }
 {
