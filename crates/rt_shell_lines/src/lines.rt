@@ -109,7 +109,7 @@ fn put_boxes<const D: usize>(bytes: &mut [u8], end: usize, rows: &[Row<D>]) -> u
 
 /// Puts the column at a place of a row without auxiliary values, so that it ends there, and answers where it starts; `None`
 /// if it is no number.
-#[inline]
+#[inline(always)]
 fn put_column<const D: usize>(
     bytes: &mut [u8],
     end: usize,
