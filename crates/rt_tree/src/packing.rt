@@ -17,7 +17,7 @@ use slab::Slab;
 use std::alloc::{AllocError, Global};
 use std::hash::RandomState;
 
-/// The nodes of a tree without rows, and room for so many.
+/// The nodes of a tree without rows, with room for `nodes` of them.
 pub(crate) fn bare_arena<const D: usize>(
     alloc: Global,
     keys: RandomState,

@@ -1,6 +1,6 @@
 //! The best first: the node that is nearest is looked at next (Hjaltason, Samet 1999, "Distance browsing in spatial
 //! databases", section 3), until it is farther than the rows kept (Roussopoulos, Kelley, Vincent 1995, "Nearest neighbor
-//! queries", section 3).
+//! queries").
 //!
 //! No row below a node is nearer than its box. So a node that is farther than `k` rows that were seen has no row of the
 //! answer below it.

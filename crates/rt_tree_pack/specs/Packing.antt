@@ -1,5 +1,5 @@
 -- What packing comes to (Leutenegger, Lopez and Edgington, STR: a simple and efficient algorithm for R-tree packing, ICDE
--- 1997, section 2.2: a level's cells are ordered, cut into runs, and each run is a node; the bound of nodes is own).
+-- 1997: a level's cells are ordered, cut into runs, and each run is a node; the bound of nodes is own).
 use Rattle.std.specs.Prelude.{◌≡◌, ◌≢◌, ℕ, ◌+◌, ◌/◌, ◌≤◌, ◌<◌, Bool, ℤ, List, [], length, take, slice_get, None, Some, is_some, All, count_by, if◌then◌else◌}
 use Rattle.std.specs.Ordering.{int_eq}
 use Rattle.indexmap.specs.IndexMap.{IndexMap, get as leaf_of}
