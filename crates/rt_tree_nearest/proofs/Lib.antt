@@ -9,3 +9,4 @@ pub mod Answered
 pub mod Steps
 pub mod Queueing
 pub mod Points
+pub mod Narrowed

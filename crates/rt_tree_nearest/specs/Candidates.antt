@@ -1,5 +1,5 @@
 -- What a search keeps, and what it has still to see. No public clause cites this module.
-use Rattle.std.specs.Prelude.{◌≡◌, ℕ, ◌^◌, ◌<◌, ◌≤◌, ◌⊎◌, Bool, true, false, suc, List, [], ◌∷◌, ◌++◌, map, filter, take, length, All, nat_le}
+use Rattle.std.specs.Prelude.{◌≡◌, ℕ, ◌^◌, ◌<◌, ◌≤◌, ◌⊎◌, Bool, true, false, suc, List, [], ◌∷◌, ◌++◌, map, filter, take, length, All, Contains, count_by, nat_le}
 use Rattle.std.specs.declared.cmp.Ordering.{Ordering}
 use Rattle.std.specs.declared.cmp.Reverse.{Reverse}
 use Rattle.std.specs.Ordering.{ordering_then, nat_cmp, int_cmp, is_gt}
@@ -86,6 +86,20 @@ module _ {D : ℕ} where
   pub record Explores (q : Query D) (n : NodeCells D) (kept kept1 : List (Candidate D)) (heap heap1 : List (Reverse Branch)) : Type 0 where
     pub rows : n.level ≡ 0 → Keeps q (map (candidate_of q.target) n.cells) kept kept1 × (heap1 ≡ heap)
     pub nodes : (l : ℕ) → n.level ≡ suc l → (kept1 ≡ kept) × ((most : ℕ) × IsReach q kept most × Queues q.target most n.cells heap heap1)
+
+  -- ---- a nearer limit
+  -- a cell of the node names the node at the key
+  abbrev pub NamesKey : NodeCells D → ℕ → Type 0
+  NamesKey n key = (c : Cell D) × Contains n.cells c × (key ≡ key_of c)
+
+  -- the limit is no farther than the query's, and the tree has as many rows within it as are asked for
+  pub record IsNearLimit (t : Arena D) (q : Query D) (limit : ℕ) : Type 0 where
+    pub within : limit ≤ q.limit
+    pub enough : q.k ≤ count_by (λ r. nat_le (box_distance r.rect q.target) limit) (rows_in t)
+
+  -- the query itself, or it with such a limit
+  abbrev pub IsNarrowed : Arena D → Query D → Query D → Type 0
+  IsNarrowed t q nearer = (nearer ≡ q) ⊎ ((limit : ℕ) × IsNearLimit t q limit × (nearer ≡ record { target = q.target; k = q.k; limit = limit }))
 
   -- ---- the answer
   -- the rows of some candidates, in order

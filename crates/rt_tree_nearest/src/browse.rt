@@ -14,6 +14,7 @@ ghost use Rattle.rt_tree_nearest.specs.Candidates.{IsKeptIn, QueuesFrom, Explore
 
 use crate::candidate::Branch;
 use crate::keep::{Kept, keep_rows, ordered, reach};
+use crate::narrow::narrow;
 use crate::query::Query;
 use rt_box::Rect;
 use rt_tree_node::{Arena, Node, node_at};
@@ -59,7 +60,7 @@ fn explore<const D: usize>(
 }
 
 /// The rows that the query asks for, in order.
-pub(crate) fn browse<const D: usize>(
+fn browse<const D: usize>(
     alloc: Global,
     tree: &Arena<D>,
     query: &Query<D>,
@@ -67,11 +68,9 @@ pub(crate) fn browse<const D: usize>(
     requires whole { IsWhole tree.now }
     requires settled { tree.now.pending.items ≡ [] }
     requires few { D ≤ 3 }
+    requires some { 1 ≤ query.now.k }
     ensures { IfOk result (λ rows. IsAnswer tree.now query.now rows.items) }
 {
-    if query.k == 0 {
-        return Ok(Vec::new(alloc));
-    }
     let mut kept = Kept::Few(Vec::new(alloc));
     let mut branches = BinaryHeap::new(alloc);
     branches.push(Reverse(Branch {
@@ -91,4 +90,21 @@ pub(crate) fn browse<const D: usize>(
         )?;
     }
     ordered(alloc, kept)
+}
+
+/// The rows that the query asks for, in order. A search within a near limit finds them, and sees less of the tree.
+pub(crate) fn find<const D: usize>(
+    alloc: Global,
+    tree: &Arena<D>,
+    query: &Query<D>,
+) -> Result<Vec<Row<D>>, AllocError>
+    requires whole { IsWhole tree.now }
+    requires settled { tree.now.pending.items ≡ [] }
+    requires few { D ≤ 3 }
+    ensures { IfOk result (λ rows. IsAnswer tree.now query.now rows.items) }
+{
+    if query.k == 0 {
+        return Ok(Vec::new(alloc));
+    }
+    browse(alloc, tree, &narrow(alloc, tree, query)?)
 }

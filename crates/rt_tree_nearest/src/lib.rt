@@ -18,6 +18,7 @@ mod browse;
 mod candidate;
 mod distance;
 mod keep;
+mod narrow;
 mod nearby;
 mod query;
 

@@ -4,7 +4,7 @@ ghost use Rattle.std.specs.Prelude.{◌≡◌, ◌≤◌, [], IfOk};
 ghost use Rattle.rt_tree_node.specs.Whole.{IsWhole};
 ghost use Rattle.rt_tree_nearest.specs.Nearest.{nearest_rows, rows_within, nearest_rows_to, rows_in, box_at};
 
-use crate::browse::browse;
+use crate::browse::find;
 use crate::query::Query;
 use rt_box::Rect;
 use rt_tree_node::Arena;
@@ -65,7 +65,7 @@ pub fn within<const D: usize>(
     let reach = u128::from(distance);
     let limit = reach * reach;
     let target = box_of(point);
-    browse(alloc, tree, &Query { target, k, limit })
+    find(alloc, tree, &Query { target, k, limit })
 }
 
 /// The `k` rows whose boxes are nearest to the box, by squared distance and then by id; all rows if there are fewer. Boxes
@@ -90,5 +90,5 @@ pub fn nearest_to<const D: usize>(
         k,
         limit: u128::MAX,
     };
-    browse(alloc, tree, &query)
+    find(alloc, tree, &query)
 }

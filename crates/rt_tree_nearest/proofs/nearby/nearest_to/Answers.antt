@@ -11,7 +11,7 @@ returns g c =
     let t = c.args.tree.now in
     let target = c.args.rect.now in
     let k = c.args.k in
-    IfOk-weaker c.browse.result (λ rows. IsAnswer t (record { target = target; k = k; limit = 2 ^ 128 - 1 }) rows.items)
+    IfOk-weaker c.find.result (λ rows. IsAnswer t (record { target = target; k = k; limit = 2 ^ 128 - 1 }) rows.items)
     (λ rows. rows.items ≡ nearest_rows_to target k (rows_in t))
     (λ rows is. is (λ r. true) (λ r far. absurd (omega (arith, far.1, far.2))) (λ r h. refl) ∙ ap (take k) (filter-all (sort_by (by_nearness_to target) (rows_in t))))
-    c.browse.ensures
+    c.find.ensures

@@ -19,7 +19,7 @@ returns g c =
     let limit : ℕ = c.from-reach.result * c.from-reach.result in
     let same : limit ≡ distance * distance = ap (λ n. n * n) c.from-reach.ensures in
     let near : Row g.row.D → Bool = λ r. nat_le (squared_distance r.rect point) (distance * distance) in
-    IfOk-weaker c.browse.result (λ rows. IsAnswer t (record { target = c.box_of-target.result; k = k; limit = limit }) rows.items)
+    IfOk-weaker c.find.result (λ rows. IsAnswer t (record { target = c.box_of-target.result; k = k; limit = limit }) rows.items)
     (λ rows. rows.items ≡ rows_within point distance k (rows_in t))
     (λ rows is.
     let at = subst (λ (target : List Interval). IsAnswer t (record { target = target; k = k; limit = limit }) rows.items) c.box_of-target.ensures is in
@@ -27,4 +27,4 @@ returns g c =
     (λ r far. is-farther (squared_distance r.rect point) (distance * distance) (omega (arith, far.2, far.3, same, distance-at r.rect point)))
     (λ r h. is-no_farther (squared_distance r.rect point) (distance * distance) (omega (arith, h, same, distance-at r.rect point)))
     ∙ ap (λ (order : Row g.row.D → Row g.row.D → Ordering). take k (filter near (sort_by order (rows_in t)))) (nearness-at point))
-    c.browse.ensures
+    c.find.ensures
