@@ -10,3 +10,5 @@ pub mod Steps
 pub mod Queueing
 pub mod Points
 pub mod Narrowed
+pub mod Aimed
+pub mod Picks

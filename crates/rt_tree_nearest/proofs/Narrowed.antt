@@ -1,6 +1,6 @@
 -- A nearer limit, and why the answer stays.
 use Rattle.std.proofs.Common.{◌≡◌, ℕ, zero, suc, ◌-◌, ◌<◌, ◌≤◌, Bool, true, false, cond, List, [], ◌∷◌, ◌++◌, length, map, take, filter, Contains, Some, nat_le, arith, refl, ap, sym, ◌∙◌, subst, inl, inr}
-use Rattle.std.specs.List.{All, count_by, sum_by, flat_map}
+use Rattle.std.specs.List.{All, count_by, sum_by}
 use Rattle.std.specs.declared.cmp.Ordering.{Ordering}
 use Rattle.std.specs.declared.cmp.Ordering.TheVariants.{Less, Equal, Greater}
 use Rattle.std.specs.Ordering.{ordering_then, nat_cmp, int_cmp, MatchOrdering}
@@ -29,7 +29,7 @@ use Rattle.rt_tree_walk.proofs.Reaching.{counted-contained}
 use Rattle.rt_tree_nearest.specs.declared.candidate.Candidate.{Candidate}
 use Rattle.rt_tree_nearest.specs.declared.query.Query.{Query}
 use Rattle.rt_tree_nearest.specs.Nearest.{box_distance, by_nearness_to, rows_in}
-use Rattle.rt_tree_nearest.specs.Candidates.{NamesKey, IsNearLimit, IsNarrowed, IsReach, IsAnswer, Keeps, candidate_of}
+use Rattle.rt_tree_nearest.specs.Candidates.{NamesKey, IsNearLimit, IsAimed, IsNarrowed, IsReach, IsAnswer, Keeps, candidate_of}
 use Rattle.rt_tree_nearest.proofs.Below.{leaf_rows, ids-apart}
 use Rattle.rt_tree_nearest.proofs.Ordered.{Rising, Rising-sort, contains-cases, sort-permutes}
 use Rattle.rt_tree_nearest.proofs.Orders.{nearness_total, untied}
@@ -91,6 +91,16 @@ module _ {D : ℕ} where
     same-front (suc k) [] up enough = refl
     same-front (suc k) (r ∷ rows) up enough = same-front_at k r rows (same-front k rows up.1) up.0 enough (inside r) refl
 
+module _ {D : ℕ} where
+  made : List Interval → ℕ → ℕ → List Interval → Query D
+  made target k limit window = record { target = target; k = k; limit = limit; window = window }
+
+  -- a query is what its parts are
+  pub fields : (q : Query D) (target : List Interval) (k limit : ℕ) → q.target ≡ target → q.k ≡ k → q.limit ≡ limit →
+      q ≡ record { target = target; k = k; limit = limit; window = q.window }
+  unfolding made
+  fields q target k limit a b c = ap (λ v. made v q.k q.limit q.window) a ∙ ap (λ v. made target v q.limit q.window) b ∙ ap (λ v. made target k v q.window) c
+
 module _ {D : ℕ} (t : Arena D) (s : IsSettled t) where
   -- a child is a level lower
   pub child-level : (k l key : ℕ) (n : NodeCells D) → get t.nodes k ≡ Some n → level_at t.nodes k ≡ Some l → 0 < l → NamesKey n key →
@@ -148,8 +158,9 @@ module _ {D : ℕ} (t : Arena D) (s : IsSettled t) where
   sorted-rising : (target : List Interval) → Rising (by_nearness_to target) (sort_by (by_nearness_to target) (rows_in t))
   sorted-rising target = Rising-sort (by_nearness_to target) (nearness_total target) (rows_in t) (untied target (rows_in t) (ids-apart t s))
 
-  limited : (q : Query D) (limit : ℕ) (rows : List (Row D)) → IsNearLimit t q limit → IsAnswer t (record { target = q.target; k = q.k; limit = limit }) rows → IsAnswer t q rows
-  limited q limit rows nearer answer near beyond within =
+  limited : (q : Query D) (limit : ℕ) (window : List Interval) (rows : List (Row D)) → IsNearLimit t q limit →
+      IsAnswer t (record { target = q.target; k = q.k; limit = limit; window = window }) rows → IsAnswer t q rows
+  limited q limit window rows nearer answer near beyond within =
       let inside : Row D → Bool = λ r. nat_le (box_distance r.rect q.target) limit in
       let sorted = sort_by (by_nearness_to q.target) (rows_in t) in
       answer inside (λ r far. is-beyond (box_distance r.rect q.target) limit (omega (arith, far.2, far.3))) (λ r h. no-farther (box_distance r.rect q.target) limit h)
@@ -161,4 +172,12 @@ module _ {D : ℕ} (t : Arena D) (s : IsSettled t) where
 
   pub narrowed-answer : (q nearer : Query D) (rows : List (Row D)) → IsNarrowed t q nearer → IsAnswer t nearer rows → IsAnswer t q rows
   narrowed-answer q nearer rows (inl e) answer = subst (λ (p : Query D). IsAnswer t p rows) e answer
-  narrowed-answer q nearer rows (inr found) answer = limited q found.0 rows found.1 (subst (λ (p : Query D). IsAnswer t p rows) found.2 answer)
+  narrowed-answer q nearer rows (inr found) answer = limited q found.0 nearer.window rows found.1 (subst (λ (p : Query D). IsAnswer t p rows) found.3 answer)
+
+  pub narrowed-aimed : (q nearer : Query D) → IsAimed q → IsNarrowed t q nearer → IsAimed nearer
+  narrowed-aimed q nearer aimed (inl e) = subst (λ (p : Query D). IsAimed p) (sym e) aimed
+  narrowed-aimed q nearer aimed (inr found) = found.2
+
+  pub narrowed-some : (q nearer : Query D) → IsNarrowed t q nearer → nearer.k ≡ q.k
+  narrowed-some q nearer (inl e) = ap (λ (p : Query D). p.k) e
+  narrowed-some q nearer (inr found) = ap (λ (p : Query D). p.k) found.3

@@ -10,13 +10,12 @@ ghost use Rattle.std.specs.List.Sorted.{IsPermutation};
 ghost use Rattle.std.specs.BinaryHeap.{KeepsHeap, heap_items};
 ghost use Rattle.slab.specs.Slab.{ContainsKey};
 ghost use Rattle.rt_tree_node.specs.Whole.{IsWhole};
-ghost use Rattle.rt_tree_nearest.specs.Candidates.{IsKeptIn, QueuesFrom, ExploresFrom, IsAnswer};
+ghost use Rattle.rt_tree_nearest.specs.Candidates.{IsAimed, IsKeptIn, QueuesFrom, ExploresFrom, IsAnswer};
 
 use crate::candidate::Branch;
 use crate::keep::{Kept, keep_rows, ordered, reach};
 use crate::narrow::narrow;
 use crate::query::Query;
-use rt_box::Rect;
 use rt_tree_node::{Arena, Node, node_at};
 use rt_tree_walk::Row;
 use std::alloc::{AllocError, Global};
@@ -26,17 +25,22 @@ use std::collections::BinaryHeap;
 /// Puts the children of a node that aren't too far into the heap.
 fn push_children<const D: usize>(
     branches: &mut BinaryHeap<Reverse<Branch>>,
-    target: &Rect<D>,
+    query: &Query<D>,
     node: &Node<D>,
     most: u128,
 ) -> Result<(), AllocError>
-    ensures { OnOk result (QueuesFrom target.now most node.now.cells branches.old branches.new) }
+    requires aimed { IsAimed query.now }
+    requires within { most ≤ query.now.limit }
+    ensures { OnOk result (QueuesFrom query.now.target most node.now.cells branches.old branches.new) }
 {
-    for at in 0..node.len() {
-        let branch = Branch::new(&node.cell(at), target);
+    let mut rest = query.near_cells(node);
+    while rest != 0 {
+        let cell = node.cell(rest.trailing_zeros() as usize);
+        let branch = Branch::new(&cell, &query.target);
         if branch.distance <= most {
             branches.push(Reverse(branch))?;
         }
+        rest &= rest - 1;
     }
     Ok(())
 }
@@ -49,14 +53,15 @@ fn explore<const D: usize>(
     query: &Query<D>,
     node: &Node<D>,
 ) -> Result<(), AllocError>
-    requires { IsKeptIn query.now kept.old }
+    requires kept { IsKeptIn query.now kept.old }
+    requires aimed { IsAimed query.now }
     ensures { OnOk result (ExploresFrom query.now node.now kept.old kept.new branches.old branches.new) }
 {
     if node.level() == 0 {
         return keep_rows(alloc, kept, query, node);
     }
     let most = reach(kept, query);
-    push_children(branches, &query.target, node, most)
+    push_children(branches, query, node, most)
 }
 
 /// The rows that the query asks for, in order.
@@ -68,6 +73,7 @@ fn browse<const D: usize>(
     requires whole { IsWhole tree.now }
     requires settled { tree.now.pending.items ≡ [] }
     requires few { D ≤ 3 }
+    requires aimed { IsAimed query.now }
     requires some { 1 ≤ query.now.k }
     ensures { IfOk result (λ rows. IsAnswer tree.now query.now rows.items) }
 {
@@ -101,6 +107,7 @@ pub(crate) fn find<const D: usize>(
     requires whole { IsWhole tree.now }
     requires settled { tree.now.pending.items ≡ [] }
     requires few { D ≤ 3 }
+    requires aimed { IsAimed query.now }
     ensures { IfOk result (λ rows. IsAnswer tree.now query.now rows.items) }
 {
     if query.k == 0 {

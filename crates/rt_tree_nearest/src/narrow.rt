@@ -5,7 +5,7 @@
 ghost use Rattle.std.specs.Prelude.{◌≡◌, ◌≤◌, [], Some, IfOk, IfSome};
 ghost use Rattle.rt_tree_node.specs.Whole.{IsWhole};
 ghost use Rattle.rt_tree_node.specs.Places.{level_at};
-ghost use Rattle.rt_tree_nearest.specs.Candidates.{IsNarrowed, NamesKey};
+ghost use Rattle.rt_tree_nearest.specs.Candidates.{IsAimed, IsNarrowed, NamesKey};
 
 use crate::distance::gaps;
 use crate::keep::{Kept, keep_rows, reach};
@@ -56,6 +56,7 @@ pub(crate) fn narrow<const D: usize>(
     requires whole { IsWhole tree.now }
     requires settled { tree.now.pending.items ≡ [] }
     requires few { D ≤ 3 }
+    requires aimed { IsAimed query.now }
     requires some { 1 ≤ query.now.k }
     ensures { IfOk result (IsNarrowed tree.now query.now) }
 {
@@ -70,10 +71,6 @@ pub(crate) fn narrow<const D: usize>(
     keep_rows(alloc, &mut kept, query, leaf)?;
     match &kept {
         Kept::Few(_) => Ok(*query),
-        Kept::Full(_) => Ok(Query {
-            target: query.target,
-            k: query.k,
-            limit: reach(&kept, query),
-        }),
+        Kept::Full(_) => Ok(Query::new(&query.target, query.k, reach(&kept, query))),
     }
 }

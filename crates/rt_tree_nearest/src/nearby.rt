@@ -65,7 +65,7 @@ pub fn within<const D: usize>(
     let reach = u128::from(distance);
     let limit = reach * reach;
     let target = box_of(point);
-    find(alloc, tree, &Query { target, k, limit })
+    find(alloc, tree, &Query::new(&target, k, limit))
 }
 
 /// The `k` rows whose boxes are nearest to the box, by squared distance and then by id; all rows if there are fewer. Boxes
@@ -85,10 +85,5 @@ pub fn nearest_to<const D: usize>(
     requires few { D ≤ 3 }
     ensures { IfOk result (λ rows. rows.items ≡ nearest_rows_to rect.now k (rows_in tree.now)) }
 {
-    let query = Query {
-        target: *rect,
-        k,
-        limit: u128::MAX,
-    };
-    find(alloc, tree, &query)
+    find(alloc, tree, &Query::new(rect, k, u128::MAX))
 }

@@ -1,4 +1,4 @@
-use Rattle.std.proofs.Common.{◌≡◌, ◌≤◌, Some, rules}
+use Rattle.std.proofs.Common.{◌≤◌, rules}
 use Rattle.slab.specs.Slab.{ContainsKey}
 use Rattle.rt_tree_walk.proofs.Progress.{IsSettled, level-some}
 use Rattle.rt_tree_nearest.proofs.Narrowed.{child-level}
