@@ -1,0 +1,2 @@
+pub mod Uniqueness
+pub mod Faithful
