@@ -1,5 +1,10 @@
 -- A tree is determined by what is done to it, and by what the checker sees of it (own).
-use Rattle.std.specs.Prelude.{◌≡◌, ℕ, ℤ}
+use Rattle.std.specs.Prelude.{◌≡◌, ℕ, ℤ, Bool, List}
+use Rattle.rt_box.specs.declared.interval.Interval.{Interval}
+use Rattle.rt_tree_choice.specs.declared.split.Cut.{Cut}
+use Rattle.rt_tree_choice.specs.Subtree.{IsBestChild}
+use Rattle.rt_tree_choice.specs.Split.{IsBestCut}
+use Rattle.rt_tree_rules.specs.Choices.{best_child, best_cut}
 use Rattle.rt_tree_rules.specs.Nested.{Row, Tree, Waiting}
 use Rattle.rt_tree_rules.specs.Placing.{Work, Settles, IsInsertion}
 use Rattle.rt_tree_rules.specs.Removing.{IsRemoval, IsReplacement}
@@ -25,3 +30,13 @@ ReplacementIsUnique = (axes capacity : ℕ) (old one other : Tree) (row : Row) (
 -- no two trees look the same to the checker
 abbrev pub ShadowsAreFaithful : Type 0
 ShadowsAreFaithful = (axes capacity : ℕ) (one other : Tree) → shadow_of {D = axes} capacity one ≡ shadow_of capacity other → one ≡ other
+
+-- ---- the choices are those of which the code's contracts speak
+
+abbrev pub BestChildIsTaken : Type 0
+BestChildIsTaken = (above_leaves : Bool) (boxes : List (List Interval)) (new : List Interval) (best : ℕ) →
+    IsBestChild above_leaves boxes new best → best_child above_leaves boxes new ≡ best
+
+abbrev pub BestCutIsTaken : Type 0
+BestCutIsTaken = (axes capacity : ℕ) (boxes : List (List Interval)) (cut : Cut) →
+    IsBestCut axes boxes capacity cut → best_cut axes capacity boxes ≡ cut

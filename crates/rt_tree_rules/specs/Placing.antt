@@ -1,7 +1,6 @@
 -- How a cell is inserted: the way down, what becomes of an overfull node, and a new root (Beckmann, Kriegel, Schneider,
 -- Seeger 1990, sections 4.1 to 4.3; the counts own).
-use Rattle.std.specs.Prelude.{◌≡◌, ℕ, zero, suc, true, false, List, [], ◌∷◌, ◌++◌, map, length, nat_le, nat_eq, slice_set, slice_index_or}
-use Rattle.std.specs.List.{list_any}
+use Rattle.std.specs.Prelude.{◌≡◌, ℕ, zero, suc, true, false, List, [], ◌∷◌, ◌++◌, map, length, nat_le, nat_lt, nat_eq, slice_set, slice_index_or}
 use Rattle.rt_tree_choice.specs.Split.{first_group, second_group}
 use Rattle.rt_tree_choice.specs.Reinsertion.{farthest_positions}
 use Rattle.rt_tree_rules.specs.Nested.{Row, Node, box, boxes, Tree, Waiting, of_level}
@@ -13,10 +12,11 @@ pub record Work : Type 0 where
   pub splits : ℕ
   pub reinsertions : ℕ
 
--- what goes along with an insertion: the levels on which cells were already inserted again, the cells that wait, the
--- first of which is the next to be inserted, and the work so far
+-- What goes along with an insertion. Levels below `marks` are marked: on the highest of them cells were inserted again
+-- already, and so cells come to no lower one before it. Cells wait, of which the first is inserted next. The work is that
+-- so far.
 pub record Course : Type 0 where
-  pub marked : List ℕ
+  pub marks : ℕ
   pub waiting : List Waiting
   pub work : Work
 
@@ -50,7 +50,7 @@ module _ (axes capacity : ℕ) where
         node = picked node (near_positions capacity (boxes l node));
         beside = [];
         course = record {
-          marked = l ∷ course.marked;
+          marks = suc l;
           waiting = map (λ e. record { level = l; entry = e }) far ++ course.waiting;
           work = record course.work { reinsertions = suc course.work.reinsertions };
         };
@@ -61,11 +61,15 @@ module _ (axes capacity : ℕ) where
   abbrev pub treat : (l : ℕ) → Node l → Course → Becomes l
   treat l node course = elim (nat_le (length node) capacity) [
     | true ↦ record { node = node; beside = []; course = course }
-    | false ↦ elim (list_any (nat_eq l) course.marked) [ true ↦ split l node course | false ↦ reinsert l node course ]
+    | false ↦ elim (nat_lt l course.marks) [ true ↦ split l node course | false ↦ reinsert l node course ]
   ]
 
-  -- the cell enters the node of its level that best children lead to: it is that node's last. On the way back up each child
-  -- is treated, and nodes that a split made are the last of its parent (sections 4.1 and 4.3, Insert)
+  -- a treated child is again where it was, and a node that a split made is the last of the parent (section 4.3, Insert)
+  abbrev pub rejoin : (l : ℕ) → Node (suc l) → ℕ → Becomes l → Becomes (suc l)
+  rejoin l node at child = record { node = slice_set node at child.node ++ child.beside; beside = []; course = child.course }
+
+  -- the cell enters the node of its level that best children lead to, as its last, and on the way back up each child is
+  -- treated (sections 4.1 and 4.3, Insert)
   abbrev pub enter : (l : ℕ) → Node l → Waiting → Course → Becomes l
   enter zero node new course = record { node = node ++ of_level zero new; beside = []; course = course }
   enter (suc l) node new course = elim (nat_eq new.level (suc l)) [
@@ -73,8 +77,7 @@ module _ (axes capacity : ℕ) where
     | false ↦
         let at = best_child (nat_eq l 0) (boxes (suc l) node) (box new.level new.entry) in
         let below = enter l (slice_index_or node at []) new course in
-        let child = treat l below.node below.course in
-        record { node = slice_set node at child.node ++ child.beside; beside = []; course = child.course }
+        rejoin l node at (treat l below.node below.course)
   ]
 
   -- an overfull root is split, and a new root, a level higher, has the two halves (section 4.3, Insert)
@@ -104,7 +107,7 @@ module _ (axes capacity : ℕ) where
   abbrev pub start : Tree → Waiting → Standing
   start tree new = record {
     tree = tree;
-    course = record { marked = []; waiting = new ∷ []; work = record { placements = 0; splits = 0; reinsertions = 0 } };
+    course = record { marks = 0; waiting = new ∷ []; work = record { placements = 0; splits = 0; reinsertions = 0 } };
   }
 
   -- the cell is inserted, and each that has to be inserted again because of it, until none waits

@@ -10,7 +10,7 @@
 //! those of `rt_tree_choice`.
 #![tactic(auto)]
 
-ghost use Rattle.rt_tree_rules.specs.Laws.{SettlingIsUnique, InsertionIsUnique, RemovalIsUnique, ReplacementIsUnique, ShadowsAreFaithful};
+ghost use Rattle.rt_tree_rules.specs.Laws.{SettlingIsUnique, InsertionIsUnique, RemovalIsUnique, ReplacementIsUnique, ShadowsAreFaithful, BestChildIsTaken, BestCutIsTaken};
 
 /// A cell that is inserted, with all that is inserted again because of it, leads to one tree by one amount of work.
 pub fn settling_is_unique()
@@ -35,4 +35,14 @@ pub fn replacement_is_unique()
 /// No two trees look the same to the checker.
 pub fn shadows_are_faithful()
     ensures { ShadowsAreFaithful }
+{}
+
+/// The child that takes a box is the one that `IsBestChild` tells.
+pub fn best_child_is_taken()
+    ensures { BestChildIsTaken }
+{}
+
+/// The cut of an overfull node is the one that `IsBestCut` tells.
+pub fn best_cut_is_taken()
+    ensures { BestCutIsTaken }
 {}
