@@ -1,0 +1,11 @@
+pub mod Lists
+pub mod Frames
+pub mod Ways
+pub mod Boxes
+pub mod Near
+pub mod Treated
+pub mod Stepped
+pub mod Climbed
+pub mod Entered
+pub mod Finished
+pub mod Placed
