@@ -9,3 +9,4 @@ pub mod Climbed
 pub mod Entered
 pub mod Finished
 pub mod Placed
+pub mod Settled

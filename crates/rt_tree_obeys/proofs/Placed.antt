@@ -14,14 +14,13 @@ use Rattle.rt_tree_node.specs.Node.{NodeCells}
 use Rattle.rt_tree_node.specs.Path.{LeadsTo}
 use Rattle.rt_tree_node.specs.Places.{key_of, cells_at, level_at, parent_at, hull_at}
 use Rattle.rt_tree_node.specs.Sound.{IsLinked, Names}
-use Rattle.rt_tree_node.specs.Whole.{IsWhole}
 use Rattle.rt_tree_node.proofs.Links.{All-at}
 use Rattle.rt_tree_place.specs.Placement.{PlacesLast}
 use Rattle.rt_tree_place.specs.Rise.{Ascends, Enters}
 use Rattle.rt_tree_rules.specs.Nested.{Waiting, box}
 use Rattle.rt_tree_rules.specs.Placing.{Work, Becomes, Course, grow}
 use Rattle.rt_tree_obeys.specs.View.{entry_in, node_in, tree_in, waiting_in, waiting_cells}
-use Rattle.rt_tree_obeys.specs.Laws.{Obeys, PlacingObeys}
+use Rattle.rt_tree_obeys.specs.Laws.{Stands, Obeys, PlacingObeys}
 use Rattle.rt_tree_obeys.proofs.Ways.{level_of_up, stays}
 use Rattle.rt_tree_obeys.proofs.Boxes.{HasHulls, boxes_kept}
 use Rattle.rt_tree_obeys.proofs.Frames.{same_level}
@@ -37,7 +36,7 @@ box_kept a R L ws linked hulls (suc i) c named hull_is =
     ap hull (boxes_kept a i linked.children (hulls i) i (key_of c) (named i refl) (omega arith)) ∙ sym (hull_is i refl)
 
 module _ {D : ℕ} (old new : Arena D) (marks marks1 : ℕ) (work work1 : Counts) (base rest : List Waiting) (effort : Work)
-    (whole : IsWhole old) (places : PlacesLast old new marks marks1 work work1) where
+    (whole : Stands old) (places : PlacesLast old new marks marks1 work work1) where
   abbrev K : ℕ
   K = old.capacity
 
@@ -84,7 +83,7 @@ module _ {D : ℕ} (old new : Arena D) (marks marks1 : ℕ) (work work1 : Counts
   capacity_is = ap (λ (s : Arena D). s.capacity) places.without_is
 
   hulls : (m : ℕ) → HasHulls a m
-  hulls m x j here low k d within = whole.fitted.hulls x j here k d within (λ e. none-some _ e)
+  hulls m x j here low k d within = whole.hulls x j here k d within
 
   w_named : (i : ℕ) → w.level ≡ suc i → level_at a (key_of w.cell) ≡ Some i
   w_named i is =
@@ -95,7 +94,7 @@ module _ {D : ℕ} (old new : Arena D) (marks marks1 : ℕ) (work work1 : Counts
   w_box =
       let P : Pending D → Type 0 = λ v. (l : ℕ) → v.level ≡ suc l → v.cell.rect ≡ hull_at a (key_of v.cell) in
       box_kept a R L ws whole.linked hulls w.level w.cell w_named
-      (λ i is. All-at P places.left w [] (subst (All P) places.was whole.fitted.pending_hulls) i is)
+      (λ i is. All-at P places.left w [] (subst (All P) places.was whole.pending_hulls) i is)
 
   abbrev r : Becomes L
   r = result K R L a ws whole.linked hulls w w_box course

@@ -1,9 +1,19 @@
 //! The code's steps follow the rules on nested trees.
 #![tactic(auto)]
 
-ghost use Rattle.rt_tree_obeys.specs.Laws.{PlacingObeys};
+ghost use Rattle.rt_tree_obeys.specs.Laws.{PlacingObeys, SettlingObeys, InsertionObeys};
 
 /// A placement follows the rules.
 pub fn placing_obeys()
     ensures { PlacingObeys }
+{}
+
+/// A pending cell that is placed, with each that has to be placed again because of it, follows the rules.
+pub fn settling_obeys()
+    ensures { SettlingObeys }
+{}
+
+/// The insertion of a row follows the rules.
+pub fn insertion_obeys()
+    ensures { InsertionObeys }
 {}
