@@ -10,3 +10,4 @@ pub mod Entered
 pub mod Finished
 pub mod Placed
 pub mod Settled
+pub mod Seen

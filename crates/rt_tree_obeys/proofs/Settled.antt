@@ -1,5 +1,5 @@
 -- Placements one after the other are those of the rules.
-use Rattle.std.proofs.Common.{◌≡◌, ℕ, zero, suc, ◌<◌, ◌≤◌, List, [], ◌∷◌, ◌++◌, map, length, reverse, refl, sym, ap, ◌∙◌, subst, arith, length-append}
+use Rattle.std.proofs.Common.{◌≡◌, ◌≢◌, ◌+◌, ℕ, zero, suc, ◌<◌, ◌≤◌, List, [], ◌∷◌, ◌++◌, map, length, reverse, refl, sym, ap, ◌∙◌, subst, arith, length-append}
 use Rattle.std.specs.List.{All}
 use Rattle.std.proofs.lemmas.Option.{none-some}
 use Rattle.std.proofs.lemmas.List.{append-nil, length-map, length-reverse, nil_from_length}
@@ -83,12 +83,18 @@ module _ {D : ℕ} (old : Arena D) (base : List Waiting) (entry : Waiting) where
   in_turn n n_is stands pending t marks work (PlacesInTurn.next {t = m} {marks = marks0} {work = work0} before some last) =
       more m t marks0 marks work0 work (in_turn n n_is stands pending m marks0 work0 before) (omega arith) last
 
+ends_whole : {D : ℕ} (old new : Arena D) (n marks : ℕ) (work : Counts) → PlacesInTurn old n new marks work → new ≢ old → IsWhole new
+ends_whole old new n marks work (PlacesInTurn.none) differs = absurd (differs refl)
+ends_whole old new n marks work (PlacesInTurn.next before some last) differs = last.whole
+
 pub settling : SettlingObeys
 settling axes old new marks work base entry stands pending turns few =
     let so_far = in_turn old base entry (length base) refl stands pending new marks work turns in
     let all = ap (length {A = Waiting}) so_far.pending ∙ length-append base (reverse so_far.waits) in
     let long = length-map new.pending.items (waiting_in new.nodes) in
     let turned = length-reverse so_far.waits in
+    let start_long : length old.pending.items ≡ length base + 1
+    = sym (length-map old.pending.items (waiting_in old.nodes)) ∙ ap (length {A = Waiting}) pending ∙ length-append base (entry ∷ []) in
     let none : so_far.waits ≡ [] = nil_from_length so_far.waits (omega arith) in
     record {
       effort = so_far.effort;
@@ -99,7 +105,7 @@ settling axes old new marks work base entry stands pending turns few =
         work_is = sym (ap (λ (s : Standing). s.course.work) so_far.is);
       };
       pending = so_far.pending ∙ ap (λ vs. base ++ reverse vs) none ∙ append-nil base;
-      stands = so_far.stands;
+      whole = ends_whole old new (length base) marks work turns (λ e. absurd (omega (arith, ap (λ (t : Arena axes). length t.pending.items) e, start_long)));
       capacity = so_far.capacity;
     }
 
@@ -138,6 +144,6 @@ insertion axes before awaiting after id rect marks work whole idle awaits turns 
       settled.effort,
       subst (λ (k : ℕ). Settles axes k (tree_in before) row (tree_in after) settled.effort) capacity
           (subst (λ (x : Tree). Settles axes awaiting.capacity x row (tree_in after) settled.effort) tree settled.settles),
-      settled.stands,
+      settled.whole,
       settled.capacity ∙ capacity,
     )

@@ -1,5 +1,5 @@
 -- A placement follows the rules on nested trees.
-use Rattle.std.specs.Prelude.{◌≡◌, ℕ, suc, ℤ, List, [], ◌∷◌, ◌++◌, Some, length, reverse, All}
+use Rattle.std.specs.Prelude.{◌≡◌, ℕ, suc, ℤ, List, [], ◌∷◌, ◌++◌, Some, None, length, reverse, All}
 use Rattle.rt_box.specs.declared.interval.Interval.{Interval}
 use Rattle.rt_tree_node.specs.declared.arena.Arena.{Arena}
 use Rattle.rt_tree_node.specs.declared.arena.Work.{Work}
@@ -11,6 +11,8 @@ use Rattle.rt_tree_place.specs.Placement.{PlacesLast}
 use Rattle.rt_tree_place.specs.Turns.{PlacesInTurn}
 use Rattle.rt_tree_rules.specs.Nested.{Waiting}
 use Rattle.rt_tree_rules.specs.Placing.{Work as Effort, insert_one, Settles, IsInsertion}
+use Rattle.rt_tree_rules.specs.Shadow.{nodes_in}
+use Rattle.rt_tree_walk.specs.Outside.{outside}
 use Rattle.rt_tree_obeys.specs.View.{tree_in, waiting_cells}
 
 module _ {D : ℕ} where
@@ -40,7 +42,7 @@ module _ {D : ℕ} where
     pub effort : Effort
     pub settles : Settles D old.capacity (tree_in old) entry (tree_in new) effort
     pub pending : waiting_cells new ≡ base
-    pub stands : Stands new
+    pub whole : IsWhole new
     pub capacity : new.capacity ≡ old.capacity
 
 -- the last pending cell is placed, and each that has to be placed again because of it
@@ -55,4 +57,8 @@ InsertionObeys = (axes : ℕ) (before awaiting after : Arena axes) (id : ℤ) (r
     IsWhole before → before.pending.items ≡ [] → AwaitsLeaf before awaiting record { number = id; rect = rect } →
     PlacesInTurn awaiting 0 after marks work → after.pending.items ≡ [] →
     (effort : Effort) × IsInsertion axes before.capacity (tree_in before) record { id = id; rect = rect } (tree_in after) effort
-    × Stands after × (after.capacity ≡ before.capacity)
+    × IsWhole after × (after.capacity ≡ before.capacity)
+
+-- the nodes that are seen of an arena are those of its nested tree
+abbrev pub NodesAreSeen : Type 0
+NodesAreSeen = (axes : ℕ) (t : Arena axes) → IsWhole t → t.pending.items ≡ [] → (outside t).nodes ≡ nodes_in t.level 1 None (tree_in t).root

@@ -1,7 +1,7 @@
 //! The code's steps follow the rules on nested trees.
 #![tactic(auto)]
 
-ghost use Rattle.rt_tree_obeys.specs.Laws.{PlacingObeys, SettlingObeys, InsertionObeys};
+ghost use Rattle.rt_tree_obeys.specs.Laws.{PlacingObeys, SettlingObeys, InsertionObeys, NodesAreSeen};
 
 /// A placement follows the rules.
 pub fn placing_obeys()
@@ -16,4 +16,9 @@ pub fn settling_obeys()
 /// The insertion of a row follows the rules.
 pub fn insertion_obeys()
     ensures { InsertionObeys }
+{}
+
+/// The nodes that are seen of an arena are those of its nested tree.
+pub fn nodes_are_seen()
+    ensures { NodesAreSeen }
 {}
