@@ -113,8 +113,10 @@ module _ (D : ℕ) where
       subst (λ (k : ℕ). (c : Node k) → nodes_in {D = D} l 1 None a ≡ nodes_in k 1 None c → tree l a ≡ tree k c)
       h (λ c same. ap (tree l) (decode l 1 None a c [] [] (ap (λ (ns : List (NodeRow D)). ns ++ []) same)).0) b e
 
-pub faithful : ShadowsAreFaithful
-faithful axes capacity one other e =
-    let nodes : nodes_in {D = axes} one.level 1 None one.root ≡ nodes_in other.level 1 None other.root = ap (λ (s : ShadowLists axes). s.nodes) e in
+pub same_nodes : (axes : ℕ) (one other : Tree) → nodes_in {D = axes} one.level 1 None one.root ≡ nodes_in other.level 1 None other.root → one ≡ other
+same_nodes axes one other nodes =
     let level = sym (level_is axes one.level 1 None one.root) ∙ ap (first_level axes) nodes ∙ level_is axes other.level 1 None other.root in
     same_tree axes one.level other.level one.root other.root nodes level
+
+pub faithful : ShadowsAreFaithful
+faithful axes capacity one other e = same_nodes axes one other (ap (λ (s : ShadowLists axes). s.nodes) e)
