@@ -69,7 +69,7 @@ module _ {D : ℕ} where
     pub waiting_same : course1.waiting ≡ course.waiting
     pub pending_same : waiting_cells u ≡ waiting_cells t
 
-  tree_is : (t : Arena D) (R L : ℕ) → t.root ≡ R → t.level ≡ L → tree_in t ≡ record { level = L; root = node_in t.nodes L R }
+  pub tree_is : (t : Arena D) (R L : ℕ) → t.root ≡ R → t.level ≡ L → tree_in t ≡ record { level = L; root = node_in t.nodes L R }
   tree_is t R L root level =
       ap (λ (k : ℕ). record { level = t.level; root = node_in t.nodes t.level k }) root
       ∙ ap (λ (l : ℕ). record { level = l; root = node_in t.nodes l R }) level

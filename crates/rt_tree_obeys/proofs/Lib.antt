@@ -11,3 +11,7 @@ pub mod Finished
 pub mod Placed
 pub mod Settled
 pub mod Seen
+pub mod Thinning
+pub mod Thinned
+pub mod Found
+pub mod Removed

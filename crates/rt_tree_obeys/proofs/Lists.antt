@@ -1,5 +1,6 @@
 -- Lists of which one element changes.
 use Rattle.std.proofs.Common.{◌≡◌, ◌≢◌, ℕ, zero, suc, ◌<◌, ◌≤◌, Bool, true, cond, List, [], ◌∷◌, map, length, get_or, set, count_by, Some, slice_get, refl, ap, arith}
+use Rattle.std.specs.List.{remove}
 use Rattle.std.proofs.lemmas.Option.{slice_get_within, get_or_from_slice_get}
 use Rattle.rt_tree_node.proofs.Counts.{count-cons, count-some}
 
@@ -50,3 +51,17 @@ module _ {X Y : Type 0} (f g : X → Y) where
       let head : f x ≡ g x = same 0 x (omega arith) (λ e. absurd (omega arith)) in
       let tail = map_but xs at c here (λ i d within other. same (suc i) d (omega arith) (λ e. other (omega arith))) in
       cc
+
+pub remove_map : {X Y : Type 0} (f : X → Y) (xs : List X) (at : ℕ) → remove (map f xs) at ≡ map f (remove xs at)
+remove_map f [] zero = refl
+remove_map f [] (suc at) = refl
+remove_map f (x ∷ xs) zero = refl
+remove_map f (x ∷ xs) (suc at) = ap (λ ys. f x ∷ ys) (remove_map f xs at)
+
+pub remove_same : {X Y : Type 0} (f g : X → Y) (xs : List X) (at : ℕ) → AgreeBut f g xs at → remove (map f xs) at ≡ remove (map g xs) at
+remove_same f g [] at same = refl
+remove_same f g (x ∷ xs) zero same = agree_all f g xs (λ i d within. same (suc i) d (omega arith) (λ e. absurd (omega arith)))
+remove_same f g (x ∷ xs) (suc at) same =
+    let head : f x ≡ g x = same 0 x (omega arith) (λ e. absurd (omega arith)) in
+    let tail = remove_same f g xs at (λ i d within other. same (suc i) d (omega arith) (λ e. other (omega arith))) in
+    cc

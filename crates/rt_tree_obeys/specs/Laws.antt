@@ -9,8 +9,10 @@ use Rattle.rt_tree_node.specs.Whole.{IsWhole}
 use Rattle.rt_tree_place.specs.NewRow.{AwaitsLeaf}
 use Rattle.rt_tree_place.specs.Placement.{PlacesLast}
 use Rattle.rt_tree_place.specs.Turns.{PlacesInTurn}
+use Rattle.rt_tree_remove.specs.Removal.{RemovesInSteps}
 use Rattle.rt_tree_rules.specs.Nested.{Waiting}
 use Rattle.rt_tree_rules.specs.Placing.{Work as Effort, insert_one, Settles, IsInsertion}
+use Rattle.rt_tree_rules.specs.Removing.{IsRemoval}
 use Rattle.rt_tree_rules.specs.Shadow.{nodes_in}
 use Rattle.rt_tree_walk.specs.Outside.{outside}
 use Rattle.rt_tree_obeys.specs.View.{tree_in, waiting_cells}
@@ -62,3 +64,9 @@ InsertionObeys = (axes : ℕ) (before awaiting after : Arena axes) (id : ℤ) (r
 -- the nodes that are seen of an arena are those of its nested tree
 abbrev pub NodesAreSeen : Type 0
 NodesAreSeen = (axes : ℕ) (t : Arena axes) → IsWhole t → t.pending.items ≡ [] → (outside t).nodes ≡ nodes_in t.level 1 None (tree_in t).root
+
+-- a row that goes, step by step
+abbrev pub RemovalObeys : Type 0
+RemovalObeys = (axes : ℕ) (before after : Arena axes) (id : ℤ) (rect : List Interval) →
+    IsWhole before → before.pending.items ≡ [] → RemovesInSteps before after id rect →
+    IsRemoval axes before.capacity (tree_in before) id (tree_in after) × IsWhole after × (after.pending.items ≡ []) × (after.capacity ≡ before.capacity)

@@ -1,7 +1,7 @@
 //! The code's steps follow the rules on nested trees.
 #![tactic(auto)]
 
-ghost use Rattle.rt_tree_obeys.specs.Laws.{PlacingObeys, SettlingObeys, InsertionObeys, NodesAreSeen};
+ghost use Rattle.rt_tree_obeys.specs.Laws.{PlacingObeys, SettlingObeys, InsertionObeys, NodesAreSeen, RemovalObeys};
 
 /// A placement follows the rules.
 pub fn placing_obeys()
@@ -21,4 +21,9 @@ pub fn insertion_obeys()
 /// The nodes that are seen of an arena are those of its nested tree.
 pub fn nodes_are_seen()
     ensures { NodesAreSeen }
+{}
+
+/// The removal of a row follows the rules.
+pub fn removal_obeys()
+    ensures { RemovalObeys }
 {}
