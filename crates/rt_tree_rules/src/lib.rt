@@ -2,8 +2,8 @@
 //! name no arena and no key, and each is a function that can be computed, from ChooseSubtree to CondenseTree.
 //!
 //! By these rules an insertion leads to one tree and one amount of work, and so does a replacement; a removal leads to one
-//! tree. No two trees look the same to the checker. Each function does nothing: its contract is the law. Whether the code's
-//! tree follows these rules isn't said here.
+//! tree. No two trees look the same to the checker. Each function does nothing: its contract is the law. That the code
+//! follows these rules stands in `rt_tree_obeys`.
 //!
 //! Definitions: `specs/Nested.antt` (trees), `Choices.antt`, `Placing.antt` and `Removing.antt` (the rules), `Shadow.antt`
 //! (what the checker sees), `Laws.antt`. `Examples.antt` holds the rules against worked trees. The keys of the choices are
