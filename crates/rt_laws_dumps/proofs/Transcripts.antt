@@ -1,5 +1,5 @@
 -- A script's transcript is determined, piece by piece.
-use Rattle.std.proofs.Common.{◌≡◌, ℕ, ◌+◌, Bool, true, false, List, [], ◌∷◌, Result, Ok, Err, sym, ap, ◌∙◌, subst}
+use Rattle.std.proofs.Common.{◌≡◌, ℕ, ◌+◌, arith, Bool, true, false, List, [], ◌∷◌, Result, Ok, Err, sym, ap, ◌∙◌, subst}
 use Rattle.std.specs.Prelude.{◌&&◌}
 use Rattle.std.specs.Bool.{MatchBool}
 use Rattle.std.specs.List.{concat}
@@ -14,7 +14,8 @@ use Rattle.rt_sql_statement.specs.declared.refusal.Refusal.{Refusal}
 use Rattle.rt_session.specs.Session.{State, Outcome}
 use Rattle.rt_shell.specs.declared.engine.Options.{Options}
 use Rattle.rt_shell.specs.Transcript.{Marks, Progress, start, AnswersParsed, MayGive, after, part_of, Prints}
-use Rattle.rt_laws_dumps.specs.Laws.{TranscriptIsOne, TextIsOne}
+use Rattle.rt_laws.proofs.TranscriptLemmas.{ended_one_way, remarked_as_far}
+use Rattle.rt_laws_dumps.specs.Laws.{TranscriptIsOne, TextIsOne, TranscriptSoFarIsOne}
 use Rattle.rt_laws_dumps.proofs.Statements.{statements_one}
 
 parsed_one : (s : State) (parsed : Result Stmt Refusal) (o a : Outcome) → AnswersParsed s parsed o → AnswersParsed s parsed a → o ≡ a
@@ -56,3 +57,10 @@ pub text_one : TextIsOne
 text_one options marks script one other first second (parts, transcript, is) (others, transcribed, are) =
     let same = transcript_one options marks script parts others first second transcript transcribed in
     (is ∙ ap concat same.0 ∙ sym are, same.1)
+
+pub so_far_one : TranscriptSoFarIsOne
+so_far_one options marks others read one other (pieces, ended, first, prints) (parts, parted, second, printed) agree =
+    let same : parts ≡ pieces = ended_one_way read parts pieces parted ended in
+    (prints_one options others (start options) pieces one other first second
+    (remarked_as_far options marks others (start options) pieces one first (λ n le. agree n (omega (arith, le))) prints)
+    (subst (λ ps. Prints options others (start options) ps other second) same printed)).0

@@ -1,5 +1,5 @@
 -- What a script prints is determined, the dumps of its trees included (own).
-use Rattle.std.specs.Prelude.{◌≡◌, ℕ, List}
+use Rattle.std.specs.Prelude.{◌≡◌, ℕ, ◌≤◌, List, length}
 use Rattle.rt_bytes.specs.declared.outcome.Status.{Status}
 use Rattle.rt_check.specs.Shadow.{ShadowLists}
 use Rattle.rt_sql_statement.specs.declared.statement.Stmt.{Stmt}
@@ -9,6 +9,7 @@ use Rattle.rt_table_store.specs.Moves.{FollowsSteps}
 use Rattle.rt_session.specs.Session.{State, Outcome, Answers}
 use Rattle.rt_shell.specs.declared.engine.Options.{Options}
 use Rattle.rt_shell.specs.Transcript.{Marks, IsTranscriptByPieces, IsTranscript}
+use Rattle.rt_laws.specs.ScriptLaws.{IsTranscriptSoFarByPieces}
 
 -- steps lead a tree to one tree
 abbrev pub StepsHaveOneAnswer : Type 0
@@ -30,3 +31,9 @@ TranscriptIsOne = (options : Options) (marks : Marks) (script : List ℕ) (one o
 abbrev pub TextIsOne : Type 0
 TextIsOne = (options : Options) (marks : Marks) (script one other : List ℕ) (first second : Status) →
     IsTranscript options marks script one first → IsTranscript options marks script other second → (one ≡ other) × (first ≡ second)
+
+-- Whoever reads or is fed the same bytes, in whatever parts, prints the same, as far as memory refuses the same pieces.
+abbrev pub TranscriptSoFarIsOne : Type 0
+TranscriptSoFarIsOne = (options : Options) (marks others : Marks) (read : List ℕ) (one other : List (List ℕ)) →
+    IsTranscriptSoFarByPieces options marks read one → IsTranscriptSoFarByPieces options others read other →
+    ((n : ℕ) → n ≤ length one → marks n ≡ others n) → one ≡ other

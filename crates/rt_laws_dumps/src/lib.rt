@@ -7,7 +7,7 @@
 //! Each function does nothing: its contract is the law. Definitions: `specs/Laws.antt`.
 #![tactic(auto)]
 
-ghost use Rattle.rt_laws_dumps.specs.Laws.{StepsHaveOneAnswer, StatementsHaveOneAnswer, TranscriptIsOne, TextIsOne};
+ghost use Rattle.rt_laws_dumps.specs.Laws.{StepsHaveOneAnswer, StatementsHaveOneAnswer, TranscriptIsOne, TextIsOne, TranscriptSoFarIsOne};
 
 /// Steps lead a tree to one tree.
 pub fn steps_have_one_answer()
@@ -28,4 +28,10 @@ pub fn transcript_is_one()
 /// The same of the text as a whole.
 pub fn text_is_one()
     ensures { TextIsOne }
+{}
+
+/// If two shells were fed the same bytes, in whatever parts, and memory refused the same pieces of those that printed, both
+/// printed the same.
+pub fn transcript_so_far_is_one()
+    ensures { TranscriptSoFarIsOne }
 {}
