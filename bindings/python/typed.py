@@ -2,6 +2,7 @@
 
 import array
 import copy
+import sqlite3
 from typing import Any, Iterator, List, Optional, Tuple, Union
 
 import juicedelta
@@ -100,6 +101,8 @@ def floats() -> None:
     tree = RTree(grid=grid, interleaved=False)
     tree.insert(1, (0.5, 1.5, 2, 3))
     box: Tuple[float, ...] = tree.box(1)
+    read: RTree = RTree.from_sqlite(sqlite3.connect(":memory:"), "t", 51, grid=grid) if not tree else tree
+    read.to_sqlite(sqlite3.connect(":memory:"), "t", ["name"])
     print(back, box, list(tree.nearest((0.5, 0.5))), RTree.from_bytes(tree.to_bytes(), grid=grid, interleaved=False))
 
 
@@ -110,9 +113,11 @@ def shells() -> None:
     view, sign, values = changes[0]
     words: str = view + sign + changes[0].view
     rows: List[Tuple[Value, ...]] = shell.rows("SELECT * FROM t")
+    connection = sqlite3.connect(":memory:")
+    number: int = shell.save_sqlite(connection, "t", ["c"]) + Shell().load_sqlite(connection, "t", reals_as_text=True)
     lines += shell.finish()
     shell.close()
-    print(lines, words, values, rows)
+    print(lines, words, values, rows, number)
 
 
 def errors(code: JuicedeltaError, refusal: StatementRefused) -> str:

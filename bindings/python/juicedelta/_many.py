@@ -4,7 +4,12 @@ from __future__ import annotations
 
 import array
 import ctypes
-from typing import Any, Dict, Iterable, Iterator, List, Literal, NamedTuple, Optional, SupportsIndex, Tuple, TypeVar, Union
+import sqlite3
+from itertools import chain
+from operator import itemgetter
+from typing import (
+    Any, Dict, Iterable, Iterator, List, Literal, NamedTuple, Optional, Sequence, SupportsIndex, Tuple, TypeVar
+)
 
 from ._buffers import array_of, at, zeros
 from ._calls import (
@@ -16,7 +21,6 @@ from ._calls import (
     tree_join_self,
     tree_len,
     tree_nearest_many,
-    tree_open,
     tree_open_bytes,
     tree_open_rows,
     tree_rows,
@@ -24,9 +28,10 @@ from ._calls import (
     tree_to_bytes,
 )
 from ._errors import BUFFER_TOO_SMALL, EMPTY, accept, error_at
-from ._form import Coordinates, Form
+from ._form import Form
 from ._grid import Grid
 from ._owner import Guard, Owner, capacity_of, whole
+from ._sqlite import all_or_nothing, create, find, parts_of, quoted, replace_rows, table_of
 
 Relation = Literal["touches", "within", "holds"]
 NUMBER_OF: Dict[str, ctypes.c_uint32] = {
@@ -93,12 +98,17 @@ class ManyRows(Owner):
         objects: Optional[Iterable[Any]] = None, grid: Optional[Grid] = None, interleaved: bool = True
     ) -> M:
         """A tree of many rows, packed all at once: much sooner made and searched than by many insertions."""
-        form, place = form_of(dimension, grid, interleaved), ctypes.c_uint64()
-        rows, numbers = array_of(ids, "q", "ids"), form.list_of_boxes(boxes)
-        tree = cls.__new__(cls)
-        lists = (at(rows), len(rows), at(numbers), len(numbers))
-        tree._start(form.axes, form, tree_open_rows, capacity_of(capacity), *lists, place=place)
-        tree._objects.update(_by_ids(rows, objects))
+        form = form_of(dimension, grid, interleaved)
+        return cls._packed(form, capacity, array_of(ids, "q", "ids"), form.list_of_boxes(boxes), objects)
+
+    @classmethod
+    def _packed(
+        cls: type[M], form: Form, capacity: SupportsIndex, ids: array.array[int], boxes: array.array[int],
+        objects: Optional[Iterable[Any]]
+    ) -> M:
+        tree, place, by_ids = cls.__new__(cls), ctypes.c_uint64(), _by_ids(ids, objects)
+        tree._start(form.axes, form, tree_open_rows, capacity_of(capacity), *_list(ids), *_list(boxes), place=place)
+        tree._objects.update(by_ids)
         return tree
 
     @classmethod
@@ -118,19 +128,22 @@ class ManyRows(Owner):
         form, place = self._form, ctypes.c_uint64()
         rows, numbers = array_of(ids, "q", "ids"), form.list_of_boxes(boxes)
         pairs = _by_ids(rows, objects)
-        lists = (at(rows), len(rows), at(numbers), len(numbers))
-        code = self._guard.write(tree_insert_rows, self._at, *lists, ctypes.byref(place))
+        code = self._guard.write(tree_insert_rows, self._at, *_list(rows), *_list(numbers), ctypes.byref(place))
         if code:
             raise error_at(code, place)
         self._objects.update(pairs)
 
     def columns(self) -> Columns:
         """All rows, in an order of the tree's own."""
+        ids, boxes = self._all()
+        return Columns(ids, self._form.columns(boxes))
+
+    def _all(self) -> Tuple[array.array[int], array.array[int]]:
         room, total = -1, len(self)
         while total > room:
             room = total
             ids, boxes, total = self._part(0, room)
-        return Columns(ids, self._form.columns(boxes))
+        return ids, boxes
 
     def rows(self, part: SupportsIndex = 4096) -> Iterator[Item]:
         """All rows, read `part` at a time. The tree stays as it is meanwhile."""
@@ -238,6 +251,38 @@ class ManyRows(Owner):
         tree, form, text = cls.__new__(cls), form_of(dimension, grid, interleaved), bytes(data)
         tree._start(form.axes, form, tree_open_bytes, text, len(text))
         return tree
+
+    @classmethod
+    def from_sqlite(
+        cls: type[M], connection: sqlite3.Connection, table: str, capacity: SupportsIndex = 51, *, grid: Optional[Grid] = None
+    ) -> M:
+        """The rows of an rtree_i32 table, packed. The object of a row is a tuple of its auxiliary values, if there are any."""
+        found = table_of(connection, table)
+        ids, boxes, width = array.array("q"), array.array("i"), 1 + 2 * found.axes
+        objects: List[Any] = []
+        names = [found.columns[0], *found.columns[1:width:2], *found.columns[2:width:2], *found.auxiliary]
+        for part in parts_of(connection, found, map(quoted, names)):
+            ids.extend(map(itemgetter(0), part))
+            boxes.extend(chain.from_iterable(map(itemgetter(slice(1, width)), part)))
+            objects += map(itemgetter(slice(width, None)), part) if found.auxiliary else [None] * len(part)
+        return cls._packed(Form(found.axes, grid), capacity, ids, boxes, objects)
+
+    def to_sqlite(self, connection: sqlite3.Connection, table: str, auxiliary: Sequence[str] = ()) -> None:
+        """Puts the rows into an rtree_i32 table in place of its own; one that is missing is made, with these auxiliary columns.
+
+        The object of a row is a tuple with a value for each auxiliary column, or None. With a grid the whole numbers are put.
+        """
+        ids, boxes = self._all()
+        ends = [boxes[k :: 2 * self.dimension] for axis in range(self.dimension) for k in (axis, axis + self.dimension)]
+        with all_or_nothing(connection):
+            found = find(connection, table) or create(connection, table, self.dimension, auxiliary)
+            if found.axes != self.dimension:
+                raise ValueError(f"table {table} has {found.axes} axes, and the tree {self.dimension}")
+            none = (None,) * len(found.auxiliary)
+            values = [self._objects.get(id, none) for id in ids] if none else []
+            if set(map(len, values)) - {len(none)}:
+                raise ValueError(f"an object isn't a tuple of {len(none)} values")
+            replace_rows(connection, found, [ids, *ends, *(zip(*values) if values else [()] * len(none))])
 
     def __len__(self) -> int:
         rows = ctypes.c_uint64()
