@@ -529,7 +529,7 @@ def test_owners():
     tree, shell = RTree(), Shell()
     tree.insert(1, (0, 0, 1, 1))
     shell.execute("CREATE VIRTUAL TABLE t USING rtree_i32(id, a, b); INSERT INTO t VALUES (1, 2, 3); SELECT")
-    ways = [copy.copy, copy.deepcopy] + [lambda it, p=p: pickle.dumps(it, p) for p in range(pickle.HIGHEST_PROTOCOL + 1)]
+    ways = [copy.copy, copy.deepcopy] + [lambda it, p=p: pickle.loads(pickle.dumps(it, p)) for p in range(pickle.HIGHEST_PROTOCOL + 1)]
     for way in ways:
         other = way(tree)
         other.insert(2, (5, 5, 6, 6))
