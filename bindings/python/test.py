@@ -1,6 +1,7 @@
 """Tests of the package: its doctests, random calls against a dict, scripts, and each error once.
 
-With the word `memory` it tries one call that finds no memory: faults/refuse.c refuses the allocations between the two marks.
+With the word `memory` it tries one call that finds no memory: faults/refuse.c refuses the allocations between the two marks. With
+`buffers` it tries lists of rows alone, and with `trees` trees.
 """
 import array
 import copy
@@ -286,7 +287,6 @@ def test_buffers():
     try:
         import numpy
     except ImportError:
-        print("bindings: NumPy is missing, so its arrays weren't tried")
         return
     tree = RTree.from_rows(numpy.array([1, 2]), numpy.array(boxes, dtype=numpy.int32).reshape(2, 4))
     strided = numpy.arange(40, dtype=numpy.int64).reshape(5, 8)[:, ::2]
@@ -929,8 +929,8 @@ def test_memory():
 
 def main(words):
     random.seed(1)
-    if words == ["memory"]:
-        test_memory()
+    if words in (["memory"], ["buffers"]):
+        test_memory() if words == ["memory"] else test_buffers()
         return
     for dimension in (1, 2, 3):
         for capacity in (5, 51):
