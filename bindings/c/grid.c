@@ -1,4 +1,4 @@
-/* Tests of juicedelta_grid.h: boxes counted by hand, and random ones by the definition. The first that fails ends the program. */
+/* Tests of juicedelta_grid.h: boxes counted by hand, and random ones by the definition. The first that fails ends it. */
 #include "juicedelta_grid.h"
 
 #include <math.h>
@@ -30,8 +30,10 @@ static void by_definition(const juicedelta_grid *grid)
         beside[k] = whole[k] + (k < 3 ? 1 : -1);
     juicedelta_grid_floats(grid, 3, whole, 6, floats);
     juicedelta_grid_floats(grid, 3, beside, 6, next);
-    for (int axis = 0; axis < 3; axis++)
-        CHECK(floats[axis] <= box[axis] && box[axis] < next[axis] && next[3 + axis] < box[3 + axis] && box[3 + axis] <= floats[3 + axis]);
+    for (int min = 0; min < 3; min++) {
+        const int max = 3 + min;
+        CHECK(floats[min] <= box[min] && box[min] < next[min] && next[max] < box[max] && box[max] <= floats[max]);
+    }
     CHECK(juicedelta_grid_box(grid, 3, floats, again) == 0 && juicedelta_grid_point(grid, 3, floats, beside) == 0);
     for (int k = 0; k < 6; k++)
         CHECK(again[k] == whole[k] && (k >= 3 || beside[k] == whole[k]));
@@ -40,8 +42,10 @@ static void by_definition(const juicedelta_grid *grid)
 int main(void)
 {
     const juicedelta_grid degrees = {1e7, {0, 0, 0}};
-    const juicedelta_grid grids[] = {{1, {0, 0, 0}}, {1e7, {0, 5, -5}}, {100, {500000.25, -4649776.5, 7}}, {1 / 3.0, {7, 1e9, -1e9}}};
-    const juicedelta_grid wrong[] = {{0, {0, 0, 0}}, {-1, {0, 0, 0}}, {NAN, {0, 0, 0}}, {INFINITY, {0, 0, 0}}, {1, {1e15, 0, 0}}, {1, {NAN, 0, 0}}};
+    const juicedelta_grid grids[] = {
+        {1, {0, 0, 0}}, {1e7, {0, 5, -5}}, {100, {500000.25, -4649776.5, 7}}, {1 / 3.0, {7, 1e9, -1e9}}};
+    const juicedelta_grid wrong[] = {{0, {0, 0, 0}},        {-1, {0, 0, 0}},   {NAN, {0, 0, 0}},
+                                     {INFINITY, {0, 0, 0}}, {1, {1e15, 0, 0}}, {1, {NAN, 0, 0}}};
     const double berlin[] = {13.405, 52.52, 13.40500001, 52.52}, most[] = {-214.7483648, 214.7483647};
     const double bad[][2] = {{NAN, 0}, {0, NAN}, {-300, 0}, {0, 300}, {-INFINITY, 0}, {0, INFINITY}, {1, 0}, {0, 214.74836471}};
     int32_t box[4];

@@ -4,10 +4,11 @@
 //     shops.insert(1, {{10, 5}, {14, 9}});
 //     for (std::int64_t id : shops.search({{0, 0}, {20, 8}})) ...
 //
-// A tree or a shell owns what it holds. It can be moved, not copied; what was moved from is closed. Methods that are const may
-// be called by several threads at once; any other method may overlap no call on the same object, which the program sees to.
-// A call that is refused throws an Error with its code, and changes nothing but where juicedelta.h says so. Boxes hold both
-// ends. A list of rows is any range of them, one of boxes or points any whose items lie one after another, as a vector's. A thread keeps the memory that its searches write to, 1 MiB at most; a search that needs more than is kept runs twice.
+// A tree or a shell owns what it holds. It can be moved, not copied; what was moved from is closed. Methods that are const
+// may be called by several threads at once; any other method may overlap no call on the same object, which the program sees
+// to. A call that is refused throws an Error with its code, and changes nothing but where juicedelta.h says so. Boxes hold
+// both ends. A list of rows is any range of them; a list of boxes or points is a vector, an array or a span.
+// A thread keeps the memory that its searches write to, 1 MiB at most; a search that needs more than is kept runs twice.
 #ifndef JUICEDELTA_HPP
 #define JUICEDELTA_HPP
 
@@ -317,8 +318,10 @@ public:
         const detail::Lists<D> lists(first, last);
         const detail::Keys keys;
         std::uint64_t at = 0;
-        const std::int32_t code = juicedelta_tree_open_rows(tree.handle(), D, capacity, lists.ids.data(), lists.ids.size(),
-                                                            lists.numbers(), lists.length(), keys.first, keys.second, &at);
+        auto open = [&](auto... rows) {
+            return juicedelta_tree_open_rows(tree.handle(), D, capacity, rows..., keys.first, keys.second, &at);
+        };
+        const std::int32_t code = open(lists.ids.data(), lists.ids.size(), lists.numbers(), lists.length());
         detail::check_at(code, at);
         return tree;
     }
@@ -367,8 +370,8 @@ public:
         return static_cast<std::size_t>(rows);
     }
     bool empty() const { return size() == 0; }
-    // All rows, in an order of the tree's own: `for (const Row<D> &row : tree.rows())`. They are read a few thousand at a time;
-    // the tree stays where and as it is meanwhile.
+    // All rows, in an order of the tree's own: `for (const Row<D> &row : tree.rows())`. They are read a few thousand at a
+    // time; the tree stays where and as it is meanwhile.
     class Rows;
     Rows rows() const { return Rows(*this); }
     // The ids of the rows that the window finds, in no stated order, the rows with their boxes, and how many they are.
@@ -408,7 +411,8 @@ public:
     {
         const detail::Numbers<Box<D>> list(windows);
         return detail::found_many(list.items, 16 * list.items, [&](auto... to) {
-            return juicedelta_tree_search_many(handle(), static_cast<std::uint32_t>(relation), list.front, list.length, to...);
+            const auto number = static_cast<std::uint32_t>(relation);
+            return juicedelta_tree_search_many(handle(), number, list.front, list.length, to...);
         });
     }
     template <class Boxes>
@@ -526,7 +530,10 @@ public:
         }
         void operator++(int) { ++*this; }
         // Only the end has no part.
-        friend bool operator==(const iterator &one, const iterator &other) { return one.part_.empty() && other.part_.empty(); }
+        friend bool operator==(const iterator &one, const iterator &other)
+        {
+            return one.part_.empty() && other.part_.empty();
+        }
         friend bool operator!=(const iterator &one, const iterator &other) { return !(one == other); }
     private:
         friend class Rows;
@@ -570,7 +577,7 @@ public:
         if (!juicedelta_grid_is_fine(&grid_, 3))
             throw std::invalid_argument("a grid's scale is above 0, and its origin at most 2^49 steps from 0");
     }
-    // The least box of whole numbers that holds this one. NaN, what is outside of the grid and a min above its max are refused.
+    // The least box of whole numbers that holds this one. NaN, what is outside of the grid and a min above its max throw.
     template <int D> Box<D> box(const FloatBox<D> &from) const
     {
         std::array<double, 2 * D> numbers;

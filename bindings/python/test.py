@@ -1,32 +1,26 @@
 """Tests of the package: its doctests, random calls against a dict, scripts, and each error once.
 
-With the word `memory` it tries one call that finds no memory: faults/refuse.c refuses the allocations between the two marks. With
-`buffers` it tries lists of rows alone, and with `trees` trees.
+With the word `memory` it tries one call that finds no memory: faults/refuse.c refuses the allocations between the two marks.
 """
 import array
 import copy
 import ctypes
 import doctest
 import faulthandler
-import math
 import multiprocessing
 import os
 import pickle
 import random
 import signal
-import subprocess
 import sys
-import tempfile
 import threading
 import time
 from concurrent.futures import ProcessPoolExecutor
-from fractions import Fraction
 
 sys.path.insert(0, os.path.dirname(os.path.abspath(__file__)))
 import juicedelta  # noqa: E402
 from juicedelta import (  # noqa: E402
-    BadValue, Change, Grid, Item, JuicedeltaError, MissingId, NoMemory, RTree, Shell, StatementRefused,
-    _calls, _many, _owner, _trees,
+    BadValue, Change, Item, JuicedeltaError, MissingId, NoMemory, RTree, Shell, StatementRefused, _calls, _many, _owner, _trees,
 )
 
 
@@ -204,313 +198,6 @@ def test_numbers():
         assert kind(7) in tree and tree.box(kind(7)) == (0, 0, 2, 2) and list(tree.nearest([kind(0)] * 2, kind(1))) == [7]
         tree.delete(kind(7), moved)
         assert len(RTree(kind(1), kind(5))) == 0
-
-
-def touches(one, other):
-    axes = len(one) // 2
-    return all(one[k] <= other[k + axes] and other[k] <= one[k + axes] for k in range(axes))
-
-
-def around(boxes):
-    axes = len(boxes[0]) // 2
-    return tuple([min(it[k] for it in boxes) for k in range(axes)] + [max(it[k] for it in boxes) for k in range(axes, 2 * axes)])
-
-
-def parts(many):
-    return [list(many.ids[begin:end]) for begin, end in zip(many.starts, many.starts[1:])]
-
-
-def random_rows(dimension, rows, wide):
-    ids = random.sample(range(-5 * rows, 5 * rows), rows)
-    lows = [[random.randrange(-1000, 1000) for _ in range(dimension)] for _ in ids]
-    return {id: tuple(low + [n + random.randrange(wide) for n in low]) for id, low in zip(ids, lows)}
-
-
-def test_many(dimension):
-    """Calls for many rows and windows beside loops over all rows."""
-    plain = random_rows(dimension, 300, 90)
-    ids, boxes = list(plain), list(plain.values())
-    tree = RTree.from_rows(ids[:200], boxes[:200], dimension)
-    tree.insert_many(array.array("q", ids[200:]), array.array("i", sum(boxes[200:], ())))
-    assert len(tree) == 300 and dict(tree.rows()) == dict(tree.rows(7)) == plain and sorted(tree) == sorted(plain)
-    columns = tree.columns()
-    assert dict(zip(columns.ids, zip(*[iter(columns.boxes)] * (2 * dimension)))) == plain and tree.bounds == around(boxes)
-    windows = list(random_rows(dimension, 40, 400).values())
-    for relation in RELATIONS:
-        found = [sorted(related(plain, relation, it)) for it in windows]
-        assert list(map(sorted, parts(tree.intersection_many(windows, relation)))) == found
-        assert list(tree.count_many(windows, relation)) == list(map(len, found))
-    points = [it[:dimension] for it in windows]
-    for most in (0, 1, 7, 1000):
-        assert parts(tree.nearest_many(points, most)) == [by_distance(plain, point)[:most] for point in points]
-    assert parts(tree.nearest_many([])) == parts(tree.intersection_many([])) == list(tree.count_many([])) == []
-    other = random_rows(dimension, 200, 90)
-    pairs = sorted(zip(*tree.join(RTree.from_items(other.items(), dimension))))
-    assert pairs == sorted((a, b) for a, one in plain.items() for b, two in other.items() if touches(one, two))
-    pairs = sorted(zip(*tree.join()))
-    assert pairs == sorted((a, b) for a, one in plain.items() for b, two in plain.items() if a < b and touches(one, two))
-    for read in (RTree.from_bytes(tree.to_bytes(), dimension), pickle.loads(pickle.dumps(tree)), copy.copy(tree), copy.deepcopy(tree)):
-        assert dict(read.rows()) == plain and read.dump() == tree.dump()
-    for point in points:
-        far = {id: sum(max(box[k] - point[k], point[k] - box[k + dimension], 0) ** 2 for k in range(dimension)) for id, box in plain.items()}
-        for distance in (0, 55, 300.5, 10**30):
-            near = [id for id in by_distance(plain, point) if far[id] <= math.ceil(distance) ** 2]
-            assert list(tree.within(point, distance)) == [it.id for it in tree.within(point, distance, objects=True)] == near
-    for box in windows:
-        off = {id: sum(max(row[k] - box[k + dimension], box[k] - row[k + dimension], 0) ** 2 for k in range(dimension)) for id, row in plain.items()}
-        assert list(tree.nearest(box, 5)) == sorted(plain, key=lambda id: (off[id], id))[:5]
-    for wrong in (-1, math.nan, math.inf, "1"):
-        raised(ValueError, "a distance", tree.within, points[0], wrong)
-    assert RTree.from_rows([], []).join() == RTree().join(RTree()) == (array.array("q"), array.array("q"))
-
-
-def test_buffers():
-    """Lists as buffers of each kind, and as iterables; others are refused with a word on what they are."""
-    rows = [(1, (0, 0, 1, 1)), (2, (5, 5, 6, 6))]
-    boxes = [0, 0, 1, 1, 5, 5, 6, 6]
-    matrix = memoryview(array.array("i", boxes)).cast("B").cast("i", (2, 4))
-    for ids in ([1, 2], range(1, 3), iter((1, Whole(2))), array.array("b", [1, 2]), (ctypes.c_uint64 * 2)(1, 2), b"\1\2", memoryview(array.array("q", [1, 0, 2]))[::2]):
-        assert sorted(RTree.from_rows(ids, array.array("q", boxes)).rows()) == rows
-    for many in (matrix, array.array("h", boxes), (ctypes.c_int32 * 8)(*boxes), [[0, 0, 1, 1], range(5, 9)], ([*map(Whole, it)] for _, it in rows)):
-        assert RTree.from_rows([1, 2], many).box(1) == (0, 0, 1, 1)
-    read_only = memoryview(bytes(array.array("i", boxes))).cast("i")
-    assert RTree.from_rows(array.array("q", [1, 2]), read_only).box(2) == (5, 5, 6, 6)
-    raised(ValueError, "whole numbers of 32 bits, not a buffer of format 'd'", RTree.from_rows, [1], array.array("d", boxes[:4]))
-    raised(ValueError, "whole numbers of 64 bits, not a buffer of format 'f'", RTree.from_rows, array.array("f", [1]), boxes)
-    raised(ValueError, "whole numbers of 64 bits", RTree.from_rows, array.array("Q", [2**63]), matrix)
-    raised(ValueError, "whole numbers of 32 bits", RTree.from_rows, [1, 2], array.array("q", [2**31] * 8))
-    raised(ValueError, "boxes have 6 numbers each", RTree.from_rows, [1, 2], matrix, 3)
-    for wrong in ([(0, 0, 1), (1, 5, 5, 6, 6)], [1, 2, 3, 4], ["0011"], [(0, 0, 1, 1.5)], [(0, 0, 1, 2**31)], 5, None):
-        raised(ValueError, "boxes", RTree.from_rows, [1, 2], wrong)
-    for wrong in ([1.5], ["1"], [2**63], 5, [(1, 2)]):
-        raised(ValueError, "ids", RTree.from_rows, wrong, boxes)
-    try:
-        import numpy
-    except ImportError:
-        return
-    tree = RTree.from_rows(numpy.array([1, 2]), numpy.array(boxes, dtype=numpy.int32).reshape(2, 4))
-    strided = numpy.arange(40, dtype=numpy.int64).reshape(5, 8)[:, ::2]
-    assert tree.count_many(numpy.array([[0, 0, 9, 9]], dtype=numpy.int64))[0] == 2 and len(RTree.from_rows(numpy.arange(5), strided)) == 5
-    ids = numpy.asarray(tree.columns().ids)
-    assert ids.dtype == numpy.int64 and sorted(ids) == [1, 2] and numpy.asarray(tree.columns().boxes).reshape(2, 4).dtype == numpy.int32
-    raised(ValueError, "not a buffer of format '>i'", RTree.from_rows, [1, 2], numpy.array(boxes, dtype=">i4"))
-    raised(ValueError, "not a buffer of format 'd'", RTree.from_rows, [1, 2], numpy.array(boxes, dtype=float))
-    places = RTree.from_rows([1, 2], numpy.array(boxes, dtype=numpy.float32).reshape(2, 4) / 8, grid=Grid(10))
-    assert numpy.asarray(places.columns().boxes).dtype == float and places.bounds == (0, 0, 0.8, 0.8)
-
-
-def test_grid():
-    """The least box of whole numbers, by fractions; and trees of floats."""
-    for scale, origin in ((1, 0), (10**7, 0), (100, (500000.25, -4649776.5)), (1 / 3, 7), (0.1, -1e9), (3.7e5, 1 / 7)):
-        grid = Grid(scale, origin)
-        starts = (origin, origin) if isinstance(origin, (int, float)) else origin
-
-        def back(k, axis):
-            return float(starts[axis]) + k / float(scale)
-
-        for _ in range(500):
-            lows = [back(random.randrange(-(2**31) + 9, 2**31 - 9), axis) + random.choice([0, random.random() / scale]) for axis in (0, 1)]
-            highs = [low + random.choice([0, random.random() * 5 / scale]) for low in lows]
-            box = grid.box(lows + highs)
-            for axis in (0, 1):
-                assert back(box[axis], axis) <= lows[axis] < back(box[axis] + 1, axis)
-                assert back(box[axis + 2] - 1, axis) < highs[axis] <= back(box[axis + 2], axis)
-            assert grid.box(grid.floats(box)) == box and grid.floats(box)[:2] == grid.floats(box[:2])
-            point = grid.point(lows)
-            assert all(abs(Fraction(lows[k]) - Fraction(back(point[k], k))) * Fraction(scale) <= Fraction(5001, 10000) for k in (0, 1))
-    grid = Grid(1)
-    assert grid.box((-(2**31), 2**31 - 1)) == (-(2**31), 2**31 - 1) and grid.box((-0.5, 0.5)) == (-1, 1)
-    for wrong in ((-(2**31) - 0.5, 0), (0, 2**31 - 0.5), (math.nan, 0), (0, math.nan), (-math.inf, 0), (0, math.inf), (0.6, 0.4), (0, 1, 2), (1e300, 1e301)):
-        raised(ValueError, "", grid.box, wrong)
-    for wrong in ((math.nan,), (1e300,), (2**31,), (-math.inf,)):
-        raised(ValueError, "lies outside of the grid", grid.point, wrong)
-    for wrong in ((0,), (-1,), (math.inf,), (math.nan,), (1, 2.0**50), (1, math.nan), (1, (0, math.inf))):
-        raised(ValueError, "a grid's scale", Grid, *wrong)
-    raised(ValueError, "one origin", lambda: RTree(3, grid=Grid(1, (0, 0))))
-    assert Grid(2, 1) == Grid(2.0, 1.0) == pickle.loads(pickle.dumps(Grid(2, 1))) != Grid(2) and hash(Grid(2, 1)) == hash(Grid(2.0, 1.0))
-    degrees = Grid(10_000_000)
-    berlin, rome = (13.405, 52.52, 13.405, 52.52), (12.4963655, 41.9027835, 12.4963655, 41.9027835)
-    tree = RTree.from_items([(1, berlin, "Berlin"), (2, rome, "Rome")], grid=degrees)
-    assert tree.box(1) == berlin and [it.object for it in tree.nearest((13, 52), 2, objects=True)] == ["Berlin", "Rome"]
-    assert tree.bounds == (12.4963655, 41.9027835, 13.405, 52.52) and list(tree.within((13.4, 52.5), 0.1)) == [1]
-    assert list(tree.intersection((13, 50, 14, 55))) == [1] and list(tree.count_many([berlin, (0, 0, 1, 1)])) == [1, 0]
-    assert parts(tree.nearest_many(array.array("d", (13, 52, 12, 41)))) == [[1], [2]] and sorted(tree.columns().boxes) == sorted(berlin + rome)
-    assert pickle.loads(pickle.dumps(tree)).box(2) == rome and RTree.from_bytes(tree.to_bytes()).box(1)[0] == 134050000
-    raised(ValueError, "two grids", tree.join, RTree())
-    for call in (tree.intersection, lambda it: tree.insert(5, it), lambda it: tree.count_many([it])):
-        for wrong in ((0, 0, math.nan, 1), (0, 0, 300, 1), (1, 0, 0, 1)):
-            raised(ValueError, "", call, wrong)
-    raised(ValueError, "coordinates are 4 numbers", tree.insert, 5, (0, 0, 1))
-    assert len(tree) == 2
-
-
-def test_objects():
-    """Objects beside ids, and boxes one axis after another."""
-    with RTree.from_items(((id, (id, 0, id, 5), f"row {id}" if id % 2 else None) for id in range(9)), 2, 5) as tree:
-        tree.insert(10, (10, 0, 10, 5), obj=["ten"])
-        tree.insert_many([11, 12], [(11, 0, 11, 5)] * 2, objects=["eleven", None])
-        assert {it.id: it.object for it in tree.intersection((7, 0, 12, 0), objects=True)} == {7: "row 7", 8: None, 10: ["ten"], 11: "eleven", 12: None}
-        assert [it.object for it in tree.nearest((3, 0), 1, objects=True)] == ["row 3"] and {it.object for it in tree.rows() if it.id > 10} == {"eleven", None}
-        assert tree.object(10) == ["ten"] and tree.object(12) is None and Item(1, (0, 1)) == (1, (0, 1)) and Item(1, (0, 1)).object is None
-        for other in (pickle.loads(pickle.dumps(tree)), copy.deepcopy(tree)):
-            assert other.object(10) == ["ten"] and other.object(10) is not tree.object(10)
-        assert copy.copy(tree).object(10) is tree.object(10) and repr(tree) == "<RTree of 2 axes with 12 rows>"
-        item = pickle.loads(pickle.dumps(next(tree.nearest((3, 0), objects=True))))
-        assert (item, item.object, repr(item)) == ((3, (3, 0, 3, 5)), "row 3", "Item(id=3, bbox=(3, 0, 3, 5))")
-        raised(ValueError, "1 objects for 2 ids", tree.insert_many, [20, 21], [(0, 0, 1, 1)] * 2, ["one"])
-        assert refused(tree.insert, 10, (0, 0, 1, 1), "other") == 6 and tree.object(10) == ["ten"]
-        tree.delete(10)
-        tree.insert(10, (0, 0, 1, 1))
-        assert tree.object(10) is None
-        tree.clear()
-        tree.insert(7, (0, 0, 1, 1))
-        assert tree.object(7) is None
-    assert refused(tree.__len__) == 1 and repr(tree) == "<RTree, closed>"
-    with Shell() as shell:
-        pass
-    assert refused(shell.execute, "") == 1
-    pairs = RTree(3, interleaved=False)
-    pairs.insert(1, (0, 1, 10, 11, 20, 21))
-    assert pairs.box(1) == pairs.bounds == (0, 1, 10, 11, 20, 21) and list(pairs.intersection((1, 5, 5, 10, 0, 50))) == [1]
-    assert pairs.count_many([(0, 0, 10, 10, 20, 20), (2, 3, 10, 11, 20, 21)]).tolist() == [1, 0]
-    assert pairs.columns().boxes.tolist() == [0, 1, 10, 11, 20, 21] and list(pairs.nearest((1, 2, 3))) == [1]
-    assert RTree.from_bytes(pairs.to_bytes(), 3).box(1) == (0, 10, 20, 1, 11, 21) and copy.copy(pairs).box(1) == pairs.box(1)
-    pairs.delete(1, (0, 1, 10, 11, 20, 21))
-    both = RTree(grid=Grid(2, (100, 200)), interleaved=False)
-    both.insert_many([1], [(100.5, 101, 200, 200.1)])
-    assert both.box(1) == (100.5, 101.0, 200.0, 200.5) == tuple(both.columns().boxes) and list(both.nearest((100, 200))) == [1]
-
-
-def sqlite(*statements):
-    """A database in memory after these statements; or None, and a line says so, if Python's SQLite has no rtree_i32."""
-    import sqlite3
-
-    connection = sqlite3.connect(":memory:")
-    try:
-        connection.execute("CREATE VIRTUAL TABLE none USING rtree_i32(id, a, b)")
-    except sqlite3.Error:
-        print("bindings: Python's sqlite3 has no rtree_i32, so tables weren't tried")
-        return None
-    for statement in statements:
-        connection.execute(statement)
-    return connection
-
-
-def test_sqlite():
-    """Trees from tables of SQLite and back: SQLite's own answers, and its own check of the tables."""
-    database = sqlite(
-        'CREATE VIRTUAL TABLE "a ""table" USING rtree_i32("the, id" INTEGER, west, [e(ast], "+south", north, +name VARCHAR(5, 2), +"x,y")',
-        "CREATE VIRTUAL TABLE reals USING rtree(id, a, b)", "CREATE TABLE plain (id, a, b)",
-        "CREATE VIRTUAL TABLE four USING rtree_i32(id, a, b, c, d, e, f, g, h)", "CREATE VIEW sight AS SELECT * FROM plain",
-    )
-    if database is None:
-        return
-    for name, words in (("reals", "is of rtree; rtree_i32 is due"), ("plain", "is no virtual table"), ("four", "has 4 axes"), ("sight", "no table sight"), ("no", "no table no")):
-        raised(ValueError, words, RTree.from_sqlite, database, name)
-    empty = sqlite()
-    empty.row_factory = lambda cursor, row: "none of the package's business"
-    cursor = empty.cursor()
-    cursor.row_factory = None
-    for dimension in (1, 2, 3):
-        for rows in (0, 1, 51, 52, 3000):
-            plain = random_rows(dimension, rows, 90) if rows else {}
-            tree = RTree.from_rows(list(plain), list(plain.values()), dimension)
-            name = f"t{dimension}_{rows}"
-            tree.to_sqlite(empty, name)
-            assert cursor.execute(f"SELECT rtreecheck('{name}')").fetchone() == ("ok",)
-            read = RTree.from_sqlite(empty, name.upper())
-            assert dict(read.rows()) == plain and read.dimension == dimension
-            for box in list(plain.values())[:20]:
-                ids = cursor.execute(f"SELECT id FROM {name} WHERE minx <= ? AND maxx >= ?", (box[dimension], box[0])).fetchall()
-                window = box[:1] + (-(2**31),) * (dimension - 1) + box[dimension : dimension + 1] + (2**31 - 1,) * (dimension - 1)
-                assert sorted(tree.intersection(window)) == sorted(id for id, in ids)
-            # The table goes on as any other.
-            for id in list(plain)[::3]:
-                empty.execute(f"DELETE FROM {name} WHERE id = ?", (id,))
-            empty.execute(f"INSERT INTO {name} VALUES (20000, {', '.join(['0, 1'] * dimension)})")
-            assert cursor.execute(f"SELECT rtreecheck('{name}')").fetchone() == ("ok",)
-            left = {id: box for at, (id, box) in enumerate(plain.items()) if at % 3}
-            assert dict(RTree.from_sqlite(empty, name).rows()) == {**left, 20000: (0,) * dimension + (1,) * dimension}
-    raised(ValueError, "t1_51 has 1 axes, and the tree 2", RTree().to_sqlite, empty, "t1_51")
-    values = [("it's", None), (b"\0\1", 1.5), (None, -(2**63)), ("a\nb|", "")]
-    for id, pair in enumerate(values):
-        database.execute('INSERT INTO "a ""table" VALUES (?, ?, ?, ?, ?, ?, ?)', (id, id, id + 1, 5, 6, *pair))
-    tree = RTree.from_sqlite(database, 'A "Table', 5)
-    assert {it.id: (it.bbox, it.object) for it in tree.rows()} == {id: ((id, 5, id + 1, 6), pair) for id, pair in enumerate(values)}
-    assert RTree.from_sqlite(database, 'a "table', grid=Grid(2)).box(1) == (0.5, 2.5, 1, 3)
-    tree.insert(9, (0, 0, 1, 1))
-    tree.to_sqlite(database, "copy", ["name", "x y"])
-    tree.to_sqlite(database, 'a "table')
-    for name in ("copy", '"a ""table"'):
-        rows = database.execute(f"SELECT * FROM {name} ORDER BY 1").fetchall()
-        assert rows == [(id, id, id + 1, 5, 6, *pair) for id, pair in enumerate(values)] + [(9, 0, 1, 0, 1, None, None)]
-    # All or nothing.
-    tree.delete(9)
-    tree.insert(9, (0, 0, 1, 1), ("one",))
-    raised(ValueError, "isn't a tuple of 2 values", tree.to_sqlite, database, "copy")
-    raised(ValueError, "isn't a tuple of 2 values", tree.to_sqlite, database, "new", ["a", "b"])
-    assert database.execute("SELECT count(*) FROM copy").fetchone() == (5,) and not database.execute("SELECT 1 FROM sqlite_master WHERE name = 'new'").fetchall()
-    database.commit()
-    database.execute("BEGIN")
-    RTree().to_sqlite(database, "copy")
-    database.rollback()
-    assert database.execute("SELECT count(*) FROM copy").fetchone() == (5,)
-
-
-def test_sqlite_scripts():
-    """Tables through a shell, and by scripts/from_sqlite and scripts/to_sqlite."""
-    import sqlite3
-
-    database = sqlite("CREATE VIRTUAL TABLE t USING rtree_i32(id, a, b, +name, +height)", "CREATE VIRTUAL TABLE bare USING rtree_i32(id, a, b)")
-    if database is None:
-        return
-    rows = [(1, 10, 14, "it's a|b", None), (2, -(2**31), 2**31 - 1, "two\nlines|'", -(2**63)), (3, 3, 3, b"\0'", "")]
-    rows += [(id, id, id + 5, "x" * (id % 50), id) for id in range(4, 5000)]
-    database.executemany("INSERT INTO t VALUES (?, ?, ?, ?, ?)", rows)
-    shell = Shell()
-    assert shell.load_sqlite(database, "t") == 4999 and shell.load_sqlite(database, "BARE") == 0 and shell.rows("SELECT * FROM t") == rows
-    assert raised(StatementRefused, "table already exists", shell.load_sqlite, database, "t").number == 6
-    shell.changes("DELETE FROM t WHERE id > 100")
-    assert shell.save_sqlite(database, "t") == 100 and database.execute("SELECT * FROM t ORDER BY id").fetchall() == rows[:100]
-    assert shell.save_sqlite(database, "bare") == 0 and raised(StatementRefused, "no such table", shell.save_sqlite, database, "u")
-    other = sqlite3.connect(":memory:")
-    assert shell.save_sqlite(other, "bare") == 0 and shell.save_sqlite(other, "t", ["name", "height"]) == 100
-    assert other.execute("SELECT * FROM t ORDER BY minx, id").fetchall() == sorted(rows[:100], key=lambda row: (row[1], row[0]))
-    folder = os.path.join(os.path.dirname(os.path.abspath(__file__)), "..", "..", "scripts")
-
-    def run(name, *words, given=b""):
-        ran = subprocess.run([sys.executable, "-B", os.path.join(folder, name), *words], input=given, stdout=subprocess.PIPE, stderr=subprocess.PIPE)
-        return ran.stdout if ran.returncode == 0 else ran.stderr.decode()
-
-    with tempfile.TemporaryDirectory() as room:
-        file, new, text = os.path.join(room, "map.db"), os.path.join(room, "new.db"), os.path.join(room, "text")
-        with open(text, "w") as it:
-            it.write("no database" * 100)
-        with sqlite3.connect(file) as copied:
-            other.backup(copied)
-        again = Shell()
-        again.execute(run("from_sqlite", file, "T").decode())
-        assert again.rows("SELECT * FROM t") == rows[:100]
-        printed = "".join(line + "\n" for line in again.execute("SELECT * FROM t;")).encode()
-        assert run("to_sqlite", file, "t", given=printed) == run("to_sqlite", "--auxiliary", "a,b", new, "t", given=printed) == b""
-        for it in (file, new):
-            read = sqlite3.connect(it)
-            assert read.execute("SELECT * FROM t ORDER BY id").fetchall() == rows[:100] and read.execute("SELECT rtreecheck('t')").fetchone() == ("ok",)
-        assert run("to_sqlite", file, "bare", given=b"") == b"" == run("to_sqlite", new, "bare", given=b"1|2|3\n-7|2|3\n")
-        for wrong in (b"1|2|3|'a'\nrefused 1 5: no such table\n", b"1|2|x\n", b"1|2\n", b"1|2|3|'a'|5", b"1|3|2|'a'|5\n", b"1|2|3|NULL|5\n1|2|3|NULL|5\n"):
-            assert file in run("to_sqlite", file, "t", given=wrong)
-        assert read.execute("SELECT count(*) FROM t").fetchone() == (100,)
-        assert "no table u" in run("from_sqlite", file, "u") and "not a database" in run("from_sqlite", text, "t")
-        assert "unable to open" in run("from_sqlite", os.path.join(room, "none.db"), "t") and not os.path.exists(os.path.join(room, "none.db"))
-        with sqlite3.connect(file) as writing:
-            writing.execute("UPDATE t SET height = 1.5 WHERE id = 3")
-        assert "row 3 has the REAL 1.5 in column height" in run("from_sqlite", file, "t")
-        assert "(3,3,3,X'0027','1.5')" in run("from_sqlite", "--text", file, "t").decode()
-        raised(ValueError, "row 3 has the REAL 1.5", Shell().load_sqlite, writing, "t")
-        assert again.execute("DROP TABLE t;") == [] and again.load_sqlite(writing, "t", True) == 100
-        assert again.rows("SELECT height FROM t WHERE id = 3") == [("1.5",)]
-        writing.execute("UPDATE t SET name = 'a' || char(0) WHERE id = 4")
-        raised(ValueError, "row 4 has a text with a zero byte in column name", Shell().load_sqlite, writing, "t", True)
 
 
 def test_options():
@@ -929,19 +616,18 @@ def test_memory():
 
 def main(words):
     random.seed(1)
-    if words in (["memory"], ["buffers"]):
-        test_memory() if words == ["memory"] else test_buffers()
+    if words == ["memory"]:
+        test_memory()
         return
     for dimension in (1, 2, 3):
         for capacity in (5, 51):
             test_random(dimension, capacity, 3000)
-        test_many(dimension)
-    for test in (test_codes, test_numbers, test_buffers, test_grid, test_objects, test_sqlite, test_options, test_order, test_threads, test_signals):
+    for test in (test_codes, test_numbers, test_options, test_order, test_threads, test_signals):
         test()
     assert Item(1, (0, 1)) == (1, (0, 1))
     if words == ["trees"]:
         return
-    for test in (test_owners, test_errors, test_shell, test_sqlite_scripts, test_whole_statements, test_random_statements, test_forged):
+    for test in (test_owners, test_errors, test_shell, test_whole_statements, test_random_statements, test_forged):
         test()
     for test in (test_many_rows, test_random_changes, test_version, test_million):
         test()

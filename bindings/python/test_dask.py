@@ -2,10 +2,11 @@
 
 import array
 import random
-import sys
 
-import test as plain_test
 from distributed import Client, LocalCluster
+from test import by_distance, raised  # This also finds the package beside it.
+from test_rows import parts, random_rows
+
 from juicedelta import JuicedeltaError, RTree
 from juicedelta.dask import Plane
 
@@ -33,19 +34,19 @@ def parts_of(plain, parts):
 
 
 def test_plane(client, dimension, tiles):
-    plain, other = plain_test.random_rows(dimension, 1500, 60), plain_test.random_rows(dimension, 300, 60)
+    plain, other = random_rows(dimension, 1500, 60), random_rows(dimension, 300, 60)
     tree, right = RTree.from_items(plain.items(), dimension), RTree.from_items(other.items(), dimension)
     plane = Plane.from_partitions(client, parts_of(plain, 5), tiles, dimension)
     assert len(plane) == 1500 and plane.bounds == tree.bounds and (tiles == 1) == (len(plane._tiles) == 1)
-    windows = list(plain_test.random_rows(dimension, 20, 500).values())
+    windows = list(random_rows(dimension, 20, 500).values())
     for window in windows[:6]:
         found = sorted(tree.intersection(window))
         assert sorted(plane.intersection(window)) == found and plane.count(window) == len(found)
         point = window[:dimension]
         for most in (0, 1, 9, 2000):
-            assert list(plane.nearest(point, most)) == list(tree.nearest(point, most)) == plain_test.by_distance(plain, point)[:most]
+            assert list(plane.nearest(point, most)) == list(tree.nearest(point, most)) == by_distance(plain, point)[:most]
         assert list(plane.nearest(window, 9)) == list(tree.nearest(window, 9))
-    wanted, found = plain_test.parts(tree.intersection_many(windows)), plain_test.parts(plane.intersection_many(windows))
+    wanted, found = parts(tree.intersection_many(windows)), parts(plane.intersection_many(windows))
     assert list(map(sorted, found)) == list(map(sorted, wanted))
     second = Plane.from_partitions(client, parts_of(other, 2), 4, dimension)
     assert sorted(zip(*plane.join(second))) == sorted(zip(*tree.join(right)))
@@ -59,20 +60,20 @@ def test_plane(client, dimension, tiles):
 def test_errors(client):
     rows = {1: (0, 0, 1, 1), 2: (900, 900, 901, 901)}
     twice = [Reader(rows), ([3, 2], [(0, 0, 1, 1), (-900, 0, 0, 0)])]
-    assert plain_test.raised(JuicedeltaError, "the id is taken", Plane.from_partitions, client, twice, 4).code == 6
+    assert raised(JuicedeltaError, "the id is taken", Plane.from_partitions, client, twice, 4).code == 6
     for wrong, words in ((Reader(None), "no such file"), (([1], [(0, 0, 1)]), "4 numbers each"), (([1, 2], [(0, 0, 1, 1)]), "2 ids"), (5, "unpack")):
-        error = plain_test.raised(ValueError, "partition 1 can't be read", Plane.from_partitions, client, [Reader(rows), wrong])
+        error = raised(ValueError, "partition 1 can't be read", Plane.from_partitions, client, [Reader(rows), wrong])
         assert words in str(error)
-    plain_test.raised(ValueError, "min is above max", Plane.from_partitions, client, [([1], [(0, 2, 1, 1)])])
+    raised(ValueError, "min is above max", Plane.from_partitions, client, [([1], [(0, 2, 1, 1)])])
     for empty in ([], [([], [])], [Reader({})] * 3):
         plane = Plane.from_partitions(client, empty)
         assert len(plane) == 0 and plane.bounds is None and plane.count((0, 0, 9, 9)) == 0
         assert list(plane.nearest((0, 0), 3)) == list(plane.intersection((0, 0, 9, 9))) == [] and not plane.join(plane).left
-        assert plain_test.parts(plane.intersection_many([(0, 0, 1, 1)])) == [[]]
+        assert parts(plane.intersection_many([(0, 0, 1, 1)])) == [[]]
     plane = Plane.from_partitions(client, [client.submit(Reader(rows)), ([7], [(5, 5, 5, 5)])], 2)
     assert sorted(plane.intersection((0, 0, 2**31 - 1, 2**31 - 1))) == [1, 2, 7]
-    plain_test.raised(ValueError, "4 whole numbers", plane.intersection, (0, 0, 1))
-    plain_test.raised(ValueError, "two numbers of axes", plane.join, Plane.from_partitions(client, [], 1, 1))
+    raised(ValueError, "4 whole numbers", plane.intersection, (0, 0, 1))
+    raised(ValueError, "two numbers of axes", plane.join, Plane.from_partitions(client, [], 1, 1))
 
 
 if __name__ == "__main__":
@@ -82,4 +83,3 @@ if __name__ == "__main__":
             test_plane(client, dimension, tiles)
         test_errors(client)
     print("bindings/python: passed on a cluster")
-    sys.exit(0)

@@ -1,5 +1,5 @@
-//! Links libjuicedelta.a: of the folder that JUICEDELTA_LIB_DIR names, else of the checkout, where `make bindings` puts it, or
-//! of the folder that this crate was installed beside, else of the installed library that pkg-config knows.
+//! Links libjuicedelta.a: of the folder that JUICEDELTA_LIB_DIR names, else of lib/ in the checkout or archive that the crate
+//! is in, or beside which it was installed, else of the installed library that pkg-config knows.
 
 use std::env;
 use std::path::PathBuf;

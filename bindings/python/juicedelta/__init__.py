@@ -14,14 +14,15 @@ from ._shells import Shell
 from ._trees import RTree
 
 __all__ = [
-    "BadValue", "Change", "Columns", "Grid", "Item", "JuicedeltaError", "Many", "MissingId", "NoMemory", "Pairs", "Relation",
-    "RTree", "Shell", "StatementRefused", "Value",
+    "BadValue", "Change", "Columns", "Grid", "Item", "JuicedeltaError", "Many", "MissingId", "NoMemory", "Pairs",
+    "Relation", "RTree", "Shell", "StatementRefused", "Value",
 ]
 __version__ = "0.1.0"
 __license__ = "Apache-2.0"
 
 # Tracebacks and pickles name what is public by the package, not by the module that it stands in.
 for _public in (
-    BadValue, Change, Columns, Grid, Item, JuicedeltaError, Many, MissingId, NoMemory, Pairs, RTree, Shell, StatementRefused
+    BadValue, Change, Columns, Grid, Item, JuicedeltaError, Many, MissingId, NoMemory, Pairs, RTree, Shell,
+    StatementRefused
 ):
     _public.__module__ = __name__

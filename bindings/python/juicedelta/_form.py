@@ -5,6 +5,7 @@ from __future__ import annotations
 import array
 import ctypes
 import struct
+from operator import le
 from typing import Any, Callable, Iterable, Iterator, Optional, SupportsFloat, SupportsIndex, Tuple, Union
 
 from ._buffers import array_of, zeros
@@ -48,8 +49,9 @@ class Form:
 
     def packed_point(self, coordinates: Coordinates) -> bytes:
         """A point for the library."""
+        numbers: Any = coordinates if self.grid is None else self.grid.point(coordinates)  # type: ignore[arg-type]
         try:
-            return self._point.pack(*(coordinates if self.grid is None else self.grid.point(coordinates)))  # type: ignore[arg-type]
+            return self._point.pack(*numbers)
         except struct.error as error:
             raise self.unfit(self.axes) from error
 
@@ -85,13 +87,15 @@ class Form:
             place = k if self.interleaved else self._to[k]
             column = numbers[place::width]
             boxes[k::width] = column if grid is None else grid.column(column, k, k >= self.axes)
-        if grid is not None and any(any(map(float.__gt__, numbers[low::width], numbers[high::width])) for low, high in self._ends()):
+        if grid is not None and not self._are_boxes(numbers):
             raise error_of(BAD_BOX)
         return boxes
 
-    def _ends(self) -> Iterator[Tuple[int, int]]:
-        """Where the caller has each axis's minimum and maximum."""
-        return ((k, k + self.axes) if self.interleaved else (2 * k, 2 * k + 1) for k in range(self.axes))
+    def _are_boxes(self, numbers: "array.array[float]") -> bool:
+        """Whether no minimum is above its maximum, before both are rounded."""
+        width, axes = self.width, self.axes
+        ends = [(k, k + axes) if self.interleaved else (2 * k, 2 * k + 1) for k in range(axes)]
+        return all(all(map(le, numbers[low::width], numbers[high::width])) for low, high in ends)
 
     def list_of_points(self, values: Any) -> "array.array[int]":
         """Many points for the library."""

@@ -86,7 +86,9 @@ class ManyRows(Owner):
     _form: Form
     _objects: Dict[int, Any]
 
-    def _start(self, dimension: int, form: Form, opening: Call, *words: object, place: Optional[ctypes.c_uint64] = None) -> None:
+    def _start(
+        self, dimension: int, form: Form, opening: Call, *words: object, place: Optional[ctypes.c_uint64] = None
+    ) -> None:
         if self._at is None:
             self._guard = Guard()
         self._hold(opening, dimension, *words, place=place)
@@ -113,7 +115,7 @@ class ManyRows(Owner):
 
     @classmethod
     def from_items(cls: type[M], items: Iterable[Tuple[Any, ...]], *options: SupportsIndex, **others: Any) -> M:
-        """A packed tree of items `(id, box)` or `(id, box, object)`, which may be a stream. Options are those of `from_rows`."""
+        """A packed tree of a stream of `(id, box)` or `(id, box, object)`. The options are those of `from_rows`."""
         ids: List[Any] = []
         boxes: List[Any] = []
         objects: List[Any] = []
@@ -254,9 +256,10 @@ class ManyRows(Owner):
 
     @classmethod
     def from_sqlite(
-        cls: type[M], connection: sqlite3.Connection, table: str, capacity: SupportsIndex = 51, *, grid: Optional[Grid] = None
+        cls: type[M], connection: sqlite3.Connection, table: str, capacity: SupportsIndex = 51, *,
+        grid: Optional[Grid] = None
     ) -> M:
-        """The rows of an rtree_i32 table, packed. The object of a row is a tuple of its auxiliary values, if there are any."""
+        """The rows of an rtree_i32 table, packed. The object of a row is a tuple of its auxiliary values, if it has any."""
         found = table_of(connection, table)
         ids, boxes, width = array.array("q"), array.array("i"), 1 + 2 * found.axes
         objects: List[Any] = []
@@ -268,9 +271,11 @@ class ManyRows(Owner):
         return cls._packed(Form(found.axes, grid), capacity, ids, boxes, objects)
 
     def to_sqlite(self, connection: sqlite3.Connection, table: str, auxiliary: Sequence[str] = ()) -> None:
-        """Puts the rows into an rtree_i32 table in place of its own; one that is missing is made, with these auxiliary columns.
+        """Puts the rows into an rtree_i32 table in place of its own. A table that is missing is made, with these auxiliary
+        columns.
 
-        The object of a row is a tuple with a value for each auxiliary column, or None. With a grid the whole numbers are put.
+        The object of a row is a tuple with a value for each auxiliary column, or None. With a grid the table gets the
+        whole numbers.
         """
         ids, boxes = self._all()
         ends = [boxes[k :: 2 * self.dimension] for axis in range(self.dimension) for k in (axis, axis + self.dimension)]

@@ -65,7 +65,7 @@ class Shell(Owner):
     def load_sqlite(self, connection: sqlite3.Connection, table: str, reals_as_text: bool = False) -> int:
         """Makes a table with the columns and rows of an rtree_i32 table, and answers the number of rows.
 
-        A REAL value is a ValueError that names its row, or with `reals_as_text` becomes a text. Errors are those of `rows`.
+        A REAL value is a ValueError that names its row, or becomes a text. Other errors are those of `rows`.
         """
         for statement in script_of(connection, table, reals_as_text):
             self._answered(statement)

@@ -1,6 +1,6 @@
 """Tables of SQLite: rtree_i32 tables as rows and as scripts, and rows as rtree_i32 tables.
 
-It needs neither the library nor the rest of the package, so that scripts/from_sqlite and scripts/to_sqlite can load it alone.
+It needs neither the library nor the rest of the package: scripts/from_sqlite and scripts/to_sqlite load it alone.
 """
 
 from __future__ import annotations
@@ -81,7 +81,7 @@ def _cursor(connection: sqlite3.Connection) -> sqlite3.Cursor:
     return cursor
 
 
-# ---- A table as a script -------------------------------------------------------------------------------------------------
+# ---- A table as a script ---------------------------------------------------------------------------------------------
 
 _MOST = 60_000  # A statement has at most 65,536 bytes.
 
@@ -94,7 +94,8 @@ def script_of(connection: sqlite3.Connection, name: str, reals_as_text: bool = F
     columns = ", ".join(sign + quoted(it) for sign, it in zip(signs, table.columns))
     yield f"CREATE VIRTUAL TABLE {quoted(table.name)} USING rtree_i32({columns});\n"
     head = f"INSERT INTO {quoted(table.name)} VALUES\n"
-    quotes = [f"quote(CASE typeof({it}) WHEN 'real' THEN CAST({it} AS TEXT) ELSE {it} END)" for it in map(quoted, table.auxiliary)]
+    spelled = "quote(CASE typeof({0}) WHEN 'real' THEN CAST({0} AS TEXT) ELSE {0} END)"
+    quotes = [spelled.format(quoted(it)) for it in table.auxiliary]
     form = "(" + ",".join(["%d"] * (1 + 2 * table.axes) + ["%s"] * len(quotes)) + ")"
     for part in parts_of(connection, table, [*map(quoted, table.columns[: 1 + 2 * table.axes]), *quotes]):
         lines: List[str] = []
@@ -119,18 +120,18 @@ def _refuse(connection: sqlite3.Connection, table: Table, reals_as_text: bool) -
         select = f"SELECT {id}, typeof({it}), quote({it}) FROM {quoted(table.name)} WHERE {wrong} LIMIT 1"
         found = _cursor(connection).execute(select).fetchone()
         if found and found[1] == "real":
-            raise ValueError(f"row {found[0]} has the REAL {found[2]} in column {column}; a script has whole numbers and texts")
+            raise ValueError(f"row {found[0]} has the REAL {found[2]} in column {column}; a script has none")
         if found:
             raise ValueError(f"row {found[0]} has a text with a zero byte in column {column}")
 
 
-# ---- Printed rows --------------------------------------------------------------------------------------------------------
+# ---- Printed rows ----------------------------------------------------------------------------------------------------
 
 _VALUE = re.compile(r"(NULL|-?[0-9]+|X'[0-9A-F]*'|'(?:[^']|'')*')([|\n])")
 
 
 def columns_printed(printed: str) -> List[List[Any]]:
-    """The columns of the rows that a SELECT of a script printed, none if there are no rows. Anything else is a ValueError."""
+    """The columns of the rows that a SELECT of a script printed, none without rows. Anything else is a ValueError."""
     if "'" not in printed and "N" not in printed:
         widths = set(map(methodcaller("count", "|"), printed.splitlines()))
         try:
@@ -167,7 +168,7 @@ def _value(text: str) -> Any:
     return None if text == "NULL" else bytes.fromhex(text[2:-1])
 
 
-# ---- Rows as a table -----------------------------------------------------------------------------------------------------
+# ---- Rows as a table -------------------------------------------------------------------------------------------------
 
 
 @contextmanager
@@ -193,10 +194,10 @@ def create(connection: sqlite3.Connection, name: str, axes: int, auxiliary: Sequ
 
 
 def replace_rows(connection: sqlite3.Connection, table: Table, columns: Sequence[Sequence[Any]]) -> int:
-    """Puts the rows of these columns, which are the table's, into the table in place of its own, and answers their number.
+    """Puts the rows of these columns, which are the table's, in place of the table's own, and answers their number.
 
-    They are packed, sort-tile-recursive, into the table's nodes, whose form https://www.sqlite.org/rtree.html states in its
-    section on shadow tables: a tenth of the time of INSERTs. `SELECT rtreecheck(name)` checks the table.
+    They are packed, sort-tile-recursive, into the table's nodes, which takes a tenth of the time of INSERTs. The form of
+    nodes is that of https://www.sqlite.org/rtree.html, in its section on shadow tables.
     """
     width = 1 + 2 * table.axes
     columns = columns or [()] * len(table.columns)
@@ -234,7 +235,7 @@ def _are_whole(column: Sequence[Any]) -> bool:
 
 
 class _Nodes:
-    """The nodes of a table, from its rows upwards: blobs of so many bytes, and the parent of each but the root, which is 1."""
+    """The nodes of a table, from its rows upwards: a blob of so many bytes each, and the parent of each but the root."""
 
     def __init__(self, room: int, axes: int) -> None:
         self.room, self.axes = room, axes
@@ -253,7 +254,8 @@ class _Nodes:
                 if depth:
                     self.parents += [(child, 1) for child in level[0]]
                 return homes
-            order = self._tiled(list(range(len(level[0]))), nodes, [list(map(add, *it)) for it in zip(level[1::2], level[2::2])], 0)
+            centres = [list(map(add, low, high)) for low, high in zip(level[1::2], level[2::2])]
+            order = self._tiled(list(range(len(level[0]))), nodes, centres, 0)
             hulls: List[Tuple[int, ...]] = []
             for at in range(nodes):
                 members = order[len(order) * at // nodes : len(order) * (at + 1) // nodes]

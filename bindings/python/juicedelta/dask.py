@@ -43,8 +43,8 @@ class Plane:
     ) -> Plane:
         """A plane of about so many tiles, cut sort-tile-recursively by a sample of the rows.
 
-        A partition is a pair of ids and boxes, as `RTree.from_rows` takes them, a future of one, or a function that a worker
-        calls for one. A partition that can't be read is a ValueError with its place, and an id that comes twice one of
+        A partition is a pair of ids and boxes, as `RTree.from_rows` takes them, a future of one, or a function that a
+        worker calls for one. A partition that can't be read is a ValueError with its place, and an id that comes twice a
         JuicedeltaError.
         """
         axes, form = int(dimension), Form(int(dimension))
@@ -89,7 +89,8 @@ class Plane:
         windows = list(zip(*[iter(numbers)] * width))
         places = [[k for k, window in enumerate(windows) if _touch(window, hull)] for hull in self._hulls]
         asked = [tile for tile, found in enumerate(places) if found]
-        futures = [self._client.submit(_many, self._tiles[it], [windows[k] for k in places[it]], pure=False) for it in asked]
+        own = [[windows[k] for k in found] for found in places]
+        futures = [self._client.submit(_many, self._tiles[it], own[it], pure=False) for it in asked]
         ids: List[List[int]] = [[] for _ in windows]
         for tile, found in zip(asked, self._client.gather(futures)):
             for place, begin, end in zip(places[tile], found.starts, found.starts[1:]):
@@ -155,7 +156,7 @@ def _squared(one: Sequence[int], other: Sequence[int]) -> int:
     return sum(max(one[k] - other[k + axes], other[k] - one[k + axes], 0) ** 2 for k in range(axes))
 
 
-# ---- Where tiles lie -------------------------------------------------------------------------------------------------------
+# ---- Where tiles lie -------------------------------------------------------------------------------------------------
 
 
 class _Cuts(NamedTuple):
@@ -190,7 +191,7 @@ def _tile_of(centre: Sequence[int], cuts: Cuts, axis: int = 0) -> int:
     return sum(map(_count, cuts.slabs[:slab])) + _tile_of(centre, cuts.slabs[slab], axis + 1)
 
 
-# ---- What workers do -------------------------------------------------------------------------------------------------------
+# ---- What workers do -------------------------------------------------------------------------------------------------
 
 
 def _read(partition: Any, place: int, axes: int) -> Columns:
