@@ -39,11 +39,11 @@ def test_plane(client, dimension, tiles):
     plane = Plane.from_partitions(client, parts_of(plain, 5), tiles, dimension)
     assert len(plane) == 1500 and plane.bounds == tree.bounds and (tiles == 1) == (len(plane._tiles) == 1)
     windows = list(random_rows(dimension, 20, 500).values())
-    for window in windows[:6]:
+    for window in windows[:3]:
         found = sorted(tree.intersection(window))
         assert sorted(plane.intersection(window)) == found and plane.count(window) == len(found)
         point = window[:dimension]
-        for most in (0, 1, 9, 2000):
+        for most in (0, 9, 2000):
             assert list(plane.nearest(point, most)) == list(tree.nearest(point, most)) == by_distance(plain, point)[:most]
         assert list(plane.nearest(window, 9)) == list(tree.nearest(window, 9))
     wanted, found = parts(tree.intersection_many(windows)), parts(plane.intersection_many(windows))
@@ -78,8 +78,8 @@ def test_errors(client):
 
 if __name__ == "__main__":
     random.seed(2)
-    with LocalCluster(n_workers=2, threads_per_worker=2, dashboard_address=None, silence_logs=50) as cluster, Client(cluster) as client:
-        for dimension, tiles in ((1, 5), (2, 1), (2, 16), (3, 9)):
+    with LocalCluster(n_workers=2, threads_per_worker=1, dashboard_address=None, silence_logs=50) as cluster, Client(cluster) as client:
+        for dimension, tiles in ((1, 1), (2, 16), (3, 5)):
             test_plane(client, dimension, tiles)
         test_errors(client)
     print("bindings/python: passed on a cluster")

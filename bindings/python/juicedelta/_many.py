@@ -249,7 +249,7 @@ class ManyRows(Owner):
     def from_bytes(
         cls: type[M], data: Any, dimension: SupportsIndex = 2, *, grid: Optional[Grid] = None, interleaved: bool = True
     ) -> M:
-        """The tree that `to_bytes` wrote. It has the number of axes that the bytes are of."""
+        """The tree of `dimension` axes that `to_bytes` wrote. Other bytes are an error, as are those of other axes."""
         tree, form, text = cls.__new__(cls), form_of(dimension, grid, interleaved), bytes(data)
         tree._start(form.axes, form, tree_open_bytes, text, len(text))
         return tree
