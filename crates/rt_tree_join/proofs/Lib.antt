@@ -3,3 +3,4 @@ pub mod Counting
 pub mod Below
 pub mod Once
 pub mod Turns
+pub mod Itself

@@ -5,7 +5,7 @@
 
 ghost use Rattle.std.specs.Prelude.{◌≡◌, ◌^◌, ◌<◌, ◌≤◌, ◌++◌, [], length, IfOk, OnOk};
 ghost use Rattle.rt_tree_node.specs.Whole.{IsWhole};
-ghost use Rattle.rt_tree_join.specs.Join.{Joins};
+ghost use Rattle.rt_tree_join.specs.Join.{Joins, JoinsItself};
 ghost use Rattle.rt_tree_join.specs.Due.{IsDue, StartsWith, GoesOn, AreHeld, PairsLeaves, pair_of_ids, pairs_of_row, pairs_picked};
 
 use crate::due::{Due, Side, Subtree, open};
@@ -187,5 +187,22 @@ pub fn join<const D: usize>(
     while let Some(next) = due.pop() {
         visit(&mut pairs, &mut due, left, right, &next)?;
     }
+    Ok(pairs)
+}
+
+/// The pairs of two different rows of one tree whose boxes touch: each pair once, the row with the lower id on the left, in
+/// no stated order.
+///
+/// # Errors
+///
+/// `AllocError` if no memory is left for the pairs, or for the list of the pairs of nodes that are due.
+pub fn join_self<const D: usize>(alloc: Global, tree: &Arena<D>) -> Result<Vec<Pair>, AllocError>
+    requires whole { IsWhole tree.now }
+    requires settled { tree.now.pending.items ≡ [] }
+    requires few { D ≤ 3 }
+    ensures { IfOk result (λ pairs. JoinsItself tree.now pairs.items) }
+{
+    let mut pairs = join(alloc, tree, tree)?;
+    pairs.retain(|pair: &Pair| pair.left < pair.right);
     Ok(pairs)
 }

@@ -17,4 +17,4 @@ mod due;
 mod joining;
 mod touching;
 
-pub use joining::{Pair, join};
+pub use joining::{Pair, join, join_self};
