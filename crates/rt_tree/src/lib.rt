@@ -24,6 +24,7 @@
 //! `Packing.antt` (a tree of a list of rows), and `specs/Nearest.antt` of `rt_tree_nearest`.
 #![tactic(auto)]
 
+mod bounds;
 mod packing;
 mod tree;
 
