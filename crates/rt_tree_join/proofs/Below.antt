@@ -46,10 +46,10 @@ module _ {D : ℕ} where
   rows-none t zero k at e = rows-leaf t k at ∙ ap (map row_of) e
   rows-none t (suc l) k at e = rows-inner t l k at ∙ ap (flat_map (λ c. rows_under t.nodes l (key_of c))) e
 
-  keys-inner : (t : Arena D) (l k : ℕ) → length (keys_in t.nodes (suc l) k) ≡ suc (sum_by (λ c. length (keys_in t.nodes l (key_of c))) (cells_at t.nodes k))
+  pub keys-inner : (t : Arena D) (l k : ℕ) → length (keys_in t.nodes (suc l) k) ≡ suc (sum_by (λ c. length (keys_in t.nodes l (key_of c))) (cells_at t.nodes k))
   keys-inner t l k = ap suc (length-flat_map (λ c. keys_in t.nodes l (key_of c)) (cells_at t.nodes k))
 
-  keys-some : (t : Arena D) (l k : ℕ) → 1 ≤ length (keys_in t.nodes l k)
+  pub keys-some : (t : Arena D) (l k : ℕ) → 1 ≤ length (keys_in t.nodes l k)
   keys-some t zero k = omega arith
   keys-some t (suc l) k = omega (arith, keys-inner t l k)
 
@@ -62,7 +62,7 @@ module _ {D : ℕ} where
         All-contains (λ x. (None ≡ Some (key_of x) → ⊥) → x.rect ≡ hull_at t.nodes (key_of x)) (cells_at t.nodes k) c (s.whole.fitted.hulls k l at) there (none-some (key_of c))
 
     -- each child with all that is below it
-    children : (l k : ℕ) → level_at t.nodes k ≡ Some (suc l) → All (λ c. IsSubtree t (subtree_of l c)) (cells_at t.nodes k)
+    pub children : (l k : ℕ) → level_at t.nodes k ≡ Some (suc l) → All (λ c. IsSubtree t (subtree_of l c)) (cells_at t.nodes k)
     children l k at = λ i d h.
         let c = get_or (cells_at t.nodes k) i d in
         let low : level_at t.nodes (key_of c) ≡ Some l = levels-below t s k l at i d h in
