@@ -16,14 +16,16 @@
 //!   list of the caller's, and `count` says how many they are.
 //! - `nearest` lists the rows whose boxes are nearest to a point, `within` those of them within a distance, and
 //!   `nearest_to` the rows nearest to a box.
-//! - `join` lists the pairs of rows, one of each of two trees, whose boxes touch.
+//! - `join` lists the pairs of rows, one of each of two trees, whose boxes touch, and `join_self` those of one tree.
+//! - `bounds` is the least box around all rows. `ids` tells the ids in an order that stays while the tree does.
 //!
 //! Stands on `rt_tree_node`, `rt_tree_walk`, `rt_tree_nearest`, `rt_tree_join`, `rt_tree_place`, `rt_tree_remove` and
 //! `rt_tree_pack`, and on `rt_check` for the tree from outside. Definitions: `specs/Lists.antt` (a tree from outside),
-//! `Rows.antt`, `Boxes.antt`, `Changes.antt` (insertion, removal and replacement), `Search.antt`, `Join.antt`, `Way.antt`,
-//! `Packing.antt` (a tree of a list of rows), and `specs/Nearest.antt` of `rt_tree_nearest`.
+//! `Rows.antt`, `Boxes.antt`, `Bounds.antt`, `Changes.antt` (insertion, removal and replacement), `Search.antt`,
+//! `Join.antt`, `Way.antt`, `Packing.antt` (a tree of a list of rows), and `specs/Nearest.antt` of `rt_tree_nearest`.
 #![tactic(auto)]
 
+mod bounds;
 mod packing;
 mod tree;
 

@@ -33,10 +33,10 @@ flat-flat f g (x ∷ xs) = flat_map-append f (g x) (flat_map g xs) ∙ ap (λ l.
 
 module _ {D : ℕ} where
   -- ---- one tree
-  rows-leaf : (t : Arena D) (k : ℕ) → level_at t.nodes k ≡ Some 0 → rows_under t.nodes 0 k ≡ map row_of (cells_at t.nodes k)
+  pub rows-leaf : (t : Arena D) (k : ℕ) → level_at t.nodes k ≡ Some 0 → rows_under t.nodes 0 k ≡ map row_of (cells_at t.nodes k)
   rows-leaf t k at = append-nil (leaf_rows t.nodes k) ∙ ap (map row_of) (leaf-at_leaf t.nodes k at)
 
-  rows-inner : (t : Arena D) (l k : ℕ) → level_at t.nodes k ≡ Some (suc l) →
+  pub rows-inner : (t : Arena D) (l k : ℕ) → level_at t.nodes k ≡ Some (suc l) →
       rows_under t.nodes (suc l) k ≡ flat_map (λ c. rows_under t.nodes l (key_of c)) (cells_at t.nodes k)
   rows-inner t l k at =
       ap (λ cells. map row_of cells ++ flat_map (leaf_rows t.nodes) (flat_map (λ c. keys_in t.nodes l (key_of c)) (cells_at t.nodes k))) (leaf-at_inner t.nodes k l at)
@@ -46,10 +46,10 @@ module _ {D : ℕ} where
   rows-none t zero k at e = rows-leaf t k at ∙ ap (map row_of) e
   rows-none t (suc l) k at e = rows-inner t l k at ∙ ap (flat_map (λ c. rows_under t.nodes l (key_of c))) e
 
-  keys-inner : (t : Arena D) (l k : ℕ) → length (keys_in t.nodes (suc l) k) ≡ suc (sum_by (λ c. length (keys_in t.nodes l (key_of c))) (cells_at t.nodes k))
+  pub keys-inner : (t : Arena D) (l k : ℕ) → length (keys_in t.nodes (suc l) k) ≡ suc (sum_by (λ c. length (keys_in t.nodes l (key_of c))) (cells_at t.nodes k))
   keys-inner t l k = ap suc (length-flat_map (λ c. keys_in t.nodes l (key_of c)) (cells_at t.nodes k))
 
-  keys-some : (t : Arena D) (l k : ℕ) → 1 ≤ length (keys_in t.nodes l k)
+  pub keys-some : (t : Arena D) (l k : ℕ) → 1 ≤ length (keys_in t.nodes l k)
   keys-some t zero k = omega arith
   keys-some t (suc l) k = omega (arith, keys-inner t l k)
 
@@ -57,12 +57,12 @@ module _ {D : ℕ} where
   node-level t k l node got at = same_Some node.level l (sym (ap level_of got) ∙ at)
 
   module _ (t : Arena D) (s : IsSettled t) where
-    child-hull : (k l : ℕ) → level_at t.nodes k ≡ Some (suc l) → (c : Cell D) → Contains (cells_at t.nodes k) c → c.rect ≡ hull_at t.nodes (key_of c)
+    pub child-hull : (k l : ℕ) → level_at t.nodes k ≡ Some (suc l) → (c : Cell D) → Contains (cells_at t.nodes k) c → c.rect ≡ hull_at t.nodes (key_of c)
     child-hull k l at c there =
         All-contains (λ x. (None ≡ Some (key_of x) → ⊥) → x.rect ≡ hull_at t.nodes (key_of x)) (cells_at t.nodes k) c (s.whole.fitted.hulls k l at) there (none-some (key_of c))
 
     -- each child with all that is below it
-    children : (l k : ℕ) → level_at t.nodes k ≡ Some (suc l) → All (λ c. IsSubtree t (subtree_of l c)) (cells_at t.nodes k)
+    pub children : (l k : ℕ) → level_at t.nodes k ≡ Some (suc l) → All (λ c. IsSubtree t (subtree_of l c)) (cells_at t.nodes k)
     children l k at = λ i d h.
         let c = get_or (cells_at t.nodes k) i d in
         let low : level_at t.nodes (key_of c) ≡ Some l = levels-below t s k l at i d h in
