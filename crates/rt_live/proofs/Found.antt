@@ -23,7 +23,7 @@ use Rattle.rt_tree_join.specs.Join.{touch, IsTouching}
 use Rattle.rt_tree.specs.Lists.{IsInShape}
 use Rattle.rt_tree.specs.Rows.{box_in, row_in, rows_of}
 use Rattle.rt_tree.specs.Boxes.{HasBoxes}
-use Rattle.rt_tree.specs.Search.{FindsIn}
+use Rattle.rt_tree.specs.Search.{FindsIn, FindsInAfter}
 use Rattle.rt_tree.proofs.Members.{contains-here, contains-later, contains-cases, contains-none, contains-mapped}
 use Rattle.rt_live.specs.Rows.{by_id}
 use Rattle.rt_live.specs.Changes.{same_box, touches}
@@ -152,6 +152,11 @@ module _ {D : ℕ} where
       ]
 
   -- ---- one search
+  -- a list that had no rows before
+  pub finds_alone : (s : ShadowLists D) (window : List Interval) (old rows : List (Row D)) (visited : ℕ) → old ≡ [] → FindsInAfter s window old rows visited → FindsIn s window rows visited
+  finds_alone s window old rows visited none after =
+      subst (λ (found : List (Row D)). FindsIn s window found visited) (sym (after.is ∙ ap (λ (xs : List (Row D)). xs ++ after.more) none)) after.finds
+
   module _ (s : ShadowLists D) (boxes : HasBoxes s) (rect window : List Interval) (around : IsTouching D rect window) (except : Option (List Interval)) where
     admits_row : Row D → Bool
     admits_row r = admits_each window (coordinates r.rect)

@@ -13,7 +13,7 @@ ghost use Rattle.rt_live.specs.Faults.{IsFaultOfInsertion, IsFaultOfEdit, IsFaul
 
 use crate::change::Change;
 use crate::fault::Fault;
-use crate::finding::find_either;
+use crate::finding::{Scratch, find_either};
 use crate::plan::{plan_row, plan_window};
 use crate::setting::{make_room, set_box};
 use crate::touching::does_stay;
@@ -29,9 +29,9 @@ pub struct Live<const D: usize> {
     rows: Tree<D>,
     windows: Tree<D>,
     changes: Vec<Change>,
-    // What the next edit is to tell, and what it finds: kept, so that few edits take memory.
+    // What the next edit is to tell, and what it finds: kept, so that few edits take memory for them.
     planned: Vec<Change>,
-    found: Vec<Row<D>>,
+    scratch: Scratch<D>,
     alloc: Global,
 }
 
@@ -43,7 +43,7 @@ impl<const D: usize> Drop for Live<D> {
             windows: _,
             changes: _,
             planned: _,
-            found: _,
+            scratch: _,
             alloc: _,
         } = self;
     }
@@ -60,6 +60,14 @@ impl<const D: usize> Model for Live<D> {
     ghost view = { state_of };
 
     ghost invariant = { HasAxes D };
+}
+
+/// Lists for searches.
+fn empty_scratch<const D: usize>(alloc: Global) -> Scratch<D> {
+    Scratch {
+        found: Vec::new(alloc),
+        reached: Vec::new(alloc),
+    }
 }
 
 /// The ids of rows.
@@ -92,7 +100,7 @@ impl<const D: usize> Live<D> {
             windows,
             changes: Vec::new(alloc),
             planned: Vec::new(alloc),
-            found: Vec::new(alloc),
+            scratch: empty_scratch(alloc),
             alloc,
         })
     }
@@ -142,13 +150,14 @@ impl<const D: usize> Live<D> {
         if rect.is_none() {
             return Err(Fault::NoWindow);
         }
-        let mut found = Vec::new(self.alloc);
-        find_either(self.alloc, &self.rows, &rect, &None, &mut found)?;
-        let ids = ids_of(self.alloc, found.as_slice())?;
+        let mut scratch = empty_scratch(self.alloc);
+        find_either(self.alloc, &self.rows, &rect, &None, &mut scratch)?;
+        let ids = ids_of(self.alloc, scratch.found.as_slice())?;
         Ok(ids)
     }
 
-    /// Makes room for so many more rows and windows, and for an edit of so many changes.
+    /// Makes room for so many more rows and windows, and for edits that find and tell no more than so many. Of memory, such an
+    /// edit asks only for the list of the nodes that its searches reach: 16 bytes a node.
     ///
     /// # Errors
     ///
@@ -163,6 +172,8 @@ impl<const D: usize> Live<D> {
         self.windows.reserve(windows)?;
         self.planned.reserve(changes)?;
         self.changes.reserve(changes)?;
+        self.scratch.found.reserve(changes)?;
+        self.scratch.reached.reserve(changes)?;
         Ok(())
     }
 
@@ -191,7 +202,7 @@ impl<const D: usize> Live<D> {
             id,
             was,
             is,
-            &mut self.found,
+            &mut self.scratch,
             &mut self.planned,
         )?;
         set_box(&mut self.rows, id, was, is);
@@ -224,7 +235,7 @@ impl<const D: usize> Live<D> {
             window,
             was,
             is,
-            &mut self.found,
+            &mut self.scratch,
             &mut self.planned,
         )?;
         set_box(&mut self.windows, window, was, is);

@@ -1,12 +1,12 @@
 //! What an edit tells, listed before anything changes.
 
-ghost use Rattle.std.specs.Prelude.{◌≡◌, ◌++◌, false, OnOk};
+ghost use Rattle.std.specs.Prelude.{◌≡◌, ◌≤◌, ◌++◌, false, OnOk};
 ghost use Rattle.rt_tree.specs.Rows.{rows_of};
 ghost use Rattle.rt_live.specs.Rows.{by_id};
 ghost use Rattle.rt_live.specs.Changes.{stays, told_each, row_changes, window_changes};
 
 use crate::change::{Change, push_told, told_of_row, told_of_window};
-use crate::finding::find_either;
+use crate::finding::{Scratch, find_either};
 use crate::touching::is_touched;
 use rt_box::Rect;
 use rt_tree::{Row, Tree};
@@ -56,15 +56,16 @@ pub(crate) fn plan_row<const D: usize>(
     id: &i64,
     was: &Option<Rect<D>>,
     is: &Option<Rect<D>>,
-    found: &mut Vec<Row<D>>,
+    scratch: &mut Scratch<D>,
     changes: &mut Vec<Change>,
 ) -> Result<(), AllocError>
-    requires { stays was.now is.now ≡ false }
+    requires few { D ≤ 3 }
+    requires moves { stays was.now is.now ≡ false }
     ensures { OnOk result (changes.new.items ≡ row_changes (by_id (rows_of windows.now.lists)) id.now was.now is.now) }
 {
-    find_either(alloc, windows, was, is, found)?;
+    find_either(alloc, windows, was, is, scratch)?;
     changes.clear();
-    list_row(changes, found.as_slice(), id, was, is)
+    list_row(changes, scratch.found.as_slice(), id, was, is)
 }
 
 /// Plans what a window is told that gets another box: of the rows, those are looked at that touch one of the boxes.
@@ -74,12 +75,13 @@ pub(crate) fn plan_window<const D: usize>(
     window: &i64,
     was: &Option<Rect<D>>,
     is: &Option<Rect<D>>,
-    found: &mut Vec<Row<D>>,
+    scratch: &mut Scratch<D>,
     changes: &mut Vec<Change>,
 ) -> Result<(), AllocError>
+    requires { D ≤ 3 }
     ensures { OnOk result (changes.new.items ≡ window_changes (by_id (rows_of rows.now.lists)) window.now was.now is.now) }
 {
-    find_either(alloc, rows, was, is, found)?;
+    find_either(alloc, rows, was, is, scratch)?;
     changes.clear();
-    list_window(changes, found.as_slice(), window, was, is)
+    list_window(changes, scratch.found.as_slice(), window, was, is)
 }

@@ -11,8 +11,8 @@ use Rattle.rt_live.proofs.finding.find_either.Goals as goal
 pub returns : goal.returns
 returns g c =
     let s = c.args.tree.now.lists in
-    let first = c.append_there.new.found.items in
-    let both = c.append_there-2.new.found in
+    let first = c.append_there.new.scratch.found.items in
+    let both = c.append_there-2.new.scratch.found in
     let moved : IsPermutation both.items c.sort_by_id.new.rows = subst (λ (rows : List (Row g.row.D)). IsPermutation rows c.sort_by_id.new.rows) c.deref_mut.ensures.value c.sort_by_id.ensures.permutation in
     let kept = with_items_is both c.sort_by_id.new.rows (length_permutation c.deref_mut.result.now c.sort_by_id.new.rows c.sort_by_id.ensures.permutation ∙ c.deref_mut.ensures.len) in
     let one : Appends (rows_of s) (is_new c.args.was.now None) [] first =

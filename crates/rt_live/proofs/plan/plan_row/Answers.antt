@@ -20,5 +20,5 @@ returns g c =
     ∙ ap (λ (changes : List Change). changes ++ told_each c.as_slice.result.now id was is) c.clear.ensures.items
     ∙ ap (λ (found : List (Row g.row.D)). told_each found id was is) (c.as_slice.ensures.value ∙ c.in_ok-find_either.ensures)
     ∙ told-found rows id was is
-    ∙ sym (row_changes-told rows id was is c.requires))
+    ∙ sym (row_changes-told rows id was is c.requires.moves))
     c.list_row.ensures
