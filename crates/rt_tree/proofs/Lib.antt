@@ -18,3 +18,5 @@ pub mod Exact
 pub mod Low
 pub mod Nearby
 pub mod FromRows
+pub mod Boxed
+pub mod FromShadow

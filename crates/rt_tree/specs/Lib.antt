@@ -8,3 +8,5 @@ pub mod Changes
 pub mod Packing
 pub mod PackingInside
 pub mod Join
+pub mod Restoring
+pub mod RestoringInside
