@@ -20,3 +20,5 @@ pub mod Nearby
 pub mod FromRows
 pub mod Around
 pub mod Once
+pub mod Boxed
+pub mod FromShadow

@@ -10,3 +10,5 @@ pub mod PackingInside
 pub mod Join
 pub mod Bounds
 pub mod BoundsInside
+pub mod Restoring
+pub mod RestoringInside

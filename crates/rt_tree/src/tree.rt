@@ -13,6 +13,7 @@ ghost use Rattle.rt_tree.specs.Rows.{box_of, rows_of, GainsRow, LosesRow};
 ghost use Rattle.rt_tree.specs.Boxes.{HasBoxes};
 ghost use Rattle.rt_tree.specs.Changes.{IsInsertion, IsRemoval, ReplacesOther};
 ghost use Rattle.rt_tree.specs.Packing.{ids, IsPackedOf};
+ghost use Rattle.rt_tree.specs.Restoring.{IsRestoredOf, IsRestoreFaultOf};
 ghost use Rattle.rt_tree.specs.Search.{FindsIn, FindsInAfter, CountsIn};
 ghost use Rattle.rt_tree.specs.Join.{JoinsIn, JoinsItselfIn};
 ghost use Rattle.rt_tree.specs.Bounds.{IsLeastAround};
@@ -22,6 +23,7 @@ ghost use Rattle.rt_tree_nearest.specs.Nearest.{nearest_rows, rows_within, neare
 
 use crate::bounds::root_box;
 use crate::packing::{bare_arena, pack_rows};
+use crate::restoring::shadow_arena;
 use rt_box::{Capacity, Rect, Window};
 use rt_check::Shadow;
 use rt_tree_join::{Pair, join, join_self};
@@ -30,6 +32,7 @@ use rt_tree_node::{Arena, Node, Work, leaves_facts};
 use rt_tree_pack::PackFault;
 use rt_tree_place::{insert_row, levels_are_few, nodes_are_few};
 use rt_tree_remove::{find_row, remove_found, replace_found};
+use rt_tree_restore::RestoreFault;
 use rt_tree_walk::{Found, Row, count, search, search_into, shadow_of};
 use slab::Slab;
 use std::alloc::{AllocError, Global};
@@ -223,6 +226,29 @@ impl<const D: usize> Tree<D> {
         ensures fault { IfErr result (λ fault. IsFaultOf (ids rows.now) fault) }
     {
         let arena = pack_rows(alloc, keys, capacity, rows)?;
+        Ok(Tree { arena, spare: 0 })
+    }
+
+    /// A tree of the shadow's rows. If the shadow is sound and its nodes stand in preorder, as `shadow` lists them, it is that
+    /// very tree, which tests show; else the rows are packed. Look-ups by id hash by `keys`, which are to be random if others
+    /// choose the ids.
+    ///
+    /// # Errors
+    ///
+    /// `NoBox` if a row's cell has some lo above its hi, `TooMany` if there are more rows than `MOST_ROWS_OF_A_TREE`, `Repeated` if
+    /// two have one id, and `Memory` if no memory is left.
+    pub fn from_shadow(
+        alloc: Global,
+        keys: RandomState,
+        shadow: &Shadow<D>,
+    ) -> Result<Tree<D>, RestoreFault>
+        requires some { 1 ≤ D }
+        requires few { D ≤ 3 }
+        ensures tree { IfOk result (λ tree. IsRestoredOf tree.lists shadow.now) }
+        ensures spare { IfOk result (λ tree. tree.spare ≡ 0) }
+        ensures fault { IfErr result (λ fault. IsRestoreFaultOf shadow.now fault) }
+    {
+        let arena = shadow_arena(alloc, keys, shadow)?;
         Ok(Tree { arena, spare: 0 })
     }
 

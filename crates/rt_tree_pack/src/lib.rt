@@ -17,7 +17,7 @@
 mod attach;
 mod entries;
 mod fault;
-mod fill;
+mod filling;
 mod level;
 mod node;
 mod packing;
@@ -26,4 +26,7 @@ mod tile;
 
 pub use entries::enter;
 pub use fault::PackFault;
+pub use filling::fill;
+pub use node::pack_node;
 pub use packing::pack;
+pub use root::lift_root;

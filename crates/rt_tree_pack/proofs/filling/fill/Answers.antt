@@ -9,7 +9,7 @@ use Rattle.rt_tree_node.specs.Places.{key_of, cells_of, cells_at}
 use Rattle.rt_tree_place.proofs.Adopted.{kept-present, some-node}
 use Rattle.rt_tree_pack.specs.Steps.{Fills}
 use Rattle.rt_tree_pack.proofs.Filled.{fills-none, fills-more, still-known, still-named}
-use Rattle.rt_tree_pack.proofs.fill.fill.Goals as goal
+use Rattle.rt_tree_pack.proofs.filling.fill.Goals as goal
 
 pub loop-cell-init : goal.loop-cell-init
 loop-cell-init g c = fills-none c.args.tree.now c.args.key c.args.level

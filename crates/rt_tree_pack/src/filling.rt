@@ -10,7 +10,7 @@ use crate::attach::attach;
 use rt_tree_node::{Arena, Cell, Key, Pending};
 
 /// Appends cells to a node of their level.
-pub(crate) fn fill<const D: usize>(tree: &mut Arena<D>, key: Key, level: u8, cells: &[Cell<D>])
+pub fn fill<const D: usize>(tree: &mut Arena<D>, key: Key, level: u8, cells: &[Cell<D>])
     requires few { D ≤ 3 }
     requires present { ContainsKey tree.old.nodes key }
     requires room { length (cells_at tree.old.nodes key) + length cells.now ≤ most_cells }
