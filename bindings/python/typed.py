@@ -23,6 +23,7 @@ from juicedelta import (
     StatementRefused,
     Value,
 )
+from juicedelta.dask import Plane
 
 
 class Id:
@@ -118,6 +119,18 @@ def shells() -> None:
     lines += shell.finish()
     shell.close()
     print(lines, words, values, rows, number)
+
+
+def planes(client: Any) -> None:
+    """Not called."""
+    plane = Plane.from_partitions(client, [([1], [(0, 0, 1, 1)])], tiles=4, dimension=2, capacity=51)
+    ids: List[int] = list(plane.intersection((0, 0, 1, 1))) + list(plane.nearest((0, 0), 3))
+    number: int = plane.count((0, 0, 1, 1)) + len(plane) + plane.dimension
+    many: Many = plane.intersection_many([(0, 0, 1, 1)])
+    pairs: Pairs = plane.join()
+    pairs = plane.join(plane)
+    box: Optional[Tuple[int, ...]] = plane.bounds
+    print(ids, number, many, pairs, box)
 
 
 def errors(code: JuicedeltaError, refusal: StatementRefused) -> str:
