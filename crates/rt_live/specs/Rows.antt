@@ -3,7 +3,9 @@ use Rattle.std.specs.Prelude.{ℕ, ℤ, ◌<ℤ◌, not, int_lt, List, [], ◌�
 use Rattle.std.specs.Option.{option_map}
 use Rattle.std.specs.Ordering.{int_eq}
 use Rattle.rt_box.specs.declared.interval.Interval.{Interval}
+use Rattle.rt_check.specs.Shadow.{ShadowLists}
 use Rattle.rt_tree_walk.specs.declared.searching.Row.{Row}
+use Rattle.rt_tree.specs.Rows.{rows_of}
 
 module _ {D : ℕ} where
   -- each id is above the one before it
@@ -31,3 +33,7 @@ module _ {D : ℕ} where
   abbrev pub by_id : List (Row D) → List (Row D)
   by_id [] = []
   by_id (row ∷ rows) = placed (by_id rows) row
+
+  -- the rows of a tree by rising id
+  abbrev pub rows_by_id : ShadowLists D → List (Row D)
+  rows_by_id s = by_id (rows_of s)

@@ -2,9 +2,7 @@
 
 ghost use Rattle.std.specs.Prelude.{◌≡◌, ◌≤◌, ◌++◌, Some, OnOk};
 ghost use Rattle.std.specs.List.{filter};
-ghost use Rattle.rt_tree.specs.Rows.{rows_of};
-ghost use Rattle.rt_live.specs.Rows.{by_id};
-ghost use Rattle.rt_live.specs.Finding.{is_apart, is_new, touches_either, Appends};
+ghost use Rattle.rt_live.specs.Finding.{is_apart, rows_around, AppendsNew};
 
 use crate::touching::{is_touched, touching};
 use rt_box::Rect;
@@ -45,7 +43,7 @@ fn append_touching<const D: usize>(
     except: &Option<Rect<D>>,
     scratch: &mut Scratch<D>,
 ) -> Result<(), AllocError>
-    ensures { OnOk result (Appends (rows_of tree.now.lists) (is_new (Some rect.now) except.now) scratch.old.found.items scratch.new.found.items) }
+    ensures { OnOk result (AppendsNew tree.now.lists (Some rect.now) except.now scratch.old scratch.new) }
 {
     // There are one to three axes.
     rect.facts();
@@ -63,7 +61,7 @@ fn append_there<const D: usize>(
     except: &Option<Rect<D>>,
     scratch: &mut Scratch<D>,
 ) -> Result<(), AllocError>
-    ensures { OnOk result (Appends (rows_of tree.now.lists) (is_new rect.now except.now) scratch.old.found.items scratch.new.found.items) }
+    ensures { OnOk result (AppendsNew tree.now.lists rect.now except.now scratch.old scratch.new) }
 {
     match rect {
         Some(rect) => append_touching(alloc, tree, rect, except, scratch),
@@ -80,7 +78,7 @@ pub(crate) fn find_either<const D: usize>(
     scratch: &mut Scratch<D>,
 ) -> Result<(), AllocError>
     requires { D ≤ 3 }
-    ensures { OnOk result (scratch.new.found.items ≡ filter (touches_either was.now is.now) (by_id (rows_of tree.now.lists))) }
+    ensures { OnOk result (scratch.new.found.items ≡ rows_around tree.now.lists was.now is.now) }
 {
     tree.is_in_shape();
     scratch.found.clear();

@@ -1,12 +1,11 @@
 //! Rows and windows, each in a tree.
 //!
-//! An edit first finds what is to be told, in a list of its own, and makes room. What it then commits takes no memory and can't
-//! fail. So an edit that is refused leaves all as it was.
+//! An edit first makes room, and finds what is to be told, in a list of its own. What it then commits takes no memory and
+//! can't fail. So an edit that is refused leaves all as it was.
 
 ghost use Rattle.std.specs.Prelude.{◌≡◌, ◌≤◌, ◌<◌, None, Some, Err, map, length, IsSome, IfOk, IfErr, OnOk, OnErr};
 ghost use Rattle.rt_tree_node.specs.Whole.{most_rows_of_a_tree};
-ghost use Rattle.rt_tree.specs.Rows.{rows_of};
-ghost use Rattle.rt_live.specs.Rows.{AreRising, by_id, box_at};
+ghost use Rattle.rt_live.specs.Rows.{AreRising, rows_by_id, box_at};
 ghost use Rattle.rt_live.specs.Live.{empty, with_row, with_window, seen};
 ghost use Rattle.rt_live.specs.declared.fault.Fault.TheVariants.{Taken, Missing, WindowTaken, NoWindow};
 ghost use Rattle.rt_live.specs.Faults.{IsFaultOfInsertion, IsFaultOfEdit, IsFaultOfWatch, IsFaultOfWindow};
@@ -82,8 +81,8 @@ fn ids_of<const D: usize>(alloc: Global, rows: &[Row<D>]) -> Result<Vec<i64>, Al
 }
 
 impl<const D: usize> Live<D> {
-    /// No rows and no windows. The nodes of the trees have at most `capacity` cells. Look-ups by id hash by `keys`, which are to be
-    /// random if others choose the ids.
+    /// No rows and no windows. The nodes of the trees have at most `capacity` cells. Look-ups by id hash by `keys`, which
+    /// are to be random if others choose the ids.
     ///
     /// # Errors
     ///
@@ -124,14 +123,14 @@ impl<const D: usize> Live<D> {
 
     /// The tree of the rows, to search.
     pub fn rows_tree(&self) -> &Tree<D>
-        ensures { by_id (rows_of result.now.lists) ≡ self.now.lists.rows }
+        ensures { rows_by_id result.now.lists ≡ self.now.lists.rows }
     {
         &self.rows
     }
 
     /// The tree of the windows, to search.
     pub fn windows_tree(&self) -> &Tree<D>
-        ensures { by_id (rows_of result.now.lists) ≡ self.now.lists.windows }
+        ensures { rows_by_id result.now.lists ≡ self.now.lists.windows }
     {
         &self.windows
     }
@@ -156,8 +155,8 @@ impl<const D: usize> Live<D> {
         Ok(ids)
     }
 
-    /// Makes room for so many more rows and windows, and for edits that find and tell no more than so many. Of memory, such an
-    /// edit asks only for the list of the nodes that its searches reach: 16 bytes a node.
+    /// Makes room for so many more rows and windows, and for edits that find and tell no more than so many changes. Such an
+    /// edit then asks for no memory but the list of the nodes that its searches reach: 16 bytes a node.
     ///
     /// # Errors
     ///
@@ -177,7 +176,7 @@ impl<const D: usize> Live<D> {
         Ok(())
     }
 
-    /// Gives the row of an id that box, or none, and lists what the windows are told. If it is refused, all is as before.
+    /// Gives the row of an id that box, or none, and lists what the windows are told. A refused edit leaves all as before.
     fn edit_row(
         &mut self,
         id: &i64,
@@ -210,7 +209,7 @@ impl<const D: usize> Live<D> {
         Ok(())
     }
 
-    /// Gives the window of an id that box, or none, and lists what it is told. If it is refused, all is as before.
+    /// Gives the window of an id that box, or none, and lists what it is told. A refused edit leaves all as before.
     fn edit_window(
         &mut self,
         window: &i64,
@@ -247,7 +246,8 @@ impl<const D: usize> Live<D> {
     ///
     /// # Errors
     ///
-    /// `Taken` if a row has the id already, `Full` if there are as many rows as there may be, and `Memory` if no memory is left.
+    /// `Taken` if a row has the id already, `Full` if there are as many rows as there may be, and `Memory` if no memory is
+    /// left.
     pub fn insert(&mut self, id: &i64, rect: &Rect<D>) -> Result<(), Fault>
         ensures ok { OnOk result (self.new.lists ≡ with_row self.old.lists id.now (Some rect.now)) }
         ensures err { OnErr result (self.new.lists ≡ self.old.lists) }
@@ -284,8 +284,8 @@ impl<const D: usize> Live<D> {
         Ok(())
     }
 
-    /// Gives a row another box. The windows that see it, before or after, are told that it left, came, or moved inside. If it has
-    /// that box already, nothing is told.
+    /// Gives a row another box. The windows that see it, before or after, are told that it left, came, or moved inside. If it
+    /// has that box already, nothing is told.
     ///
     /// # Errors
     ///
@@ -308,8 +308,8 @@ impl<const D: usize> Live<D> {
     ///
     /// # Errors
     ///
-    /// `WindowTaken` if a window has the id already, `Full` if there are as many windows as there may be, and `Memory` if no memory
-    /// is left.
+    /// `WindowTaken` if a window has the id already, `Full` if there are as many windows as there may be, and `Memory` if no
+    /// memory is left.
     pub fn watch(&mut self, window: &i64, rect: &Rect<D>) -> Result<(), Fault>
         ensures ok { OnOk result (self.new.lists ≡ with_window self.old.lists window.now (Some rect.now)) }
         ensures err { OnErr result (self.new.lists ≡ self.old.lists) }

@@ -1,8 +1,7 @@
 //! What an edit tells, listed before anything changes.
 
 ghost use Rattle.std.specs.Prelude.{◌≡◌, ◌≤◌, ◌++◌, false, OnOk};
-ghost use Rattle.rt_tree.specs.Rows.{rows_of};
-ghost use Rattle.rt_live.specs.Rows.{by_id};
+ghost use Rattle.rt_live.specs.Rows.{rows_by_id};
 ghost use Rattle.rt_live.specs.Changes.{stays, told_each, row_changes, window_changes};
 
 use crate::change::{Change, push_told, told_of_row, told_of_window};
@@ -48,8 +47,8 @@ fn list_window<const D: usize>(
     Ok(())
 }
 
-/// Plans what the windows are told of a row that gets another box: of the windows, those are looked at that touch one of the
-/// boxes.
+/// Plans what the windows are told of a row that gets another box. Of the windows, those are looked at that touch one of
+/// the boxes.
 pub(crate) fn plan_row<const D: usize>(
     alloc: Global,
     windows: &Tree<D>,
@@ -61,14 +60,14 @@ pub(crate) fn plan_row<const D: usize>(
 ) -> Result<(), AllocError>
     requires few { D ≤ 3 }
     requires moves { stays was.now is.now ≡ false }
-    ensures { OnOk result (changes.new.items ≡ row_changes (by_id (rows_of windows.now.lists)) id.now was.now is.now) }
+    ensures { OnOk result (changes.new.items ≡ row_changes (rows_by_id windows.now.lists) id.now was.now is.now) }
 {
     find_either(alloc, windows, was, is, scratch)?;
     changes.clear();
     list_row(changes, scratch.found.as_slice(), id, was, is)
 }
 
-/// Plans what a window is told that gets another box: of the rows, those are looked at that touch one of the boxes.
+/// Plans what a window is told that gets another box. Of the rows, those are looked at that touch one of the boxes.
 pub(crate) fn plan_window<const D: usize>(
     alloc: Global,
     rows: &Tree<D>,
@@ -79,7 +78,7 @@ pub(crate) fn plan_window<const D: usize>(
     changes: &mut Vec<Change>,
 ) -> Result<(), AllocError>
     requires { D ≤ 3 }
-    ensures { OnOk result (changes.new.items ≡ window_changes (by_id (rows_of rows.now.lists)) window.now was.now is.now) }
+    ensures { OnOk result (changes.new.items ≡ window_changes (rows_by_id rows.now.lists) window.now was.now is.now) }
 {
     find_either(alloc, rows, was, is, scratch)?;
     changes.clear();

@@ -2,8 +2,8 @@
 
 ghost use Rattle.std.specs.Prelude.{◌≡◌, ◌<◌, ◌≤◌, None, length, IsSome, OnOk};
 ghost use Rattle.rt_tree_node.specs.Whole.{most_rows_of_a_tree};
-ghost use Rattle.rt_tree.specs.Rows.{rows_of, box_of};
-ghost use Rattle.rt_live.specs.Rows.{by_id, with_box};
+ghost use Rattle.rt_tree.specs.Rows.{box_of};
+ghost use Rattle.rt_live.specs.Rows.{rows_by_id, with_box};
 
 use rt_box::Rect;
 use rt_tree::Tree;
@@ -33,7 +33,7 @@ pub(crate) fn set_box<const D: usize>(
     requires was { box_of tree.old.lists id.now ≡ was.now }
     requires few { was.now ≡ None → length tree.old.lists.rows < most_rows_of_a_tree }
     requires room { IsSome is.now → 1 ≤ tree.old.spare }
-    ensures { by_id (rows_of tree.new.lists) ≡ with_box (by_id (rows_of tree.old.lists)) id.now is.now }
+    ensures { rows_by_id tree.new.lists ≡ with_box (rows_by_id tree.old.lists) id.now is.now }
 {
     match (was, is) {
         (None, None) => {}

@@ -6,7 +6,8 @@ ghost use Rattle.rt_live.specs.Changes.{stays, touches};
 
 use rt_box::{Interval, Operator, Rect, Window};
 
-/// The window that admits the boxes that touch this one: on each axis they begin by its end, and end no sooner than it begins.
+/// The window that admits the boxes that touch this one: on each axis they begin by its end, and end no sooner than it
+/// begins.
 pub(crate) fn touching<const D: usize>(rect: &Rect<D>) -> Window<D>
     ensures { IsTouching D rect.now result }
 {
