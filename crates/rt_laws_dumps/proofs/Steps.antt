@@ -12,7 +12,7 @@ use Rattle.rt_laws_dumps.specs.Laws.{StepsHaveOneAnswer}
 
 module _ (D : ℕ) where
   gains : (row : TableRow) (old one other : ShadowLists D) → IsInShape one → IsInShape other → Gains row old one → Gains row old other → one ≡ other
-  gains row old one other shape shape_too g h = insertion D old one other row.id row.box g.0 h.0 shape shape_too g.1 h.1
+  gains row old one other shape shape_too g h = (insertion D old one other row.id row.box g.0 h.0 shape shape_too g.1 h.1).0
 
   loses : (id : ℤ) (old one other : ShadowLists D) → IsInShape one → IsInShape other → Loses id old one → Loses id old other → one ≡ other
   loses id old one other shape shape_too g h = removal D old one other id g.0 h.0 shape shape_too g.1 h.1

@@ -1,6 +1,8 @@
 -- Placements one after the other are those of the rules.
-use Rattle.std.proofs.Common.{◌≡◌, ◌≢◌, ◌+◌, ℕ, zero, suc, ◌<◌, ◌≤◌, List, [], ◌∷◌, ◌++◌, map, length, reverse, refl, sym, ap, ◌∙◌, subst, arith, length-append}
+use Rattle.std.proofs.Common.{◌≡◌, ◌≢◌, ◌+◌, inl, inr, true, false, ℕ, zero, suc, ◌<◌, ◌≤◌, List, [], ◌∷◌, ◌++◌, map, length, reverse, refl, sym, ap, ◌∙◌, subst, arith, length-append}
+use Rattle.std.specs.Prelude.{nat_lt, if◌then◌else◌}
 use Rattle.std.specs.List.{All}
+use Rattle.std.proofs.lemmas.Bool.Decides.{nat_tests}
 use Rattle.std.proofs.lemmas.Option.{none-some}
 use Rattle.std.proofs.lemmas.List.{append-nil, length-map, length-reverse, nil_from_length}
 use Rattle.std.proofs.lemmas.List.Elements.{All-nil, All-cons}
@@ -17,12 +19,29 @@ use Rattle.rt_tree_place.specs.Turns.{PlacesInTurn}
 use Rattle.rt_tree_rules.specs.Nested.{Tree, Waiting}
 use Rattle.rt_tree_rules.specs.Placing.{Work, Standing, insert_one, place, places, start, Settles}
 use Rattle.rt_tree_obeys.specs.View.{tree_in, waiting_in, waiting_cells}
-use Rattle.rt_tree_obeys.specs.Laws.{Stands, SettlingObeys, InsertionObeys}
+use Rattle.rt_tree_obeys.specs.Laws.{Stands, SettlingObeys, InsertionObeys, marked_in}
 use Rattle.rt_tree_obeys.proofs.Placed.{placing}
 
 places_more : (axes K n : ℕ) (s : Standing) → places axes K (suc n) s ≡ place axes K (places axes K n s)
 places_more axes K zero s = refl
 places_more axes K (suc n) s = places_more axes K n (place axes K s)
+
+lt_true : (m n : ℕ) → m < n → nat_lt m n ≡ true
+lt_true m n less = grind (arith, nat_tests)
+
+lt_false : (m n : ℕ) → n ≤ m → nat_lt m n ≡ false
+lt_false m n less = grind (arith, nat_tests)
+
+abbrev one_if : ℕ → ℕ → ℕ
+one_if m n = if nat_lt m n then 1 else 0
+
+-- whether the next placing marks a level
+abbrev marks_next : ℕ → ℕ → Standing → ℕ
+marks_next axes K s = if nat_lt s.course.marks (place axes K s).course.marks then 1 else 0
+
+marked_more : (axes K n : ℕ) (s : Standing) → marked_in axes K (suc n) s ≡ marked_in axes K n s + marks_next axes K (places axes K n s)
+marked_more axes K zero s = omega arith
+marked_more axes K (suc n) s = let later = marked_more axes K n (place axes K s) in omega arith
 
 pub stands_whole : {D : ℕ} (t : Arena D) → IsWhole t → Stands t
 stands_whole t whole = record {
@@ -33,7 +52,7 @@ stands_whole t whole = record {
 
 module _ {D : ℕ} (old : Arena D) (base : List Waiting) (entry : Waiting) where
   -- so far, after a number of placements
-  record SoFar (t : Arena D) (marks : ℕ) : Type 0 where
+  record SoFar (t : Arena D) (marks : ℕ) (work : Counts) : Type 0 where
     count : ℕ
     waits : List Waiting
     effort : Work
@@ -42,12 +61,13 @@ module _ {D : ℕ} (old : Arena D) (base : List Waiting) (entry : Waiting) where
     pending : waiting_cells t ≡ base ++ reverse waits
     stands : Stands t
     capacity : t.capacity ≡ old.capacity
+    marked : work.reinsertions ≡ marked_in D old.capacity count (start D old.capacity (tree_in old) entry)
 
-  more : (t u : Arena D) (marks marks1 : ℕ) (work work1 : Counts) → SoFar t marks → length base < length t.pending.items → PlacesLast t u marks marks1 work work1 →
-      SoFar u marks1
+  more : (t u : Arena D) (marks marks1 : ℕ) (work work1 : Counts) → SoFar t marks work → length base < length t.pending.items → PlacesLast t u marks marks1 work work1 →
+      SoFar u marks1 work1
   more t u marks marks1 work work1 so_far some last = by so_far.waits refl
     where
-      by : (waits : List Waiting) → so_far.waits ≡ waits → SoFar u marks1
+      by : (waits : List Waiting) → so_far.waits ≡ waits → SoFar u marks1 work1
       by [] none =
           let all = ap (length {A = Waiting}) (so_far.pending ∙ ap (λ vs. base ++ reverse vs) none ∙ append-nil base) in
           let long = length-map t.pending.items (waiting_in t.nodes) in
@@ -56,21 +76,39 @@ module _ {D : ℕ} (old : Arena D) (base : List Waiting) (entry : Waiting) where
           let K = old.capacity in
           let obeys = placing D t u marks marks1 work work1 base rest w so_far.effort so_far.stands last (so_far.pending ∙ ap (λ vs. base ++ reverse vs) is_waits) in
           let s = start D K (tree_in old) entry in
+          let is_next : places D K (suc so_far.count) s ≡ record { tree = tree_in u; course = record { marks = marks1; waiting = obeys.waits; work = obeys.spent } }
+          = places_more D K so_far.count s ∙ ap (place D K) so_far.is
+          ∙ ap (λ vs. place D K record { tree = tree_in t; course = record { marks = marks; waiting = vs; work = so_far.effort } }) is_waits
+          ∙ ap (λ (k : ℕ). insert_one D k (tree_in t) w record { marks = marks; waiting = rest; work = so_far.effort }) (sym so_far.capacity)
+          ∙ obeys.inserted in
           record {
             count = suc so_far.count;
             waits = obeys.waits;
             effort = obeys.spent;
-            is = places_more D K so_far.count s ∙ ap (place D K) so_far.is
-                ∙ ap (λ vs. place D K record { tree = tree_in t; course = record { marks = marks; waiting = vs; work = so_far.effort } }) is_waits
-                ∙ ap (λ (k : ℕ). insert_one D k (tree_in t) w record { marks = marks; waiting = rest; work = so_far.effort }) (sym so_far.capacity)
-                ∙ obeys.inserted;
+            is = is_next;
             pending = obeys.pending;
             stands = stands_whole u last.whole;
             capacity = last.capacity ∙ so_far.capacity;
+            marked =
+                let was : (places D K so_far.count s).course.marks ≡ marks = ap (λ (x : Standing). x.course.marks) so_far.is in
+                let now : (place D K (places D K so_far.count s)).course.marks ≡ marks1
+                = ap (λ (x : Standing). x.course.marks) (sym (places_more D K so_far.count s) ∙ is_next) in
+                let step : marks_next D K (places D K so_far.count s) ≡ one_if marks marks1
+                = ap (λ (m : ℕ). one_if m (place D K (places D K so_far.count s)).course.marks) was ∙ ap (one_if marks) now in
+                let all = marked_more D K so_far.count s in
+                let before = so_far.marked in
+                elim last.waits [
+                  | inl again ↦
+                      let one : one_if marks marks1 ≡ 1 = ap (λ b. if b then 1 else 0) (lt_true marks marks1 (omega (arith, again.unmarked, again.marked))) in
+                      omega (arith, again.counted)
+                  | inr none ↦
+                      let no_more : one_if marks marks1 ≡ 0 = ap (λ b. if b then 1 else 0) (lt_false marks marks1 (omega (arith, none.marked))) in
+                      omega (arith, none.counted)
+                ];
           }
 
   in_turn : (n : ℕ) → n ≡ length base → Stands old → waiting_cells old ≡ base ++ entry ∷ [] → (t : Arena D) (marks : ℕ) (work : Counts) →
-      PlacesInTurn old n t marks work → SoFar t marks
+      PlacesInTurn old n t marks work → SoFar t marks work
   in_turn n n_is stands pending t marks work (PlacesInTurn.none) = record {
     count = 0;
     waits = entry ∷ [];
@@ -79,6 +117,7 @@ module _ {D : ℕ} (old : Arena D) (base : List Waiting) (entry : Waiting) where
     pending = pending;
     stands = stands;
     capacity = refl;
+    marked = refl;
   }
   in_turn n n_is stands pending t marks work (PlacesInTurn.next {t = m} {marks = marks0} {work = work0} before some last) =
       more m t marks0 marks work0 work (in_turn n n_is stands pending m marks0 work0 before) (omega arith) last
@@ -98,6 +137,7 @@ settling axes old new marks work base entry stands pending turns few =
     let none : so_far.waits ≡ [] = nil_from_length so_far.waits (omega arith) in
     record {
       effort = so_far.effort;
+      reinsertions = so_far.marked;
       settles = record {
         count = so_far.count;
         none_waits = ap (λ (s : Standing). s.course.waiting) so_far.is ∙ none;
@@ -132,6 +172,11 @@ row_stands {D = D} before awaiting c whole idle awaits =
           (All-cons hulls_are (pending_row c) [] (λ l e. absurd (omega arith)) (All-nil hulls_are));
     }
 
+record Ruled (axes K : ℕ) (old new : Tree) (row : Waiting) (work : Counts) : Type 0 where
+  effort : Work
+  settles : Settles axes K old row new effort
+  reinsertions : work.reinsertions ≡ marked_in axes K settles.count (start axes K old row)
+
 pub insertion : InsertionObeys
 insertion axes before awaiting after id rect marks work whole idle awaits turns none_waits =
     let c : Cell axes = record { number = id; rect = rect } in
@@ -140,10 +185,9 @@ insertion axes before awaiting after id rect marks work whole idle awaits turns 
     let row : Waiting = record { level = 0; entry = record { id = id; rect = rect } } in
     let settled = settling axes awaiting after marks work [] row stands (ap (map (waiting_in awaiting.nodes)) pending) turns (ap (length {A = Pending axes}) none_waits) in
     let tree : tree_in awaiting ≡ tree_in before = ap tree_in awaits.rest in
-    let capacity : awaiting.capacity ≡ before.capacity = ap (λ (t : Arena axes). t.capacity) awaits.rest in (
-      settled.effort,
-      subst (λ (k : ℕ). Settles axes k (tree_in before) row (tree_in after) settled.effort) capacity
-          (subst (λ (x : Tree). Settles axes awaiting.capacity x row (tree_in after) settled.effort) tree settled.settles),
-      settled.whole,
-      settled.capacity ∙ capacity,
-    )
+    let capacity : awaiting.capacity ≡ before.capacity = ap (λ (t : Arena axes). t.capacity) awaits.rest in
+    let ruled : Ruled axes awaiting.capacity (tree_in awaiting) (tree_in after) row work
+    = record { effort = settled.effort; settles = settled.settles; reinsertions = settled.reinsertions } in
+    let moved = subst (λ (k : ℕ). Ruled axes k (tree_in before) (tree_in after) row work) capacity
+    (subst (λ (x : Tree). Ruled axes awaiting.capacity x (tree_in after) row work) tree ruled) in
+    record { effort = moved.effort; insertion = moved.settles; reinsertions = moved.reinsertions; whole = settled.whole; capacity = settled.capacity ∙ capacity }

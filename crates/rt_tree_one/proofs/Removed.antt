@@ -39,5 +39,5 @@ one_answer axes old one other id rect said shape shape_too step step_too =
 pub replacement_answer : ReplacementHasOneAnswer
 replacement_answer axes old one other id rect shape shape_too step step_too =
     let between = one_answer axes old step.between step_too.between id step.was step_too.was step.shape step_too.shape step.removal step_too.removal in
-    insertion_answer axes step_too.between one other id rect step.work step_too.work shape shape_too
-    (subst (λ (s : ShadowLists axes). IsInsertion s one id rect step.work) between step.insertion) step_too.insertion
+    (insertion_answer axes step_too.between one other id rect step.work step_too.work shape shape_too
+    (subst (λ (s : ShadowLists axes). IsInsertion s one id rect step.work) between step.insertion) step_too.insertion).0

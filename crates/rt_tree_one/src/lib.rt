@@ -18,7 +18,7 @@ pub fn insertion_follows_rules()
     ensures { InsertionFollowsRules }
 {}
 
-/// A row that comes into a tree leads to one tree.
+/// A row that comes into a tree leads to one tree, by one amount of work.
 pub fn insertion_has_one_answer()
     ensures { InsertionHasOneAnswer }
 {}

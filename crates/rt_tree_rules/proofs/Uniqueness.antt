@@ -6,7 +6,7 @@ use Rattle.rt_tree_rules.specs.Removing.{take_out, shorten, SettleInTurn}
 use Rattle.rt_tree_rules.specs.Laws.{SettlingIsUnique, InsertionIsUnique, RemovalIsUnique, ReplacementIsUnique}
 
 -- nothing happens if nothing waits
-place_none : (axes capacity : ℕ) (s : Standing) → s.course.waiting ≡ [] → place axes capacity s ≡ s
+pub place_none : (axes capacity : ℕ) (s : Standing) → s.course.waiting ≡ [] → place axes capacity s ≡ s
 place_none axes capacity s none = rw none
 
 places_none : (axes capacity n : ℕ) (s : Standing) → s.course.waiting ≡ [] → places axes capacity n s ≡ s
