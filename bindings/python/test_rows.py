@@ -6,11 +6,12 @@ import ctypes
 import math
 import pickle
 import random
+import sys
 from fractions import Fraction
 
-from test import RELATIONS, Whole, by_distance, raised, refused, related  # This also finds the package beside it.
+from test import RELATIONS, Whole, by_distance, joined, raised, refused, related, started  # This also finds the package.
 
-from juicedelta import Grid, Item, RTree, Shell
+from juicedelta import Grid, Item, RTree, Shell, _owner
 
 
 def touches(one, other):
@@ -188,10 +189,41 @@ def test_objects():
     assert both.box(1) == (100.5, 101.0, 200.0, 200.5) == tuple(both.columns().boxes) and list(both.nearest((100, 200))) == [1]
 
 
+def test_joins():
+    """Two trees are joined each way while two threads write to them, and no thread waits for ever: both joins enter the trees
+    in one order."""
+    box = (0, 0, 1, 1)
+    left, right = RTree.from_rows([1], [box]), RTree.from_rows([2], [box])
+    entered, read = [], _owner.Guard.read
+    _owner.Guard.read = lambda guard, *words: (entered.append(guard), read(guard, *words))[1]
+    orders = []
+    for one, other in ((left, right), (right, left)):
+        one.join(other)
+        orders.append(entered[-2:])
+    _owner.Guard.read = read
+    assert orders[0] == orders[1] and set(orders[0]) == {left._guard, right._guard}
+
+    def joins(one, other, pair):
+        for _ in range(500):
+            assert pair in set(zip(*one.join(other)))
+
+    def writes(tree, id):
+        for _ in range(500):
+            tree.insert(id, box)
+            tree.delete(id)
+
+    interval = sys.getswitchinterval()
+    sys.setswitchinterval(1e-5)
+    joined(*started(
+        lambda: joins(left, right, (1, 2)), lambda: joins(right, left, (2, 1)), lambda: writes(left, 3), lambda: writes(right, 3)
+    ))
+    sys.setswitchinterval(interval)
+
+
 if __name__ == "__main__":
     random.seed(1)
     for dimension in (1, 2, 3):
         test_many(dimension)
-    for test in (test_buffers, test_grid, test_objects):
+    for test in (test_buffers, test_grid, test_objects, test_joins):
         test()
     print("bindings/python: passed with many rows")
