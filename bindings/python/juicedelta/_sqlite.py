@@ -8,6 +8,7 @@ from __future__ import annotations
 import argparse
 import math
 import re
+import signal
 import sqlite3
 import struct
 import sys
@@ -305,6 +306,7 @@ def print_script() -> Optional[str]:
     parser.add_argument("file", help="an SQLite database")
     parser.add_argument("table")
     options = parser.parse_args()
+    signal.signal(signal.SIGPIPE, signal.SIG_DFL)  # As other programs end whose output is closed.
     try:
         connection = sqlite3.connect(f"file:{quote(options.file)}?mode=ro", uri=True)
         for statement in script_of(connection, options.table, options.text):
