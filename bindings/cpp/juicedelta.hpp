@@ -89,7 +89,7 @@ struct Many {
     };
     std::vector<std::int64_t> ids;
     std::vector<std::uint64_t> starts; // One more than there are places: the last is where all end.
-    std::size_t size() const noexcept { return starts.size() - 1; }
+    std::size_t size() const noexcept { return starts.empty() ? 0 : starts.size() - 1; }
     Ids operator[](std::size_t place) const { return {ids.data() + starts[place], ids.data() + starts[place + 1]}; }
 };
 

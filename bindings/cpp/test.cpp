@@ -221,7 +221,8 @@ template <int D> static void many_rows()
             if (touch(rows[left].box, rows[right].box))
                 wanted.push_back(left * 10000 + right);
     CHECK(sorted(pairs) == wanted);
-    wanted.erase(std::remove_if(wanted.begin(), wanted.end(), [](auto it) { return it % 10000 >= 300 || it / 10000 >= it % 10000; }), wanted.end());
+    auto is_other = [](auto it) { return it % 10000 >= 300 || it / 10000 >= it % 10000; };
+    wanted.erase(std::remove_if(wanted.begin(), wanted.end(), is_other), wanted.end());
     CHECK(sorted(own) == wanted);
     auto same = Tree<D>::from_bytes(tree.to_bytes());
     CHECK(same.size() == 1500 && same.dump() == tree.dump() && *same.get(77) == rows[77].box);

@@ -302,7 +302,8 @@ def test_order():
     }
     writes = {
         "tree_insert": lambda tree: tree.insert(2, box), "tree_move": lambda tree: tree.move(1, box), "close": lambda tree: tree.close(),
-        "tree_insert_rows": lambda tree: tree.insert_many([2], [box]), "tree_remove": lambda tree: tree.delete(1), "tree_clear": lambda tree: tree.clear(),
+        "tree_insert_rows": lambda tree: tree.insert_many([2], [box]), "tree_remove": lambda tree: tree.delete(1),
+        "tree_clear": lambda tree: tree.clear(),
     }
     calls = {name: getattr(_calls, name) for name in (*reads, *writes)}
 

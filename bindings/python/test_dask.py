@@ -61,7 +61,8 @@ def test_errors(client):
     rows = {1: (0, 0, 1, 1), 2: (900, 900, 901, 901)}
     twice = [Reader(rows), ([3, 2], [(0, 0, 1, 1), (-900, 0, 0, 0)])]
     assert raised(JuicedeltaError, "the id is taken", Plane.from_partitions, client, twice, 4).code == 6
-    for wrong, words in ((Reader(None), "no such file"), (([1], [(0, 0, 1)]), "4 numbers each"), (([1, 2], [(0, 0, 1, 1)]), "2 ids"), (5, "unpack")):
+    short, few = ([1], [(0, 0, 1)]), ([1, 2], [(0, 0, 1, 1)])
+    for wrong, words in ((Reader(None), "no such file"), (short, "4 numbers each"), (few, "2 ids"), (5, "unpack")):
         error = raised(ValueError, "partition 1 can't be read", Plane.from_partitions, client, [Reader(rows), wrong])
         assert words in str(error)
     raised(ValueError, "min is above max", Plane.from_partitions, client, [([1], [(0, 2, 1, 1)])])

@@ -6,16 +6,23 @@ import ctypes
 import math
 import pickle
 import random
+import sys
 from fractions import Fraction
 
-from test import RELATIONS, Whole, by_distance, raised, refused, related  # This also finds the package beside it.
+from test import RELATIONS, Whole, by_distance, joined, raised, refused, related, started  # This also finds the package.
 
-from juicedelta import Grid, Item, RTree, Shell
+from juicedelta import Grid, Item, RTree, Shell, _owner
 
 
 def touches(one, other):
     axes = len(one) // 2
     return all(one[k] <= other[k + axes] and other[k] <= one[k + axes] for k in range(axes))
+
+
+def squared(one, other):
+    """The squared distance of two boxes."""
+    axes = len(one) // 2
+    return sum(max(one[k] - other[k + axes], other[k] - one[k + axes], 0) ** 2 for k in range(axes))
 
 
 def around(boxes):
@@ -59,12 +66,12 @@ def test_many(dimension):
     for read in (RTree.from_bytes(tree.to_bytes(), dimension), pickle.loads(pickle.dumps(tree)), copy.copy(tree), copy.deepcopy(tree)):
         assert dict(read.rows()) == plain and read.dump() == tree.dump()
     for point in points:
-        far = {id: sum(max(box[k] - point[k], point[k] - box[k + dimension], 0) ** 2 for k in range(dimension)) for id, box in plain.items()}
+        far = {id: squared(point * 2, box) for id, box in plain.items()}
         for distance in (0, 55, 300.5, 10**30):
             near = [id for id in by_distance(plain, point) if far[id] <= math.ceil(distance) ** 2]
             assert list(tree.within(point, distance)) == [it.id for it in tree.within(point, distance, objects=True)] == near
     for box in windows:
-        off = {id: sum(max(row[k] - box[k + dimension], box[k] - row[k + dimension], 0) ** 2 for k in range(dimension)) for id, row in plain.items()}
+        off = {id: squared(box, row) for id, row in plain.items()}
         assert list(tree.nearest(box, 5)) == sorted(plain, key=lambda id: (off[id], id))[:5]
     for wrong in (-1, math.nan, math.inf, "1"):
         raised(ValueError, "a distance", tree.within, points[0], wrong)
@@ -76,9 +83,12 @@ def test_buffers():
     rows = [(1, (0, 0, 1, 1)), (2, (5, 5, 6, 6))]
     boxes = [0, 0, 1, 1, 5, 5, 6, 6]
     matrix = memoryview(array.array("i", boxes)).cast("B").cast("i", (2, 4))
-    for ids in ([1, 2], range(1, 3), iter((1, Whole(2))), array.array("b", [1, 2]), (ctypes.c_uint64 * 2)(1, 2), b"\1\2", memoryview(array.array("q", [1, 0, 2]))[::2]):
+    every_second = memoryview(array.array("q", [1, 0, 2]))[::2]
+    buffers = (array.array("b", [1, 2]), (ctypes.c_uint64 * 2)(1, 2), b"\1\2", every_second)
+    for ids in ([1, 2], range(1, 3), iter((1, Whole(2))), *buffers):
         assert sorted(RTree.from_rows(ids, array.array("q", boxes)).rows()) == rows
-    for many in (matrix, array.array("h", boxes), (ctypes.c_int32 * 8)(*boxes), [[0, 0, 1, 1], range(5, 9)], ([*map(Whole, it)] for _, it in rows)):
+    lists = ([[0, 0, 1, 1], range(5, 9)], ([*map(Whole, it)] for _, it in rows))
+    for many in (matrix, array.array("h", boxes), (ctypes.c_int32 * 8)(*boxes), *lists):
         assert RTree.from_rows([1, 2], many).box(1) == (0, 0, 1, 1)
     read_only = memoryview(bytes(array.array("i", boxes))).cast("i")
     assert RTree.from_rows(array.array("q", [1, 2]), read_only).box(2) == (5, 5, 6, 6)
@@ -127,7 +137,8 @@ def test_grid():
             assert all(abs(Fraction(lows[k]) - Fraction(back(point[k], k))) * Fraction(scale) <= Fraction(5001, 10000) for k in (0, 1))
     grid = Grid(1)
     assert grid.box((-(2**31), 2**31 - 1)) == (-(2**31), 2**31 - 1) and grid.box((-0.5, 0.5)) == (-1, 1)
-    for wrong in ((-(2**31) - 0.5, 0), (0, 2**31 - 0.5), (math.nan, 0), (0, math.nan), (-math.inf, 0), (0, math.inf), (0.6, 0.4), (0, 1, 2), (1e300, 1e301)):
+    outside = ((-(2**31) - 0.5, 0), (0, 2**31 - 0.5), (-math.inf, 0), (0, math.inf), (1e300, 1e301))
+    for wrong in ((math.nan, 0), (0, math.nan), (0.6, 0.4), (0, 1, 2), *outside):
         raised(ValueError, "", grid.box, wrong)
     for wrong in ((math.nan,), (1e300,), (2**31,), (-math.inf,)):
         raised(ValueError, "lies outside of the grid", grid.point, wrong)
@@ -156,8 +167,10 @@ def test_objects():
     with RTree.from_items(((id, (id, 0, id, 5), f"row {id}" if id % 2 else None) for id in range(9)), 2, 5) as tree:
         tree.insert(10, (10, 0, 10, 5), obj=["ten"])
         tree.insert_many([11, 12], [(11, 0, 11, 5)] * 2, objects=["eleven", None])
-        assert {it.id: it.object for it in tree.intersection((7, 0, 12, 0), objects=True)} == {7: "row 7", 8: None, 10: ["ten"], 11: "eleven", 12: None}
-        assert [it.object for it in tree.nearest((3, 0), 1, objects=True)] == ["row 3"] and {it.object for it in tree.rows() if it.id > 10} == {"eleven", None}
+        kept = {7: "row 7", 8: None, 10: ["ten"], 11: "eleven", 12: None}
+        assert {it.id: it.object for it in tree.intersection((7, 0, 12, 0), objects=True)} == kept
+        assert {it.id: it.object for it in tree.rows() if it.id > 6} == kept
+        assert [it.object for it in tree.nearest((3, 0), 1, objects=True)] == ["row 3"]
         assert tree.object(10) == ["ten"] and tree.object(12) is None and Item(1, (0, 1)) == (1, (0, 1)) and Item(1, (0, 1)).object is None
         for other in (pickle.loads(pickle.dumps(tree)), copy.deepcopy(tree)):
             assert other.object(10) == ["ten"] and other.object(10) is not tree.object(10)
@@ -188,10 +201,41 @@ def test_objects():
     assert both.box(1) == (100.5, 101.0, 200.0, 200.5) == tuple(both.columns().boxes) and list(both.nearest((100, 200))) == [1]
 
 
+def test_joins():
+    """Two trees are joined each way while two threads write to them, and no thread waits for ever: both joins enter the trees
+    in one order."""
+    box = (0, 0, 1, 1)
+    left, right = RTree.from_rows([1], [box]), RTree.from_rows([2], [box])
+    entered, read = [], _owner.Guard.read
+    _owner.Guard.read = lambda guard, *words: (entered.append(guard), read(guard, *words))[1]
+    orders = []
+    for one, other in ((left, right), (right, left)):
+        one.join(other)
+        orders.append(entered[-2:])
+    _owner.Guard.read = read
+    assert orders[0] == orders[1] and set(orders[0]) == {left._guard, right._guard}
+
+    def joins(one, other, pair):
+        for _ in range(500):
+            assert pair in set(zip(*one.join(other)))
+
+    def writes(tree, id):
+        for _ in range(500):
+            tree.insert(id, box)
+            tree.delete(id)
+
+    interval = sys.getswitchinterval()
+    sys.setswitchinterval(1e-5)
+    joined(*started(
+        lambda: joins(left, right, (1, 2)), lambda: joins(right, left, (2, 1)), lambda: writes(left, 3), lambda: writes(right, 3)
+    ))
+    sys.setswitchinterval(interval)
+
+
 if __name__ == "__main__":
     random.seed(1)
     for dimension in (1, 2, 3):
         test_many(dimension)
-    for test in (test_buffers, test_grid, test_objects):
+    for test in (test_buffers, test_grid, test_objects, test_joins):
         test()
     print("bindings/python: passed with many rows")

@@ -38,7 +38,11 @@ def test_sqlite():
     )
     if database is None:
         return
-    for name, words in (("reals", "is of rtree; rtree_i32 is due"), ("plain", "is no virtual table"), ("four", "has 4 axes"), ("sight", "no table sight"), ("no", "no table no")):
+    wrong = {
+        "reals": "is of rtree; rtree_i32 is due", "plain": "is no virtual table", "four": "has 4 axes",
+        "sight": "no table sight", "no": "no table no",
+    }
+    for name, words in wrong.items():
         raised(ValueError, words, RTree.from_sqlite, database, name)
     empty = sqlite()
     empty.row_factory = lambda cursor, row: "none of the package's business"
@@ -82,7 +86,8 @@ def test_sqlite():
     tree.insert(9, (0, 0, 1, 1), ("one",))
     raised(ValueError, "isn't a tuple of 2 values", tree.to_sqlite, database, "copy")
     raised(ValueError, "isn't a tuple of 2 values", tree.to_sqlite, database, "new", ["a", "b"])
-    assert database.execute("SELECT count(*) FROM copy").fetchone() == (5,) and not database.execute("SELECT 1 FROM sqlite_master WHERE name = 'new'").fetchall()
+    assert database.execute("SELECT count(*) FROM copy").fetchone() == (5,)
+    assert not database.execute("SELECT 1 FROM sqlite_master WHERE name = 'new'").fetchall()
     database.commit()
     database.execute("BEGIN")
     RTree().to_sqlite(database, "copy")
@@ -110,7 +115,8 @@ def test_sqlite_scripts():
     folder = os.path.join(os.path.dirname(os.path.abspath(__file__)), "..", "..", "scripts")
 
     def run(name, *words, given=b""):
-        ran = subprocess.run([sys.executable, "-B", os.path.join(folder, name), *words], input=given, stdout=subprocess.PIPE, stderr=subprocess.PIPE)
+        command = [sys.executable, "-B", os.path.join(folder, name), *words]
+        ran = subprocess.run(command, input=given, stdout=subprocess.PIPE, stderr=subprocess.PIPE)
         return ran.stdout if ran.returncode == 0 else ran.stderr.decode()
 
     with tempfile.TemporaryDirectory() as room:
@@ -126,9 +132,14 @@ def test_sqlite_scripts():
         assert run("to_sqlite", file, "t", given=printed) == run("to_sqlite", "--auxiliary", "a,b", new, "t", given=printed) == b""
         for it in (file, new):
             read = sqlite3.connect(it)
-            assert read.execute("SELECT * FROM t ORDER BY id").fetchall() == rows[:100] and read.execute("SELECT rtreecheck('t')").fetchone() == ("ok",)
+            assert read.execute("SELECT * FROM t ORDER BY id").fetchall() == rows[:100]
+            assert read.execute("SELECT rtreecheck('t')").fetchone() == ("ok",)
         assert run("to_sqlite", file, "bare", given=b"") == b"" == run("to_sqlite", new, "bare", given=b"1|2|3\n-7|2|3\n")
-        for wrong in (b"1|2|3|'a'\nrefused 1 5: no such table\n", b"1|2|x\n", b"1|2\n", b"1|2|3|'a'|5", b"1|3|2|'a'|5\n", b"1|2|3|NULL|5\n1|2|3|NULL|5\n"):
+        wrongs = (
+            b"1|2|3|'a'|5\nrefused 1 5: no such table\n", b"1|2|x\n", b"1|2\n", b"1|2|3|'a'|5", b"1|3|2|'a'|5\n",
+            b"1|2|3|NULL|5\n1|2|3|NULL|5\n", b"1|2|3|NULL|5\n2|2|3|NULL\n",
+        )
+        for wrong in wrongs:
             assert file in run("to_sqlite", file, "t", given=wrong)
         assert read.execute("SELECT count(*) FROM t").fetchone() == (100,)
         assert "no table u" in run("from_sqlite", file, "u") and "not a database" in run("from_sqlite", text, "t")

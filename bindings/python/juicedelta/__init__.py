@@ -6,6 +6,10 @@ Several threads may use one tree: its calls that read run side by side, without 
 write alone. A shell is used by one thread at a time.
 """
 
+# Before the modules, which compare it with the library's.
+__version__ = "0.1.0"
+__license__ = "Apache-2.0"
+
 from ._errors import BadValue, JuicedeltaError, MissingId, NoMemory, StatementRefused
 from ._grid import Grid
 from ._many import Columns, Item, Many, Pairs, Relation
@@ -17,8 +21,6 @@ __all__ = [
     "BadValue", "Change", "Columns", "Grid", "Item", "JuicedeltaError", "Many", "MissingId", "NoMemory", "Pairs",
     "Relation", "RTree", "Shell", "StatementRefused", "Value",
 ]
-__version__ = "0.1.0"
-__license__ = "Apache-2.0"
 
 # Tracebacks and pickles name what is public by the package, not by the module that it stands in.
 for _public in (

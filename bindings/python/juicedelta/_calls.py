@@ -10,6 +10,8 @@ import os
 from pathlib import Path
 from typing import Any, Callable, Tuple
 
+from . import __version__
+
 Call = Callable[..., int]
 
 
@@ -25,7 +27,13 @@ def _load() -> Tuple[ctypes.PyDLL, ctypes.CDLL]:
     files = [folder / "libjuicedelta.so" for folder in (own, above / "lib", above)]
     file = os.environ.get("JUICEDELTA_LIBRARY") or next((str(it) for it in files if it.exists()), "libjuicedelta.so")
     try:
-        return ctypes.PyDLL(file), ctypes.CDLL(file)
+        library, reading = ctypes.PyDLL(file), ctypes.CDLL(file)
+        version = 0
+        for part in __version__.split("."):
+            version = 1000 * version + int(part)
+        if library.juicedelta_version() != version:
+            raise OSError(f"{file} is a library of another version than {__version__}")
+        return library, reading
     except OSError as error:
         raise ImportError(f"{error}: `make bindings` builds lib/libjuicedelta.so, or JUICEDELTA_LIBRARY names it") from error
 

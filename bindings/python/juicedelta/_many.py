@@ -187,14 +187,15 @@ class ManyRows(Owner):
 
     def intersection_many(self, boxes: Any, relation: Relation = "touches") -> Many:
         """The ids of the rows that each window finds, as `intersection`, `contains` or `covering`."""
-        windows, number = self._form.list_of_boxes(boxes), relation_of(relation)
-        return self._many(tree_search_many, windows, self._form.width, 16 * len(windows), number, *_list(windows))
+        form, number = self._form, relation_of(relation)
+        windows = form.list_of_boxes(boxes)
+        return self._many(tree_search_many, windows, form.width, 4 * len(windows), number, *_list(windows))
 
     def nearest_many(self, points: Any, num_results: SupportsIndex = 1) -> Many:
         """The ids of the rows nearest to each point, the nearest first."""
-        numbers, most = self._form.list_of_points(points), max(whole(num_results, "num_results"), 0)
-        most, axes = min(most, len(self)), self._form.axes
-        return self._many(tree_nearest_many, numbers, axes, most * (len(numbers) // axes), *_list(numbers), most)
+        form, most = self._form, min(max(whole(num_results, "num_results"), 0), len(self))
+        numbers = form.list_of_points(points)
+        return self._many(tree_nearest_many, numbers, form.axes, most * len(numbers) // form.axes, *_list(numbers), most)
 
     def _many(self, call: Call, given: array.array[int], width: int, room: int, *words: object) -> Many:
         count, total = len(given) // width, ctypes.c_uint64()
@@ -210,8 +211,9 @@ class ManyRows(Owner):
 
     def count_many(self, boxes: Any, relation: Relation = "touches") -> array.array[int]:
         """How many rows each window finds."""
-        windows, number = self._form.list_of_boxes(boxes), relation_of(relation)
-        counts = zeros("q", len(windows) // self._form.width)
+        form, number = self._form, relation_of(relation)
+        windows = form.list_of_boxes(boxes)
+        counts = zeros("q", len(windows) // form.width)
         accept(self._guard.read(tree_count_many, self._at, number, *_list(windows), at(counts), len(counts)))
         return counts
 
@@ -229,7 +231,9 @@ class ManyRows(Owner):
             if other is None:
                 code = self._guard.read(tree_join_self, self._at, *there)
             else:
-                code = self._guard.read(other._guard.read, tree_join, self._at, other._at, *there)
+                # All joins enter two trees in one order. Else two joins could wait for two writes, and these for them.
+                first, second = sorted((self._guard, other._guard), key=id)
+                code = first.read(second.read, tree_join, self._at, other._at, *there)
             room = total.value
         accept(code)
         del left[room:], right[room:]

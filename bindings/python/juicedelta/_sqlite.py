@@ -5,14 +5,18 @@ It needs neither the library nor the rest of the package: scripts/from_sqlite an
 
 from __future__ import annotations
 
+import argparse
 import math
 import re
+import signal
 import sqlite3
 import struct
+import sys
 from contextlib import contextmanager
 from itertools import chain
 from operator import add, methodcaller
 from typing import Any, Iterable, Iterator, List, NamedTuple, Optional, Sequence, Set, Tuple
+from urllib.parse import quote
 
 Row = Tuple[Any, ...]
 _PART = 10_000
@@ -290,3 +294,48 @@ class _Nodes:
         count = len(cells[0])
         data = struct.pack(">HH" + f"q{2 * self.axes}i" * count, depth, count, *chain.from_iterable(zip(*cells)))
         self.data.append((number, data.ljust(self.room, b"\0")))
+
+
+# ---- Commands --------------------------------------------------------------------------------------------------------
+
+
+def print_script() -> Optional[str]:
+    """scripts/from_sqlite. It answers what is wrong."""
+    parser = argparse.ArgumentParser(description="Prints a script for rtsh run that makes an rtree_i32 table of SQLite.")
+    parser.add_argument("--text", action="store_true", help="a REAL value becomes a text; without this it is refused")
+    parser.add_argument("file", help="an SQLite database")
+    parser.add_argument("table")
+    options = parser.parse_args()
+    signal.signal(signal.SIGPIPE, signal.SIG_DFL)  # As other programs end whose output is closed.
+    try:
+        connection = sqlite3.connect(f"file:{quote(options.file)}?mode=ro", uri=True)
+        for statement in script_of(connection, options.table, options.text):
+            sys.stdout.buffer.write(statement.encode())
+    except (sqlite3.Error, ValueError) as error:
+        return f"{options.file}: {error}"
+    return None
+
+
+def replace_table() -> Optional[str]:
+    """scripts/to_sqlite. It answers what is wrong."""
+    parser = argparse.ArgumentParser(
+        description="Puts the rows that a SELECT * of rtsh printed, from standard input, in place of the rows of an rtree_i32 "
+        "table of SQLite. A table that is missing is made. At a line that is no row, as a refusal, nothing changes."
+    )
+    parser.add_argument("--auxiliary", default="", metavar="NAME,..", help="the auxiliary columns of a table that is made")
+    parser.add_argument("file", help="an SQLite database")
+    parser.add_argument("table")
+    options = parser.parse_args()
+    names = [it for it in options.auxiliary.split(",") if it]
+    try:
+        columns = columns_printed(sys.stdin.buffer.read().decode())
+        connection = sqlite3.connect(options.file)
+        with all_or_nothing(connection):
+            table = find(connection, options.table)
+            if table is None and columns:
+                table = create(connection, options.table, (len(columns) - len(names)) // 2, names)
+            if table is not None:
+                replace_rows(connection, table, columns)
+    except (sqlite3.Error, ValueError) as error:
+        return f"{options.file}: {error}"
+    return None

@@ -12,7 +12,6 @@ from threading import get_ident
 from typing import Any, Iterator, List, Literal, Optional, SupportsFloat, SupportsIndex, Tuple, Union, overload
 
 from ._calls import (
-    Call,
     close,
     tree_clear,
     tree_count,
