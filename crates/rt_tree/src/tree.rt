@@ -344,9 +344,10 @@ impl<const D: usize> Tree<D> {
         let _ = self.arena.nodes.len();
     }
 
-    /// A law: a tree has as many row entries as rows, at most 2^31, and at most one node for each `capacity.least() - 1` of them, and one more. If it
-    /// has levels above the leaves, it has at least twice `capacity.least()` to the power of their number as many rows. So it
-    /// has at most 20 levels of nodes while it has at most 2^20 rows, and at most 31 in all. The call does nothing.
+    /// A law: a tree has as many row entries as rows, at most 2^31, and at most one node for each `capacity.least() - 1` of
+    /// them, and one more. If it has levels above the leaves, it has at least twice `capacity.least()` to the power of their
+    /// number as many rows. So it has at most 20 levels of nodes while it has at most 2^20 rows, and at most 31 in all. The call
+    /// does nothing.
     pub fn is_small(&self)
         ensures rows { length self.now.lists.rows ≤ most_rows_of_a_tree }
         ensures entries { length self.now.lists.rows ≡ length (rows_of self.now.lists) }

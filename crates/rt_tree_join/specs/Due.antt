@@ -26,6 +26,10 @@ pair_of_ids Left id other = record { left = id; right = other }
 pair_of_ids Right id other = record { left = other; right = id }
 
 module _ {D : ℕ} where
+  -- the cells that touch the box
+  abbrev pub touched_by : List Interval → List (Cell D) → List (Cell D)
+  touched_by rect cells = filter (λ c. touch rect c.rect) cells
+
   -- ---- what one node gives
   abbrev pub pair_cells : Side → Cell D → Cell D → Pair
   pair_cells side c e = pair_of_ids side c.number e.number

@@ -1,9 +1,10 @@
 -- What is due in the middle of a join of a tree with itself. No public clause cites this module.
-use Rattle.std.specs.Prelude.{◌≡◌, ℕ, ◌+◌, ◌<◌, Bool, List, [], ◌∷◌, ◌++◌, All, int_lt, length, map, count_by, sum_by, Vec, if◌then◌else◌}
+use Rattle.std.specs.Prelude.{◌≡◌, ℕ, ◌+◌, ◌-◌, ◌<◌, Bool, List, [], ◌∷◌, ◌++◌, All, int_lt, length, map, count_by, sum_by, Vec, if◌then◌else◌}
 use Rattle.std.specs.List.{filter}
 use Rattle.std.specs.declared.alloc.Global.{Global}
 use Rattle.rt_tree_node.specs.declared.arena.Arena.{Arena}
 use Rattle.rt_tree_node.specs.declared.cell.Cell.{Cell}
+use Rattle.rt_tree_node.specs.Node.{NodeCells}
 use Rattle.rt_tree_walk.specs.declared.searching.Row.{Row}
 use Rattle.rt_tree_nearest.specs.Nearest.{rows_in}
 use Rattle.rt_tree_join.specs.declared.joining.Pair.{Pair}
@@ -27,6 +28,10 @@ module _ {D : ℕ} where
   abbrev pub later_pairs : List (Cell D) → List Pair
   later_pairs [] = []
   later_pairs (c ∷ cells) = pairs_of_row Left cells c ++ later_pairs cells
+
+  -- the children of a node
+  abbrev pub children_of : NodeCells D → List (Subtree D)
+  children_of node = map (subtree_of (node.level - 1)) node.cells
 
   -- each child of a node with the later ones that it touches
   abbrev pub later_due : ℕ → List (Cell D) → List (Due D)

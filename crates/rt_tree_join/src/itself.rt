@@ -7,8 +7,8 @@
 ghost use Rattle.std.specs.Prelude.{◌≡◌, ◌-◌, ◌<◌, ◌≤◌, ◌++◌, [], length, map, All, IfOk, OnOk};
 ghost use Rattle.rt_tree_node.specs.Whole.{IsWhole};
 ghost use Rattle.rt_tree_join.specs.Join.{JoinsItself};
-ghost use Rattle.rt_tree_join.specs.Due.{subtree_of, IsSubtree};
-ghost use Rattle.rt_tree_join.specs.Itself.{in_order, later_pairs, later_due, StartsWithin, GoesWithin};
+ghost use Rattle.rt_tree_join.specs.Due.{IsSubtree};
+ghost use Rattle.rt_tree_join.specs.Itself.{in_order, children_of, later_pairs, later_due, StartsWithin, GoesWithin};
 
 use crate::due::{Due, Side, Subtree, open};
 use crate::joining::{Pair, pair_due, pair_row};
@@ -33,7 +33,7 @@ fn open_within<const D: usize>(
     node: &Node<D>,
 ) -> Result<(), AllocError>
     requires { 0 < node.now.level }
-    ensures nodes { OnOk result (nodes.new.items ≡ nodes.old.items ++ map (subtree_of (node.now.level - 1)) node.now.cells) }
+    ensures nodes { OnOk result (nodes.new.items ≡ nodes.old.items ++ children_of node.now) }
     ensures due { OnOk result (due.new.items ≡ due.old.items ++ later_due (node.now.level - 1) node.now.cells) }
 {
     let level = node.level() - 1;

@@ -10,7 +10,8 @@
 //! those are looked at that touch the other's box. The cells aren't sorted and swept along an axis: a node has so few that
 //! a window tells of all of them at once which touch a box.
 //!
-//! They ask for whole trees without pending cells, and take memory for what they return and for lists of nodes and pairs of nodes.
+//! They ask for whole trees without pending cells, and take memory for what they return and for lists of nodes and of pairs
+//! of nodes.
 //!
 //! Stands on `rt_tree_node`, `rt_tree_walk` and `rt_tree_nearest`. Definitions: `specs/Join.antt` (touching boxes, the
 //! pairs), `Due.antt` (the pairs of nodes that are due), `Itself.antt` (the nodes to be joined with themselves).

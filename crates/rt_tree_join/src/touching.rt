@@ -1,9 +1,9 @@
 //! Which cells of a node touch a box.
 
 ghost use Rattle.std.specs.Prelude.{◌≡◌, ◌^◌, ◌<◌, ◌≤◌, drop, length};
-ghost use Rattle.std.specs.List.{filter};
 ghost use Rattle.rt_tree_walk.specs.Visits.{picked};
-ghost use Rattle.rt_tree_join.specs.Join.{touch, IsTouching};
+ghost use Rattle.rt_tree_join.specs.Join.{IsTouching};
+ghost use Rattle.rt_tree_join.specs.Due.{touched_by};
 
 use rt_box::{Operator, Rect, Window};
 use rt_tree_node::Node;
@@ -29,7 +29,7 @@ pub(crate) fn touching_cells<const D: usize>(node: &Node<D>, from: usize, rect: 
     requires { from ≤ length node.now.cells }
     ensures within { result < 2 ^ length (drop from node.now.cells) }
     ensures few { length node.now.cells ≤ 64 }
-    ensures cells { picked (drop from node.now.cells) result ≡ filter (λ c. touch rect.now c.rect) (drop from node.now.cells) }
+    ensures cells { picked (drop from node.now.cells) result ≡ touched_by rect.now (drop from node.now.cells) }
 {
     node.facts();
     touching(rect).admitted(node.boxes()) >> from
