@@ -3,7 +3,7 @@ use Rattle.std.proofs.Common.{◌≡◌, ℕ, ◌+◌, ◌<◌, ◌≤◌, Bool,
 use Rattle.std.specs.Prelude.{if◌then◌else◌, ◌==◌}
 use Rattle.std.proofs.lemmas.List.{take_more, map-append}
 use Rattle.rt_table_row.specs.Edits.{Step, Leaves, Comes, Becomes}
-use Rattle.rt_table_store.specs.Steps.{inserts, inserts_all, auxiliary_rows_of, auxiliary_rows_all}
+use Rattle.rt_table_step.specs.Steps.{inserts, inserts_all, auxiliary_rows_of, auxiliary_rows_all}
 
 pub inserts_few : (step : Step) → inserts step ≤ 1
 inserts_few (Leaves id) = omega arith

@@ -23,8 +23,8 @@ use Rattle.rt_table_row.specs.Rows.{TableRow, values_of, AreRising, has_id, with
 use Rattle.rt_table_row.specs.Edits.{Step, Leaves, Comes, Becomes, Steps, after_step, outcome, and_then, Setting, put_over, put_row, id_or_new, unless_ignored, put, put_all, steps_and, column_values, listed_columns, insert, delete, update, steps_of, update_all, update_row, replace_row, new_values, is_summable, sum_fits, columns_read}
 use Rattle.rt_table_store.proofs.Order.{eq_same, eq_below}
 use Rattle.rt_table_store.proofs.Sorted.{at_key-taken, at_key-placed, Rises, rises}
-use Rattle.rt_table_store.specs.Steps.{ApplyInTurn, ApplyTo, FitsColumns}
-use Rattle.rt_table_store.specs.Laws.{StepsApply}
+use Rattle.rt_table_step.specs.Steps.{ApplyInTurn, ApplyTo, FitsColumns}
+use Rattle.rt_table_step.specs.Laws.{StepsApply}
 
 -- ---- which ids there are
 

@@ -4,7 +4,7 @@ use Rattle.rt_sql_statement.specs.declared.statement.Edit.{Edit}
 use Rattle.rt_table_row.specs.Columns.{Columns}
 use Rattle.rt_table_row.specs.Rows.{TableRow, AreRising}
 use Rattle.rt_table_row.specs.Edits.{steps_of}
-use Rattle.rt_table_store.specs.Steps.{ApplyTo}
+use Rattle.rt_table_step.specs.Steps.{ApplyTo}
 
 -- The steps of an edit apply to the rows, one after the other.
 abbrev pub StepsApply : Type 0

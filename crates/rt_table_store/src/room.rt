@@ -5,7 +5,7 @@
 
 ghost use Rattle.std.specs.Prelude.{◌≡◌, map};
 ghost use Rattle.rt_table_row.specs.Entries.{row_of, step_of};
-ghost use Rattle.rt_table_store.specs.Steps.{inserts, inserts_all, auxiliary_rows, auxiliary_rows_of, auxiliary_rows_all};
+ghost use Rattle.rt_table_step.specs.Steps.{inserts, inserts_all, auxiliary_rows, auxiliary_rows_of, auxiliary_rows_all};
 
 use rt_table_row::{Entry, Step};
 

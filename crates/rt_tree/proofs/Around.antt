@@ -8,8 +8,8 @@ use Rattle.std.proofs.lemmas.List.{length-map}
 use Rattle.std.proofs.lemmas.List.Elements.{All-nil, All-cons, All-head, All-tail, All-map, All-same, Contains-get_or}
 use Rattle.rt_box.specs.declared.interval.Interval.{Interval}
 use Rattle.rt_box.specs.Rect.{IsBox, Holds}
-use Rattle.rt_tree_choice.specs.Hull.{hull}
-use Rattle.rt_tree_choice.proofs.Covering.{hull-least}
+use Rattle.rt_box.specs.Hull.{hull}
+use Rattle.rt_box.proofs.Hulls.{hull-least}
 use Rattle.rt_tree_node.specs.declared.arena.Arena.{Arena}
 use Rattle.rt_tree_node.specs.declared.cell.Cell.{Cell}
 use Rattle.rt_tree_node.specs.Places.{key_of, rects, cells_at, level_at, hull_at}
@@ -18,8 +18,8 @@ use Rattle.rt_tree_walk.specs.declared.searching.Row.{Row}
 use Rattle.rt_tree_walk.specs.Search.{row_of}
 use Rattle.rt_tree_walk.proofs.Listed.{levels-below}
 use Rattle.rt_tree_walk.proofs.Progress.{IsSettled}
-use Rattle.rt_tree_nearest.specs.Nearest.{rows_in}
-use Rattle.rt_tree_nearest.proofs.Below.{rows_under, held-below}
+use Rattle.rt_tree_walk.specs.Rows.{rows_in}
+use Rattle.rt_tree_walk.proofs.Below.{rows_under, held-below}
 use Rattle.rt_tree_join.proofs.Below.{rows-none, rows-leaf, rows-inner, child-hull}
 use Rattle.rt_tree.specs.Bounds.{HoldsRows, IsLeastAround}
 use Rattle.rt_tree.specs.BoundsInside.{IsRootBox}

@@ -2,7 +2,7 @@
 use Rattle.std.specs.Prelude.{◌≡◌, ℕ}
 use Rattle.rt_check.specs.Shadow.{ShadowLists}
 use Rattle.rt_tree_node.specs.declared.arena.Arena.{Arena}
-use Rattle.rt_tree_walk.specs.Outside.{outside}
+use Rattle.rt_tree_outside.specs.Outside.{outside}
 use Rattle.rt_check.specs.declared.node.NodeRow.{NodeRow}
 use Rattle.rt_tree_restore.specs.declared.fault.RestoreFault.{RestoreFault}
 use Rattle.rt_tree_restore.specs.declared.fault.RestoreFault.TheVariants.{NoBox, Memory}

@@ -3,12 +3,12 @@ use Rattle.std.proofs.Common.{◌≡◌, ℕ, get_or, ◌+◌, ◌-◌, ◌<◌,
 use Rattle.std.proofs.lemmas.List.{get_or_read}
 use Rattle.rt_box.specs.declared.interval.Interval.{Interval}
 use Rattle.rt_box.specs.Rect.{area, union_box}
-use Rattle.rt_tree_choice.specs.Keys.{Less, IsLeast}
-use Rattle.rt_tree_choice.specs.Subtree.{area_enlargement, IsBestChild}
-use Rattle.rt_tree_choice.specs.Hull.{box_at}
-use Rattle.rt_tree_choice.specs.declared.plane.Growth.{Growth}
-use Rattle.rt_tree_choice.specs.Costs.{growth_numbers, growths}
-use Rattle.rt_tree_choice.proofs.Keys.{ranked, IsLeast-takes, IsLeast-keeps}
+use Rattle.rt_box.specs.Keys.{Less, IsLeast}
+use Rattle.rt_tree_subtree.specs.Subtree.{area_enlargement, IsBestChild}
+use Rattle.rt_box.specs.Boxes.{box_at}
+use Rattle.rt_tree_subtree.specs.declared.plane.Growth.{Growth}
+use Rattle.rt_tree_subtree.specs.Costs.{growth_numbers, growths}
+use Rattle.rt_box.proofs.Keys.{ranked, IsLeast-takes, IsLeast-keeps}
 
 -- what the numbers of a cell are
 pub growths-from : (boxes : List (List Interval)) (new : List Interval) (i w a : ℕ) (cell wide : List Interval) → i < length boxes →

@@ -2,14 +2,14 @@
 use Rattle.std.proofs.Common.{◌≡◌, ◌≢◌, ◌⊎◌, inl, inr, ℕ, zero, suc, get_or, ◌+◌, ◌<◌, Bool, true, false, List, [], ◌∷◌, length, arith, ◌∙◌, ap, sym, subst, refl}
 use Rattle.std.proofs.lemmas.Bool.{cases_eq}
 use Rattle.rt_box.specs.declared.interval.Interval.{Interval}
-use Rattle.rt_tree_choice.specs.Keys.{Less, IsLeast}
-use Rattle.rt_tree_choice.specs.Subtree.{overlap_enlargement, area_enlargement, child_key, IsBestChild}
-use Rattle.rt_tree_choice.specs.Hull.{box_at}
+use Rattle.rt_box.specs.Keys.{Less, IsLeast}
+use Rattle.rt_tree_subtree.specs.Subtree.{overlap_enlargement, area_enlargement, child_key, IsBestChild}
+use Rattle.rt_box.specs.Boxes.{box_at}
 use Rattle.rt_box.specs.Rect.{area, union_box}
 use Rattle.std.proofs.lemmas.List.{get_or_read}
-use Rattle.rt_tree_choice.specs.declared.subtree.Cost.{Cost}
-use Rattle.rt_tree_choice.specs.Costs.{numbers, costs}
-use Rattle.rt_tree_choice.proofs.Keys.{ranked, Less-trans, Less-push, Less-push_or, IsLeast-takes, IsLeast-keeps}
+use Rattle.rt_tree_subtree.specs.declared.subtree.Cost.{Cost}
+use Rattle.rt_tree_subtree.specs.Costs.{numbers, costs}
+use Rattle.rt_box.proofs.Keys.{ranked, Less-trans, Less-push, Less-push_or, IsLeast-takes, IsLeast-keeps}
 
 child_key-less : (above : Bool) (boxes : List (List Interval)) (new : List Interval) (p q : ℕ) →
     Less (ranked (costs above boxes new) p) (ranked (costs above boxes new) q) →

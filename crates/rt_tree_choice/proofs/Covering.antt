@@ -11,7 +11,9 @@ use Rattle.rt_box.specs.declared.interval.Interval.{Interval}
 use Rattle.rt_box.specs.Interval.{interval, cover}
 use Rattle.rt_box.specs.Rect.{IsBox, Holds, union_box}
 use Rattle.rt_box.proofs.Holding.{IsBox-union, Holds-union_left, Holds-union_right, Holds-union_least, Holds_refl, Holds_trans}
-use Rattle.rt_tree_choice.specs.Hull.{box_at, boxes_at, hull}
+use Rattle.rt_box.specs.Hull.{hull}
+use Rattle.rt_box.specs.Boxes.{box_at}
+use Rattle.rt_tree_choice.specs.Hull.{boxes_at}
 
 cover_assoc : (a b c : Interval) → cover (cover a b) c ≡ cover a (cover b c)
 cover_assoc a b c =

@@ -9,8 +9,8 @@ use Rattle.rt_box.specs.declared.interval.Interval.{Interval}
 use Rattle.rt_box.specs.Interval.{interval, Covers, cover}
 use Rattle.rt_box.specs.Rect.{IsBox, overlap, union_box, Holds}
 use Rattle.rt_box.proofs.Holding.{Holds-union_left, overlap-le_left}
-use Rattle.rt_tree_choice.specs.Hull.{box_at}
-use Rattle.rt_tree_choice.specs.Subtree.{overlap_with_others, overlap_enlargement}
+use Rattle.rt_box.specs.Boxes.{box_at}
+use Rattle.rt_tree_subtree.specs.Subtree.{overlap_with_others, overlap_enlargement}
 
 pub Holds-widened : (axes : ℕ) (own new widened : List Interval) → IsBox axes own → IsBox axes new → widened ≡ union_box own new → Holds widened own
 Holds-widened axes own new widened own_is new_is e =

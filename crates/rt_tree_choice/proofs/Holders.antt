@@ -11,13 +11,13 @@ use Rattle.rt_box.specs.Interval.{Covers, or_zero, side, cover}
 use Rattle.rt_box.specs.Rect.{IsBox, area, union_box, Holds}
 use Rattle.rt_box.proofs.Intervals.{side-le}
 use Rattle.rt_box.proofs.Holding.{area-le, area-le-union, Holds-union_right}
-use Rattle.rt_tree_choice.specs.Hull.{box_at}
-use Rattle.rt_tree_choice.specs.Subtree.{area_enlargement, IsBestChild}
-use Rattle.rt_tree_choice.specs.Costs.{growths, HoldersStay}
-use Rattle.rt_tree_choice.specs.Keys.{Less, IsLeast}
-use Rattle.rt_tree_choice.proofs.Bits.{TellsFrom, IsNext, none-left}
-use Rattle.rt_tree_choice.proofs.Growth.{union-holder}
-use Rattle.rt_tree_choice.proofs.Keys.{ranked, IsLeast-takes, IsLeast-keeps}
+use Rattle.rt_box.specs.Boxes.{box_at}
+use Rattle.rt_tree_subtree.specs.Subtree.{area_enlargement, IsBestChild}
+use Rattle.rt_tree_subtree.specs.Costs.{growths, HoldersStay}
+use Rattle.rt_box.specs.Keys.{Less, IsLeast}
+use Rattle.rt_tree_subtree.proofs.Bits.{TellsFrom, IsNext, none-left}
+use Rattle.rt_tree_subtree.proofs.Growth.{union-holder}
+use Rattle.rt_box.proofs.Keys.{ranked, IsLeast-takes, IsLeast-keeps}
 
 positive-left : (q s : ℕ) → 0 < q * s → 0 < q
 positive-left zero s some = absurd (omega arith)

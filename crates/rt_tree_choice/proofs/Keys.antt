@@ -1,7 +1,7 @@
 -- Lemmas on keys: their order, and the least of a list of keys.
 use Rattle.std.proofs.Common.{◌≡◌, ◌≢◌, ◌⊎◌, inl, inr, ℕ, ◌+◌, ◌<◌, List, [], ◌∷◌, ◌++◌, length, arith, refl, ap, ◌∙◌, sym, subst}
 use Rattle.std.proofs.lemmas.Bool.{cases_eq, cases_lt}
-use Rattle.rt_tree_choice.specs.Keys.{Less, IsLeast}
+use Rattle.rt_box.specs.Keys.{Less, IsLeast}
 
 pub Less-trans : (xs ys zs : List ℕ) → Less xs ys → Less ys zs → Less xs zs
 Less-trans [] ys zs h k = absurd h

@@ -2,10 +2,10 @@
 use Rattle.std.specs.Prelude.{◌≡◌, ◌⊎◌, ℕ, ◌+◌, ◌<◌, ◌≤◌, Bool, true, false, List, [], ◌∷◌, sum_by, All}
 use Rattle.rt_box.specs.declared.interval.Interval.{Interval}
 use Rattle.rt_box.specs.Rect.{area, overlap}
-use Rattle.rt_tree_choice.specs.declared.plane.Growth.{Growth}
-use Rattle.rt_tree_choice.specs.declared.subtree.Cost.{Cost}
-use Rattle.rt_tree_choice.specs.Hull.{box_at}
-use Rattle.rt_tree_choice.specs.Subtree.{overlap_enlargement, area_enlargement}
+use Rattle.rt_tree_subtree.specs.declared.plane.Growth.{Growth}
+use Rattle.rt_tree_subtree.specs.declared.subtree.Cost.{Cost}
+use Rattle.rt_box.specs.Boxes.{box_at}
+use Rattle.rt_tree_subtree.specs.Subtree.{overlap_enlargement, area_enlargement}
 
 abbrev pub numbers : Cost → List ℕ
 numbers c = c.overlap ∷ c.enlargement ∷ c.area ∷ []

@@ -4,8 +4,8 @@ use Rattle.std.specs.Prelude.{ℕ, ◌-◌, Bool, true, false, List, [], ◌∷�
 use Rattle.std.specs.List.{remove}
 use Rattle.rt_box.specs.declared.interval.Interval.{Interval}
 use Rattle.rt_box.specs.Rect.{area, overlap, union_box}
-use Rattle.rt_tree_choice.specs.Keys.{IsLeast}
-use Rattle.rt_tree_choice.specs.Hull.{box_at}
+use Rattle.rt_box.specs.Keys.{IsLeast}
+use Rattle.rt_box.specs.Boxes.{box_at}
 
 -- by how much the area of a box grows if it is widened to hold the new one
 abbrev pub area_enlargement : List Interval → List Interval → ℕ

@@ -8,8 +8,8 @@ ghost use Rattle.std.specs.Prelude.{◌<◌, ◌≤◌, IsTrue, All, length, IfS
 ghost use Rattle.rt_box.specs.Bits.{Tells};
 ghost use Rattle.rt_box.specs.Capacity.{most_cells};
 ghost use Rattle.rt_box.specs.Rect.{IsBox, area, Holds};
-ghost use Rattle.rt_tree_choice.specs.Subtree.{IsBestChild};
-ghost use Rattle.rt_tree_choice.specs.Costs.{HoldersStay};
+ghost use Rattle.rt_tree_subtree.specs.Subtree.{IsBestChild};
+ghost use Rattle.rt_tree_subtree.specs.Costs.{HoldersStay};
 
 use rt_box::{Rect, Window};
 

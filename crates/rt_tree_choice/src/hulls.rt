@@ -5,7 +5,8 @@
 
 ghost use Rattle.std.specs.Prelude.{◌≡◌, ◌<◌, ◌≤◌, length, All};
 ghost use Rattle.rt_box.specs.Capacity.{most_cells};
-ghost use Rattle.rt_tree_choice.specs.Hull.{hull, AreFronts, AreBacks};
+ghost use Rattle.rt_box.specs.Hull.{hull}
+ghost use Rattle.rt_tree_choice.specs.Hull.{AreFronts, AreBacks};
 
 use rt_box::{MOST_CELLS, Rect};
 

@@ -6,9 +6,9 @@
 ghost use Rattle.std.specs.Prelude.{◌≡◌, ◌^◌, ◌<◌, ◌≤◌, ◌≤ℤ◌, ◌↔◌, length, IsTrue, false};
 ghost use Rattle.rt_box.specs.Interval.{side};
 ghost use Rattle.rt_box.specs.Rect.{area};
-ghost use Rattle.rt_tree_choice.specs.Keys.{Less};
-ghost use Rattle.rt_tree_choice.specs.Subtree.{IsBestChild};
-ghost use Rattle.rt_tree_choice.specs.Costs.{growth_numbers, growths};
+ghost use Rattle.rt_box.specs.Keys.{Less};
+ghost use Rattle.rt_tree_subtree.specs.Subtree.{IsBestChild};
+ghost use Rattle.rt_tree_subtree.specs.Costs.{growth_numbers, growths};
 
 use rt_box::{Interval, Rect};
 

@@ -6,10 +6,10 @@
 ghost use Rattle.std.specs.Prelude.{◌≡◌, ◌+◌, ◌*◌, ◌^◌, ◌<◌, ◌≤◌, ◌≢◌, ◌↔◌, length, sum_by, IsTrue, IfSome, MatchOption, true, false};
 ghost use Rattle.rt_box.specs.Capacity.{most_cells};
 ghost use Rattle.rt_box.specs.Rect.{area, overlap, union_box, Holds};
-ghost use Rattle.rt_tree_choice.specs.Hull.{box_at};
-ghost use Rattle.rt_tree_choice.specs.Keys.{Less};
-ghost use Rattle.rt_tree_choice.specs.Subtree.{overlap_enlargement, area_enlargement, IsBestChild};
-ghost use Rattle.rt_tree_choice.specs.Costs.{numbers, costs, IsGrowthWithin};
+ghost use Rattle.rt_box.specs.Boxes.{box_at};
+ghost use Rattle.rt_box.specs.Keys.{Less};
+ghost use Rattle.rt_tree_subtree.specs.Subtree.{overlap_enlargement, area_enlargement, IsBestChild};
+ghost use Rattle.rt_tree_subtree.specs.Costs.{numbers, costs, IsGrowthWithin};
 
 use crate::holder::{holders_stay, least_holder};
 use crate::plane::least_growth;

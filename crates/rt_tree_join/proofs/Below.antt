@@ -18,7 +18,7 @@ use Rattle.rt_tree_walk.specs.Preorder.{keys_in}
 use Rattle.rt_tree_walk.proofs.Judging.{All-mapped}
 use Rattle.rt_tree_walk.proofs.Listed.{levels-below}
 use Rattle.rt_tree_walk.proofs.Progress.{IsSettled}
-use Rattle.rt_tree_nearest.proofs.Below.{leaf_rows, rows_under, held-below}
+use Rattle.rt_tree_walk.proofs.Below.{leaf_rows, rows_under, held-below}
 use Rattle.rt_tree_join.specs.declared.joining.Pair.{Pair}
 use Rattle.rt_tree_join.specs.declared.due.Due.{Due}
 use Rattle.rt_tree_join.specs.declared.due.Side.TheVariants.{Left, Right}

@@ -10,8 +10,8 @@ use Rattle.rt_tree_node.proofs.Counts.{count-cons, count-append}
 use Rattle.rt_tree_walk.specs.declared.searching.Row.{Row}
 use Rattle.rt_tree_walk.proofs.Judging.{count-mapped}
 use Rattle.rt_tree_walk.proofs.Progress.{IsSettled}
-use Rattle.rt_tree_nearest.specs.Nearest.{rows_in}
-use Rattle.rt_tree_nearest.proofs.Below.{ids-apart}
+use Rattle.rt_tree_walk.specs.Rows.{rows_in}
+use Rattle.rt_tree_walk.proofs.Below.{ids-apart}
 use Rattle.rt_tree_join.specs.declared.joining.Pair.{Pair}
 use Rattle.rt_tree_join.specs.Join.{touch, pair_of, pairs_with, touching_pairs, touching_within, rises, has_ids, JoinsItself}
 use Rattle.rt_tree_join.specs.Itself.{in_order, pairs_within}

@@ -15,8 +15,8 @@ use Rattle.rt_tree_walk.specs.Search.{row_of}
 use Rattle.rt_tree_walk.specs.Preorder.{keys_in}
 use Rattle.rt_tree_walk.proofs.Judging.{All-mapped}
 use Rattle.rt_tree_walk.proofs.Progress.{IsSettled}
-use Rattle.rt_tree_nearest.specs.Nearest.{rows_in}
-use Rattle.rt_tree_nearest.proofs.Below.{rows_under}
+use Rattle.rt_tree_walk.specs.Rows.{rows_in}
+use Rattle.rt_tree_walk.proofs.Below.{rows_under}
 use Rattle.rt_tree_join.specs.declared.joining.Pair.{Pair}
 use Rattle.rt_tree_join.specs.declared.due.Due.{Due}
 use Rattle.rt_tree_join.specs.declared.due.Subtree.{Subtree}

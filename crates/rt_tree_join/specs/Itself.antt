@@ -6,7 +6,7 @@ use Rattle.rt_tree_node.specs.declared.arena.Arena.{Arena}
 use Rattle.rt_tree_node.specs.declared.cell.Cell.{Cell}
 use Rattle.rt_tree_node.specs.Node.{NodeCells}
 use Rattle.rt_tree_walk.specs.declared.searching.Row.{Row}
-use Rattle.rt_tree_nearest.specs.Nearest.{rows_in}
+use Rattle.rt_tree_walk.specs.Rows.{rows_in}
 use Rattle.rt_tree_join.specs.declared.joining.Pair.{Pair}
 use Rattle.rt_tree_join.specs.declared.due.Due.{Due}
 use Rattle.rt_tree_join.specs.declared.due.Subtree.{Subtree}

@@ -30,9 +30,10 @@ use Rattle.rt_tree_walk.proofs.Reaching.{hull-contained}
 use Rattle.rt_tree_walk.proofs.Progress.{IsSettled}
 use Rattle.rt_tree_walk.proofs.Listed.{levels-below, listed-there, listed-once, contained-from_times}
 use Rattle.rt_tree_nearest.proofs.Distances.{distance-le}
-use Rattle.rt_tree_nearest.proofs.Same.{count-joined}
+use Rattle.rt_tree_walk.proofs.Judging.{count-joined}
 use Rattle.rt_tree_nearest.specs.declared.candidate.Branch.{Branch}
-use Rattle.rt_tree_nearest.specs.Nearest.{box_distance, rows_in}
+use Rattle.rt_tree_walk.specs.Rows.{rows_in}
+use Rattle.rt_tree_nearest.specs.Nearest.{box_distance}
 use Rattle.rt_tree_nearest.specs.Candidates.{queued}
 
 module _ {D : ℕ} where

@@ -28,12 +28,14 @@ use Rattle.rt_tree_walk.proofs.Progress.{IsSettled}
 use Rattle.rt_tree_walk.proofs.Reaching.{counted-contained}
 use Rattle.rt_tree_nearest.specs.declared.candidate.Candidate.{Candidate}
 use Rattle.rt_tree_nearest.specs.declared.query.Query.{Query}
-use Rattle.rt_tree_nearest.specs.Nearest.{box_distance, by_nearness_to, rows_in}
+use Rattle.rt_tree_walk.specs.Rows.{rows_in}
+use Rattle.rt_tree_nearest.specs.Nearest.{box_distance, by_nearness_to}
 use Rattle.rt_tree_nearest.specs.Candidates.{NamesKey, IsNearLimit, IsAimed, IsNarrowed, IsReach, IsAnswer, Keeps, candidate_of}
-use Rattle.rt_tree_nearest.proofs.Below.{leaf_rows, ids-apart}
+use Rattle.rt_tree_walk.proofs.Below.{leaf_rows, ids-apart}
 use Rattle.rt_tree_nearest.proofs.Ordered.{Rising, Rising-sort, contains-cases, sort-permutes}
 use Rattle.rt_tree_nearest.proofs.Orders.{nearness_total, untied}
-use Rattle.rt_tree_nearest.proofs.Same.{count-all, count-joined}
+use Rattle.rt_tree_walk.proofs.Judging.{count-joined}
+use Rattle.rt_tree_nearest.proofs.Same.{count-all}
 
 no-farther : (n m : ℕ) → n ≤ m → nat_le n m ≡ true
 no-farther n m h = grind (arith, nat_tests)

@@ -14,7 +14,7 @@ use crate::cell::Cell;
 use crate::key::Key;
 use crate::node::Node;
 use rt_box::Rect;
-use rt_tree_choice::hull_of;
+use rt_box::hull_of;
 use slab::Slab;
 use std::mem;
 

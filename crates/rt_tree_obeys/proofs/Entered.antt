@@ -5,14 +5,14 @@ use Rattle.std.proofs.lemmas.Option.{slice_get_within, get_or_from_slice_get}
 use Rattle.std.proofs.lemmas.List.{map-append, get_or-map}
 use Rattle.std.proofs.lemmas.List.Elements.{All-push}
 use Rattle.rt_box.specs.declared.interval.Interval.{Interval}
-use Rattle.rt_tree_choice.specs.Subtree.{IsBestChild}
+use Rattle.rt_tree_subtree.specs.Subtree.{IsBestChild}
 use Rattle.slab.specs.Slab.{Slab}
 use Rattle.rt_tree_node.specs.declared.cell.Cell.{Cell}
 use Rattle.rt_tree_node.specs.declared.cell.Pending.{Pending}
 use Rattle.rt_tree_node.specs.Node.{NodeCells}
 use Rattle.rt_tree_node.specs.Places.{key_of, cells_at, level_at, rects}
 use Rattle.rt_tree_node.specs.Sound.{IsLinked}
-use Rattle.rt_tree_node.specs.Path.{LeadsTo}
+use Rattle.rt_tree_place.specs.Path.{LeadsTo}
 use Rattle.rt_tree_rules.specs.Nested.{Entry, Node, Waiting, box, boxes, if_level, of_level}
 use Rattle.rt_tree_rules.specs.Choices.{best_child}
 use Rattle.rt_tree_rules.specs.Placing.{Becomes, Course, treat, rejoin, enter}

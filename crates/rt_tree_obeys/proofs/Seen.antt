@@ -11,18 +11,18 @@ use Rattle.rt_box.specs.declared.interval.Interval.{Interval}
 use Rattle.rt_box.specs.Rect.{los, his}
 use Rattle.rt_check.specs.declared.node.NodeRow.{NodeRow}
 use Rattle.rt_check.specs.declared.node.RawCell.{RawCell}
-use Rattle.rt_tree_choice.specs.Hull.{hull}
+use Rattle.rt_box.specs.Hull.{hull}
 use Rattle.slab.specs.Slab.{Slab, get}
 use Rattle.rt_tree_node.specs.declared.arena.Arena.{Arena}
 use Rattle.rt_tree_node.specs.declared.cell.Cell.{Cell}
 use Rattle.rt_tree_node.specs.Node.{NodeCells}
 use Rattle.rt_tree_node.specs.Places.{key_of, cells_at, level_at, parent_at}
 use Rattle.rt_tree_node.specs.Sound.{IsLinked, NamesChild}
-use Rattle.rt_tree_walk.specs.Outside.{node_row, cell_row}
+use Rattle.rt_tree_outside.specs.Outside.{node_row, cell_row}
 use Rattle.rt_tree_walk.specs.Preorder.{keys_in, tree_keys, number_in}
 use Rattle.rt_tree_walk.proofs.Progress.{IsSettled}
 use Rattle.rt_tree_walk.proofs.Listed.{listed-once}
-use Rattle.rt_tree_walk.proofs.Subtrees.{place-after}
+use Rattle.rt_tree_outside.proofs.Subtrees.{place-after}
 use Rattle.rt_tree_rules.specs.Nested.{box}
 use Rattle.rt_tree_rules.specs.Shadow.{node_count, starts, row_cell, child_cell, nodes_in}
 use Rattle.rt_tree_obeys.specs.View.{entry_in, node_in}

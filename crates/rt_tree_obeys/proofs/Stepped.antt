@@ -11,7 +11,7 @@ use Rattle.rt_tree_node.specs.declared.cell.Pending.{Pending}
 use Rattle.rt_tree_node.specs.Node.{NodeCells}
 use Rattle.rt_tree_node.specs.Places.{key_of, cells_at, level_at, rects, numbers, pending_at, pending_nodes, times_named, cells_above, inner_part}
 use Rattle.rt_tree_node.specs.Sound.{IsLinked}
-use Rattle.rt_tree_node.specs.Path.{KeepsShape}
+use Rattle.rt_tree_place.specs.Path.{KeepsShape}
 use Rattle.rt_tree_node.proofs.Counts.{count-append}
 use Rattle.rt_tree_node.proofs.Places.{leaf-at_leaf, names_key, named-one}
 use Rattle.rt_tree_place.specs.Rules.{Parts, ReInserts}

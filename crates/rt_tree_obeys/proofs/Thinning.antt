@@ -11,7 +11,7 @@ use Rattle.rt_box.specs.Capacity.{least_fill}
 use Rattle.rt_tree_node.specs.declared.cell.Cell.{Cell}
 use Rattle.rt_tree_node.specs.declared.cell.Pending.{Pending}
 use Rattle.rt_tree_node.specs.Node.{NodeCells}
-use Rattle.rt_tree_node.specs.Path.{KeepsShape}
+use Rattle.rt_tree_place.specs.Path.{KeepsShape}
 use Rattle.rt_tree_node.specs.Places.{key_of, cells_at, level_at, parent_at}
 use Rattle.rt_tree_node.specs.Sound.{IsLinked}
 use Rattle.rt_tree_node.proofs.Places.{leaf-at_leaf}

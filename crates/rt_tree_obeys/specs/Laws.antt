@@ -14,7 +14,7 @@ use Rattle.rt_tree_rules.specs.Nested.{Row, Waiting}
 use Rattle.rt_tree_rules.specs.Placing.{Work as Effort, Standing, insert_one, place, start, Settles, IsInsertion}
 use Rattle.rt_tree_rules.specs.Removing.{IsRemoval}
 use Rattle.rt_tree_rules.specs.Shadow.{nodes_in}
-use Rattle.rt_tree_walk.specs.Outside.{outside}
+use Rattle.rt_tree_outside.specs.Outside.{outside}
 use Rattle.rt_tree_obeys.specs.View.{tree_in, waiting_cells}
 
 module _ {D : ℕ} where

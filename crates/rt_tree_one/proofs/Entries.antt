@@ -16,7 +16,7 @@ use Rattle.rt_check.specs.declared.problem.Condition.TheVariants.{HasPlace, Name
 use Rattle.rt_check.specs.Shadow.{ShadowLists}
 use Rattle.rt_check.specs.Conditions.{is_leaf, names_child, is_ordered, holds_child, fits_child, is_filled, has_place, has_entry, has_cell, entry_of, leaf_cells, times_named, failing, root_problems, node_problems, cell_problems, cell_problems_of, row_problems, IsSound}
 use Rattle.rt_tree_node.proofs.Counts.{count-cons, count-append}
-use Rattle.rt_tree_walk.specs.InOrder.{AreByRisingId}
+use Rattle.rt_tree_outside.specs.InOrder.{AreByRisingId}
 use Rattle.rt_tree_one.specs.Laws.{RowsAreDetermined}
 
 abbrev entry : ℤ → ℤ → RowEntry

@@ -10,7 +10,7 @@ use Rattle.rt_check.specs.Shadow.{ShadowLists}
 use Rattle.rt_tree_node.specs.declared.arena.Arena.{Arena}
 use Rattle.rt_tree_node.specs.declared.arena.Work.{Work}
 use Rattle.rt_tree_node.specs.Whole.{IsWhole}
-use Rattle.rt_tree_walk.specs.Outside.{outside}
+use Rattle.rt_tree_outside.specs.Outside.{outside}
 use Rattle.rt_tree.specs.Lists.{root_level, IsInShape}
 use Rattle.rt_tree_rules.specs.Nested.{Tree}
 use Rattle.rt_tree_rules.specs.Placing.{Work as Effort, Standing, place, places, start, IsInsertion as IsRuledInsertion}

@@ -10,7 +10,7 @@ use Rattle.rt_tree_rules.specs.Placing.{Work as Effort, start, IsInsertion as Is
 use Rattle.rt_tree_obeys.specs.Laws.{marked_in}
 use Rattle.rt_tree_rules.specs.Removing.{IsRemoval as IsRuledRemoval}
 use Rattle.rt_tree_rules.specs.Shadow.{nodes_in}
-use Rattle.rt_tree_walk.specs.InOrder.{AreByRisingId}
+use Rattle.rt_tree_outside.specs.InOrder.{AreByRisingId}
 use Rattle.rt_tree.specs.Lists.{IsInShape}
 use Rattle.rt_tree.specs.Changes.{IsInsertion, IsRemoval, IsReplacement}
 

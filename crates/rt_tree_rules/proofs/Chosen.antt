@@ -7,8 +7,8 @@ use Rattle.std.proofs.lemmas.Bool.Decides.{nat_tests}
 use Rattle.rt_box.specs.declared.interval.Interval.{Interval}
 use Rattle.rt_box.specs.Capacity.{least_fill}
 use Rattle.rt_tree_choice.specs.declared.split.Cut.{Cut}
-use Rattle.rt_tree_choice.specs.Keys.{Less, IsLeast}
-use Rattle.rt_tree_choice.specs.Subtree.{child_key}
+use Rattle.rt_box.specs.Keys.{Less, IsLeast}
+use Rattle.rt_tree_subtree.specs.Subtree.{child_key}
 use Rattle.rt_tree_choice.specs.Split.{cut_at, first_sizes, axis_key, cut_key, IsCutOf}
 use Rattle.rt_tree_rules.specs.Choices.{is_less, least, best_axis, cuts_of}
 use Rattle.rt_tree_rules.specs.Laws.{BestChildIsTaken, BestCutIsTaken}

@@ -6,7 +6,7 @@ use Rattle.rt_box.specs.declared.interval.Interval.{Interval}
 use Rattle.rt_box.specs.Capacity.{least_fill}
 use Rattle.rt_tree_choice.specs.declared.split.Cut.{Cut}
 use Rattle.rt_tree_choice.specs.Sorting.{positions}
-use Rattle.rt_tree_choice.specs.Subtree.{child_key}
+use Rattle.rt_tree_subtree.specs.Subtree.{child_key}
 use Rattle.rt_tree_choice.specs.Split.{cut_at, first_sizes, axis_key, cut_key}
 use Rattle.rt_tree_choice.specs.Reinsertion.{farthest_positions}
 

@@ -2,7 +2,7 @@
 use Rattle.std.specs.Prelude.{◌≡◌, ℕ, ℤ, Bool, List}
 use Rattle.rt_box.specs.declared.interval.Interval.{Interval}
 use Rattle.rt_tree_choice.specs.declared.split.Cut.{Cut}
-use Rattle.rt_tree_choice.specs.Subtree.{IsBestChild}
+use Rattle.rt_tree_subtree.specs.Subtree.{IsBestChild}
 use Rattle.rt_tree_choice.specs.Split.{IsBestCut}
 use Rattle.rt_tree_rules.specs.Choices.{best_child, best_cut}
 use Rattle.rt_tree_rules.specs.Nested.{Row, Tree, Waiting}

@@ -2,7 +2,7 @@
 -- leaves, since that of a child is the least one around its cells (own; Guttman 1984, section 3.1, of such a tree on pages).
 use Rattle.std.specs.Prelude.{ℕ, zero, suc, ℤ, List, [], ◌∷◌, map}
 use Rattle.rt_box.specs.declared.interval.Interval.{Interval}
-use Rattle.rt_tree_choice.specs.Hull.{hull}
+use Rattle.rt_box.specs.Hull.{hull}
 
 -- a row
 pub record Row : Type 0 where

@@ -20,7 +20,7 @@ use Rattle.rt_check.specs.declared.node.RowEntry.{RowEntry}
 use Rattle.rt_check.specs.declared.problem.Problem.{Problem}
 use Rattle.rt_check.specs.declared.problem.Condition.TheVariants.{HasCell}
 use Rattle.rt_check.specs.Conditions.{is_leaf, lies_in, holds_child, is_reached, is_hull, fits_child, has_entry, has_cell, entry_of, times_named, leaf_cells, coordinate, row_problems}
-use Rattle.rt_tree_choice.specs.Hull.{hull}
+use Rattle.rt_box.specs.Hull.{hull}
 use Rattle.rt_tree_node.specs.declared.arena.Arena.{Arena}
 use Rattle.rt_tree_node.specs.declared.cell.Cell.{Cell}
 use Rattle.rt_tree_node.specs.Places.{key_of, rects, times_listed, cells_at, leaf_cells_at, level_at, hull_at, pending_rows}
@@ -28,17 +28,18 @@ use Rattle.rt_tree_node.specs.Sound.{NamesChild}
 use Rattle.rt_tree_node.proofs.Counts.{count-some}
 use Rattle.rt_tree_node.proofs.Places.{leaf-at_leaf, leaf-at_inner}
 use Rattle.rt_tree_walk.specs.Search.{times}
-use Rattle.rt_tree_walk.specs.Outside.{cell_row, row_entry, rising}
+use Rattle.rt_tree_outside.specs.Outside.{cell_row, row_entry, rising}
 use Rattle.rt_tree_walk.proofs.Totals.{times-one, times-other}
 use Rattle.rt_tree_walk.proofs.Reaching.{hull-contained, boxes-long, counted-contained}
 use Rattle.rt_tree_walk.proofs.Progress.{IsSettled, settled-linked}
 use Rattle.rt_tree_walk.proofs.Listed.{HasNode}
-use Rattle.rt_tree_walk.proofs.Numbered.{leaf-node}
+use Rattle.rt_tree_outside.proofs.Numbered.{leaf-node}
 use Rattle.rt_tree_walk.proofs.Ints.{int_le-from}
-use Rattle.rt_tree_walk.proofs.Sides.{Holds-lo, Holds-hi, hull-lo, hull-hi}
-use Rattle.rt_tree_walk.proofs.Rising.{rising-count}
-use Rattle.rt_tree_walk.proofs.Judging.{All-mapped, All-counted, failing-none, find-mapped, count-flat, count-mapped, sum-times, each_axis-from, list_all-from}
-use Rattle.rt_tree_walk.proofs.Judged.{IsNumbering, row, lists, looked-up, row-leaf, row-inner, row-cells}
+use Rattle.rt_tree_outside.proofs.Sides.{Holds-lo, Holds-hi, hull-lo, hull-hi}
+use Rattle.rt_tree_outside.proofs.Rising.{rising-count}
+use Rattle.rt_tree_outside.proofs.Failing.{failing-none, each_axis-from, list_all-from}
+use Rattle.rt_tree_walk.proofs.Judging.{All-mapped, All-counted, find-mapped, count-flat, count-mapped, sum-times}
+use Rattle.rt_tree_outside.proofs.Judged.{IsNumbering, row, lists, looked-up, row-leaf, row-inner, row-cells}
 
 contained-map : {X Y : Type 0} (f : X → Y) (xs : List X) (y : Y) → Contains (map f xs) y → (x : X) × Contains xs x × (f x ≡ y)
 contained-map f [] y h = absurd (omega (arith, h.1))

@@ -13,13 +13,13 @@ use Rattle.rt_tree_node.specs.Node.{NodeCells}
 use Rattle.rt_tree_node.specs.Places.{key_of, cells_at, level_at}
 use Rattle.rt_tree_node.specs.Whole.{IsBranched}
 use Rattle.rt_tree_walk.specs.Preorder.{keys_in, tree_keys, number_in}
-use Rattle.rt_tree_walk.specs.Outside.{outside}
-use Rattle.rt_tree_walk.proofs.Numbering.{place, place-here, place-later, contained-cons}
+use Rattle.rt_tree_outside.specs.Outside.{outside}
+use Rattle.rt_tree_outside.proofs.Numbering.{place, place-here, place-later, contained-cons}
 use Rattle.rt_tree_walk.proofs.Progress.{IsSettled}
 use Rattle.rt_tree_walk.proofs.Listed.{listed-there, listed-once, listed-contained}
-use Rattle.rt_tree_walk.proofs.Judging.{failing-none}
-use Rattle.rt_tree_walk.proofs.Judged.{IsNumbering, row, lists, rows-all, rooted, placed, filled, cells-none, child-named, cells-ordered}
-use Rattle.rt_tree_walk.proofs.Fitting.{children-held, children-fit, rows-entered, rows-celled}
+use Rattle.rt_tree_outside.proofs.Failing.{failing-none}
+use Rattle.rt_tree_outside.proofs.Judged.{IsNumbering, row, lists, rows-all, rooted, placed, filled, cells-none, child-named, cells-ordered}
+use Rattle.rt_tree_outside.proofs.Fitting.{children-held, children-fit, rows-entered, rows-celled}
 
 -- ---- places in the list of keys
 place-short : (key : ℕ) (xs : List ℕ) → Contains xs key → place xs key < length xs

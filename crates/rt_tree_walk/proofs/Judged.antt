@@ -24,14 +24,15 @@ use Rattle.rt_tree_node.specs.Places.{key_of, cells_at, level_at, parent_at}
 use Rattle.rt_tree_node.specs.Sound.{IsLinked, NamesChild}
 use Rattle.rt_tree_node.specs.Whole.{IsBranched}
 use Rattle.rt_tree_walk.specs.Search.{times}
-use Rattle.rt_tree_walk.specs.Outside.{cell_row, node_row, row_entry, rising}
+use Rattle.rt_tree_outside.specs.Outside.{cell_row, node_row, row_entry, rising}
 use Rattle.rt_tree_walk.proofs.Totals.{times-other}
 use Rattle.rt_tree_walk.proofs.Reaching.{named-by}
 use Rattle.rt_tree_walk.proofs.Progress.{IsSettled, settled-linked}
 use Rattle.rt_tree_walk.proofs.Listed.{HasNode, named-here, contained-from_times}
 use Rattle.rt_tree_walk.proofs.Ints.{int_le-from}
-use Rattle.rt_tree_walk.proofs.Sides.{box-ordered}
-use Rattle.rt_tree_walk.proofs.Judging.{All-mapped, All-counted, failing-none, flat-none, find-mapped, count-flat, count-mapped, sum-times, each_axis-from}
+use Rattle.rt_tree_outside.proofs.Sides.{box-ordered}
+use Rattle.rt_tree_outside.proofs.Failing.{failing-none, each_axis-from}
+use Rattle.rt_tree_walk.proofs.Judging.{All-mapped, All-counted, flat-none, find-mapped, count-flat, count-mapped, sum-times}
 
 module _ {D : ℕ} (t : Arena D) (s : IsSettled t) where
   -- the keys of the nodes, each once, and numbers that tell them apart

@@ -19,7 +19,7 @@ use Rattle.rt_tree_node.specs.Node.{NodeCells}
 use Rattle.rt_tree_node.specs.Places.{key_of, times_listed, cells_of, leaf_cells_at, level_of, level_at, parent_of, parent_at, pending_rows}
 use Rattle.rt_tree_node.specs.Sound.{NamesChild}
 use Rattle.rt_tree_walk.specs.Preorder.{tree_keys, number_in}
-use Rattle.rt_tree_walk.specs.Outside.{noted, cell_row, node_row, row_entry, rising, outside, AreKnown}
+use Rattle.rt_tree_outside.specs.Outside.{noted, cell_row, node_row, row_entry, rising, outside, AreKnown}
 use Rattle.rt_tree_walk.proofs.Reaching.{leaf-level, named-by, counted-contained}
 use Rattle.rt_tree_walk.proofs.Progress.{IsSettled, settled-linked, level-within}
 use Rattle.rt_tree_walk.proofs.Listed.{HasNode, listed-there, listed-contained}

@@ -3,7 +3,7 @@ use Rattle.std.proofs.Common.{◌≡◌, ◌≢◌, ℕ, zero, suc, ◌+◌, ◌
 use Rattle.std.specs.List.{All, position_or_len}
 use Rattle.std.proofs.lemmas.Bool.{cases_eq}
 use Rattle.std.proofs.lemmas.List.{drop_more, length-set, length-replicate, get_or-replicate, length-drop}
-use Rattle.rt_tree_walk.specs.Outside.{noted}
+use Rattle.rt_tree_outside.specs.Outside.{noted}
 use Rattle.rt_tree_walk.specs.Preorder.{number_in}
 
 -- one of the last keys is noted with its place

@@ -22,17 +22,17 @@ use Rattle.rt_tree_node.proofs.Counts.{count-cons, count-zero, count-some}
 use Rattle.rt_tree_node.proofs.Places.{leaf-at_leaf, leaf-at_inner}
 use Rattle.rt_tree_walk.specs.Search.{times}
 use Rattle.rt_tree_walk.specs.Preorder.{tree_keys, number_in}
-use Rattle.rt_tree_walk.specs.Outside.{cell_row, row_entry, rising, outside}
-use Rattle.rt_tree_walk.specs.InOrder.{AreByRisingId, row_cell, HasRows}
+use Rattle.rt_tree_outside.specs.Outside.{cell_row, row_entry, rising, outside}
+use Rattle.rt_tree_outside.specs.InOrder.{AreByRisingId, row_cell, HasRows}
 use Rattle.rt_tree_node.proofs.Sums.{upto-list}
 use Rattle.rt_tree_walk.proofs.Totals.{sum-listed}
 use Rattle.rt_tree_walk.proofs.Reaching.{leaf-level, All_contained}
 use Rattle.rt_tree_walk.proofs.Progress.{IsSettled}
-use Rattle.rt_tree_walk.proofs.Rising.{Rises, rising-rises, rising-count}
+use Rattle.rt_tree_outside.proofs.Rising.{Rises, rising-rises, rising-count}
 use Rattle.rt_tree_walk.proofs.Listed.{HasNode, listed-there, listed-once, contained-from_times}
 use Rattle.rt_tree_walk.proofs.Judging.{count-flat, count-mapped}
-use Rattle.rt_tree_walk.proofs.Judged.{row, row-leaf, row-inner, row-cells}
-use Rattle.rt_tree_walk.proofs.Flawless.{numbering}
+use Rattle.rt_tree_outside.proofs.Judged.{row, row-leaf, row-inner, row-cells}
+use Rattle.rt_tree_outside.proofs.Flawless.{numbering}
 
 -- ---- rising ids
 distinct-once : (xs : List ℤ) → IsDistinct int_eq xs → (z : ℤ) → count_by (int_eq z) xs ≤ 1

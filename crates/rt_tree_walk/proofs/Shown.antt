@@ -8,9 +8,9 @@ use Rattle.rt_check.specs.declared.node.RowEntry.{RowEntry}
 use Rattle.rt_check.specs.Shadow.{ShadowLists}
 use Rattle.rt_tree_node.specs.declared.arena.Arena.{Arena}
 use Rattle.rt_tree_walk.specs.Preorder.{tree_keys, number_in}
-use Rattle.rt_tree_walk.specs.Outside.{noted, node_row, row_entry, rising, outside}
+use Rattle.rt_tree_outside.specs.Outside.{noted, node_row, row_entry, rising, outside}
 use Rattle.rt_tree_walk.proofs.Progress.{IsSettled}
-use Rattle.rt_tree_walk.proofs.Numbered.{outside-made}
+use Rattle.rt_tree_outside.proofs.Numbered.{outside-made}
 
 module _ {D : ℕ} (t : Arena D) (s : IsSettled t) (numbers : List ℕ) (same : (key : ℕ) → Contains (tree_keys t) key → noted numbers key ≡ number_in (tree_keys t) key) where
   pub seen-as : (shadow : ShadowLists D) (ns order : List ℕ) (ids : List ℤ) → ns ≡ numbers → order ≡ tree_keys t → ids ≡ rising (keys t.leaves) →

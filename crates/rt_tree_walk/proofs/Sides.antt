@@ -11,7 +11,7 @@ use Rattle.std.proofs.lemmas.List.Elements.{All-head, All-tail}
 use Rattle.rt_box.specs.declared.interval.Interval.{Interval}
 use Rattle.rt_box.specs.Rect.{Holds, union_box, los, his}
 use Rattle.rt_check.specs.Conditions.{coordinate}
-use Rattle.rt_tree_choice.specs.Hull.{hull}
+use Rattle.rt_box.specs.Hull.{hull}
 use Rattle.rt_tree_walk.proofs.Reaching.{union-long}
 
 pub Holds-lo : (outer inner : List Interval) → Holds outer inner → (axis : ℕ) → coordinate (los outer) axis ≤ℤ coordinate (los inner) axis

@@ -16,14 +16,14 @@ use Rattle.rt_tree_node.specs.Node.{NodeCells}
 use Rattle.rt_tree_node.specs.Places.{key_of, cells_at, level_at}
 use Rattle.rt_tree_walk.specs.Search.{times}
 use Rattle.rt_tree_walk.specs.Preorder.{keys_in, tree_keys, number_in}
-use Rattle.rt_tree_walk.specs.Outside.{cell_row, outside}
-use Rattle.rt_tree_walk.specs.InOrder.{cells_of_number, nodes_in, AreInOrder, IsPreorder}
+use Rattle.rt_tree_outside.specs.Outside.{cell_row, outside}
+use Rattle.rt_tree_outside.specs.InOrder.{cells_of_number, nodes_in, AreInOrder, IsPreorder}
 use Rattle.rt_tree_walk.proofs.Totals.{times-append, times-one, times-other, times-cons, times-is}
-use Rattle.rt_tree_walk.proofs.Numbering.{place, place-here, place-later}
+use Rattle.rt_tree_outside.proofs.Numbering.{place, place-here, place-later}
 use Rattle.rt_tree_walk.proofs.Progress.{IsSettled}
 use Rattle.rt_tree_walk.proofs.Listed.{HasNode, listed-there, listed-once, levels-below}
-use Rattle.rt_tree_walk.proofs.Judged.{IsNumbering, row, looked-up, row-cells, row-level}
-use Rattle.rt_tree_walk.proofs.Flawless.{numbering}
+use Rattle.rt_tree_outside.proofs.Judged.{IsNumbering, row, looked-up, row-cells, row-level}
+use Rattle.rt_tree_outside.proofs.Flawless.{numbering}
 
 -- ---- the place of a key
 place-front : (key : ℕ) (front rest : List ℕ) → times key front ≡ 0 → place (front ++ key ∷ rest) key ≡ length front

@@ -10,7 +10,7 @@ ghost use Rattle.slab.specs.Slab.{get};
 ghost use Rattle.indexmap.specs.IndexMap.{get as leaf_of, keys};
 ghost use Rattle.rt_tree_node.specs.Places.{key_of};
 ghost use Rattle.rt_tree_node.specs.Whole.{IsWhole};
-ghost use Rattle.rt_tree_walk.specs.Outside.{noted, cell_number, cell_row, node_row, row_entry, rising, outside, noted_entry, noted_node, with_nodes, with_rows, AreKnown};
+ghost use Rattle.rt_tree_outside.specs.Outside.{noted, cell_number, cell_row, node_row, row_entry, rising, outside, noted_entry, noted_node, with_nodes, with_rows, AreKnown};
 
 use crate::preorder::{number_keys, preorder};
 use crate::searching::child_of;

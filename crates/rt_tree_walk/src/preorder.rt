@@ -8,7 +8,7 @@ ghost use Rattle.slab.specs.Slab.{ContainsKey};
 ghost use Rattle.rt_tree_node.specs.Places.{key_of};
 ghost use Rattle.rt_tree_node.specs.Whole.{IsWhole};
 ghost use Rattle.rt_tree_walk.specs.Preorder.{child_keys, tree_keys};
-ghost use Rattle.rt_tree_walk.specs.Outside.{HasNumbers};
+ghost use Rattle.rt_tree_outside.specs.Outside.{HasNumbers};
 
 use crate::searching::child_of;
 use rt_tree_node::{Arena, Key, Node, node_at};

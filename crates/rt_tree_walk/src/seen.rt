@@ -6,7 +6,7 @@ ghost use Rattle.std.specs.Ordering.{int_eq};
 ghost use Rattle.slab.specs.Slab.{get};
 ghost use Rattle.indexmap.specs.IndexMap.{get as leaf_of};
 ghost use Rattle.rt_tree_node.specs.Whole.{IsWhole};
-ghost use Rattle.rt_tree_walk.specs.Outside.{outside, noted_entry, noted_node, AreKnown};
+ghost use Rattle.rt_tree_outside.specs.Outside.{outside, noted_entry, noted_node, AreKnown};
 
 use crate::outside::{node_row, rising_ids, row_entry};
 use crate::preorder::{number_keys, preorder};

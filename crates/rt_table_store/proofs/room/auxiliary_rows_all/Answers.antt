@@ -1,7 +1,7 @@
 use Rattle.std.proofs.Common.{arith}
 use Rattle.rt_table_row.specs.Entries.{step_of}
-use Rattle.rt_table_store.proofs.StepCounts.{auxiliary_rows_few, auxiliary_rows_more}
-use Rattle.rt_table_store.proofs.room.auxiliary_rows_all.Goals as goal
+use Rattle.rt_table_step.proofs.StepCounts.{auxiliary_rows_few, auxiliary_rows_more}
+use Rattle.rt_table_step.proofs.room.auxiliary_rows_all.Goals as goal
 
 pub overflow_add-count : goal.overflow_add-count
 overflow_add-count g c =

@@ -1,7 +1,7 @@
 use Rattle.std.proofs.Common.{arith}
 use Rattle.rt_table_row.specs.Entries.{step_of}
-use Rattle.rt_table_store.proofs.StepCounts.{inserts_few, inserts_more}
-use Rattle.rt_table_store.proofs.room.inserts_all.Goals as goal
+use Rattle.rt_table_step.proofs.StepCounts.{inserts_few, inserts_more}
+use Rattle.rt_table_step.proofs.room.inserts_all.Goals as goal
 
 pub overflow_add-count : goal.overflow_add-count
 overflow_add-count g c =

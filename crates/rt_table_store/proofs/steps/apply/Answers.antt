@@ -5,8 +5,8 @@ use Rattle.rt_table_row.specs.Edits.{Step, after_step, outcome}
 use Rattle.rt_table_row.specs.Entries.{step_of}
 use Rattle.rt_table_store.specs.Trees.{IsTreeOf}
 use Rattle.rt_table_store.specs.Moves.{TakesStep}
-use Rattle.rt_table_store.proofs.StepTrees.{one_more, outcome-last}
-use Rattle.rt_table_store.proofs.steps.apply.Goals as goal
+use Rattle.rt_table_step.proofs.StepTrees.{one_more, outcome-last}
+use Rattle.rt_table_step.proofs.steps.apply.Goals as goal
 
 pub loop-step-init : goal.loop-step-init
 loop-step-init g c =

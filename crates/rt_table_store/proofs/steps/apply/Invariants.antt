@@ -3,8 +3,8 @@ use Rattle.std.specs.Vec.Iter.{into_iter_items, into_iter_len}
 use Rattle.rt_table_row.specs.Edits.{Step, outcome}
 use Rattle.rt_table_row.specs.Entries.{step_of}
 use Rattle.rt_table_store.specs.Moves.{TakesEach}
-use Rattle.rt_table_store.specs.Steps.{ApplyInTurn, inserts_all, auxiliary_rows_all}
-use Rattle.rt_table_store.proofs.steps.apply.Given as goal
+use Rattle.rt_table_step.specs.Steps.{ApplyInTurn, inserts_all, auxiliary_rows_all}
+use Rattle.rt_table_step.proofs.steps.apply.Given as goal
 
 abbrev pub invariant-loop-step : goal.invariant-loop-step
 invariant-loop-step g l = record {

@@ -1,6 +1,6 @@
 use Rattle.std.proofs.Common.{rules, w64, FitsSigned}
 use Rattle.std.proofs.lemmas.Int.{to_z-of_z}
-use Rattle.rt_table_store.proofs.steps.apply_step.Goals as goal
+use Rattle.rt_table_step.proofs.steps.apply_step.Goals as goal
 
 pub returns-in-Becomes-clause-tree : goal.returns-in-Becomes-clause-tree
 returns-in-Becomes-clause-tree g c =

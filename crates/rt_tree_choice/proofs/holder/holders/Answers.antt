@@ -1,8 +1,8 @@
 use Rattle.rt_box.proofs.Telling.{Tells-alike}
 use Rattle.rt_box.specs.Rect.{IsBox}
 use Rattle.rt_box.specs.Window.{Admits}
-use Rattle.rt_tree_choice.proofs.Holders.{HoldsNew}
-use Rattle.rt_tree_choice.proofs.holder.holders.Goals as goal
+use Rattle.rt_tree_subtree.proofs.Holders.{HoldsNew}
+use Rattle.rt_tree_subtree.proofs.holder.holders.Goals as goal
 
 pub returns-clause-told : goal.returns-clause-told
 returns-clause-told g c =

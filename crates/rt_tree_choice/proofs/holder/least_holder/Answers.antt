@@ -1,9 +1,9 @@
 use Rattle.std.proofs.Common.{ℕ, arith}
 use lib.Count.{count_trailing_zeros}
-use Rattle.rt_tree_choice.proofs.Bits.{next-is}
-use Rattle.rt_tree_choice.proofs.Holders.{HoldsNew, begins, takes, keeps, ends}
-use Rattle.rt_tree_choice.proofs.holder.least_holder.Goals as goal
-use Rattle.rt_tree_choice.proofs.holder.least_holder.Goals.{then-area-least, else-area-least}
+use Rattle.rt_tree_subtree.proofs.Bits.{next-is}
+use Rattle.rt_tree_subtree.proofs.Holders.{HoldsNew, begins, takes, keeps, ends}
+use Rattle.rt_tree_subtree.proofs.holder.least_holder.Goals as goal
+use Rattle.rt_tree_subtree.proofs.holder.least_holder.Goals.{then-area-least, else-area-least}
 
 pub bounds-boxes-best : goal.bounds-boxes-best
 bounds-boxes-best g c =

@@ -1,5 +1,5 @@
-use Rattle.rt_tree_choice.proofs.Holders.{IsHolderSoFar}
-use Rattle.rt_tree_choice.proofs.holder.least_holder.Given as goal
+use Rattle.rt_tree_subtree.proofs.Holders.{IsHolderSoFar}
+use Rattle.rt_tree_subtree.proofs.holder.least_holder.Given as goal
 
 abbrev pub invariant-loop-rest : goal.invariant-loop-rest
 invariant-loop-rest g l = IsHolderSoFar l.boxes l.new_box l.rest l.least l.best

@@ -1,5 +1,5 @@
 use Rattle.std.proofs.Common.{[], ◌∷◌, arith}
-use Rattle.rt_tree_choice.proofs.Covering.{hull-least}
+use Rattle.rt_box.proofs.Hulls.{hull-least}
 use Rattle.rt_tree_choice.proofs.laws.hull_is_least.Goals as goal
 
 pub returns : goal.returns

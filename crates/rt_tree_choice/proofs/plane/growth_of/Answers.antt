@@ -1,8 +1,8 @@
 use Rattle.std.proofs.Common.{◌≡◌, length, arith, ap}
 use Rattle.rt_box.specs.Rect.{area}
 use Rattle.rt_box.proofs.Holding.{area-le-union}
-use Rattle.rt_tree_choice.proofs.Areas.{growths-from}
-use Rattle.rt_tree_choice.proofs.plane.growth_of.Goals as goal
+use Rattle.rt_tree_subtree.proofs.Areas.{growths-from}
+use Rattle.rt_tree_subtree.proofs.plane.growth_of.Goals as goal
 
 pub overflow_sub-result : goal.overflow_sub-result
 overflow_sub-result g c =

@@ -1,8 +1,8 @@
 use Rattle.std.proofs.Common.{arith, ◌∙◌, sym}
 use Rattle.std.proofs.lemmas.Bool.{false≢true}
-use Rattle.rt_tree_choice.proofs.Areas.{least-growth_best, takes_growth, keeps_growth}
-use Rattle.rt_tree_choice.proofs.plane.least_growth.Goals as goal
-use Rattle.rt_tree_choice.proofs.plane.least_growth.Goals.{then-is_less, else-is_less}
+use Rattle.rt_tree_subtree.proofs.Areas.{least-growth_best, takes_growth, keeps_growth}
+use Rattle.rt_tree_subtree.proofs.plane.least_growth.Goals as goal
+use Rattle.rt_tree_subtree.proofs.plane.least_growth.Goals.{then-is_less, else-is_less}
 
 pub loop-position-preserved : goal.loop-position-preserved
 loop-position-preserved g c =

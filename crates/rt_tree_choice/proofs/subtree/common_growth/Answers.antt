@@ -2,10 +2,10 @@ use Rattle.std.proofs.Common.{◌+◌, ◌≤◌, take, sum_by, arith, ap, ◌�
 use Rattle.std.proofs.lemmas.List.Sums.{sum_by_more}
 use Rattle.rt_box.specs.Rect.{overlap}
 use Rattle.rt_box.proofs.Holding.{overlap-le_left}
-use Rattle.rt_tree_choice.proofs.Growth.{growth-none}
-use Rattle.rt_tree_choice.proofs.subtree.common_growth.Given.{Over}
-use Rattle.rt_tree_choice.proofs.subtree.common_growth.Goals as goal
-use Rattle.rt_tree_choice.proofs.subtree.common_growth.Goals.{After-overlap}
+use Rattle.rt_tree_subtree.proofs.Growth.{growth-none}
+use Rattle.rt_tree_subtree.proofs.subtree.common_growth.Given.{Over}
+use Rattle.rt_tree_subtree.proofs.subtree.common_growth.Goals as goal
+use Rattle.rt_tree_subtree.proofs.subtree.common_growth.Goals.{After-overlap}
 
 grows : (g : Over) (c : After-overlap g) → c.overlap.result ≤ c.overlap-common.result
 grows g c =

@@ -1,7 +1,7 @@
 use Rattle.std.proofs.Common.{arith}
 use Rattle.rt_box.proofs.Holding.{overlap-le_left}
-use Rattle.rt_tree_choice.proofs.Growth.{growth-more, growth-none, growth-exceeds}
-use Rattle.rt_tree_choice.proofs.subtree.common_growth_within.Goals as goal
+use Rattle.rt_tree_subtree.proofs.Growth.{growth-more, growth-none, growth-exceeds}
+use Rattle.rt_tree_subtree.proofs.subtree.common_growth_within.Goals as goal
 
 pub overflow_sub-grown : goal.overflow_sub-grown
 overflow_sub-grown g c =

@@ -1,6 +1,6 @@
 use Rattle.std.proofs.Common.{◌≡◌, ◌+◌, ◌≤◌, take, sum_by}
 use Rattle.rt_box.specs.Rect.{overlap}
-use Rattle.rt_tree_choice.proofs.subtree.common_growth_within.Given as goal
+use Rattle.rt_tree_subtree.proofs.subtree.common_growth_within.Given as goal
 
 abbrev pub invariant-loop-other : goal.invariant-loop-other
 invariant-loop-other g l = record {

@@ -1,5 +1,5 @@
 use Rattle.std.proofs.Common.{rules}
-use Rattle.rt_tree_choice.proofs.subtree.is_less.Goals as goal
+use Rattle.rt_tree_subtree.proofs.subtree.is_less.Goals as goal
 
 pub returns-then-cost-other : goal.returns-then-cost-other
 returns-then-cost-other c = search rules

@@ -1,8 +1,8 @@
 use Rattle.std.proofs.Common.{arith, ◌∙◌, sym}
 use Rattle.std.proofs.lemmas.Bool.{false≢true}
-use Rattle.rt_tree_choice.proofs.Children.{IsBestChild-from_costs, takes_cost, keeps_cost}
-use Rattle.rt_tree_choice.proofs.subtree.least_cost.Goals as goal
-use Rattle.rt_tree_choice.proofs.subtree.least_cost.Goals.{then-is_less, else-is_less}
+use Rattle.rt_tree_subtree.proofs.Children.{IsBestChild-from_costs, takes_cost, keeps_cost}
+use Rattle.rt_tree_subtree.proofs.subtree.least_cost.Goals as goal
+use Rattle.rt_tree_subtree.proofs.subtree.least_cost.Goals.{then-is_less, else-is_less}
 
 pub loop-position-preserved : goal.loop-position-preserved
 loop-position-preserved g c =

@@ -1,8 +1,8 @@
 use Rattle.std.proofs.Common.{◌≡◌}
-use Rattle.rt_tree_choice.specs.Keys.{IsLeast}
-use Rattle.rt_tree_choice.specs.Costs.{numbers, costs}
-use Rattle.rt_tree_choice.proofs.Keys.{ranked}
-use Rattle.rt_tree_choice.proofs.subtree.least_cost.Given as goal
+use Rattle.rt_box.specs.Keys.{IsLeast}
+use Rattle.rt_tree_subtree.specs.Costs.{numbers, costs}
+use Rattle.rt_box.proofs.Keys.{ranked}
+use Rattle.rt_tree_subtree.proofs.subtree.least_cost.Given as goal
 
 abbrev pub invariant-loop-position : goal.invariant-loop-position
 invariant-loop-position g l = record {

@@ -1,9 +1,9 @@
 use Rattle.std.proofs.Common.{get_or, arith, ap, ◌∙◌, sym}
 use Rattle.std.proofs.lemmas.Bool.{false≢true}
-use Rattle.rt_tree_choice.proofs.Growth.{overlap-still}
-use Rattle.rt_tree_choice.proofs.Children.{no-growth-best, grows-more, costs-less, costs-no-less, least-best, costs-from}
-use Rattle.rt_tree_choice.proofs.subtree.least_overlap_growth.Goals as goal
-use Rattle.rt_tree_choice.proofs.subtree.least_overlap_growth.Goals.{in-Some+then-is_less, in-Some+else-is_less, in_default}
+use Rattle.rt_tree_subtree.proofs.Growth.{overlap-still}
+use Rattle.rt_tree_subtree.proofs.Children.{no-growth-best, grows-more, costs-less, costs-no-less, least-best, costs-from}
+use Rattle.rt_tree_subtree.proofs.subtree.least_overlap_growth.Goals as goal
+use Rattle.rt_tree_subtree.proofs.subtree.least_overlap_growth.Goals.{in-Some+then-is_less, in-Some+else-is_less, in_default}
 
 pub returns-then-contains : goal.returns-then-contains
 returns-then-contains g c =

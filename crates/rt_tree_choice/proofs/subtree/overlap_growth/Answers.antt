@@ -1,7 +1,7 @@
 use Rattle.std.proofs.Common.{◌+◌, ◌-◌, length, drop, arith}
 use Rattle.std.proofs.lemmas.List.{length-take, length-drop}
-use Rattle.rt_tree_choice.proofs.Growth.{Holds-widened, overlap_enlargement-from_parts}
-use Rattle.rt_tree_choice.proofs.subtree.overlap_growth.Goals as goal
+use Rattle.rt_tree_subtree.proofs.Growth.{Holds-widened, overlap_enlargement-from_parts}
+use Rattle.rt_tree_subtree.proofs.subtree.overlap_growth.Goals as goal
 
 pub common_growth-requires : goal.common_growth-requires
 common_growth-requires g c =

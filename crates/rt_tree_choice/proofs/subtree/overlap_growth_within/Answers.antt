@@ -1,7 +1,7 @@
 use Rattle.std.proofs.Common.{arith}
 use Rattle.rt_box.proofs.Holding.{overlap-le_left}
-use Rattle.rt_tree_choice.proofs.Growth.{Holds-widened, growth-near_above, growth-before_above, growth-after_above, overlap_enlargement-from_parts}
-use Rattle.rt_tree_choice.proofs.subtree.overlap_growth_within.Goals as goal
+use Rattle.rt_tree_subtree.proofs.Growth.{Holds-widened, growth-near_above, growth-before_above, growth-after_above, overlap_enlargement-from_parts}
+use Rattle.rt_tree_subtree.proofs.subtree.overlap_growth_within.Goals as goal
 
 pub common_growth_within-requires : goal.common_growth_within-requires
 common_growth_within-requires g c =

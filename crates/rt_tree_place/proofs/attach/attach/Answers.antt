@@ -1,6 +1,6 @@
 use Rattle.std.proofs.Common.{Some, refl, subst}
 use Rattle.rt_tree_node.specs.Changes.{Changes}
-use Rattle.rt_tree_place.proofs.attach.attach.Goals as goal
+use Rattle.rt_tree_place.proofs.attaching.attach.Goals as goal
 
 pub returns : goal.returns
 returns g c = record {

@@ -1,7 +1,7 @@
 use Rattle.std.proofs.Common.{◌≤◌, Option, None, Some, refl, rules, IsSome}
 use Rattle.std.specs.Option.{IsSomeAnd}
 use Rattle.slab.specs.Slab.{get, ContainsKey}
-use Rattle.rt_tree_walk.proofs.outside.list_node.Goals as goal
+use Rattle.rt_tree_outside.proofs.outside.list_node.Goals as goal
 
 held : {X : Type 0} (P : X → Type 0) (o : Option X) → IsSomeAnd o P → IsSome o
 held P None h = absurd h

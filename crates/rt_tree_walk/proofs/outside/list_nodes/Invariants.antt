@@ -1,7 +1,7 @@
 use Rattle.std.proofs.Common.{◌≡◌, ◌++◌, take, map}
 use Rattle.slab.specs.Slab.{get}
-use Rattle.rt_tree_walk.specs.Outside.{noted, node_row}
-use Rattle.rt_tree_walk.proofs.outside.list_nodes.Given as goal
+use Rattle.rt_tree_outside.specs.Outside.{noted, node_row}
+use Rattle.rt_tree_outside.proofs.outside.list_nodes.Given as goal
 
 abbrev pub invariant-loop-key : goal.invariant-loop-key
 invariant-loop-key g l =

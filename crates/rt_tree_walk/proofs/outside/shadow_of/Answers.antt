@@ -5,10 +5,10 @@ use Rattle.std.specs.Ordering.{int_eq}
 use Rattle.slab.specs.Slab.{get}
 use Rattle.indexmap.specs.IndexMap.{get as leaf_of}
 use Rattle.rt_tree_walk.specs.Preorder.{tree_keys, number_in}
-use Rattle.rt_tree_walk.specs.Outside.{AreKnown, noted}
+use Rattle.rt_tree_outside.specs.Outside.{AreKnown, noted}
 use Rattle.rt_tree_walk.proofs.Progress.{IsSettled}
-use Rattle.rt_tree_walk.proofs.Numbered.{keys-within, known-nodes, known-leaves, outside-made}
-use Rattle.rt_tree_walk.proofs.outside.shadow_of.Goals as goal
+use Rattle.rt_tree_outside.proofs.Numbered.{keys-within, known-nodes, known-leaves, outside-made}
+use Rattle.rt_tree_outside.proofs.outside.shadow_of.Goals as goal
 
 pub number_keys-requires-clause-within : goal.number_keys-requires-clause-within
 number_keys-requires-clause-within g c =

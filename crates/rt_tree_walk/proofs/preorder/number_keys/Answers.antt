@@ -1,7 +1,7 @@
 use Rattle.std.proofs.Common.{◌≡◌, ◌-◌, ◌<◌, length, get_or, arith, refl, sym, ◌∙◌, subst}
 use Rattle.std.proofs.lemmas.List.{get_or_read}
-use Rattle.rt_tree_walk.proofs.Numbering.{AreNoted-step}
-use Rattle.rt_tree_walk.proofs.preorder.number_keys.Goals as goal
+use Rattle.rt_tree_outside.proofs.Numbering.{AreNoted-step}
+use Rattle.rt_tree_outside.proofs.preorder.number_keys.Goals as goal
 
 pub loop-back-preserved : goal.loop-back-preserved
 loop-back-preserved c =

@@ -2,7 +2,7 @@ use Rattle.std.proofs.Common.{◌≡◌, ℕ, ◌≤◌, List, [], ◌∷◌, �
 use Rattle.slab.specs.Slab.{ContainsKey}
 use Rattle.rt_tree_walk.proofs.Progress.{IsSettled}
 use Rattle.rt_tree_walk.proofs.Due.{IsListing-start, IsListing-step, IsListing-end, listing-there, due-less}
-use Rattle.rt_tree_walk.proofs.preorder.preorder.Goals as goal
+use Rattle.rt_tree_outside.proofs.preorder.preorder.Goals as goal
 
 pub loop-key-init : goal.loop-key-init
 loop-key-init g c =

@@ -1,6 +1,6 @@
 use Rattle.std.proofs.Common.{ℕ, ◌++◌, [], ◌∷◌, ◌-◌, arith, ap, ◌∙◌}
 use Rattle.rt_tree_walk.proofs.Due.{pushed-more}
-use Rattle.rt_tree_walk.proofs.preorder.push_children.Goals as goal
+use Rattle.rt_tree_outside.proofs.preorder.push_children.Goals as goal
 
 pub loop-back-preserved : goal.loop-back-preserved
 loop-back-preserved g c =

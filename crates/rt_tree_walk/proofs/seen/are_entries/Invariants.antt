@@ -1,7 +1,7 @@
 use Rattle.std.proofs.Common.{◌≡◌, take, map}
 use Rattle.std.specs.Ordering.{int_eq}
 use Rattle.indexmap.specs.IndexMap.{get as leaf_of}
-use Rattle.rt_tree_walk.specs.Outside.{noted, row_entry}
+use Rattle.rt_tree_outside.specs.Outside.{noted, row_entry}
 use Rattle.rt_tree_walk.proofs.seen.are_entries.Given as goal
 
 abbrev pub invariant-loop-at : goal.invariant-loop-at

@@ -1,5 +1,5 @@
 use Rattle.std.proofs.Common.{◌≡◌, take, map}
-use Rattle.rt_tree_walk.specs.Outside.{noted, node_row}
+use Rattle.rt_tree_outside.specs.Outside.{noted, node_row}
 use Rattle.slab.specs.Slab.{get}
 use Rattle.rt_tree_walk.proofs.seen.are_seen_at.Given as goal
 

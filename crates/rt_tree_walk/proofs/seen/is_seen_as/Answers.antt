@@ -3,9 +3,9 @@ use Rattle.std.specs.List.{All}
 use Rattle.std.specs.Option.{IsSomeAnd}
 use Rattle.slab.specs.Slab.{get}
 use Rattle.rt_tree_walk.specs.Preorder.{tree_keys, number_in}
-use Rattle.rt_tree_walk.specs.Outside.{AreKnown, noted}
+use Rattle.rt_tree_outside.specs.Outside.{AreKnown, noted}
 use Rattle.rt_tree_walk.proofs.Progress.{IsSettled}
-use Rattle.rt_tree_walk.proofs.Numbered.{keys-within, known-nodes, known-leaves}
+use Rattle.rt_tree_outside.proofs.Numbered.{keys-within, known-nodes, known-leaves}
 use Rattle.rt_tree_walk.proofs.Shown.{seen-as}
 use Rattle.rt_tree_walk.proofs.seen.is_seen_as.Goals as goal
 

@@ -2,7 +2,7 @@ use Rattle.std.proofs.Common.{◌≡◌, true, refl, ◌+◌, ◌-◌, ◌/◌, 
 use Rattle.rt_box.specs.Capacity.{least_fill}
 use Rattle.rt_tree_nearest.proofs.Same.{count-all}
 use Rattle.rt_tree_walk.specs.declared.searching.Row.{Row}
-use Rattle.rt_tree_walk.specs.Outside.{outside}
+use Rattle.rt_tree_outside.specs.Outside.{outside}
 use Rattle.rt_tree.specs.Lists.{TreeLists, root_level, least_rows}
 use Rattle.rt_tree.specs.Rows.{rows_of}
 use Rattle.rt_tree.proofs.Kept.{settled}
