@@ -7,7 +7,7 @@ use crate::tree::{Load, SHAPES, rect_of, rows_of, time_insertions};
 use rt_box::{Capacity, Rect};
 use rt_check::Shadow;
 use rt_tree::Tree;
-use rt_tree_choice::choose_subtree;
+use rt_tree_subtree::choose_subtree;
 use std::alloc::{AllocError, Global};
 use std::hash::RandomState;
 use std::io;

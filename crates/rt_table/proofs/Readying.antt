@@ -8,7 +8,7 @@ use Rattle.rt_table_row.specs.Edits.{Step, outcome}
 use Rattle.rt_table_row.specs.Views.{View, ViewChange, deltas}
 use Rattle.rt_table_view.specs.declared.view.Watched.{Watched}
 use Rattle.rt_table_view.specs.Watching.{Awaited, view_of, awaited_of}
-use Rattle.rt_table_store.specs.Steps.{ApplyTo, inserts_all, auxiliary_rows_all}
+use Rattle.rt_table_step.specs.Steps.{ApplyTo, inserts_all, auxiliary_rows_all}
 use Rattle.rt_table_view.specs.Preparing.{IsAwaited}
 use Rattle.rt_table.specs.Held.{Held}
 use Rattle.rt_table.specs.Ready.{IsReady}

@@ -3,7 +3,7 @@ use Rattle.std.specs.Prelude.{◌≡◌, ℕ, ◌≤◌, List}
 use Rattle.std.specs.List.{All}
 use Rattle.rt_table_row.specs.Edits.{Step, outcome}
 use Rattle.rt_table_row.specs.Views.{deltas}
-use Rattle.rt_table_store.specs.Steps.{ApplyTo, inserts_all, auxiliary_rows_all}
+use Rattle.rt_table_step.specs.Steps.{ApplyTo, inserts_all, auxiliary_rows_all}
 use Rattle.rt_table_view.specs.Preparing.{IsAwaited}
 use Rattle.rt_table.specs.Held.{Held}
 

@@ -14,7 +14,8 @@ use rt_reply::{Changes, RowsOf};
 use rt_sql_statement::{Cond, Edit, Name, Refusal};
 use rt_table_plan::Plan;
 use rt_table_row::{Filter, Schema, Step, lone_id};
-use rt_table_store::{Nodes, Store, apply, auxiliary_rows_all, inserts_all};
+use rt_table_step::{apply, auxiliary_rows_all, inserts_all};
+use rt_table_store::{Nodes, Store};
 use rt_table_view::{Watched, refresh_each, rows_of, select, stage, watch};
 use rt_tree::Found;
 use std::alloc::{AllocError, Global};
@@ -85,7 +86,7 @@ impl<const D: usize> Table<D> {
     ghost use Rattle.rt_table_plan.specs.Plans.{Plans};
     ghost use Rattle.rt_table.specs.Replies.{Refuses, Shows, VisitsBy};
     ghost use Rattle.rt_reply.specs.Rows.{values_of_rows};
-    ghost use Rattle.rt_table_store.specs.Steps.{ApplyTo};
+    ghost use Rattle.rt_table_step.specs.Steps.{ApplyTo};
     ghost use Rattle.rt_table.specs.Ready.{IsReady};
     ghost use Rattle.rt_table.specs.Edits.{edit_steps, edit_outcome, lists_after, changes_to, removal, FollowsEdit, NeedsPlan};
     ghost use Rattle.rt_tree.specs.Lists.{empty_lists};

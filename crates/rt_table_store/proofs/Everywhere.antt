@@ -19,7 +19,7 @@ use Rattle.rt_check.specs.declared.problem.Condition.TheVariants.{HasRoot, HasPl
 use Rattle.rt_check.specs.Shadow.{ShadowLists, numbers_of}
 use Rattle.rt_check.specs.Conditions.{is_leaf, is_root, node_of, has_root, has_place, is_below, times_named, inner_cells, names_child, root_problems, node_problems, cell_problems}
 use Rattle.rt_tree_node.proofs.Counts.{count-cons}
-use Rattle.rt_tree_walk.specs.InOrder.{AreInOrder, nodes_in, cells_of_number}
+use Rattle.rt_tree_outside.specs.InOrder.{AreInOrder, nodes_in, cells_of_number}
 use Rattle.rt_tree_walk.proofs.Reaching.{All_contained, counted-contained}
 use Rattle.rt_tree_walk.proofs.Judging.{count-mapped}
 use Rattle.rt_tree.specs.Lists.{IsInShape, level_of_number}

@@ -12,14 +12,14 @@ use Rattle.rt_check.specs.declared.node.RawCell.{RawCell}
 use Rattle.rt_tree_node.specs.declared.arena.Arena.{Arena}
 use Rattle.rt_tree_node.specs.declared.cell.Cell.{Cell}
 use Rattle.rt_tree_node.specs.Places.{key_of, numbers, cells_at, level_at, parent_at}
-use Rattle.rt_tree_node.specs.Path.{KeepsShape}
+use Rattle.rt_tree_place.specs.Path.{KeepsShape}
 use Rattle.rt_tree_node.proofs.Places.{leaf-at_leaf}
 use Rattle.slab.specs.Slab.{get}
 use Rattle.rt_tree_walk.specs.Preorder.{keys_in, tree_keys, number_in}
-use Rattle.rt_tree_walk.specs.Outside.{cell_row, node_row, outside}
+use Rattle.rt_tree_outside.specs.Outside.{cell_row, node_row, outside}
 use Rattle.rt_tree_walk.proofs.Progress.{IsSettled}
 use Rattle.rt_tree_walk.proofs.Listed.{HasNode, levels-below, listed-there}
-use Rattle.rt_tree_walk.proofs.Flawless.{numbering}
+use Rattle.rt_tree_outside.proofs.Flawless.{numbering}
 use Rattle.rt_tree.specs.Way.{KeepsCell, KeepsNode, ChangesLeaf, with_cells}
 use Rattle.rt_tree.proofs.Members.{contains-map}
 use Rattle.rt_tree.proofs.Reading.{number}

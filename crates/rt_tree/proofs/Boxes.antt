@@ -8,12 +8,12 @@ use Rattle.rt_tree_node.specs.declared.arena.Arena.{Arena}
 use Rattle.rt_tree_node.specs.declared.cell.Cell.{Cell}
 use Rattle.rt_tree_node.specs.Places.{cells_at, level_at}
 use Rattle.rt_tree_walk.specs.Preorder.{tree_keys}
-use Rattle.rt_tree_walk.specs.Outside.{cell_row, outside}
+use Rattle.rt_tree_outside.specs.Outside.{cell_row, outside}
 use Rattle.rt_tree_walk.proofs.Progress.{IsSettled}
 use Rattle.rt_tree_walk.proofs.Listed.{HasNode}
 use Rattle.rt_tree_walk.proofs.Judging.{All-mapped}
-use Rattle.rt_tree_walk.proofs.Judged.{row, row-cells}
-use Rattle.rt_tree_walk.proofs.Flawless.{numbering}
+use Rattle.rt_tree_outside.proofs.Judged.{row, row-cells}
+use Rattle.rt_tree_outside.proofs.Flawless.{numbering}
 use Rattle.rt_tree.specs.Rows.{box_in}
 use Rattle.rt_tree.specs.Boxes.{HasBoxes}
 use Rattle.rt_tree.proofs.Rows.{intervals-back}

@@ -22,14 +22,14 @@ use Rattle.rt_tree_remove.specs.Removal.{Removes, LeavesLeaf as LeavesAt}
 use Rattle.rt_tree_remove.specs.Above.{way_up as way_above}
 use Rattle.rt_tree_walk.specs.Search.{times}
 use Rattle.rt_tree_walk.specs.Preorder.{keys_in, tree_keys, number_in}
-use Rattle.rt_tree_walk.specs.Outside.{outside}
-use Rattle.rt_tree_walk.specs.InOrder.{cells_of_number}
+use Rattle.rt_tree_outside.specs.Outside.{outside}
+use Rattle.rt_tree_outside.specs.InOrder.{cells_of_number}
 use Rattle.rt_tree_walk.proofs.Totals.{times-cons, times-one}
-use Rattle.rt_tree_walk.proofs.Numbering.{place-here, place-later}
+use Rattle.rt_tree_outside.proofs.Numbering.{place-here, place-later}
 use Rattle.rt_tree_walk.proofs.Progress.{IsSettled}
 use Rattle.rt_tree_walk.proofs.Listed.{levels-below, listed-once}
-use Rattle.rt_tree_walk.proofs.Judged.{row}
-use Rattle.rt_tree_walk.proofs.Flawless.{numbering}
+use Rattle.rt_tree_outside.proofs.Judged.{row}
+use Rattle.rt_tree_outside.proofs.Flawless.{numbering}
 use Rattle.rt_tree.specs.Lists.{root_level}
 use Rattle.rt_tree.specs.Way.{boxes_in, cell_with, LeadsTo, JoinsLeaf, LeavesLeaf, ChangesLeaf, way_up}
 use Rattle.rt_tree.specs.Changes.{picked, overfull, HalvesRoot, TakesRow, IsInsertion, IsRemoval}

@@ -14,7 +14,7 @@ use Rattle.rt_tree_place.proofs.Sums.{count-all}
 use Rattle.rt_tree_pack.specs.Packing.{IsBare, Packs, most_packed_nodes}
 use Rattle.rt_tree_walk.specs.declared.searching.Row.{Row}
 use Rattle.rt_tree_walk.specs.Search.{row_of}
-use Rattle.rt_tree_walk.specs.Outside.{outside}
+use Rattle.rt_tree_outside.specs.Outside.{outside}
 use Rattle.rt_tree_walk.proofs.Progress.{IsSettled}
 use Rattle.rt_tree_node.proofs.Counts.{count-cons}
 use Rattle.rt_tree.specs.TreeInside.{IsKept}

@@ -2,11 +2,11 @@
 use Rattle.std.proofs.Common.{ℕ}
 use Rattle.std.specs.Ordering.{int_eq}
 use Rattle.indexmap.specs.IndexMap.{IsUnique}
-use Rattle.rt_tree_walk.specs.Outside.{outside}
+use Rattle.rt_tree_outside.specs.Outside.{outside}
 use Rattle.rt_tree_walk.proofs.Progress.{IsSettled}
-use Rattle.rt_tree_walk.proofs.Flawless.{outside-sound}
-use Rattle.rt_tree_walk.proofs.Subtrees.{outside-ordered}
-use Rattle.rt_tree_walk.proofs.Rows.{entries-rise}
+use Rattle.rt_tree_outside.proofs.Flawless.{outside-sound}
+use Rattle.rt_tree_outside.proofs.Subtrees.{outside-ordered}
+use Rattle.rt_tree_outside.proofs.Rows.{entries-rise}
 use Rattle.rt_tree.specs.Lists.{IsInShape}
 use Rattle.rt_tree.specs.TreeInside.{IsKept}
 use Rattle.rt_tree.specs.declared.tree.Tree.TheInside.{Inside}

@@ -4,14 +4,14 @@ use Rattle.std.specs.Option.{option_map, option_map_or}
 use Rattle.std.proofs.lemmas.Option.{same_Some, none-some, slice_get-map, get_or_from_slice_get}
 use Rattle.rt_box.specs.declared.interval.Interval.{Interval}
 use Rattle.rt_check.specs.declared.node.NodeRow.{NodeRow}
-use Rattle.rt_tree_choice.specs.Subtree.{IsBestChild}
+use Rattle.rt_tree_subtree.specs.Subtree.{IsBestChild}
 use Rattle.rt_tree_node.specs.declared.arena.Arena.{Arena}
 use Rattle.rt_tree_node.specs.declared.cell.Cell.{Cell}
 use Rattle.rt_tree_node.specs.Places.{key_of, rects, cells_at, level_at, parent_at}
-use Rattle.rt_tree_node.specs.Path.{LeadsTo as LeadsDown}
+use Rattle.rt_tree_place.specs.Path.{LeadsTo as LeadsDown}
 use Rattle.rt_tree_remove.specs.Above.{way_up as way_above}
-use Rattle.rt_tree_walk.specs.Outside.{cell_row, outside}
-use Rattle.rt_tree_walk.specs.InOrder.{cells_of_number}
+use Rattle.rt_tree_outside.specs.Outside.{cell_row, outside}
+use Rattle.rt_tree_outside.specs.InOrder.{cells_of_number}
 use Rattle.rt_tree_walk.proofs.Reaching.{named-by}
 use Rattle.rt_tree_walk.proofs.Progress.{IsSettled, settled-linked}
 use Rattle.rt_tree_walk.proofs.Listed.{levels-below}

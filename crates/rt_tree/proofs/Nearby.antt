@@ -9,15 +9,15 @@ use Rattle.rt_tree_node.specs.declared.arena.Arena.{Arena}
 use Rattle.rt_tree_node.specs.declared.cell.Cell.{Cell}
 use Rattle.rt_tree_node.specs.Places.{leaf_cells_at, cells_at}
 use Rattle.rt_tree_node.proofs.Places.{leaf-at_leaf, leaf-at_inner}
-use Rattle.rt_tree_nearest.specs.Nearest.{rows_in}
+use Rattle.rt_tree_walk.specs.Rows.{rows_in}
 use Rattle.rt_tree_walk.specs.declared.searching.Row.{Row}
 use Rattle.rt_tree_walk.specs.Search.{row_of}
 use Rattle.rt_tree_walk.specs.Preorder.{tree_keys}
-use Rattle.rt_tree_walk.specs.Outside.{cell_row, outside}
+use Rattle.rt_tree_outside.specs.Outside.{cell_row, outside}
 use Rattle.rt_tree_walk.proofs.Progress.{IsSettled}
 use Rattle.rt_tree_walk.proofs.Listed.{HasNode, listed-there}
-use Rattle.rt_tree_walk.proofs.Judged.{row, row-cells, row-leaf, row-inner}
-use Rattle.rt_tree_walk.proofs.Flawless.{numbering}
+use Rattle.rt_tree_outside.proofs.Judged.{row, row-cells, row-leaf, row-inner}
+use Rattle.rt_tree_outside.proofs.Flawless.{numbering}
 use Rattle.rt_tree.specs.Rows.{row_in, rows_of}
 use Rattle.rt_tree.proofs.Reading.{number}
 use Rattle.rt_tree.proofs.Rows.{row-back}

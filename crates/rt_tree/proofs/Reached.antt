@@ -16,12 +16,12 @@ use Rattle.rt_tree_node.specs.Sound.{NamesChild}
 use Rattle.rt_tree_node.proofs.Counts.{count-some}
 use Rattle.rt_tree_walk.specs.declared.searching.Row.{Row}
 use Rattle.rt_tree_walk.specs.Search.{times, IsReached, Finds, Counts}
-use Rattle.rt_tree_walk.specs.Outside.{cell_row, outside}
-use Rattle.rt_tree_walk.specs.InOrder.{cells_of_number}
+use Rattle.rt_tree_outside.specs.Outside.{cell_row, outside}
+use Rattle.rt_tree_outside.specs.InOrder.{cells_of_number}
 use Rattle.rt_tree_walk.proofs.Reaching.{All_contained, counted-contained}
 use Rattle.rt_tree_walk.proofs.Judging.{count-mapped}
 use Rattle.rt_tree_walk.proofs.Progress.{IsSettled}
-use Rattle.rt_tree_walk.proofs.Flawless.{numbering}
+use Rattle.rt_tree_outside.proofs.Flawless.{numbering}
 use Rattle.rt_tree.specs.Lists.{level_of_number}
 use Rattle.rt_tree.specs.Rows.{box_in}
 use Rattle.rt_tree.specs.Search.{IsReachedIn, FindsIn, CountsIn}

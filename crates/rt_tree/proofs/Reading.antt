@@ -6,11 +6,11 @@ use Rattle.rt_check.specs.Conditions.{node_of}
 use Rattle.rt_tree_node.specs.declared.arena.Arena.{Arena}
 use Rattle.rt_tree_node.specs.Places.{cells_at, level_at}
 use Rattle.rt_tree_walk.specs.Preorder.{tree_keys, number_in}
-use Rattle.rt_tree_walk.specs.Outside.{cell_row, outside}
-use Rattle.rt_tree_walk.specs.InOrder.{cells_of_number}
+use Rattle.rt_tree_outside.specs.Outside.{cell_row, outside}
+use Rattle.rt_tree_outside.specs.InOrder.{cells_of_number}
 use Rattle.rt_tree_walk.proofs.Progress.{IsSettled}
-use Rattle.rt_tree_walk.proofs.Judged.{row, looked-up, row-cells, row-level}
-use Rattle.rt_tree_walk.proofs.Flawless.{numbering}
+use Rattle.rt_tree_outside.proofs.Judged.{row, looked-up, row-cells, row-level}
+use Rattle.rt_tree_outside.proofs.Flawless.{numbering}
 use Rattle.rt_tree.specs.Lists.{level_of_number}
 
 module _ {D : ℕ} where

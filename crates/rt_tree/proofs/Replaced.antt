@@ -7,7 +7,7 @@ use Rattle.rt_tree_node.specs.declared.arena.Arena.{Arena}
 use Rattle.rt_tree_node.specs.declared.arena.Work.{Work}
 use Rattle.rt_tree_place.specs.Insertion.{Inserts}
 use Rattle.rt_tree_remove.specs.Removal.{Removes}
-use Rattle.rt_tree_walk.specs.Outside.{outside}
+use Rattle.rt_tree_outside.specs.Outside.{outside}
 use Rattle.rt_tree.specs.Changes.{IsReplacement}
 use Rattle.rt_tree.specs.TreeInside.{IsKept}
 use Rattle.rt_tree.specs.declared.tree.Tree.TheInside.{Inside}

@@ -18,7 +18,7 @@ use Rattle.rt_tree_node.specs.Places.{key_of, cells_at, leaf_cells_of, pending_r
 use Rattle.rt_tree_node.specs.Sound.{IsLinked, IsFitted, HasHomes}
 use Rattle.rt_tree_node.specs.Whole.{IsWhole, HasRoom, row_count}
 use Rattle.rt_tree_walk.specs.Preorder.{keys_in, tree_keys, number_in}
-use Rattle.rt_tree_walk.specs.Outside.{node_row, row_entry, rising, outside}
+use Rattle.rt_tree_outside.specs.Outside.{node_row, row_entry, rising, outside}
 use Rattle.rt_tree.specs.TreeInside.{IsKept}
 
 module _ {D : ℕ} where

@@ -23,18 +23,18 @@ use Rattle.rt_tree_node.specs.Places.{times_listed, pending_rows, leaf_cells_of,
 use Rattle.rt_tree_node.proofs.Places.{leaf-at_leaf}
 use Rattle.rt_tree_walk.specs.declared.searching.Row.{Row}
 use Rattle.rt_tree_walk.specs.Search.{times, row_of}
-use Rattle.rt_tree_walk.specs.InOrder.{row_cell}
+use Rattle.rt_tree_outside.specs.InOrder.{row_cell}
 use Rattle.rt_tree_walk.specs.Preorder.{tree_keys, number_in}
-use Rattle.rt_tree_walk.specs.Outside.{cell_row, outside}
+use Rattle.rt_tree_outside.specs.Outside.{cell_row, outside}
 use Rattle.rt_tree_node.proofs.Sums.{upto-list}
 use Rattle.rt_tree_walk.proofs.Totals.{sum-listed, times-one}
 use Rattle.rt_tree_walk.proofs.Reaching.{leaf-level, counted-contained}
 use Rattle.rt_tree_walk.proofs.Judging.{count-mapped}
 use Rattle.rt_tree_walk.proofs.Progress.{IsSettled}
 use Rattle.rt_tree_walk.proofs.Listed.{listed-contained}
-use Rattle.rt_tree_walk.proofs.Judged.{row, row-cells, row-leaf}
-use Rattle.rt_tree_walk.proofs.Flawless.{numbering}
-use Rattle.rt_tree_walk.proofs.Rows.{outside-rows}
+use Rattle.rt_tree_outside.proofs.Judged.{row, row-cells, row-leaf}
+use Rattle.rt_tree_outside.proofs.Flawless.{numbering}
+use Rattle.rt_tree_outside.proofs.Rows.{outside-rows}
 use Rattle.rt_tree.specs.Rows.{intervals, row_in, rows_of, box_of}
 use Rattle.rt_tree.proofs.Members.{contains-map, contains-flat, find-one, find-nothing}
 

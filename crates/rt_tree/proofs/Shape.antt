@@ -18,14 +18,14 @@ use Rattle.rt_tree_node.specs.Node.{NodeCells}
 use Rattle.rt_tree_node.specs.Places.{level_of}
 use Rattle.rt_tree_walk.specs.Search.{times}
 use Rattle.rt_tree_walk.specs.Preorder.{tree_keys, number_in}
-use Rattle.rt_tree_walk.specs.Outside.{row_entry, rising, inserted, outside}
+use Rattle.rt_tree_outside.specs.Outside.{row_entry, rising, inserted, outside}
 use Rattle.rt_tree_node.proofs.Sums.{upto-list}
 use Rattle.rt_tree_walk.proofs.Totals.{sum-listed}
 use Rattle.rt_tree_walk.proofs.Reaching.{All_contained}
 use Rattle.rt_tree_walk.proofs.Progress.{IsSettled}
 use Rattle.rt_tree_walk.proofs.Listed.{HasNode, listed-there, listed-once, contained-from_times}
-use Rattle.rt_tree_walk.proofs.Judged.{row, row-level, looked-up}
-use Rattle.rt_tree_walk.proofs.Flawless.{numbering}
+use Rattle.rt_tree_outside.proofs.Judged.{row, row-level, looked-up}
+use Rattle.rt_tree_outside.proofs.Flawless.{numbering}
 use Rattle.rt_tree.specs.Lists.{root_level}
 
 -- ---- the row entries

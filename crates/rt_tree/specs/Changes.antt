@@ -14,8 +14,8 @@ use Rattle.rt_tree_node.specs.Whole.{IsWhole}
 use Rattle.rt_tree_place.specs.NewRow.{AwaitsLeaf}
 use Rattle.rt_tree_place.specs.Turns.{PlacesInTurn}
 use Rattle.rt_tree_remove.specs.Removal.{RemovesInSteps}
-use Rattle.rt_tree_walk.specs.Outside.{outside}
-use Rattle.rt_tree_walk.specs.InOrder.{cells_of_number}
+use Rattle.rt_tree_outside.specs.Outside.{outside}
+use Rattle.rt_tree_outside.specs.InOrder.{cells_of_number}
 use Rattle.rt_tree.specs.Lists.{root_level, IsInShape}
 use Rattle.rt_tree.specs.Rows.{box_of, GainsRow, LosesRow}
 use Rattle.rt_tree.specs.Way.{boxes_in, cell_with, LeadsTo, JoinsLeaf, LeavesLeaf}

@@ -4,7 +4,7 @@ use Rattle.std.specs.Option.{option_map, option_map_or}
 use Rattle.rt_box.specs.Capacity.{least_fill}
 use Rattle.rt_check.specs.Shadow.{ShadowLists}
 use Rattle.rt_check.specs.Conditions.{node_of, IsSound}
-use Rattle.rt_tree_walk.specs.InOrder.{IsPreorder, AreByRisingId}
+use Rattle.rt_tree_outside.specs.InOrder.{IsPreorder, AreByRisingId}
 
 -- its nodes and row entries, and how many more rows it takes without asking for memory
 pub record TreeLists (D : ℕ) : Type 0 where

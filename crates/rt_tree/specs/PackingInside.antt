@@ -3,7 +3,7 @@ use Rattle.std.specs.Prelude.{ℕ, List}
 use Rattle.rt_tree_node.specs.declared.arena.Arena.{Arena}
 use Rattle.rt_tree_node.specs.declared.cell.Cell.{Cell}
 use Rattle.rt_tree_walk.specs.declared.searching.Row.{Row}
-use Rattle.rt_tree_walk.specs.Outside.{outside}
+use Rattle.rt_tree_outside.specs.Outside.{outside}
 use Rattle.rt_tree.specs.Packing.{IsPackedOf}
 use Rattle.rt_tree.specs.TreeInside.{IsKept}
 

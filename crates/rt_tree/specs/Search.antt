@@ -7,7 +7,7 @@ use Rattle.rt_check.specs.declared.node.RawCell.{RawCell}
 use Rattle.rt_check.specs.Shadow.{ShadowLists}
 use Rattle.rt_tree_walk.specs.declared.searching.Row.{Row}
 use Rattle.rt_tree_walk.specs.Search.{AsksAdmitted}
-use Rattle.rt_tree_walk.specs.InOrder.{cells_of_number}
+use Rattle.rt_tree_outside.specs.InOrder.{cells_of_number}
 use Rattle.rt_tree.specs.Lists.{level_of_number}
 use Rattle.rt_tree.specs.Rows.{box_in, rows_of}
 

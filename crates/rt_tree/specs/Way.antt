@@ -9,8 +9,8 @@ use Rattle.rt_check.specs.declared.node.NodeRow.{NodeRow}
 use Rattle.rt_check.specs.declared.node.RawCell.{RawCell}
 use Rattle.rt_check.specs.Shadow.{ShadowLists}
 use Rattle.rt_check.specs.Conditions.{node_of, entry_of}
-use Rattle.rt_tree_choice.specs.Subtree.{IsBestChild}
-use Rattle.rt_tree_walk.specs.InOrder.{cells_of_number}
+use Rattle.rt_tree_subtree.specs.Subtree.{IsBestChild}
+use Rattle.rt_tree_outside.specs.InOrder.{cells_of_number}
 use Rattle.rt_tree.specs.Lists.{root_level}
 use Rattle.rt_tree.specs.Rows.{box_in}
 

@@ -18,7 +18,7 @@
 //!   `nearest_to` the rows nearest to a box.
 //! - `join` lists the pairs of rows, one of each of two trees, whose boxes touch.
 //!
-//! Stands on `rt_tree_node`, `rt_tree_walk`, `rt_tree_nearest`, `rt_tree_join`, `rt_tree_place`, `rt_tree_remove` and
+//! Stands on `rt_tree_node`, `rt_tree_walk`, `rt_tree_outside`, `rt_tree_nearest`, `rt_tree_join`, `rt_tree_place`, `rt_tree_remove` and
 //! `rt_tree_pack`, and on `rt_check` for the tree from outside. Definitions: `specs/Lists.antt` (a tree from outside),
 //! `Rows.antt`, `Boxes.antt`, `Changes.antt` (insertion, removal and replacement), `Search.antt`, `Join.antt`, `Way.antt`,
 //! `Packing.antt` (a tree of a list of rows), and `specs/Nearest.antt` of `rt_tree_nearest`.

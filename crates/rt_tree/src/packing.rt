@@ -2,7 +2,7 @@
 
 ghost use Rattle.std.specs.Prelude.{◌≡◌, ◌≤◌, ◌^◌, [], length, map, vec_capacity, IfOk, IfErr};
 ghost use Rattle.rt_tree_pack.specs.Packing.{IsBare, IsFaultOf};
-ghost use Rattle.rt_tree_walk.specs.Outside.{outside};
+ghost use Rattle.rt_tree_outside.specs.Outside.{outside};
 ghost use Rattle.rt_tree.specs.Lists.{empty_lists};
 ghost use Rattle.rt_tree.specs.Packing.{ids};
 ghost use Rattle.rt_tree.specs.PackingInside.{cell_of, IsArenaOf};

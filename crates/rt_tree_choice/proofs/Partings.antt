@@ -11,11 +11,13 @@ use Rattle.rt_tree_choice.specs.declared.split.Cut.{Cut}
 use Rattle.rt_tree_choice.specs.declared.split.Quality.{Quality}
 use Rattle.rt_tree_choice.specs.declared.split.Parting.{Parting}
 use Rattle.rt_tree_choice.specs.declared.split.Judgement.{Judgement}
-use Rattle.rt_tree_choice.specs.Hull.{box_at, boxes_at, hull, AreFronts, AreBacks}
-use Rattle.rt_tree_choice.specs.Keys.{Less, IsLeast}
+use Rattle.rt_box.specs.Boxes.{box_at}
+use Rattle.rt_box.specs.Hull.{hull}
+use Rattle.rt_tree_choice.specs.Hull.{boxes_at, AreFronts, AreBacks}
+use Rattle.rt_box.specs.Keys.{Less, IsLeast}
 use Rattle.rt_tree_choice.specs.Split.{sorting, first_hull, second_hull, cut_at, cut_key, margins, margin_sum, axis_key, sorting_rank, IsCutOf, IsBestCut}
 use Rattle.rt_tree_choice.specs.Judgements.{quality_numbers, AreQualityOf, margins_at, costs_at, IsBestParting, IsJudgedSorting, IsJudgedAxis}
-use Rattle.rt_tree_choice.proofs.Keys.{ranked, Less-trans, Less-append, Less-between, Less-push_tie, IsLeast-none, IsLeast-takes, IsLeast-keeps}
+use Rattle.rt_box.proofs.Keys.{ranked, Less-trans, Less-append, Less-between, Less-push_tie, IsLeast-none, IsLeast-takes, IsLeast-keeps}
 
 start : (a : ℕ) → a ≡ a + 0
 start a = omega arith

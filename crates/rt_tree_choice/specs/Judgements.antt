@@ -8,8 +8,8 @@ use Rattle.rt_tree_choice.specs.declared.split.Cut.{Cut}
 use Rattle.rt_tree_choice.specs.declared.split.Quality.{Quality}
 use Rattle.rt_tree_choice.specs.declared.split.Judgement.{Judgement}
 use Rattle.rt_tree_choice.specs.declared.split.Parting.{Parting}
-use Rattle.rt_tree_choice.specs.Hull.{box_at}
-use Rattle.rt_tree_choice.specs.Keys.{Less, IsLeast}
+use Rattle.rt_box.specs.Boxes.{box_at}
+use Rattle.rt_box.specs.Keys.{Less, IsLeast}
 use Rattle.rt_tree_choice.specs.Split.{first_hull, second_hull, cut_at, cut_key, first_sizes, margins, margin_sum, IsCutOf}
 
 abbrev pub quality_numbers : Quality → List ℕ

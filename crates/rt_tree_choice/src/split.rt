@@ -7,7 +7,7 @@ ghost use Rattle.std.specs.Prelude.{◌≡◌, ◌+◌, ◌*◌, ◌^◌, ◌<�
 ghost use Rattle.rt_box.specs.Capacity.{least_fill, most_cells};
 ghost use Rattle.rt_box.specs.Rect.{area, margin, overlap};
 ghost use Rattle.rt_tree_choice.specs.Hull.{AreFronts, AreBacks};
-ghost use Rattle.rt_tree_choice.specs.Keys.{Less};
+ghost use Rattle.rt_box.specs.Keys.{Less};
 ghost use Rattle.rt_tree_choice.specs.Split.{sorting, IsBestCut};
 ghost use Rattle.rt_tree_choice.specs.Judgements.{quality_numbers, AreQualityOf, IsBestParting, IsJudgedSorting, IsJudgedAxis};
 

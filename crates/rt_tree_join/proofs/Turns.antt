@@ -8,7 +8,7 @@ use Rattle.rt_tree_node.specs.Places.{cells_at, hull_at}
 use Rattle.rt_tree_node.proofs.Links.{All-left, All-right}
 use Rattle.rt_tree_walk.specs.declared.searching.Row.{Row}
 use Rattle.rt_tree_walk.proofs.Progress.{IsSettled}
-use Rattle.rt_tree_nearest.specs.Nearest.{rows_in}
+use Rattle.rt_tree_walk.specs.Rows.{rows_in}
 use Rattle.rt_tree_join.specs.declared.due.Due.{Due}
 use Rattle.rt_tree_join.specs.declared.due.Subtree.{Subtree}
 use Rattle.rt_tree_join.specs.declared.joining.Pair.{Pair}

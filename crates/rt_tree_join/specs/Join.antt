@@ -8,7 +8,7 @@ use Rattle.rt_box.specs.Rect.{IsBox}
 use Rattle.rt_box.specs.Window.{Admits}
 use Rattle.rt_tree_node.specs.declared.arena.Arena.{Arena}
 use Rattle.rt_tree_walk.specs.declared.searching.Row.{Row}
-use Rattle.rt_tree_nearest.specs.Nearest.{rows_in}
+use Rattle.rt_tree_walk.specs.Rows.{rows_in}
 use Rattle.rt_tree_join.specs.declared.joining.Pair.{Pair}
 
 -- neither interval begins behind the other's end

@@ -9,8 +9,8 @@
 //!
 //! It asks for whole trees without pending cells, and takes memory for what it returns and for a list of pairs of nodes.
 //!
-//! Stands on `rt_tree_node`, `rt_tree_walk` and `rt_tree_nearest`. Definitions: `specs/Join.antt` (touching boxes, the
-//! pairs), `Due.antt` (the pairs of nodes that are due).
+//! Stands on `rt_tree_node` and `rt_tree_walk`. Definitions: `specs/Join.antt` (touching boxes, the pairs), `Due.antt`
+//! (the pairs of nodes that are due).
 #![tactic(auto)]
 
 mod due;

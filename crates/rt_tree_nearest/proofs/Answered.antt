@@ -21,12 +21,13 @@ use Rattle.rt_tree_walk.proofs.Progress.{IsSettled}
 use Rattle.rt_tree_walk.proofs.Reaching.{counted-contained}
 use Rattle.rt_tree_nearest.specs.declared.candidate.Candidate.{Candidate}
 use Rattle.rt_tree_nearest.specs.declared.query.Query.{Query}
-use Rattle.rt_tree_nearest.specs.Nearest.{box_distance, by_nearness_to, rows_in}
+use Rattle.rt_tree_walk.specs.Rows.{rows_in}
+use Rattle.rt_tree_nearest.specs.Nearest.{box_distance, by_nearness_to}
 use Rattle.rt_tree_nearest.specs.Candidates.{own_row, compare, IsBeyond, IsOut, IsOrdered}
 use Rattle.rt_tree_nearest.proofs.Ordered.{Rising, InOrder, Rising-sort, Rising-filter, Contains-filter, Contains-unfilter, beginning, rises, sort-permutes}
 use Rattle.rt_tree_nearest.proofs.Same.{same_row, same_row-decides, listed-counted, counted-listed}
 use Rattle.rt_tree_nearest.proofs.Orders.{compare_total, nearness_total, untied, same-id, compare-rows, not-after_not-less}
-use Rattle.rt_tree_nearest.proofs.Below.{ids-apart}
+use Rattle.rt_tree_walk.proofs.Below.{ids-apart}
 use Rattle.rt_tree_nearest.proofs.Searched.{Searched}
 
 -- nothing passes

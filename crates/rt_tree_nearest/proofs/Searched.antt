@@ -23,10 +23,12 @@ use Rattle.rt_tree_walk.proofs.Progress.{IsSettled}
 use Rattle.rt_tree_nearest.specs.declared.candidate.Candidate.{Candidate}
 use Rattle.rt_tree_nearest.specs.declared.candidate.Branch.{Branch}
 use Rattle.rt_tree_nearest.specs.declared.query.Query.{Query}
-use Rattle.rt_tree_nearest.specs.Nearest.{box_distance, rows_in}
+use Rattle.rt_tree_walk.specs.Rows.{rows_in}
+use Rattle.rt_tree_nearest.specs.Nearest.{box_distance}
 use Rattle.rt_tree_nearest.specs.Candidates.{queued, candidate_of, own_row, IsKept, IsReach, IsBeyond, IsOut, Keeps, Queues, is_near}
-use Rattle.rt_tree_nearest.proofs.Same.{count-joined}
-use Rattle.rt_tree_nearest.proofs.Below.{rows_below, keys_below, rows-node, keys-node, rows-leaf, rows-inner, keys-inner, IsNear, children-near}
+use Rattle.rt_tree_walk.proofs.Judging.{count-joined}
+use Rattle.rt_tree_walk.proofs.Below.{rows-leaf}
+use Rattle.rt_tree_nearest.proofs.Below.{rows_below, keys_below, rows-node, keys-node, rows-inner, keys-inner, IsNear, children-near}
 use Rattle.rt_tree_nearest.proofs.Keeping.{out-far}
 
 is-far : (n most : ℕ) → not (nat_le n most) ≡ true → most < n
@@ -77,7 +79,7 @@ module _ {D : ℕ} (q : Query D) (t : Arena D) where
 
       leaf-counts : (test : Row D → Bool) → count_by test (rows_below a x) ≡ count_by (λ c. test (own_row c)) candidates
       leaf-counts test =
-          ap (count_by test) (rows-node a x 0 at ∙ rows-leaf t s q.target x.0.key at)
+          ap (count_by test) (rows-node a x 0 at ∙ rows-leaf a x.0.key at)
           ∙ count-mapped test row_of (λ c. test (row_of c)) cells (λ i d h. refl)
           ∙ sym (count-mapped (λ (c : Candidate D). test (own_row c)) (candidate_of q.target) (λ c. test (row_of c)) cells (λ i d h. refl))
 

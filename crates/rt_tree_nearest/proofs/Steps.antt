@@ -19,7 +19,8 @@ use Rattle.rt_tree_nearest.specs.declared.query.Query.{Query}
 use Rattle.rt_tree_nearest.specs.Nearest.{box_distance}
 use Rattle.rt_tree_nearest.specs.Candidates.{candidate_of, compare_branches, IsReach, IsBeyond, IsOut, Keeps, Queues, Explores}
 use Rattle.rt_tree_nearest.proofs.Orders.{top-nearest}
-use Rattle.rt_tree_nearest.proofs.Below.{rows_under, rows_below, keys_below, rows-node, IsNear}
+use Rattle.rt_tree_walk.proofs.Below.{rows_under}
+use Rattle.rt_tree_nearest.proofs.Below.{rows_below, keys_below, rows-node, IsNear}
 use Rattle.rt_tree_nearest.proofs.Searched.{Searched, Searched-moved, Searched-leaf, Searched-drop, Searched-node, shorter-leaf, shorter-node}
 
 module _ {D : ℕ} (q : Query D) (t : Arena D) (s : IsSettled t) where

@@ -19,7 +19,8 @@ use Rattle.rt_tree_nearest.specs.declared.candidate.Branch.{Branch}
 use Rattle.rt_tree_nearest.specs.declared.keep.Kept.{Kept}
 use Rattle.rt_tree_nearest.specs.declared.keep.Kept.TheVariants.{Few, Full}
 use Rattle.rt_tree_nearest.specs.declared.query.Query.{Query}
-use Rattle.rt_tree_nearest.specs.Nearest.{box_distance, by_nearness_to, rows_in}
+use Rattle.rt_tree_walk.specs.Rows.{rows_in}
+use Rattle.rt_tree_nearest.specs.Nearest.{box_distance, by_nearness_to}
 
 -- a distance beyond a limit: some number of 128 bits lies between
 abbrev pub IsBeyond : ℕ → ℕ → Type 0

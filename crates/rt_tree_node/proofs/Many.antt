@@ -10,7 +10,7 @@ use Rattle.std.proofs.lemmas.Bool.{cases_Bool}
 use Rattle.std.proofs.lemmas.Bool.Decides.{Decides-int_eq}
 use Rattle.rt_box.specs.Capacity.{least_fill}
 use Rattle.rt_box.specs.Rect.{IsBox}
-use Rattle.rt_tree_choice.specs.Hull.{hull}
+use Rattle.rt_box.specs.Hull.{hull}
 use Rattle.slab.specs.Slab.{Slab, get, Updates, with_value}
 use Rattle.slab.proofs.SlabLemmas.{Updates-with_value}
 use Rattle.rt_tree_node.specs.declared.cell.Cell.{Cell}

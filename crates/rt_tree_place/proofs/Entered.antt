@@ -13,7 +13,7 @@ use Rattle.rt_tree_node.specs.Changes.{Puts}
 use Rattle.rt_tree_node.specs.Homes.{KeepsIds}
 use Rattle.rt_tree_node.specs.Node.{NodeCells}
 use Rattle.rt_tree_node.specs.Open.{IsOpen}
-use Rattle.rt_tree_node.specs.Path.{LeadsTo}
+use Rattle.rt_tree_place.specs.Path.{LeadsTo}
 use Rattle.rt_tree_node.specs.Places.{key_of, times_named, times_listed, cells_of, level_of, parent_of, cells_at, inner_cells_at, leaf_part, level_at, parent_at, count_rows}
 use Rattle.rt_tree_node.specs.Sound.{Names}
 use Rattle.rt_tree_node.proofs.Fitted.{fitted-weaker}

@@ -8,8 +8,8 @@ use Rattle.rt_box.specs.declared.interval.Interval.{Interval}
 use Rattle.rt_box.specs.Interval.{interval, cover, Covers}
 use Rattle.rt_box.specs.Rect.{Holds, union_box}
 use Rattle.rt_box.specs.Capacity.{least_fill}
-use Rattle.rt_tree_choice.specs.Hull.{hull}
-use Rattle.rt_tree_choice.proofs.Covering.{hull-push}
+use Rattle.rt_box.specs.Hull.{hull}
+use Rattle.rt_box.proofs.Hulls.{hull-push}
 use Rattle.rt_tree_node.specs.declared.arena.Arena.{Arena}
 use Rattle.rt_tree_node.specs.declared.cell.Cell.{Cell}
 use Rattle.rt_tree_node.specs.declared.cell.Pending.{Pending}

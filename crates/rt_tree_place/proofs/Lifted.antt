@@ -16,7 +16,7 @@ use Rattle.rt_tree_node.specs.Node.{NodeCells}
 use Rattle.rt_tree_node.specs.Places.{key_of, times_named, times_listed, numbers, cells_of, leaf_cells_of, level_of, parent_of, level_at, parent_at, cells_at, inner_cells_of, inner_cells_at, pending_nodes}
 use Rattle.rt_tree_node.specs.Sound.{NamesChild, IsLinked}
 use Rattle.rt_tree_node.specs.Whole.{IsSound}
-use Rattle.rt_tree_node.specs.Path.{KeepsShape}
+use Rattle.rt_tree_place.specs.Path.{KeepsShape}
 use Rattle.rt_tree_node.proofs.Counts.{count-cons}
 use Rattle.rt_tree_node.proofs.Places.{inner-at_inner, names_key}
 use Rattle.rt_tree_node.proofs.Links.{same-at, above-some, boxes-changed}

@@ -13,7 +13,7 @@ use Rattle.rt_tree_node.specs.declared.arena.Arena.{Arena}
 use Rattle.rt_tree_node.specs.declared.arena.Work.{Work}
 use Rattle.rt_tree_node.specs.declared.cell.Pending.{Pending}
 use Rattle.rt_tree_node.specs.Node.{NodeCells}
-use Rattle.rt_tree_node.specs.Path.{LeadsTo, KeepsShape}
+use Rattle.rt_tree_place.specs.Path.{LeadsTo, KeepsShape}
 use Rattle.rt_tree_node.specs.Places.{picked, rects, numbers, cells_of, leaf_cells_of, level_of, parent_of, cells_at, level_at, parent_at, count_rows, pending_at}
 use Rattle.rt_tree_node.specs.Whole.{IsWhole, IsBranched}
 use Rattle.rt_tree_node.specs.Open.{IsOpen}

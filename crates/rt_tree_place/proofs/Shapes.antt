@@ -5,7 +5,7 @@ use Rattle.slab.specs.Slab.{Slab}
 use Rattle.rt_tree_node.specs.declared.cell.Cell.{Cell}
 use Rattle.rt_tree_node.specs.Node.{NodeCells}
 use Rattle.rt_tree_node.specs.Places.{key_of, numbers, cells_at}
-use Rattle.rt_tree_node.specs.Path.{KeepsShape}
+use Rattle.rt_tree_place.specs.Path.{KeepsShape}
 
 module _ {D : ℕ} where
   pub shape-none : (a : Slab (NodeCells D)) (path : List ℕ) (k : ℕ) → KeepsShape a a path k

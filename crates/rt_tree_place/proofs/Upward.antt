@@ -6,7 +6,7 @@ use Rattle.slab.specs.Slab.{Slab}
 use Rattle.slab.proofs.SlabLemmas.{Contains-cons, Contains-cons_cases}
 use Rattle.rt_box.specs.declared.interval.Interval.{Interval}
 use Rattle.rt_tree_node.specs.Node.{NodeCells}
-use Rattle.rt_tree_node.specs.Path.{LeadsTo}
+use Rattle.rt_tree_place.specs.Path.{LeadsTo}
 use Rattle.rt_tree_node.specs.Places.{key_of, cells_at, level_at, parent_at}
 use Rattle.rt_tree_node.specs.Sound.{NamesChild}
 

@@ -4,11 +4,11 @@ use Rattle.std.proofs.lemmas.Option.{none-some, same_Some, slice_get_within, get
 use Rattle.std.proofs.lemmas.Bool.{cases_eq}
 use Rattle.slab.specs.Slab.{Slab, get, ContainsKey}
 use Rattle.rt_box.specs.declared.interval.Interval.{Interval}
-use Rattle.rt_tree_choice.specs.Subtree.{IsBestChild}
+use Rattle.rt_tree_subtree.specs.Subtree.{IsBestChild}
 use Rattle.rt_tree_node.specs.Node.{NodeCells}
 use Rattle.rt_tree_node.specs.Places.{key_of, times_named, rects, level_of, cells_at, level_at, parent_at}
 use Rattle.rt_tree_node.specs.Sound.{NamesChild}
-use Rattle.rt_tree_node.specs.Path.{LeadsTo}
+use Rattle.rt_tree_place.specs.Path.{LeadsTo}
 use Rattle.rt_tree_node.proofs.Counts.{count-some}
 use Rattle.rt_tree_node.proofs.Places.{names_key, inner-at_inner}
 use Rattle.rt_tree_place.specs.Steps.{IsPassable, IsBestAt}

@@ -11,7 +11,7 @@ use Rattle.rt_tree_node.specs.declared.arena.Work.{Work}
 use Rattle.rt_tree_node.specs.declared.cell.Cell.{Cell}
 use Rattle.rt_tree_node.specs.Places.{cells_at, count_rows}
 use Rattle.rt_tree_node.specs.Whole.{IsWhole, IsBranched}
-use Rattle.rt_tree_node.specs.Path.{LeadsTo}
+use Rattle.rt_tree_place.specs.Path.{LeadsTo}
 use Rattle.rt_tree_place.specs.Placement.{JoinsLeaf, HalvesRoot}
 use Rattle.rt_tree_place.specs.NewRow.{AwaitsLeaf}
 use Rattle.rt_tree_place.specs.Turns.{PlacesInTurn}

@@ -11,7 +11,7 @@ use Rattle.rt_tree_node.specs.declared.cell.Pending.{Pending}
 use Rattle.rt_tree_node.specs.Places.{key_of, cells_at, level_at, parent_at, count_rows}
 use Rattle.rt_tree_node.specs.Whole.{IsWhole, IsBranched}
 use Rattle.rt_tree_node.specs.Homes.{KeepsIds}
-use Rattle.rt_tree_node.specs.Path.{LeadsTo, KeepsShape}
+use Rattle.rt_tree_place.specs.Path.{LeadsTo, KeepsShape}
 use Rattle.rt_tree_place.specs.Rules.{Parts}
 use Rattle.rt_tree_place.specs.Rise.{InsertsAgain, InsertsNone, Ascends, Enters, Grows}
 

@@ -8,7 +8,7 @@ use Rattle.rt_tree_node.specs.declared.cell.Cell.{Cell}
 use Rattle.rt_tree_node.specs.declared.cell.Pending.{Pending}
 use Rattle.rt_tree_node.specs.Node.{NodeCells}
 use Rattle.rt_tree_node.specs.Places.{key_of, cells_at, level_at, parent_at, count_rows, pending_at}
-use Rattle.rt_tree_node.specs.Path.{LeadsTo, KeepsShape}
+use Rattle.rt_tree_place.specs.Path.{LeadsTo, KeepsShape}
 use Rattle.rt_tree_node.specs.Changes.{Changes}
 use Rattle.rt_tree_node.specs.Open.{IsOpen}
 use Rattle.rt_tree_node.specs.Whole.{IsWhole}

@@ -8,7 +8,7 @@ use Rattle.rt_tree_choice.specs.Split.{IsBestCut, first_group, second_group}
 use Rattle.indexmap.specs.IndexMap.{IndexMap, get as leaf_of}
 use Rattle.std.specs.Ordering.{int_eq}
 use Rattle.rt_box.specs.declared.interval.Interval.{Interval}
-use Rattle.rt_tree_choice.specs.Subtree.{IsBestChild}
+use Rattle.rt_tree_subtree.specs.Subtree.{IsBestChild}
 use Rattle.rt_tree_node.specs.declared.arena.Arena.{Arena}
 use Rattle.rt_tree_node.specs.declared.arena.Work.{Work}
 use Rattle.rt_tree_node.specs.declared.cell.Cell.{Cell}
@@ -20,7 +20,7 @@ use Rattle.rt_tree_node.specs.Changes.{Puts, Changes}
 use Rattle.rt_tree_node.specs.Homes.{Moves, KeepsIds}
 use Rattle.rt_tree_node.specs.Open.{IsOpen}
 use Rattle.rt_tree_node.specs.Whole.{IsSound}
-use Rattle.rt_tree_node.specs.Path.{KeepsShape}
+use Rattle.rt_tree_place.specs.Path.{KeepsShape}
 use Rattle.rt_tree_place.specs.Rules.{ReInserts, Parts}
 use Rattle.rt_tree_place.specs.Way.{LeadsUp}
 

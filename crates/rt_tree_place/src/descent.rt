@@ -6,13 +6,13 @@
 ghost use Rattle.std.specs.Prelude.{◌≡◌, ℕ, ◌-◌, ◌≤◌, List, Some, length};
 ghost use Rattle.slab.specs.Slab.{ContainsKey};
 ghost use Rattle.rt_tree_node.specs.Places.{cells_at, level_at};
-ghost use Rattle.rt_tree_node.specs.Path.{LeadsTo};
+ghost use Rattle.rt_tree_place.specs.Path.{LeadsTo};
 ghost use Rattle.rt_tree_place.specs.Steps.{IsPassable, IsBestAt};
 ghost use Rattle.rt_tree_place.specs.Way.{LeadsUp};
 
 use rt_box::Rect;
-use rt_tree_choice::choose_subtree;
 use rt_tree_node::{Key, Node, node_at};
+use rt_tree_subtree::choose_subtree;
 use slab::Slab;
 
 /// The child that the box goes into.

@@ -16,7 +16,7 @@ use Rattle.rt_tree_node.specs.declared.cell.Cell.{Cell}
 use Rattle.rt_tree_node.specs.declared.cell.Pending.{Pending}
 use Rattle.rt_tree_node.specs.Node.{NodeCells}
 use Rattle.rt_tree_node.specs.Places.{key_of, numbers, times_named, cells_of, level_of, cells_at, level_at, parent_at, count_rows, pending_at}
-use Rattle.rt_tree_node.specs.Path.{KeepsShape}
+use Rattle.rt_tree_place.specs.Path.{KeepsShape}
 use Rattle.rt_tree_node.specs.Sound.{IsLinked, IsFitted, HasHomes}
 use Rattle.rt_tree_remove.specs.Steps.{Dissolves, IsSoundBut, Climbs}
 use Rattle.rt_tree_remove.proofs.Changed.{RefitsAt}

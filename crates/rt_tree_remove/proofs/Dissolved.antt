@@ -13,7 +13,7 @@ use Rattle.rt_tree_node.specs.Node.{NodeCells}
 use Rattle.rt_tree_node.specs.Places.{key_of, times_named, cells_of, inner_part, leaf_part, inner_cells_of, leaf_cells_of, level_of, cells_at, inner_cells_at, leaf_cells_at, level_at, parent_at, cells_above, pending_nodes, pending_rows, times_listed, hull_at, rects, count_rows, pending_at}
 use Rattle.rt_tree_node.specs.Sound.{Names, NamesChild, IsLinked, IsFitted, HasHomes}
 use Rattle.rt_box.specs.Rect.{IsBox}
-use Rattle.rt_tree_choice.specs.Hull.{hull}
+use Rattle.rt_box.specs.Hull.{hull}
 use Rattle.std.proofs.lemmas.List.Edits.{length-remove}
 use Rattle.rt_tree_node.proofs.Sums.{sums-but}
 use Rattle.rt_tree_node.proofs.Counts.{count-some}

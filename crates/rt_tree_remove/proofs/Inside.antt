@@ -13,8 +13,8 @@ use Rattle.rt_box.specs.declared.interval.Interval.{Interval}
 use Rattle.rt_box.specs.Interval.{interval}
 use Rattle.rt_box.specs.Rect.{IsBox, Holds, union_box}
 use Rattle.rt_box.proofs.Holding.{Holds-union_left, Holds-union_right, Holds_trans}
-use Rattle.rt_tree_choice.specs.Hull.{hull}
-use Rattle.rt_tree_choice.proofs.Covering.{hull-least}
+use Rattle.rt_box.specs.Hull.{hull}
+use Rattle.rt_box.proofs.Hulls.{hull-least}
 use Rattle.slab.specs.Slab.{get}
 use Rattle.rt_tree_node.specs.declared.arena.Arena.{Arena}
 use Rattle.rt_tree_node.specs.declared.cell.Cell.{Cell}

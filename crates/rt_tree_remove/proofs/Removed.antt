@@ -19,7 +19,7 @@ use Rattle.rt_tree_node.specs.Homes.{KeepsIds}
 use Rattle.rt_tree_node.specs.Sound.{IsLinked, IsFitted, HasHomes}
 use Rattle.std.specs.Map.{lookup}
 use Rattle.rt_tree_node.specs.Places.{numbers, cells_of, cells_at, level_at, parent_at, count_rows}
-use Rattle.rt_tree_node.specs.Path.{KeepsShape}
+use Rattle.rt_tree_place.specs.Path.{KeepsShape}
 use Rattle.rt_tree_node.specs.Whole.{IsWhole, IsBranched, HasRoom, row_count}
 use Rattle.rt_tree_node.proofs.Places.{leaf-at_leaf}
 use Rattle.rt_tree_place.proofs.NewRow.{known-by_keys}

@@ -16,7 +16,7 @@ use Rattle.rt_tree_node.specs.Places.{key_of, no_cell, cells_at, level_at, paren
 use Rattle.rt_tree_node.specs.Whole.{IsSound, IsWhole, IsBranched}
 use Rattle.rt_tree_node.specs.Changes.{Changes}
 use Rattle.rt_tree_node.specs.Homes.{KeepsIds}
-use Rattle.rt_tree_node.specs.Path.{KeepsShape}
+use Rattle.rt_tree_place.specs.Path.{KeepsShape}
 use Rattle.rt_tree_place.specs.Steps.{HasLeastBox}
 use Rattle.rt_tree_place.specs.Turns.{PlacesInTurn}
 use Rattle.rt_tree_remove.specs.declared.location.Location.{Location}

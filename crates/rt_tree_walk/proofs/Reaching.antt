@@ -10,7 +10,7 @@ use Rattle.rt_box.specs.declared.interval.Interval.{Interval}
 use Rattle.rt_box.specs.Rect.{IsBox, Holds, union_box}
 use Rattle.rt_box.specs.Window.{Admits}
 use Rattle.rt_box.proofs.Holding.{Holds_refl, Holds_trans, Holds-union_left, Holds-union_right}
-use Rattle.rt_tree_choice.specs.Hull.{hull}
+use Rattle.rt_box.specs.Hull.{hull}
 use Rattle.rt_tree_node.specs.declared.arena.Arena.{Arena}
 use Rattle.rt_tree_node.specs.declared.cell.Cell.{Cell}
 use Rattle.rt_tree_node.specs.Node.{NodeCells}

@@ -2,7 +2,7 @@
 //! `scripts/faults` looks whether memory is asked for in between.
 
 ghost use Rattle.std.specs.Prelude.{◌≡◌, IfOk};
-ghost use Rattle.rt_table_store.specs.Steps.{ApplyTo};
+ghost use Rattle.rt_table_step.specs.Steps.{ApplyTo};
 
 use crate::from_text::{schema, statement};
 use rt_box::Capacity;

@@ -1,6 +1,7 @@
 use Rattle.std.proofs.Common.{◌≡◌, ℕ, ◌+◌, ◌<◌, List, length, take, get_or}
 use Rattle.rt_box.specs.declared.interval.Interval.{Interval}
-use Rattle.rt_tree_choice.specs.Hull.{hull, boxes_at}
+use Rattle.rt_box.specs.Hull.{hull}
+use Rattle.rt_tree_choice.specs.Hull.{boxes_at}
 use Rattle.rt_tree_choice.proofs.hulls.front_hulls.Given as goal
 
 abbrev pub invariant-loop-place : goal.invariant-loop-place

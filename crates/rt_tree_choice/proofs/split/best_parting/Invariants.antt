@@ -1,9 +1,9 @@
 use Rattle.std.proofs.Common.{◌≡◌, ◌-◌, ◌*◌, ◌^◌, ◌≤◌, sum_by}
 use Rattle.std.specs.List.{range_with_len}
-use Rattle.rt_tree_choice.specs.Hull.{box_at}
-use Rattle.rt_tree_choice.specs.Keys.{IsLeast}
+use Rattle.rt_box.specs.Boxes.{box_at}
+use Rattle.rt_box.specs.Keys.{IsLeast}
 use Rattle.rt_tree_choice.specs.Judgements.{AreQualityOf, margins_at, costs_at}
-use Rattle.rt_tree_choice.proofs.Keys.{ranked}
+use Rattle.rt_box.proofs.Keys.{ranked}
 use Rattle.rt_tree_choice.proofs.split.best_parting.Given as goal
 
 abbrev pub invariant-loop-first : goal.invariant-loop-first

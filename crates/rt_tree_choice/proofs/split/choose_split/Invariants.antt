@@ -1,4 +1,4 @@
-use Rattle.rt_tree_choice.specs.Keys.{IsLeast}
+use Rattle.rt_box.specs.Keys.{IsLeast}
 use Rattle.rt_tree_choice.specs.Split.{axis_key}
 use Rattle.rt_tree_choice.specs.Judgements.{IsJudgedAxis}
 use Rattle.rt_tree_choice.proofs.split.choose_split.Given as goal

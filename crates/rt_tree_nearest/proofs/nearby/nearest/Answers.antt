@@ -1,7 +1,8 @@
 use Rattle.std.proofs.Common.{◌≡◌, List, ap, ◌∙◌}
 use Rattle.std.proofs.lemmas.Result.{IfOk-weaker}
 use Rattle.rt_box.specs.declared.interval.Interval.{Interval}
-use Rattle.rt_tree_nearest.specs.Nearest.{nearest_rows, nearest_rows_to, rows_in}
+use Rattle.rt_tree_walk.specs.Rows.{rows_in}
+use Rattle.rt_tree_nearest.specs.Nearest.{nearest_rows, nearest_rows_to}
 use Rattle.rt_tree_nearest.proofs.Points.{nearest-at}
 use Rattle.rt_tree_nearest.proofs.nearby.nearest.Goals as goal
 

@@ -1,7 +1,8 @@
 use Rattle.std.proofs.Common.{◌≡◌, ◌-◌, ◌^◌, true, take, arith, refl, ap, ◌∙◌}
 use Rattle.std.proofs.lemmas.Result.{IfOk-weaker}
 use Rattle.rt_tree_choice.specs.Sorting.{sort_by}
-use Rattle.rt_tree_nearest.specs.Nearest.{by_nearness_to, nearest_rows_to, rows_in}
+use Rattle.rt_tree_walk.specs.Rows.{rows_in}
+use Rattle.rt_tree_nearest.specs.Nearest.{by_nearness_to, nearest_rows_to}
 use Rattle.rt_tree_nearest.specs.Candidates.{IsAnswer}
 use Rattle.rt_tree_nearest.proofs.Points.{filter-all}
 use Rattle.rt_tree_nearest.proofs.nearby.nearest_to.Goals as goal

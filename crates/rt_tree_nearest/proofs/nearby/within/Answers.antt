@@ -4,7 +4,8 @@ use Rattle.std.proofs.lemmas.Result.{IfOk-weaker}
 use Rattle.rt_box.specs.declared.interval.Interval.{Interval}
 use Rattle.rt_tree_choice.specs.Sorting.{sort_by}
 use Rattle.rt_tree_walk.specs.declared.searching.Row.{Row}
-use Rattle.rt_tree_nearest.specs.Nearest.{squared_distance, rows_within, rows_in}
+use Rattle.rt_tree_walk.specs.Rows.{rows_in}
+use Rattle.rt_tree_nearest.specs.Nearest.{squared_distance, rows_within}
 use Rattle.rt_tree_nearest.specs.Candidates.{IsAnswer}
 use Rattle.rt_tree_nearest.proofs.Distances.{distance-at}
 use Rattle.rt_tree_nearest.proofs.Points.{nearness-at, is-no_farther, is-farther}

@@ -1,7 +1,7 @@
 use Rattle.std.proofs.Common.{◌≡◌, suc, ◌-◌, ◌≤◌, [], ◌∷◌, length, arith, refl, subst, rules}
 use Rattle.slab.specs.Slab.{ContainsKey}
 use Rattle.rt_tree_node.specs.Places.{cells_at}
-use Rattle.rt_tree_node.specs.Path.{LeadsTo}
+use Rattle.rt_tree_place.specs.Path.{LeadsTo}
 use Rattle.rt_tree_place.proofs.WayDown.{present, inner-some, descent-step, step-named}
 use Rattle.rt_tree_place.proofs.descent.choose_node.Goals as goal
 

@@ -1,6 +1,6 @@
 use Rattle.std.proofs.Common.{◌≡◌, ℕ, ◌-◌, ◌≤◌, List, Some}
 use Rattle.rt_tree_node.specs.Places.{level_at}
-use Rattle.rt_tree_node.specs.Path.{LeadsTo}
+use Rattle.rt_tree_place.specs.Path.{LeadsTo}
 use Rattle.rt_tree_place.specs.Way.{LeadsUp}
 use Rattle.rt_tree_place.proofs.descent.choose_node.Given as goal
 

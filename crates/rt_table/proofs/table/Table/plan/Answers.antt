@@ -1,8 +1,8 @@
 use Rattle.std.proofs.Common.{IfOk, subst}
 use Rattle.rt_table_row.specs.Edits.{steps_of}
 use Rattle.rt_table.specs.Held.{Held}
-use Rattle.rt_table_store.specs.Steps.{ApplyTo}
-use Rattle.rt_table_store.proofs.StepLaws.{steps_apply}
+use Rattle.rt_table_step.specs.Steps.{ApplyTo}
+use Rattle.rt_table_step.proofs.StepLaws.{steps_apply}
 use Rattle.rt_table.proofs.Planned.{planned}
 use Rattle.rt_table.proofs.table.Table.plan.Goals as goal
 

@@ -5,7 +5,7 @@ use Rattle.rt_table_row.specs.Filters.{admits}
 use Rattle.rt_table_view.specs.declared.view.Watched.{Watched}
 use Rattle.rt_table_view.specs.Watching.{KeepsIds, IsKept}
 use Rattle.rt_table.specs.Held.{Held}
-use Rattle.rt_table_store.specs.Steps.{ApplyTo}
+use Rattle.rt_table_step.specs.Steps.{ApplyTo}
 use Rattle.rt_table.proofs.Readying.{ready}
 use Rattle.rt_table.proofs.table.Table.prepare.Goals as goal
 

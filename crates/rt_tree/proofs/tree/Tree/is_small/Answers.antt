@@ -1,6 +1,6 @@
 use Rattle.std.proofs.Common.{◌+◌, ◌-◌, ◌/◌, ◌^◌, ◌<◌, ◌≤◌, length, arith, ap, subst}
 use Rattle.rt_box.specs.Capacity.{least_fill}
-use Rattle.rt_tree_walk.specs.Outside.{outside}
+use Rattle.rt_tree_outside.specs.Outside.{outside}
 use Rattle.rt_tree.specs.Lists.{TreeLists, root_level, least_rows}
 use Rattle.rt_tree.proofs.Kept.{settled}
 use Rattle.rt_tree.proofs.Shape.{nodes-long, root-high}

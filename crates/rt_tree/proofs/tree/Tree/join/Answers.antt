@@ -2,7 +2,7 @@ use Rattle.std.proofs.Common.{◌≡◌, List, ap, sym, ◌∙◌}
 use Rattle.std.specs.List.{count_by}
 use Rattle.std.proofs.lemmas.Result.{IfOk-weaker}
 use Rattle.rt_tree_walk.specs.declared.searching.Row.{Row}
-use Rattle.rt_tree_nearest.specs.Nearest.{rows_in}
+use Rattle.rt_tree_walk.specs.Rows.{rows_in}
 use Rattle.rt_tree_join.specs.Join.{touching_pairs, Joins}
 use Rattle.rt_tree.specs.Join.{JoinsIn}
 use Rattle.rt_tree.specs.Lists.{TreeLists}

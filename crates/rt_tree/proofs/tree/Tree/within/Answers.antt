@@ -1,6 +1,7 @@
 use Rattle.std.proofs.Common.{◌≡◌, ap, sym, ◌∙◌}
 use Rattle.std.proofs.lemmas.Result.{IfOk-weaker}
-use Rattle.rt_tree_nearest.specs.Nearest.{rows_within, rows_in}
+use Rattle.rt_tree_walk.specs.Rows.{rows_in}
+use Rattle.rt_tree_nearest.specs.Nearest.{rows_within}
 use Rattle.rt_tree.specs.Lists.{TreeLists}
 use Rattle.rt_tree.specs.Rows.{rows_of}
 use Rattle.rt_tree.proofs.Kept.{settled}

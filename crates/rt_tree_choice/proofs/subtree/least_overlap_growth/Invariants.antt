@@ -1,5 +1,0 @@
-use Rattle.rt_tree_choice.proofs.Children.{IsLeastSoFar}
-use Rattle.rt_tree_choice.proofs.subtree.least_overlap_growth.Given as goal
-
-abbrev pub invariant-loop-position : goal.invariant-loop-position
-invariant-loop-position g l = IsLeastSoFar l.boxes l.new_box l.start l.position l.best l.least

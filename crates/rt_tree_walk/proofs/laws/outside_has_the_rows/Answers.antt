@@ -1,5 +1,0 @@
-use Rattle.rt_tree_walk.proofs.Rows.{outside-rows}
-use Rattle.rt_tree_walk.proofs.laws.outside_has_the_rows.Goals as goal
-
-pub returns : goal.returns
-returns g c = outside-rows c.args.tree.now (record { whole = c.requires.whole; none = c.requires.settled })

@@ -1,5 +1,0 @@
-use Rattle.rt_tree_walk.proofs.Flawless.{outside-sound}
-use Rattle.rt_tree_walk.proofs.laws.outside_is_sound.Goals as goal
-
-pub returns : goal.returns
-returns g c = outside-sound c.args.tree.now (record { whole = c.requires.whole; none = c.requires.settled }) c.requires.branched
