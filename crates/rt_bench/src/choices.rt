@@ -6,8 +6,8 @@
 ghost use Rattle.std.specs.Prelude.{◌≡◌};
 
 use rt_box::{Capacity, Rect};
-use rt_tree_subtree::choose_subtree;
 use rt_tree_choice::{choose_split, farthest};
+use rt_tree_subtree::choose_subtree;
 use std::io;
 use std::rt::Clock;
 use std::time::Instant;

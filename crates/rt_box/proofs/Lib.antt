@@ -4,6 +4,8 @@ pub mod Lists
 pub mod Measures
 pub mod Holding
 pub mod Made
+pub mod Hulls
+pub mod Keys
 pub mod Equality
 pub mod Lanes
 pub mod Windows

@@ -1,8 +1,9 @@
 -- What searching and splitting rest on.
-use Rattle.std.specs.Prelude.{◌≡◌, ℕ, ◌*◌, ◌<◌, ◌≤◌, ◌↔◌, ℤ, List, All, FitsSigned}
+use Rattle.std.specs.Prelude.{◌≡◌, ℕ, ◌*◌, ◌<◌, ◌≤◌, ◌↔◌, ℤ, List, length, All, FitsSigned}
 use Rattle.std.specs.Int.{w32}
 use Rattle.rt_box.specs.declared.interval.Interval.{Interval}
 use Rattle.rt_box.specs.Rect.{IsBox, area, overlap, union_box, Holds}
+use Rattle.rt_box.specs.Hull.{hull}
 use Rattle.rt_box.specs.Window.{Allows, IsUnlimited, Admits, MayHold, Comparison, NarrowsInTurn, KeepsAt, KeepsBox}
 
 -- the union of two boxes is a box that holds both, and each box that holds both holds it
@@ -10,6 +11,12 @@ abbrev pub UnionIsLeast : Type 0
 UnionIsLeast = (axes : ℕ) (a b : List Interval) → IsBox axes a → IsBox axes b →
     IsBox axes (union_box a b) × Holds (union_box a b) a × Holds (union_box a b) b
     × ((c : List Interval) → Holds c a → Holds c b → Holds c (union_box a b))
+
+-- the hull of some boxes is a box that holds each of them, and whatever holds each of them holds it
+abbrev pub HullIsLeast : Type 0
+HullIsLeast = (axes : ℕ) (boxes : List (List Interval)) → 0 < length boxes → All (IsBox axes) boxes →
+    IsBox axes (hull boxes) × All (Holds (hull boxes)) boxes
+    × ((c : List Interval) → All (Holds c) boxes → Holds c (hull boxes))
 
 -- a box that holds another has no smaller area
 abbrev pub AreaGrows : Type 0

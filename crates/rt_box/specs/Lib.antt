@@ -3,6 +3,9 @@ pub mod Capacity
 pub mod Interval
 pub mod Operators
 pub mod Rect
+pub mod Boxes
+pub mod Hull
+pub mod Keys
 pub mod Ends
 pub mod Window
 pub mod Laws

@@ -1,11 +1,16 @@
 //! What searching and splitting rest on, as laws of the definitions that the contracts cite. Each
 //! function does nothing: its contract is the law.
 
-ghost use Rattle.rt_box.specs.Laws.{UnionIsLeast, AreaGrows, OverlapIsSymmetric, OverlapGrows, AdmittedMayBeHeld, WindowAllowsWhatIsKept, WindowAdmitsWhatIsKept};
+ghost use Rattle.rt_box.specs.Laws.{UnionIsLeast, HullIsLeast, AreaGrows, OverlapIsSymmetric, OverlapGrows, AdmittedMayBeHeld, WindowAllowsWhatIsKept, WindowAdmitsWhatIsKept};
 
 /// The union of two boxes holds both, and each box that holds both holds it.
 pub fn union_is_least()
     ensures { UnionIsLeast }
+{}
+
+/// The hull of some boxes is a box that holds each of them, and whatever holds each of them holds it.
+pub fn hull_is_least()
+    ensures { HullIsLeast }
 {}
 
 /// A box that holds another has no smaller area.

@@ -3,6 +3,7 @@
 //! - `Rect` is a box with 32-bit coordinates. Its measures (area, margin, overlap, union, enlargement,
 //!   distance of centres) are those of the R*-tree, exact over whole numbers: nothing wraps, and each
 //!   states the bound that sums of it need.
+//! - `hull_of` is the least box around some boxes.
 //! - `Window` holds what a search asks of each coordinate. It admits a box exactly if all of its comparisons hold,
 //!   except `<>`, which it leaves out. Its `reach` admits the boxes into which an admitted box fits, and its `core` those
 //!   into which only admitted boxes fit. The window `around` a box admits the boxes that hold it.
@@ -12,11 +13,13 @@
 //!
 //! No call takes memory, and none refuses but the two constructors that are themselves the test.
 //!
-//! Stands on nothing but std. Definitions: `specs/Interval.antt` and `Rect.antt` (boxes and measures),
-//! `Window.antt`, `Operators.antt` (comparisons), `Bits.antt` (what the bits of a number tell), `Capacity.antt`, `Laws.antt`.
+//! Stands on nothing but std. Definitions: `specs/Interval.antt`, `Rect.antt`, `Boxes.antt` and `Hull.antt` (boxes and
+//! measures), `Window.antt`, `Operators.antt` (comparisons), `Bits.antt` (what the bits of a number tell), `Keys.antt` (what
+//! the tree's choices compare by), `Capacity.antt`, `Laws.antt`.
 #![tactic(auto)]
 
 mod capacity;
+mod hull;
 mod interval;
 pub mod laws;
 mod operator;
@@ -24,6 +27,7 @@ mod rect;
 mod window;
 
 pub use capacity::{Capacity, MOST_CELLS};
+pub use hull::hull_of;
 pub use interval::Interval;
 pub use operator::Operator;
 pub use rect::Rect;

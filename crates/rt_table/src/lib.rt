@@ -7,7 +7,7 @@
 //!   views.
 //! - `AnyTable` is a table whatever its number of axes.
 //!
-//! Stands on `rt_table_plan`, `rt_table_view`, `rt_table_store` (plans carried out) and `rt_reply` (rows
+//! Stands on `rt_table_plan`, `rt_table_step` (plans carried out), `rt_table_view`, `rt_table_store` and `rt_reply` (rows
 //! and changes that are answered). Definitions: `specs/Held.antt` (what a table holds), `Ready.antt` (when it is ready for
 //! a plan), `Replies.antt` (answers for which memory may run out), `AnyAxes.antt` and `AnyTrees.antt` (tables of any number
 //! of axes, and their trees); what a statement does to rows and views is in `rt_table_row`.

@@ -17,6 +17,3 @@ pub mod Admitted
 pub mod Found
 pub mod Windows
 pub mod Bare
-pub mod StepCounts
-pub mod StepTrees
-pub mod StepLaws

@@ -4,5 +4,3 @@ pub mod Picking
 pub mod Moves
 pub mod GreatestIds
 pub mod StoreInside
-pub mod Steps
-pub mod Laws

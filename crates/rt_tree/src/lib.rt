@@ -21,7 +21,7 @@
 //! - `join` lists the pairs of rows, one of each of two trees, whose boxes touch, and `join_self` those of one tree.
 //! - `bounds` is the least box around all rows. `ids` tells the ids in an order that stays while the tree does.
 //!
-//! Stands on `rt_tree_node`, `rt_tree_walk`, `rt_tree_nearest`, `rt_tree_join`, `rt_tree_place`, `rt_tree_remove`,
+//! Stands on `rt_tree_node`, `rt_tree_walk`, `rt_tree_outside`, `rt_tree_nearest`, `rt_tree_join`, `rt_tree_place`, `rt_tree_remove`,
 //! `rt_tree_pack` and `rt_tree_restore`, and on `rt_check` for the tree from outside. Definitions: `specs/Lists.antt` (a tree
 //! from outside), `Rows.antt`, `Boxes.antt`, `Bounds.antt`, `Changes.antt` (insertion, removal and replacement),
 //! `Search.antt`, `Join.antt`, `Way.antt`, `Packing.antt` (a tree of a list of rows), `Restoring.antt` (a tree of a shadow),

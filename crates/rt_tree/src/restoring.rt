@@ -19,7 +19,8 @@ use rt_check::{NodeRow, RawCell, Shadow};
 use rt_tree_node::Arena;
 use rt_tree_pack::{PackFault, enter};
 use rt_tree_restore::{RestoreFault, Shape, restore};
-use rt_tree_walk::{Row, is_seen_as};
+use rt_tree_outside::is_seen_as;
+use rt_tree_walk::Row;
 use std::alloc::{AllocError, Global};
 use std::hash::RandomState;
 

@@ -1,14 +1,8 @@
-pub mod Children
 pub mod Entries
-pub mod Growth
 pub mod Covering
-pub mod Keys
 pub mod Lists
 pub mod Digits
 pub mod EntryNumbers
-pub mod Bits
 pub mod Outliers
-pub mod Areas
-pub mod Holders
 pub mod Partings
 pub mod Sorted

@@ -11,8 +11,8 @@ use Rattle.rt_tree_choice.specs.declared.split.Cut.{Cut}
 use Rattle.rt_tree_choice.specs.declared.split.Quality.{Quality}
 use Rattle.rt_tree_choice.specs.declared.split.Parting.{Parting}
 use Rattle.rt_tree_choice.specs.declared.split.Judgement.{Judgement}
-use Rattle.rt_box.specs.Hull.{hull}
 use Rattle.rt_box.specs.Boxes.{box_at}
+use Rattle.rt_box.specs.Hull.{hull}
 use Rattle.rt_tree_choice.specs.Hull.{boxes_at, AreFronts, AreBacks}
 use Rattle.rt_box.specs.Keys.{Less, IsLeast}
 use Rattle.rt_tree_choice.specs.Split.{sorting, first_hull, second_hull, cut_at, cut_key, margins, margin_sum, axis_key, sorting_rank, IsCutOf, IsBestCut}

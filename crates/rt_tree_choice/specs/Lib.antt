@@ -1,7 +1,4 @@
-pub mod Keys
 pub mod Hull
-pub mod Subtree
-pub mod Costs
 pub mod Sorting
 pub mod Split
 pub mod Reinsertion

@@ -6,8 +6,8 @@ use Rattle.std.specs.Ordering.{ordering_then, nat_cmp}
 use Rattle.rt_box.specs.declared.interval.Interval.{Interval}
 use Rattle.rt_box.specs.Rect.{centre_distance}
 use Rattle.rt_box.specs.Capacity.{reinsertion_share}
-use Rattle.rt_box.specs.Hull.{hull}
 use Rattle.rt_box.specs.Boxes.{box_at}
+use Rattle.rt_box.specs.Hull.{hull}
 use Rattle.rt_tree_choice.specs.Sorting.{sort_by, positions}
 
 -- the distance of a cell's centre from that of the box around all cells

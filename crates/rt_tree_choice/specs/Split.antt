@@ -10,8 +10,8 @@ use Rattle.rt_box.specs.Rect.{area, margin, overlap}
 use Rattle.rt_box.specs.Capacity.{least_fill}
 use Rattle.rt_tree_choice.specs.declared.split.Cut.{Cut}
 use Rattle.rt_box.specs.Keys.{Less, IsLeast}
-use Rattle.rt_box.specs.Hull.{hull}
 use Rattle.rt_box.specs.Boxes.{box_at}
+use Rattle.rt_box.specs.Hull.{hull}
 use Rattle.rt_tree_choice.specs.Hull.{boxes_at}
 use Rattle.rt_tree_choice.specs.Sorting.{sort_by, positions}
 

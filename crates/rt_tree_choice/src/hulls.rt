@@ -1,26 +1,13 @@
-//! The least box around some boxes, and around the groups that each cut makes of them.
+//! The least boxes around the groups that each cut makes of some boxes.
 //!
 //! The groups of all cuts of an order take two passes, one over its prefixes and one over its suffixes
 //! (`specs/Hull.antt`).
 
-ghost use Rattle.std.specs.Prelude.{◌≡◌, ◌<◌, ◌≤◌, length, All};
+ghost use Rattle.std.specs.Prelude.{◌<◌, ◌≤◌, length, All};
 ghost use Rattle.rt_box.specs.Capacity.{most_cells};
-ghost use Rattle.rt_box.specs.Hull.{hull}
 ghost use Rattle.rt_tree_choice.specs.Hull.{AreFronts, AreBacks};
 
 use rt_box::{MOST_CELLS, Rect};
-
-/// The least box that holds all of them.
-pub fn hull_of<const D: usize>(boxes: &[Rect<D>]) -> Rect<D>
-    requires { 0 < length boxes.now }
-    ensures { result ≡ hull boxes.now }
-{
-    let mut hull = boxes[0];
-    for place in 1..boxes.len() {
-        hull = hull.union(&boxes[place]);
-    }
-    hull
-}
 
 /// At each place the hull of the boxes in the order up to that place, that one included.
 pub(super) fn front_hulls<const D: usize>(

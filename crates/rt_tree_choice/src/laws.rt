@@ -1,13 +1,7 @@
 //! What the choices rest on, as laws of the definitions that the contracts cite. Each function does nothing: its
 //! contract is the law.
 
-ghost use Rattle.rt_box.specs.Laws.{HullIsLeast}
 ghost use Rattle.rt_tree_choice.specs.Laws.{SortingIsUnique, SortingIsSorted, DistanceOrderIsUnique, DistanceOrderIsSorted};
-
-/// The hull of some boxes is a box that holds each of them, and whatever holds each of them holds it.
-pub fn hull_is_least()
-    ensures { HullIsLeast }
-{}
 
 /// The sorting along an axis is the only sorted order of a list's positions.
 pub fn sorting_is_unique()

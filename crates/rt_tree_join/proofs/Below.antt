@@ -18,7 +18,7 @@ use Rattle.rt_tree_walk.specs.Preorder.{keys_in}
 use Rattle.rt_tree_walk.proofs.Judging.{All-mapped}
 use Rattle.rt_tree_walk.proofs.Listed.{levels-below}
 use Rattle.rt_tree_walk.proofs.Progress.{IsSettled}
-use Rattle.rt_tree_walk.proofs.Below.{leaf_rows, rows_under, held-below}
+use Rattle.rt_tree_walk.proofs.Below.{leaf_rows, rows_under, rows-leaf, child-hull, held-below}
 use Rattle.rt_tree_join.specs.declared.joining.Pair.{Pair}
 use Rattle.rt_tree_join.specs.declared.due.Due.{Due}
 use Rattle.rt_tree_join.specs.declared.due.Side.TheVariants.{Left, Right}
@@ -33,9 +33,6 @@ flat-flat f g (x ∷ xs) = flat_map-append f (g x) (flat_map g xs) ∙ ap (λ l.
 
 module _ {D : ℕ} where
   -- ---- one tree
-  pub rows-leaf : (t : Arena D) (k : ℕ) → level_at t.nodes k ≡ Some 0 → rows_under t.nodes 0 k ≡ map row_of (cells_at t.nodes k)
-  rows-leaf t k at = append-nil (leaf_rows t.nodes k) ∙ ap (map row_of) (leaf-at_leaf t.nodes k at)
-
   pub rows-inner : (t : Arena D) (l k : ℕ) → level_at t.nodes k ≡ Some (suc l) →
       rows_under t.nodes (suc l) k ≡ flat_map (λ c. rows_under t.nodes l (key_of c)) (cells_at t.nodes k)
   rows-inner t l k at =
@@ -43,7 +40,7 @@ module _ {D : ℕ} where
       ∙ flat-flat (leaf_rows t.nodes) (λ c. keys_in t.nodes l (key_of c)) (cells_at t.nodes k)
 
   pub rows-none : (t : Arena D) (l k : ℕ) → level_at t.nodes k ≡ Some l → cells_at t.nodes k ≡ [] → rows_under t.nodes l k ≡ []
-  rows-none t zero k at e = rows-leaf t k at ∙ ap (map row_of) e
+  rows-none t zero k at e = rows-leaf t.nodes k at ∙ ap (map row_of) e
   rows-none t (suc l) k at e = rows-inner t l k at ∙ ap (flat_map (λ c. rows_under t.nodes l (key_of c))) e
 
   pub keys-inner : (t : Arena D) (l k : ℕ) → length (keys_in t.nodes (suc l) k) ≡ suc (sum_by (λ c. length (keys_in t.nodes l (key_of c))) (cells_at t.nodes k))
@@ -57,10 +54,6 @@ module _ {D : ℕ} where
   node-level t k l node got at = same_Some node.level l (sym (ap level_of got) ∙ at)
 
   module _ (t : Arena D) (s : IsSettled t) where
-    pub child-hull : (k l : ℕ) → level_at t.nodes k ≡ Some (suc l) → (c : Cell D) → Contains (cells_at t.nodes k) c → c.rect ≡ hull_at t.nodes (key_of c)
-    child-hull k l at c there =
-        All-contains (λ x. (None ≡ Some (key_of x) → ⊥) → x.rect ≡ hull_at t.nodes (key_of x)) (cells_at t.nodes k) c (s.whole.fitted.hulls k l at) there (none-some (key_of c))
-
     -- each child with all that is below it
     pub children : (l k : ℕ) → level_at t.nodes k ≡ Some (suc l) → All (λ c. IsSubtree t (subtree_of l c)) (cells_at t.nodes k)
     children l k at = λ i d h.
@@ -69,11 +62,11 @@ module _ {D : ℕ} where
         record {
           there = low;
           holds = subst (λ (b : List Interval). All (λ r. Holds b r.rect) (rows_under t.nodes l (key_of c)))
-              (sym (child-hull k l at c (Contains-get_or (cells_at t.nodes k) i d h))) (held-below t s [] l (key_of c) low);
+              (sym (child-hull t s k l at c (Contains-get_or (cells_at t.nodes k) i d h))) (held-below t s l (key_of c) low);
         }
 
     pub whole-tree : IsSubtree t record { key = t.root; level = t.level; rect = hull_at t.nodes t.root }
-    whole-tree = record { there = s.whole.linked.root_level; holds = held-below t s [] t.level t.root s.whole.linked.root_level }
+    whole-tree = record { there = s.whole.linked.root_level; holds = held-below t s t.level t.root s.whole.linked.root_level }
 
   -- ---- two trees
   module _ (t u : Arena D) (s : IsSettled t) (v : IsSettled u) (next : Due D) (so : IsDue t u next) where
@@ -207,10 +200,10 @@ module _ {D : ℕ} where
     module _ (node other : NodeCells D) (got : get t.nodes next.left.key ≡ Some node) (got_other : get u.nodes next.right.key ≡ Some other)
         (low : next.left.level ≡ 0) (low_other : next.right.level ≡ 0) where
       rows-left : rows_of_subtree t next.left ≡ map row_of node.cells
-      rows-left = ap (λ n. rows_under t.nodes n next.left.key) low ∙ rows-leaf t next.left.key (so.left.there ∙ ap Some low) ∙ ap (λ o. map row_of (cells_of o)) got
+      rows-left = ap (λ n. rows_under t.nodes n next.left.key) low ∙ rows-leaf t.nodes next.left.key (so.left.there ∙ ap Some low) ∙ ap (λ o. map row_of (cells_of o)) got
 
       rows-right : rows_of_subtree u next.right ≡ map row_of other.cells
-      rows-right = ap (λ n. rows_under u.nodes n next.right.key) low_other ∙ rows-leaf u next.right.key (so.right.there ∙ ap Some low_other) ∙ ap (λ o. map row_of (cells_of o)) got_other
+      rows-right = ap (λ n. rows_under u.nodes n next.right.key) low_other ∙ rows-leaf u.nodes next.right.key (so.right.there ∙ ap Some low_other) ∙ ap (λ o. map row_of (cells_of o)) got_other
 
       pub held-left : AreHeld next.left.rect node.cells
       held-left = subst (All (λ r. Holds next.left.rect r.rect)) rows-left so.left.holds

@@ -11,9 +11,9 @@ use Rattle.rt_box.specs.declared.interval.Interval.{Interval}
 use Rattle.rt_box.specs.Rect.{Holds}
 use Rattle.rt_box.proofs.Holding.{Holds_refl}
 use Rattle.rt_tree_node.specs.declared.cell.Cell.{Cell}
-use Rattle.rt_tree_node.proofs.Counts.{count-append, count-cons}
 use Rattle.rt_tree_walk.specs.declared.searching.Row.{Row}
 use Rattle.rt_tree_walk.specs.Search.{row_of}
+use Rattle.rt_tree_node.proofs.Counts.{count-append, count-cons}
 use Rattle.rt_tree_walk.proofs.Judging.{count-joined}
 use Rattle.rt_tree_join.specs.declared.joining.Pair.{Pair}
 use Rattle.rt_tree_join.specs.Join.{touch, pair_of, pairs_with, touching_pairs}

@@ -6,12 +6,12 @@ use Rattle.std.specs.Ordering.{int_eq}
 use Rattle.std.proofs.lemmas.Bool.{cases_Bool}
 use Rattle.std.proofs.lemmas.List.Sums.{sum_by-le-sum_by}
 use Rattle.rt_tree_node.specs.declared.arena.Arena.{Arena}
-use Rattle.rt_tree_node.proofs.Counts.{count-cons, count-zero}
 use Rattle.rt_tree_walk.specs.declared.searching.Row.{Row}
 use Rattle.rt_tree_walk.proofs.Judging.{All-mapped}
 use Rattle.rt_tree_walk.proofs.Progress.{IsSettled}
 use Rattle.rt_tree_walk.specs.Rows.{rows_in}
 use Rattle.rt_tree_walk.proofs.Below.{ids-apart}
+use Rattle.rt_tree_node.proofs.Counts.{count-cons, count-zero}
 use Rattle.rt_tree_walk.proofs.Judging.{count-joined}
 use Rattle.rt_tree_join.specs.Join.{touch, pair_of, pairs_with, touching_pairs, has_ids}
 

@@ -13,7 +13,7 @@
 //! They ask for whole trees without pending cells, and take memory for what they return and for lists of nodes and of pairs
 //! of nodes.
 //!
-//! Stands on `rt_tree_node`, `rt_tree_walk` and `rt_tree_nearest`. Definitions: `specs/Join.antt` (touching boxes, the
+//! Stands on `rt_tree_node` and `rt_tree_walk`. Definitions: `specs/Join.antt` (touching boxes, the
 //! pairs), `Due.antt` (the pairs of nodes that are due), `Itself.antt` (the nodes to be joined with themselves).
 #![tactic(auto)]
 

@@ -1,7 +1,7 @@
 -- Rows that are the same, and lists that hold them.
 use Rattle.std.proofs.Common.{◌≡◌, ℕ, suc, ◌<◌, Bool, true, false, cond, ℤ, List, [], ◌∷◌, length, get_or, Contains, arith, refl, ap, sym, ◌∙◌, subst, inl, inr}
 use Rattle.std.specs.Prelude.{◌&&◌}
-use Rattle.std.specs.List.{All, count_by, sum_by, flat_map}
+use Rattle.std.specs.List.{All, count_by, sum_by}
 use Rattle.std.specs.Bool.{Decides}
 use Rattle.std.specs.Ordering.{int_eq}
 use Rattle.std.proofs.lemmas.Bool.{true≢false, cases_lt}
@@ -9,7 +9,7 @@ use Rattle.std.proofs.lemmas.Bool.Decides.{Decides-and, Decides-int_eq}
 use Rattle.std.proofs.lemmas.List.Elements.{All-head, All-tail}
 use Rattle.std.proofs.lemmas.List.Sums.{sum_by-cons}
 use Rattle.rt_box.specs.declared.interval.Interval.{Interval}
-use Rattle.rt_tree_node.proofs.Counts.{count-cons, count-append, count-some}
+use Rattle.rt_tree_node.proofs.Counts.{count-cons, count-some}
 use Rattle.rt_tree_walk.specs.declared.searching.Row.{Row}
 use Rattle.rt_tree_walk.proofs.Reaching.{counted-contained}
 
@@ -84,8 +84,3 @@ count-all test [] all = refl
 count-all test (x ∷ xs) all =
     let here : ◌≡◌ {A = ℕ} (cond (test x) 1 0) 1 = ap (λ b. cond b 1 0) (All-head (λ y. test y ≡ true) x xs all) in
     omega (arith, here, count-cons test x xs, count-all test xs (All-tail (λ y. test y ≡ true) x xs all))
-
-pub count-joined : {X Y : Type 0} (test : Y → Bool) (f : X → List Y) (xs : List X) → count_by test (flat_map f xs) ≡ sum_by (λ x. count_by test (f x)) xs
-count-joined test f [] = refl
-count-joined test f (x ∷ xs) =
-    omega (arith, count-append test (f x) (flat_map f xs), count-joined test f xs, sum_by-cons (λ y. count_by test (f y)) x xs)

@@ -79,7 +79,7 @@ module _ {D : ℕ} (q : Query D) (t : Arena D) where
 
       leaf-counts : (test : Row D → Bool) → count_by test (rows_below a x) ≡ count_by (λ c. test (own_row c)) candidates
       leaf-counts test =
-          ap (count_by test) (rows-node a x 0 at ∙ rows-leaf t s q.target x.0.key at)
+          ap (count_by test) (rows-node a x 0 at ∙ rows-leaf a x.0.key at)
           ∙ count-mapped test row_of (λ c. test (row_of c)) cells (λ i d h. refl)
           ∙ sym (count-mapped (λ (c : Candidate D). test (own_row c)) (candidate_of q.target) (λ c. test (row_of c)) cells (λ i d h. refl))
 

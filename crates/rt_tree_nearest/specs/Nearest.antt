@@ -1,17 +1,12 @@
 -- The rows nearest to a point or to a box: all rows in order by distance, cut at k (Hjaltason, Samet 1999, section 1; the
 -- order of rows that are equally near is own), or at a distance too.
 use Rattle.std.specs.Prelude.{ℕ, ◌+◌, ◌*◌, ℤ, List, map, take, filter, zip, sum_by, nat_le, ◌-ℤ◌}
-use Rattle.std.specs.List.{flat_map}
 use Rattle.std.specs.declared.cmp.Ordering.{Ordering}
 use Rattle.std.specs.Ordering.{ordering_then, nat_cmp, int_cmp}
 use Rattle.rt_box.specs.declared.interval.Interval.{Interval}
 use Rattle.rt_box.specs.Interval.{interval, or_zero}
 use Rattle.rt_tree_choice.specs.Sorting.{sort_by}
-use Rattle.rt_tree_node.specs.declared.arena.Arena.{Arena}
-use Rattle.rt_tree_node.specs.Places.{leaf_cells_at}
 use Rattle.rt_tree_walk.specs.declared.searching.Row.{Row}
-use Rattle.rt_tree_walk.specs.Search.{row_of}
-use Rattle.rt_tree_walk.specs.Preorder.{tree_keys}
 
 -- how far the number is outside the interval: below its lo or above its hi; 0 within it, ends included
 abbrev pub gap : Interval → ℤ → ℕ
@@ -59,7 +54,3 @@ module _ {D : ℕ} where
 
   abbrev pub nearest_rows_to : List Interval → ℕ → List (Row D) → List (Row D)
   nearest_rows_to target k rows = take k (sort_by (by_nearness_to target) rows)
-
-  -- the rows of a tree, leaf by leaf in preorder
-  abbrev pub rows_in : Arena D → List (Row D)
-  rows_in t = flat_map (λ key. map row_of (leaf_cells_at t.nodes key)) (tree_keys t)

@@ -2,7 +2,7 @@
 
 ghost use Rattle.std.specs.Prelude.{◌≡◌, ◌≤◌, [], IfOk};
 ghost use Rattle.rt_tree_node.specs.Whole.{IsWhole};
-ghost use Rattle.rt_tree_walk.specs.Rows.{rows_in}
+ghost use Rattle.rt_tree_walk.specs.Rows.{rows_in};
 ghost use Rattle.rt_tree_nearest.specs.Nearest.{nearest_rows, rows_within, nearest_rows_to, box_at};
 
 use crate::browse::find;

@@ -4,7 +4,6 @@ pub mod Places
 pub mod Sound
 pub mod Whole
 pub mod Changes
-pub mod Path
 pub mod Homes
 pub mod Settles
 pub mod Open

@@ -13,8 +13,7 @@ ghost use Rattle.rt_tree_node.specs.Changes.{Changes, with_more};
 use crate::cell::Cell;
 use crate::key::Key;
 use crate::node::Node;
-use rt_box::Rect;
-use rt_box::hull_of;
+use rt_box::{Rect, hull_of};
 use slab::Slab;
 use std::mem;
 

@@ -5,10 +5,9 @@
 //! - A sound arena is defined node by node: each clause speaks of a node, its parent and its children, so that a
 //!   change of one node is a matter of three.
 //!
-//! Stands on `rt_box` and `rt_tree_choice`. Definitions: `specs/Node.antt`, `Sound.antt` and `Whole.antt` (a sound
-//! arena), `Open.antt` (one in the middle of a change), `Places.antt`, `Changes.antt`, `Homes.antt` (the map from
-//! ids to leaves), `Path.antt` (the way down that best children lead), `Settles.antt` (what the
-//! placing of pending cells comes to).
+//! Stands on `rt_box`. Definitions: `specs/Node.antt`, `Sound.antt` and `Whole.antt` (a sound arena), `Open.antt` (one
+//! in the middle of a change), `Places.antt`, `Changes.antt`, `Homes.antt` (the map from ids to leaves), `Settles.antt`
+//! (what the placing of pending cells comes to).
 #![tactic(auto)]
 
 mod access;

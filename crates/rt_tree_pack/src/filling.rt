@@ -6,8 +6,8 @@ ghost use Rattle.rt_box.specs.Capacity.{most_cells};
 ghost use Rattle.rt_tree_node.specs.Places.{cells_at};
 ghost use Rattle.rt_tree_pack.specs.Steps.{MayFill, Fills};
 
-use crate::attach::attach;
 use rt_tree_node::{Arena, Cell, Key, Pending};
+use rt_tree_place::attach;
 
 /// Appends cells to a node of their level.
 pub fn fill<const D: usize>(tree: &mut Arena<D>, key: Key, level: u8, cells: &[Cell<D>])

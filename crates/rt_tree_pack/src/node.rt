@@ -1,25 +1,13 @@
 //! A node that is packed with cells.
 
-ghost use Rattle.std.specs.Prelude.{◌≡◌, ℕ, ◌+◌, ◌^◌, ◌<◌, ◌≤◌, [], ◌++◌, Some, All, length, pos};
+ghost use Rattle.std.specs.Prelude.{◌≡◌, ℕ, ◌+◌, ◌^◌, ◌<◌, ◌≤◌, [], ◌++◌, Some, All, length};
 ghost use Rattle.slab.specs.Slab.{HasRoomFor};
 ghost use Rattle.rt_box.specs.Capacity.{least_fill};
 ghost use Rattle.rt_tree_pack.specs.Steps.{MayPack, PacksNode};
 
 use crate::filling::fill;
-use rt_box::Rect;
-use rt_tree_node::{Arena, Cell, Key, Node, add_node, hull_at, number_of, slab_facts};
-
-/// The cell that names a node and has this box.
-fn cell_for<const D: usize>(key: Key, rect: &Rect<D>) -> Cell<D>
-    requires { key < 2 ^ 63 }
-    ensures number { result.number ≡ pos key }
-    ensures rect { result.rect ≡ rect.now }
-{
-    Cell {
-        number: number_of(key),
-        rect: *rect,
-    }
-}
+use rt_tree_node::{Arena, Cell, Key, Node, add_node, hull_at, slab_facts};
+use rt_tree_place::cell_for;
 
 /// Makes a node of the cells, and returns the cell that names it.
 pub fn pack_node<const D: usize>(tree: &mut Arena<D>, level: u8, cells: &[Cell<D>]) -> Cell<D>

@@ -11,8 +11,8 @@ ghost use Rattle.rt_tree_place.specs.Steps.{IsPassable, IsBestAt};
 ghost use Rattle.rt_tree_place.specs.Way.{LeadsUp};
 
 use rt_box::Rect;
-use rt_tree_subtree::choose_subtree;
 use rt_tree_node::{Key, Node, node_at};
+use rt_tree_subtree::choose_subtree;
 use slab::Slab;
 
 /// The child that the box goes into.

@@ -31,7 +31,7 @@ fn node_number(key: Key) -> NodeNumber
 }
 
 /// The cell that names a node and has this box.
-pub(crate) fn cell_for<const D: usize>(key: Key, rect: &Rect<D>) -> Cell<D>
+pub fn cell_for<const D: usize>(key: Key, rect: &Rect<D>) -> Cell<D>
     requires { key < 2 ^ 63 }
     ensures number { result.number ≡ pos key }
     ensures rect { result.rect ≡ rect.now }

@@ -9,7 +9,7 @@ ghost use Rattle.rt_tree_node.specs.Places.{cells_at};
 ghost use Rattle.rt_tree_place.specs.Steps.{IsRising};
 ghost use Rattle.rt_tree_place.specs.Rise.{Raises, Grows};
 
-use crate::attach::attach;
+use crate::attaching::attach;
 use crate::fit::{cell_for, refit};
 use crate::split::divide;
 use rt_tree_node::{Arena, Node, Pending, Work, add_node, hull_at, node_at, slab_facts};

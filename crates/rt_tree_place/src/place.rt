@@ -13,7 +13,7 @@ ghost use Rattle.rt_tree_place.specs.Placement.{PlacesLast};
 ghost use Rattle.rt_tree_place.specs.Turns.{PlacesInTurn, CountsWork, IsOnlyPending, PlacesRow};
 ghost use Rattle.rt_tree_place.specs.Rise.{IsPending, Enters};
 
-use crate::attach::attach;
+use crate::attaching::attach;
 use crate::descent::choose_node;
 use crate::grow::grow;
 use crate::rise::rise;

@@ -9,7 +9,7 @@ ghost use Rattle.rt_tree_node.specs.Node.{NodeCells};
 ghost use Rattle.rt_tree_node.specs.Places.{cells_at, level_at, picked};
 ghost use Rattle.rt_tree_place.specs.Steps.{AreKnown, ArePresent, NameOthers, Adopts, Rehouses, TakesOver, Splits, IsPair, Divides};
 
-use crate::attach::attach;
+use crate::attaching::attach;
 use crate::fit::cell_for;
 use indexmap::IndexMap;
 use rt_tree_choice::{choose_split, sorted_positions};

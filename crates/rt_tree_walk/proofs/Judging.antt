@@ -1,4 +1,4 @@
--- What the list of problems comes to where tests hold of all elements.
+-- Lists that were mapped, numbered or joined: what holds of all elements, look-ups and counts.
 use Rattle.std.proofs.Common.{◌≡◌, ℕ, zero, suc, ◌+◌, ◌<◌, Bool, true, false, not, cond, ℤ, List, [], ◌∷◌, ◌++◌, map, Contains, Some, arith, refl, ap, sym, ◌∙◌, inl, inr}
 use Rattle.std.specs.Prelude.{find, filter}
 use Rattle.std.specs.List.{All, flat_map, sum_by, count_by, enumerate_from, list_all}
@@ -7,7 +7,6 @@ use Rattle.std.proofs.lemmas.Bool.{cases_Bool, and_from}
 use Rattle.std.proofs.lemmas.Bool.Decides.{Decides-int_eq}
 use Rattle.std.proofs.lemmas.List.Elements.{All-nil, All-cons, All-head, All-tail}
 use Rattle.std.proofs.lemmas.List.Sums.{sum_by-cons}
-use Rattle.rt_check.specs.Conditions.{each_axis, failing}
 use Rattle.rt_tree_node.proofs.Counts.{count-cons, count-append}
 use Rattle.rt_tree_walk.specs.Search.{times}
 use Rattle.rt_tree_walk.proofs.Totals.{times-cons}
@@ -15,12 +14,6 @@ use Rattle.rt_tree_walk.proofs.Totals.{times-cons}
 pub All-mapped : {X Y : Type 0} (P : Y → Type 0) (f : X → Y) (xs : List X) → All (λ x. P (f x)) xs → All P (map f xs)
 All-mapped P f [] all = All-nil P
 All-mapped P f (x ∷ xs) all = All-cons P (f x) (map f xs) (All-head (λ y. P (f y)) x xs all) (All-mapped P f xs (All-tail (λ y. P (f y)) x xs all))
-
-pub failing-none : {X P : Type 0} (test : X → Bool) (entry : X → P) (xs : List X) → All (λ x. test x ≡ true) xs → failing test entry xs ≡ []
-failing-none test entry [] all = refl
-failing-none test entry (x ∷ xs) all =
-    ap (λ b. map entry (cond (not b) (x ∷ filter (λ y. not (test y)) xs) (filter (λ y. not (test y)) xs))) (All-head (λ y. test y ≡ true) x xs all)
-    ∙ failing-none test entry xs (All-tail (λ y. test y ≡ true) x xs all)
 
 pub All-counted : {X : Type 0} (P : X → Type 0) (n : ℕ) (xs : List X) → All P xs → All (λ (c : ℕ × X). P c.1) (enumerate_from n xs)
 All-counted P n [] all = λ k d h. absurd (omega arith)
@@ -67,17 +60,12 @@ count-mapped test f other (x ∷ xs) all =
     let here : ◌≡◌ {A = ℕ} (cond (test (f x)) 1 0) (cond (other x) 1 0) = ap (λ b. cond b 1 0) (All-head (λ y. test (f y) ≡ other y) x xs all) in
     omega (arith, here, count-cons test (f x) (map f xs), count-cons other x xs, count-mapped test f other xs (All-tail (λ y. test (f y) ≡ other y) x xs all))
 
+pub count-joined : {X Y : Type 0} (test : Y → Bool) (f : X → List Y) (xs : List X) → count_by test (flat_map f xs) ≡ sum_by (λ x. count_by test (f x)) xs
+count-joined test f [] = refl
+count-joined test f (x ∷ xs) =
+    omega (arith, count-append test (f x) (flat_map f xs), count-joined test f xs, sum_by-cons (λ y. count_by test (f y)) x xs)
+
 pub sum-times : (p : ℕ) (f : ℕ → ℕ) (ks : List ℕ) → All (λ k. f k ≡ times p (k ∷ [])) ks → sum_by f ks ≡ times p ks
 sum-times p f [] all = refl
 sum-times p f (k ∷ ks) all =
     omega (arith, sum_by-cons f k ks, times-cons p k ks, All-head (λ j. f j ≡ times p (j ∷ [])) k ks all, sum-times p f ks (All-tail (λ j. f j ≡ times p (j ∷ [])) k ks all))
-
--- ---- tests of all axes and of all elements
-pub each_axis-from : (test : ℕ → Bool) (n : ℕ) → ((axis : ℕ) → axis < n → test axis ≡ true) → each_axis test n ≡ true
-each_axis-from test zero all = refl
-each_axis-from test (suc n) all = and_from (each_axis test n) (test n) (each_axis-from test n (λ axis h. all axis (omega arith))) (all n (omega arith))
-
-pub list_all-from : {X : Type 0} (test : X → Bool) (xs : List X) → All (λ x. test x ≡ true) xs → list_all test xs ≡ true
-list_all-from test [] all = refl
-list_all-from test (x ∷ xs) all =
-    and_from (test x) (list_all test xs) (All-head (λ y. test y ≡ true) x xs all) (list_all-from test xs (All-tail (λ y. test y ≡ true) x xs all))

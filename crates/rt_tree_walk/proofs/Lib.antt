@@ -6,16 +6,7 @@ pub mod Progress
 pub mod Inside
 pub mod Due
 pub mod Counted
-pub mod Numbering
 pub mod Listed
+pub mod Below
 pub mod Ints
-pub mod Rising
-pub mod Numbered
 pub mod Judging
-pub mod Sides
-pub mod Judged
-pub mod Fitting
-pub mod Flawless
-pub mod Subtrees
-pub mod Rows
-pub mod Shown

@@ -1,5 +1,4 @@
 pub mod Search
 pub mod Visits
 pub mod Preorder
-pub mod Outside
-pub mod InOrder
+pub mod Rows

@@ -17,7 +17,7 @@ ghost use Rattle.rt_tree_walk.specs.Visits.{picked, picked_keys, IsQuery, MarkHo
 
 use crate::ahead::{LookAhead, Need};
 use rt_box::{Rect, Window};
-use rt_tree_node::{Arena, Cell, Key, Node, key_of, node_at, slab_facts};
+use rt_tree_node::{Arena, Cell, Key, Node, node_at, slab_facts};
 use std::alloc::{AllocError, Global};
 use std::mem;
 
@@ -104,14 +104,6 @@ fn row_of<const D: usize>(cell: &Cell<D>) -> Row<D>
         rect: cell.rect,
         id: cell.number,
     }
-}
-
-/// The key of the child that a cell names.
-#[inline]
-pub(crate) fn child_of<const D: usize>(cell: &Cell<D>) -> Key
-    ensures { result ≡ key_of cell.now }
-{
-    key_of(cell.number)
 }
 
 /// The boxes of a node's cells. Their count is read from the numbers, since it lies beside the first box there: that of the
@@ -262,7 +254,7 @@ fn push_children<const D: usize>(
     while rest != 0 {
         let cell = node.cell(rest.trailing_zeros() as usize);
         list.push_reserved(Reached {
-            key: child_of(&cell),
+            key: cell.key(),
             is_inside: is_inside(query, &cell.rect, asks),
         });
         rest &= rest - 1;

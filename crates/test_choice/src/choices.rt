@@ -6,8 +6,8 @@
 ghost use Rattle.std.specs.Prelude.{◌<◌, ◌≤◌, length};
 
 use rt_box::{Capacity, Rect};
-use rt_tree_subtree::choose_subtree;
 use rt_tree_choice::{Cut, choose_split, farthest};
+use rt_tree_subtree::choose_subtree;
 use std::process::Abort;
 use std::test::Fail;
 

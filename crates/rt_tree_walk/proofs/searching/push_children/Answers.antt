@@ -48,21 +48,21 @@ loop-rest-preserved g c =
     let at : ℕ = count_trailing_zeros 64 rest in
     let old = c.args.reached.now.items in
     let before = c.loop-rest.invariant in
-    let child : Reached = record { key = c.child_of.result; is_inside = c.is_inside.result } in
+    let child : Reached = record { key = c.key.result; is_inside = c.is_inside.result } in
     let first = picked-first 64 cells rest (omega (arith, c.facts.ensures)) (omega (arith, c.loop-rest-test.true)) before.below in
     let is : picked cells rest ≡ c.cell-cell.result ∷ picked cells next = first.is c.cell-cell.result ∙ ap (λ x. x ∷ picked cells next) (sym c.cell-cell.ensures) in
     record {
       below = omega (arith, and_le_r rest (rest - 1), before.below);
       keys = ap (λ (ds : List Reached). keys_of ds ++ map key_of (picked cells next)) c.push_reserved.ensures.items
           ∙ ap (λ (ks : List ℕ). ks ++ map key_of (picked cells next)) (map-append (λ (d : Reached). d.key) c.loop-rest.list.items (child ∷ [])
-          ∙ ap (λ (k : ℕ). keys_of c.loop-rest.list.items ++ k ∷ []) c.child_of.ensures)
+          ∙ ap (λ (k : ℕ). keys_of c.loop-rest.list.items ++ k ∷ []) c.key.ensures)
           ∙ append_assoc (keys_of c.loop-rest.list.items) (key_of c.cell-cell.result ∷ []) (map key_of (picked cells next))
           ∙ ap (λ (cs : List (Cell g.row.D)). keys_of c.loop-rest.list.items ++ map key_of cs) (sym is) ∙ before.keys;
       marks = record {
         more = before.marks.more ++ child ∷ [];
         is = c.push_reserved.ensures.items ∙ ap (λ (ds : List Reached). ds ++ child ∷ []) before.marks.is ∙ append_assoc old before.marks.more (child ∷ []);
         inside = All-push (λ d. d.is_inside ≡ true → NamesInside window cells d.key) before.marks.more child before.marks.inside
-            (λ yes. (c.cell-cell.result, (at, first.within, sym c.cell-cell.ensures), sym c.child_of.ensures, c.is_inside.ensures yes));
+            (λ yes. (c.cell-cell.result, (at, first.within, sym c.cell-cell.ensures), sym c.key.ensures, c.is_inside.ensures yes));
       };
       room = omega (arith, c.push_reserved.ensures.len, c.push_reserved.ensures.capacity, ap length is, before.room);
     }

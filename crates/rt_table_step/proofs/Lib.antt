@@ -1,0 +1,3 @@
+pub mod StepCounts
+pub mod StepTrees
+pub mod StepLaws

@@ -1,0 +1,11 @@
+pub mod Failing
+pub mod Numbering
+pub mod Rising
+pub mod Numbered
+pub mod Sides
+pub mod Judged
+pub mod Fitting
+pub mod Flawless
+pub mod Subtrees
+pub mod Rows
+pub mod Shown
