@@ -13,8 +13,6 @@
 mod ahead;
 mod counting;
 mod searching;
-mod seen;
 
 pub use counting::count;
 pub use searching::{Found, Row, search, search_into};
-pub use seen::is_seen_as;
