@@ -18,7 +18,8 @@ StepsHaveOneAnswer = (axes : ℕ) (rows : List TableRow) (steps : List Step) (ol
 
 -- a state and a statement have one outcome: the reply, the rows and the trees afterwards, or the refusal
 abbrev pub StatementsHaveOneAnswer : Type 0
-StatementsHaveOneAnswer = (old : State) (statement : Stmt) (one other : Outcome) → Answers old statement one → Answers old statement other → one ≡ other
+StatementsHaveOneAnswer = (old : State) (statement : Stmt) (one other : Outcome) →
+    Answers old statement one → Answers old statement other → one ≡ other
 
 -- the options, the pieces that memory refuses and the script determine each byte that is printed, piece by piece, and the
 -- status in which the run ends
@@ -30,7 +31,8 @@ TranscriptIsOne = (options : Options) (marks : Marks) (script : List ℕ) (one o
 -- the same of the text as a whole
 abbrev pub TextIsOne : Type 0
 TextIsOne = (options : Options) (marks : Marks) (script one other : List ℕ) (first second : Status) →
-    IsTranscript options marks script one first → IsTranscript options marks script other second → (one ≡ other) × (first ≡ second)
+    IsTranscript options marks script one first → IsTranscript options marks script other second →
+    (one ≡ other) × (first ≡ second)
 
 -- Whoever reads or is fed the same bytes, in whatever parts, prints the same, as far as memory refuses the same pieces.
 abbrev pub TranscriptSoFarIsOne : Type 0

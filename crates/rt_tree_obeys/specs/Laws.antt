@@ -21,7 +21,8 @@ module _ {D : ℕ} where
   -- the nodes hang together, and each cell above the leaves has the least box around its child's cells
   pub record Stands (t : Arena D) : Type 0 where
     pub linked : IsLinked t.nodes t.root t.level t.pending.items
-    pub hulls : (key l : ℕ) → level_at t.nodes key ≡ Some (suc l) → All (λ c. c.rect ≡ hull_at t.nodes (key_of c)) (cells_at t.nodes key)
+    pub hulls : (key l : ℕ) → level_at t.nodes key ≡ Some (suc l) →
+        All (λ c. c.rect ≡ hull_at t.nodes (key_of c)) (cells_at t.nodes key)
     pub pending_hulls : All (λ w. (l : ℕ) → w.level ≡ suc l → w.cell.rect ≡ hull_at t.nodes (key_of w.cell)) t.pending.items
 
   -- the tree is what the rules make of it if the waiting cell is inserted into it, and so are the marks and the cells that
@@ -42,7 +43,8 @@ module _ (axes capacity : ℕ) where
   -- how many of the first placings mark a level, as each does that inserts cells again
   abbrev pub marked_in : ℕ → Standing → ℕ
   marked_in zero s = 0
-  marked_in (suc n) s = (if nat_lt s.course.marks (place axes capacity s).course.marks then 1 else 0) + marked_in n (place axes capacity s)
+  marked_in (suc n) s =
+      (if nat_lt s.course.marks (place axes capacity s).course.marks then 1 else 0) + marked_in n (place axes capacity s)
 
 module _ {D : ℕ} where
   -- the cell that was pending last is settled by the rules, and the others are pending still
@@ -57,14 +59,16 @@ module _ {D : ℕ} where
 -- the last pending cell is placed, and each that has to be placed again because of it
 abbrev pub SettlingObeys : Type 0
 SettlingObeys = (axes : ℕ) (old new : Arena axes) (marks : ℕ) (work : Work) (base : List Waiting) (entry : Waiting) →
-    Stands old → waiting_cells old ≡ base ++ entry ∷ [] → PlacesInTurn old (length base) new marks work → length new.pending.items ≡ length base →
+    Stands old → waiting_cells old ≡ base ++ entry ∷ [] → PlacesInTurn old (length base) new marks work →
+    length new.pending.items ≡ length base →
     Settled old new base entry work
 
 -- the tree after an insertion by the rules, of which as many placings mark a level as insert cells again
 pub record Inserted {axes : ℕ} (before after : Arena axes) (row : Row) (work : Work) : Type 0 where
   pub effort : Effort
   pub insertion : IsInsertion axes before.capacity (tree_in before) row (tree_in after) effort
-  pub reinsertions : work.reinsertions ≡ marked_in axes before.capacity insertion.count (start axes before.capacity (tree_in before) record { level = 0; entry = row })
+  pub reinsertions : work.reinsertions
+      ≡ marked_in axes before.capacity insertion.count (start axes before.capacity (tree_in before) record { level = 0; entry = row })
   pub whole : IsWhole after
   pub capacity : after.capacity ≡ before.capacity
 
@@ -77,10 +81,12 @@ InsertionObeys = (axes : ℕ) (before awaiting after : Arena axes) (id : ℤ) (r
 
 -- the nodes that are seen of an arena are those of its nested tree
 abbrev pub NodesAreSeen : Type 0
-NodesAreSeen = (axes : ℕ) (t : Arena axes) → IsWhole t → t.pending.items ≡ [] → (outside t).nodes ≡ nodes_in t.level 1 None (tree_in t).root
+NodesAreSeen = (axes : ℕ) (t : Arena axes) → IsWhole t → t.pending.items ≡ [] →
+    (outside t).nodes ≡ nodes_in t.level 1 None (tree_in t).root
 
 -- a row that goes, step by step
 abbrev pub RemovalObeys : Type 0
 RemovalObeys = (axes : ℕ) (before after : Arena axes) (id : ℤ) (rect : List Interval) →
     IsWhole before → before.pending.items ≡ [] → RemovesInSteps before after id rect →
-    IsRemoval axes before.capacity (tree_in before) id (tree_in after) × IsWhole after × (after.pending.items ≡ []) × (after.capacity ≡ before.capacity)
+    IsRemoval axes before.capacity (tree_in before) id (tree_in after)
+    × IsWhole after × (after.pending.items ≡ []) × (after.capacity ≡ before.capacity)

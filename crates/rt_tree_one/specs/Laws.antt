@@ -31,7 +31,8 @@ module _ {D : ℕ} where
     pub shows_after : Shows new after
     pub effort : Effort
     pub insertion : IsRuledInsertion D old.capacity before record { id = id; rect = rect } after effort
-    pub reinsertions : work.reinsertions ≡ marked_in D old.capacity insertion.count (start D old.capacity before (waiting_row id rect))
+    pub reinsertions : work.reinsertions
+        ≡ marked_in D old.capacity insertion.count (start D old.capacity before (waiting_row id rect))
     pub capacity : new.capacity ≡ old.capacity
     pub root : new.root ≡ old.root
 
@@ -51,16 +52,19 @@ InsertionFollowsRules = (axes : ℕ) (old new : ShadowLists axes) (id : ℤ) (re
 
 -- the nodes of sound lists, whose row entries stand by rising id, determine the entries
 abbrev pub RowsAreDetermined : Type 0
-RowsAreDetermined = (axes : ℕ) (one other : ShadowLists axes) → IsSound one → IsSound other → AreByRisingId one.rows → AreByRisingId other.rows →
+RowsAreDetermined = (axes : ℕ) (one other : ShadowLists axes) →
+    IsSound one → IsSound other → AreByRisingId one.rows → AreByRisingId other.rows →
     one.nodes ≡ other.nodes → one.rows ≡ other.rows
 
 -- a row that comes into a tree leads to one tree, by one amount of work
 abbrev pub InsertionHasOneAnswer : Type 0
 InsertionHasOneAnswer = (axes : ℕ) (old one other : ShadowLists axes) (id : ℤ) (rect : List Interval) (first second : Work) →
-    IsInShape one → IsInShape other → IsInsertion old one id rect first → IsInsertion old other id rect second → (one ≡ other) × (first ≡ second)
+    IsInShape one → IsInShape other → IsInsertion old one id rect first → IsInsertion old other id rect second →
+    (one ≡ other) × (first ≡ second)
 
 abbrev pub RemovalFollowsRules : Type 0
-RemovalFollowsRules = (axes : ℕ) (old new : ShadowLists axes) (id : ℤ) (rect : List Interval) → IsRemoval old new id rect → FollowsRemoval old new id
+RemovalFollowsRules = (axes : ℕ) (old new : ShadowLists axes) (id : ℤ) (rect : List Interval) →
+    IsRemoval old new id rect → FollowsRemoval old new id
 
 -- a row that goes leads to one tree, whichever box it is said to have had
 abbrev pub RemovalHasOneAnswer : Type 0

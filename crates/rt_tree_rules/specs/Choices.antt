@@ -41,7 +41,8 @@ best_cut axes capacity boxes =
 
 -- ReInsert: the positions of the cells that stay, in their order (section 4.3)
 abbrev pub near_positions : ℕ → List (List Interval) → List ℕ
-near_positions capacity boxes = filter (λ p. not (list_any (nat_eq p) (farthest_positions boxes capacity))) (positions boxes)
+near_positions capacity boxes =
+    filter (λ p. not (list_any (nat_eq p) (farthest_positions boxes capacity))) (positions boxes)
 
 -- the elements at the positions, in the order of the positions
 abbrev pub picked : {X : Type 0} → List X → List ℕ → List X

@@ -17,7 +17,8 @@ SettlingIsUnique = (axes capacity : ℕ) (old one other : Tree) (new : Waiting) 
 
 abbrev pub InsertionIsUnique : Type 0
 InsertionIsUnique = (axes capacity : ℕ) (old one other : Tree) (row : Row) (first second : Work) →
-    IsInsertion axes capacity old row one first → IsInsertion axes capacity old row other second → (one ≡ other) × (first ≡ second)
+    IsInsertion axes capacity old row one first → IsInsertion axes capacity old row other second →
+    (one ≡ other) × (first ≡ second)
 
 abbrev pub RemovalIsUnique : Type 0
 RemovalIsUnique = (axes capacity : ℕ) (old one other : Tree) (id : ℤ) →
@@ -25,11 +26,13 @@ RemovalIsUnique = (axes capacity : ℕ) (old one other : Tree) (id : ℤ) →
 
 abbrev pub ReplacementIsUnique : Type 0
 ReplacementIsUnique = (axes capacity : ℕ) (old one other : Tree) (row : Row) (first second : Work) →
-    IsReplacement axes capacity old row one first → IsReplacement axes capacity old row other second → (one ≡ other) × (first ≡ second)
+    IsReplacement axes capacity old row one first → IsReplacement axes capacity old row other second →
+    (one ≡ other) × (first ≡ second)
 
 -- no two trees look the same to the checker
 abbrev pub ShadowsAreFaithful : Type 0
-ShadowsAreFaithful = (axes capacity : ℕ) (one other : Tree) → shadow_of {D = axes} capacity one ≡ shadow_of capacity other → one ≡ other
+ShadowsAreFaithful =
+    (axes capacity : ℕ) (one other : Tree) → shadow_of {D = axes} capacity one ≡ shadow_of capacity other → one ≡ other
 
 -- ---- the choices are those of which the code's contracts speak
 

@@ -12,9 +12,9 @@ pub record Work : Type 0 where
   pub splits : ℕ
   pub reinsertions : ℕ
 
--- What goes along with an insertion. Levels below `marks` are marked: on the highest of them cells were inserted again
--- already, and so cells come to no lower one before it. Cells wait, of which the first is inserted next. The work is that
--- so far.
+-- What goes along with an insertion. Levels below `marks` are marked, none at first. A level is marked, with those below
+-- it, when cells of one of its nodes are inserted again; since cells come to the levels from the lowest up, that is the
+-- first time on this level. Cells wait, of which the first is inserted next. The work is that so far.
 pub record Course : Type 0 where
   pub marks : ℕ
   pub waiting : List Waiting
@@ -66,7 +66,8 @@ module _ (axes capacity : ℕ) where
 
   -- a treated child is again where it was, and a node that a split made is the last of the parent (section 4.3, Insert)
   abbrev pub rejoin : (l : ℕ) → Node (suc l) → ℕ → Becomes l → Becomes (suc l)
-  rejoin l node at child = record { node = slice_set node at child.node ++ child.beside; beside = []; course = child.course }
+  rejoin l node at child =
+      record { node = slice_set node at child.node ++ child.beside; beside = []; course = child.course }
 
   -- the cell enters the node of its level that best children lead to, as its last, and on the way back up each child is
   -- treated (sections 4.1 and 4.3, Insert)
@@ -92,7 +93,8 @@ module _ (axes capacity : ℕ) where
   -- the cell is inserted
   abbrev pub insert_one : Tree → Waiting → Course → Standing
   insert_one tree new course =
-      let entered = enter tree.level tree.root new record course { work = record course.work { placements = suc course.work.placements } } in
+      let counted = record course.work { placements = suc course.work.placements } in
+      let entered = enter tree.level tree.root new record course { work = counted } in
       grow tree.level entered.node entered.course
 
   -- the first of the waiting cells is inserted, if one waits; a number of them, one after the other

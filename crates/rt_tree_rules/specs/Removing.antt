@@ -43,7 +43,8 @@ module _ (axes capacity : ℕ) where
   -- the cells are inserted one after the other, each as if it had come alone
   abbrev pub SettleInTurn : Tree → List Waiting → Tree → Type 0
   SettleInTurn old [] new = new ≡ old
-  SettleInTurn old (w ∷ ws) new = (between : Tree) × (work : Work) × Settles axes capacity old w between work × SettleInTurn between ws new
+  SettleInTurn old (w ∷ ws) new =
+      (between : Tree) × (work : Work) × Settles axes capacity old w between work × SettleInTurn between ws new
 
   -- the row with the id leaves the tree
   pub record IsRemoval (old : Tree) (id : ℤ) (new : Tree) : Type 0 where

@@ -35,7 +35,8 @@ module _ {D : ℕ} where
 
   -- the node, which has that number and parent, and then what is below each of its cells
   abbrev pub nodes_in : (l : ℕ) → ℕ → Option ℤ → Node l → List (NodeRow D)
-  nodes_in zero number parent node = record { number = pos number; level = zero; parent = parent; cells = map row_cell node } ∷ []
+  nodes_in zero number parent node =
+      record { number = pos number; level = zero; parent = parent; cells = map row_cell node } ∷ []
   nodes_in (suc l) number parent node =
       let children = starts (node_count l) (number + 1) node in
       record { number = pos number; level = suc l; parent = parent; cells = map (child_cell l) children }
