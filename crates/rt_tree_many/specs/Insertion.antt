@@ -1,5 +1,5 @@
 -- A list of rows inserted into a tree (own).
-use Rattle.std.specs.Prelude.{◌≡◌, ℕ, ◌+◌, ◌<◌, Bool, true, false, not, ◌||◌, ℤ, List, [], ◌∷◌, ◌++◌, length, take, Some, is_some, slice_get, All, count_by}
+use Rattle.std.specs.Prelude.{◌≡◌, ℕ, ◌+◌, ◌<◌, Bool, true, false, not, ◌||◌, ℤ, List, [], ◌∷◌, ◌++◌, length, take, Option, None, Some, is_some, slice_get, All, count_by}
 use Rattle.std.specs.List.{list_any}
 use Rattle.std.specs.Ordering.{int_eq}
 use Rattle.rt_check.specs.Shadow.{ShadowLists}
@@ -55,6 +55,11 @@ module _ {D : ℕ} where
         IsInsertion old new row.id row.rect work → InsertsInTurn first (rows ++ row ∷ []) new
 
   -- ---- how taken ids are found; no public clause cites what follows
+  -- the place of the first row whose id is taken, if there is one
+  abbrev pub TellsTaken : ShadowLists D → List (Row D) → Option ℕ → Type 0
+  TellsTaken s rows None = AreNew s rows
+  TellsTaken s rows (Some at) = IsFirstTaken s rows at
+
   -- the id joins those that are claimed, unless the tree or one of them has it
   pub record Claims (s : ShadowLists D) (old new : List ℤ) (id : ℤ) (is_new : Bool) : Type 0 where
     pub told : is_new ≡ not (has_id s id || is_among old id)

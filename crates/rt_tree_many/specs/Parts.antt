@@ -1,5 +1,5 @@
 -- Several answers as one list: one part after another, and where each begins (own).
-use Rattle.std.specs.Prelude.{◌≡◌, ℕ, ◌+◌, Bool, ℤ, List, [], ◌∷◌, ◌++◌, length, All, count_by}
+use Rattle.std.specs.Prelude.{◌≡◌, ℕ, ◌+◌, Bool, ℤ, List, [], ◌∷◌, ◌++◌, length, map, All, count_by}
 use Rattle.std.specs.List.{AllZip, flat_map}
 use Rattle.rt_box.specs.declared.interval.Interval.{Interval}
 use Rattle.rt_box.specs.Window.{Admits}
@@ -43,3 +43,7 @@ module _ {D : ℕ} where
   -- the ids of the rows nearest to a point, in the order of their distances
   abbrev pub nearest_ids : ℕ → List (Row D) → List ℤ → List ℤ
   nearest_ids k rows point = ids (nearest_rows point k rows)
+
+  -- the parts are the ids of the rows nearest to each point
+  abbrev pub FindsNearest : ShadowLists D → ℕ → List (List ℤ) → List ℤ → List ℕ → Type 0
+  FindsNearest s k points all starts = HasParts (map (nearest_ids k (rows_of s)) points) all starts

@@ -2,11 +2,10 @@
 //!
 //! Their ids are looked up first, then room is made for all. What follows can't fail.
 
-ghost use Rattle.std.specs.Prelude.{◌≡◌, ◌+◌, ◌∷◌, ◌++◌, ◌≤◌, [], length, not, IfOk, IfErr, OnOk, OnErr, MatchOption};
-ghost use Rattle.indexmap.specs.IndexSet.{keys};
+ghost use Rattle.std.specs.Prelude.{◌≡◌, ◌+◌, ◌≤◌, length, IfOk, IfErr, OnOk, OnErr};
 ghost use Rattle.rt_tree.specs.Rows.{rows_of};
 ghost use Rattle.rt_tree_node.specs.Whole.{most_rows_of_a_tree};
-ghost use Rattle.rt_tree_many.specs.Insertion.{IsFirstTaken, AreNew, Claims, GainsRows, InsertsInTurn, IsFaultOf};
+ghost use Rattle.rt_tree_many.specs.Insertion.{TellsTaken, AreNew, Claims, GainsRows, InsertsInTurn, IsFaultOf};
 
 use crate::fault::RowsFault;
 use indexmap::IndexSet;
@@ -38,7 +37,7 @@ fn first_taken<const D: usize>(
     keys: RandomState,
     rows: &[Row<D>],
 ) -> Result<Option<usize>, AllocError>
-    ensures { IfOk result (λ first. MatchOption first (AreNew tree.now.lists rows.now) (IsFirstTaken tree.now.lists rows.now)) }
+    ensures { IfOk result (TellsTaken tree.now.lists rows.now) }
 {
     let mut claimed = IndexSet::with_hasher(alloc, keys);
     claimed.reserve(rows.len())?;

@@ -9,7 +9,7 @@
 //! Each answer is what as many calls of the tree would give. Lists are kept between windows, so they grow only a few times.
 //!
 //! Stands on `rt_tree`. Definitions: `specs/Insertion.antt` (which row is refused, rows inserted in turn), `specs/Parts.antt`
-//! (one list of several answers), `specs/Order.antt`.
+//! (one list of several answers).
 #![tactic(auto)]
 
 mod fault;

@@ -1,6 +1,6 @@
 //! One list of several answers.
 
-ghost use Rattle.std.specs.Prelude.{◌≡◌, ◌∷◌, ◌++◌, [], length, map, IfOk, OnOk};
+ghost use Rattle.std.specs.Prelude.{[], map, IfOk, OnOk};
 
 use rt_tree::Row;
 use std::alloc::{AllocError, Global};

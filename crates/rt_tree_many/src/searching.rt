@@ -1,10 +1,9 @@
 //! Many windows or points asked of one tree.
 
-ghost use Rattle.std.specs.Prelude.{◌≡◌, ◌≤◌, IfOk, map};
+ghost use Rattle.std.specs.Prelude.{◌≤◌, IfOk};
 ghost use Rattle.std.specs.List.{AllZip};
-ghost use Rattle.rt_tree.specs.Rows.{rows_of};
 ghost use Rattle.rt_tree.specs.Search.{CountsIn};
-ghost use Rattle.rt_tree_many.specs.Parts.{FindsMany, nearest_ids, HasParts};
+ghost use Rattle.rt_tree_many.specs.Parts.{FindsMany, FindsNearest};
 
 use crate::parts::FoundMany;
 use rt_box::Window;
@@ -64,7 +63,7 @@ pub fn nearest_many<const D: usize>(
     k: usize,
 ) -> Result<FoundMany, AllocError>
     requires { D ≤ 3 }
-    ensures { IfOk result (λ found. HasParts (map (nearest_ids k (rows_of tree.now.lists)) points.now) found.ids.items found.starts.items) }
+    ensures { IfOk result (λ found. FindsNearest tree.now.lists k points.now found.ids.items found.starts.items) }
 {
     let mut found = FoundMany::with_room(alloc, points.len())?;
     for point in points {
