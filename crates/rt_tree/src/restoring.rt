@@ -99,7 +99,7 @@ fn shapes_of<const D: usize>(alloc: Global, shadow: &Shadow<D>) -> Result<Vec<Sh
 }
 
 /// The nodes of a tree with these rows, in nodes of these shapes; none if the rows don't fit.
-fn shaped_arena<const D: usize>(
+pub(crate) fn shaped_arena<const D: usize>(
     alloc: Global,
     keys: RandomState,
     capacity: Capacity,

@@ -17,15 +17,18 @@ ghost use Rattle.rt_tree.specs.Restoring.{IsRestoredOf, IsRestoreFaultOf};
 ghost use Rattle.rt_tree.specs.Search.{FindsIn, FindsInAfter, CountsIn};
 ghost use Rattle.rt_tree.specs.Join.{JoinsIn, JoinsItselfIn};
 ghost use Rattle.rt_tree.specs.Bounds.{IsLeastAround};
+ghost use Rattle.rt_tree_bytes.specs.TreeBytes.{tree_bytes};
 ghost use Rattle.rt_tree_pack.specs.Packing.{IsFaultOf};
 ghost use Rattle.rt_tree_walk.specs.Search.{StaysInFront};
 ghost use Rattle.rt_tree_nearest.specs.Nearest.{nearest_rows, rows_within, nearest_rows_to};
 
 use crate::bounds::root_box;
+use crate::bytes::bytes_arena;
 use crate::packing::{bare_arena, pack_rows};
 use crate::restoring::shadow_arena;
 use rt_box::{Capacity, Rect, Window};
 use rt_check::Shadow;
+use rt_tree_bytes::{BytesFault, bytes_of};
 use rt_tree_join::{Pair, join, join_self};
 use rt_tree_nearest::{nearest, nearest_to, within};
 use rt_tree_node::{Arena, Node, Work, leaves_facts};
@@ -253,6 +256,23 @@ impl<const D: usize> Tree<D> {
         Ok(Tree { arena, spare: 0 })
     }
 
+    /// The tree that has these bytes, which `to_bytes` has written. Look-ups by id hash by `keys`, which are to be random if
+    /// others choose the ids.
+    ///
+    /// # Errors
+    ///
+    /// `Bad` if no tree of `D` axes is found that has these bytes, `TooMany` if they have more rows than `MOST_ROWS_OF_A_TREE`, and
+    /// `Memory` if no memory is left. What is taken is no more than a few times what the bytes take.
+    pub fn from_bytes(alloc: Global, keys: RandomState, bytes: &[u8]) -> Result<Tree<D>, BytesFault>
+        requires some { 1 ≤ D }
+        requires few { D ≤ 3 }
+        ensures tree { IfOk result (λ tree. tree_bytes tree.lists ≡ bytes.now) }
+        ensures spare { IfOk result (λ tree. tree.spare ≡ 0) }
+    {
+        let arena = bytes_arena(alloc, keys, bytes)?;
+        Ok(Tree { arena, spare: 0 })
+    }
+
     /// The number of rows.
     pub fn len(&self) -> usize
         ensures { result ≡ length self.now.lists.rows }
@@ -327,6 +347,17 @@ impl<const D: usize> Tree<D> {
         ensures { IfOk result (λ shadow. shadow ≡ self.now.lists) }
     {
         shadow_of(alloc, keys, &self.arena)
+    }
+
+    /// The tree in a compact form: with two axes 24 bytes a row, and little more for the nodes.
+    ///
+    /// # Errors
+    ///
+    /// `AllocError` if no memory is left.
+    pub fn to_bytes(&self, alloc: Global) -> Result<Vec<u8>, AllocError>
+        ensures { IfOk result (λ bytes. bytes.items ≡ tree_bytes self.now.lists) }
+    {
+        bytes_of(alloc, &self.arena)
     }
 
     /// A law: whatever was done to the tree, the checker finds no problem in it, its nodes are in preorder, and its row
