@@ -1,12 +1,12 @@
 //! The rows of an answer, whatever their number of axes.
 //!
-//! If ids and boxes are all of a row, they stay as the search found them, so nothing is copied. Contracts see a list of
-//! rows of values (`specs/Rows.antt`).
+//! If ids and boxes are all of a row, they stay as the search found them, so nothing is copied. If only ids are shown, rows
+//! are ids alone. Contracts see a list of rows of values (`specs/Rows.antt`).
 
 ghost use Rattle.std.specs.Prelude.{◌≡◌, ◌<◌, [], length, slice_index_or};
 ghost use Rattle.rt_sql_statement.specs.declared.value.Value.TheVariants.{Null};
 ghost use Rattle.rt_table_row.specs.Entries.{field_value};
-ghost use Rattle.rt_reply.specs.Rows.{box_values};
+ghost use Rattle.rt_reply.specs.Rows.{box_values, id_values};
 
 use rt_table_row::{Field, RowList, RowView};
 use rt_tree_walk::Row;
@@ -31,6 +31,19 @@ pub enum Rows {
     Three(Vec<Row<3>>),
     /// Values of rows.
     Listed(RowList),
+    /// Ids, each of which is all that is kept of a row.
+    Ids(Vec<i64>),
+}
+
+/// The column at that place of a row of which only the id is kept.
+#[inline]
+pub fn id_value_at(id: i64, place: usize) -> Field<'static>
+    ensures { field_value result ≡ slice_index_or (id_values id) place Null }
+{
+    if place == 0 {
+        return Field::Number(id);
+    }
+    Field::Missing
 }
 
 /// The value of the column at that place, of a row that has no auxiliary values.
@@ -90,6 +103,7 @@ impl Rows {
             Rows::Two(rows) => rows.len(),
             Rows::Three(rows) => rows.len(),
             Rows::Listed(rows) => rows.len(),
+            Rows::Ids(ids) => ids.len(),
         }
     }
 
@@ -104,6 +118,7 @@ impl Rows {
             Rows::Two(rows) => box_value_at(&rows[at], place),
             Rows::Three(rows) => box_value_at(&rows[at], place),
             Rows::Listed(rows) => rows.row(at).value_at(place),
+            Rows::Ids(ids) => id_value_at(ids[at], place),
         }
     }
 }

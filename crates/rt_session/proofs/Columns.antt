@@ -1,5 +1,5 @@
 -- The columns that a SELECT lists, and where they stand.
-use Rattle.std.proofs.Common.{◌≡◌, ◌∙◌, ℕ, zero, suc, ◌<◌, Bool, true, false, ◌&&◌, List, [], ◌∷◌, map, length, get_or, Option, Some, Ok, refl, sym, ap, arith}
+use Rattle.std.proofs.Common.{◌≡◌, ◌∙◌, ℕ, ℤ, zero, suc, ◌<◌, Bool, true, false, ◌&&◌, List, [], ◌∷◌, map, length, get_or, Option, Some, Ok, refl, sym, ap, arith}
 use Rattle.std.specs.Prelude.{slice_index_or}
 use Rattle.std.specs.List.{list_all}
 use Rattle.rt_sql_statement.specs.declared.value.Value.{Value}
@@ -10,10 +10,11 @@ use Rattle.rt_table_row.specs.Conditions.{value_in}
 use Rattle.rt_table_row.specs.Rows.{TableRow, values_of}
 use Rattle.rt_table_row.specs.Tables.{TableLists, select}
 use Rattle.rt_table_row.proofs.Filters.{present}
-use Rattle.rt_table.specs.Replies.{Shows}
+use Rattle.rt_table.specs.Replies.{Shows, ShowsIds}
 use Rattle.rt_reply.specs.declared.reply.Reply.TheVariants.{Rows}
 use Rattle.rt_session.specs.Session.{select_reply, shown_values, is_by_id}
 use Rattle.rt_session.specs.Selecting.{ArePlaces}
+use Rattle.rt_reply.specs.Rows.{id_values}
 use Rattle.rt_reply.specs.Shown.{values_at}
 
 pub one_fails : {X : Type 0} (p : X → Bool) (xs : List X) (at : ℕ) (x : X) → at < length xs → x ≡ get_or xs at x → p x ≡ false → list_all p xs ≡ false
@@ -54,3 +55,17 @@ pub selected_columns : (t : TableLists) (names : List (List ℕ)) (cond : List T
     → select_reply (Some names) cond order t ≡ Ok (Rows (map (values_at places) values))
 selected_columns t names cond order places values placed by_id (rows, given, same) =
     rw (are_known t.columns.names names places placed, by_id, given, same, columns_shown t.columns names places rows placed) refl
+
+-- where the id alone is listed
+ids_shown : (rows : List TableRow) → map (values_at (0 ∷ [])) (map values_of rows) ≡ map id_values (map (λ (row : TableRow). row.id) rows)
+ids_shown [] = refl
+ids_shown (row ∷ rows) = ap (λ vs. id_values row.id ∷ vs) (ids_shown rows)
+
+pub selected_ids : (t : TableLists) (names : List (List ℕ)) (cond : List Test) (order : Option (List ℕ)) (places : List ℕ) (ids : List ℤ)
+    → ArePlaces t.columns.names names places → places ≡ 0 ∷ [] → is_by_id t.columns order ≡ true → ShowsIds (select t cond) ids
+    → select_reply (Some names) cond order t ≡ Ok (Rows (map id_values ids))
+selected_ids t names cond order places ids placed alone by_id (rows, given, same) =
+    selected_columns t names cond order places (map values_of rows) placed by_id (rows, given, refl)
+    ∙ ap (λ (ps : List ℕ). Ok (Rows (map (values_at ps) (map values_of rows)))) alone
+    ∙ ap (λ (lists : List (List Value)). Ok (Rows lists)) (ids_shown rows)
+    ∙ ap (λ (zs : List ℤ). Ok (Rows (map id_values zs))) (sym same)

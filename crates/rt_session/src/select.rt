@@ -1,13 +1,13 @@
 //! What a SELECT shows of a table.
 //!
-//! Column names are looked up before the table is searched.
+//! Column names are looked up before the table is searched. Where the id is all that is shown, ids are picked and no rows.
 
-ghost use Rattle.std.specs.Prelude.{◌≡◌, IfOk, IfErr};
+ghost use Rattle.std.specs.Prelude.{◌≡◌, [], ◌∷◌, true, IfOk, IfErr};
 ghost use Rattle.rt_session.specs.Session.{is_by_id, select_reply};
 ghost use Rattle.rt_session.specs.Selecting.{ArePlaces, IsMissing};
 ghost use Rattle.rt_session.specs.Steps.{ShowsRows};
 
-use rt_reply::Shown;
+use rt_reply::{Rows, Shown};
 use rt_sql_statement::{Cond, Items, Name, Refusal};
 use rt_table::{AnyTable, Nodes};
 use rt_table_row::Schema;
@@ -41,6 +41,16 @@ fn places_of(alloc: Global, schema: &Schema, names: &[Name]) -> Result<Vec<usize
     Ok(places)
 }
 
+/// Whether these are the id's column, and no other.
+fn is_id_alone(places: &[usize]) -> bool
+    ensures { result ≡ true → places.now ≡ 0 ∷ [] }
+{
+    match places.split_first() {
+        Some((first, rest)) => *first == 0 && rest.is_empty(),
+        None => false,
+    }
+}
+
 /// The rows that a condition picks, by rising id: all of their columns, or those listed.
 pub(crate) fn select(
     alloc: Global,
@@ -62,6 +72,13 @@ pub(crate) fn select(
         });
     };
     let places = places_of(alloc, table.schema(), names.as_slice())?;
+    if is_id_alone(places.as_slice()) {
+        let ids = table.select_ids(cond)?;
+        return Ok(Shown {
+            rows: Rows::Ids(ids),
+            columns: None,
+        });
+    }
     let found = table.select(cond, Nodes::Uncounted)?;
     Ok(Shown {
         rows: found.rows,

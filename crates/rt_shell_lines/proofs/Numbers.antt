@@ -10,7 +10,7 @@ use Rattle.rt_box.specs.declared.interval.Interval.{Interval}
 use Rattle.rt_box.specs.Rect.{coordinates}
 use Rattle.rt_tree_walk.specs.declared.searching.Row.{Row}
 use Rattle.rt_table_row.proofs.Places.{coordinates_more}
-use Rattle.rt_reply.specs.Rows.{box_values}
+use Rattle.rt_reply.specs.Rows.{box_values, id_values}
 use Rattle.rt_shell_lines.specs.Lines.{row_line}
 use Rattle.rt_shell_lines.proofs.Listed.{listed-put}
 
@@ -50,3 +50,13 @@ pub box_lines : {D : _} (rows : List (Row D)) (lists : List (List Value)) → ma
 box_lines [] lists same = ap (flat_map row_line) same
 box_lines (row ∷ rows) lists same =
     ap (λ (text : List ℕ). row_line (box_values row) ++ text) (box_lines rows (map box_values rows) refl) ∙ ap (flat_map row_line) same
+
+-- an id alone, at the end of a line
+pub id-put : (id : ℤ) (rest : List ℕ) → signed_decimal id ++ (codes "\n" ++ rest) ≡ row_line (id_values id) ++ rest
+id-put id rest = listed-put id [] [] (codes "\n" ++ rest) ∙ sym (append_assoc _ (codes "\n") rest)
+
+-- the lines of ids
+pub id_lines : (ids : List ℤ) (lists : List (List Value)) → map id_values ids ≡ lists → flat_map (λ id. row_line (id_values id)) ids ≡ flat_map row_line lists
+id_lines [] lists same = ap (flat_map row_line) same
+id_lines (id ∷ ids) lists same =
+    ap (λ (text : List ℕ). row_line (id_values id) ++ text) (id_lines ids (map id_values ids) refl) ∙ ap (flat_map row_line) same

@@ -17,7 +17,7 @@ use Rattle.rt_table_row.specs.Views.{ViewChange}
 use Rattle.rt_table_row.specs.RowLists.{Lists}
 use Rattle.rt_reply.specs.declared.rows.Rows.{Rows}
 use Rattle.rt_tree_walk.specs.declared.searching.Row.{Row}
-use Rattle.rt_reply.specs.Rows.{box_values, values_in}
+use Rattle.rt_reply.specs.Rows.{box_values, id_values, values_in}
 use Rattle.rt_reply.specs.Shown.{values_at}
 use Rattle.rt_reply.specs.declared.reply.Reply.{Reply}
 use Rattle.rt_reply.specs.declared.reply.Reply.TheVariants as reply
@@ -78,6 +78,10 @@ rows_between from to rows = flat_map row_line (drop from (take to rows))
 -- the lines of rows without auxiliary values
 abbrev pub lines_of_boxes : {D : _} → List (Row D) → List ℕ
 lines_of_boxes rows = flat_map (λ row. row_line (box_values row)) rows
+
+-- the lines of rows of which only the id is kept
+abbrev pub lines_of_ids : List ℤ → List ℕ
+lines_of_ids ids = flat_map (λ id. row_line (id_values id)) ids
 
 -- the lines of columns, of all rows and of those from one place to another
 abbrev pub lines_of_columns : List ℕ → Rows → List ℕ

@@ -8,8 +8,8 @@ ghost use Rattle.std.specs.Fmt.{signed_decimal};
 ghost use Rattle.std.specs.List.{flat_map};
 ghost use Rattle.rt_sql.specs.Token.{double};
 ghost use Rattle.rt_table_row.specs.Entries.{listed_values, field_value};
-ghost use Rattle.rt_reply.specs.Rows.{box_values, values_in};
-ghost use Rattle.rt_shell_lines.specs.Lines.{value_text, row_line, columns_line, row_at, column_at, column_text, after_bars, between_bars, rows_between, columns_between, columns_of_boxes};
+ghost use Rattle.rt_reply.specs.Rows.{box_values, id_values, values_in};
+ghost use Rattle.rt_shell_lines.specs.Lines.{value_text, row_line, columns_line, row_at, column_at, column_text, after_bars, between_bars, rows_between, lines_of_ids, columns_between, columns_of_boxes};
 
 use crate::value::first_quote;
 use itoa::write_digits;
@@ -36,6 +36,12 @@ const MOST_BOX_LINE: usize = 93;
 
 /// How many such lines always fit.
 pub(crate) const BOXES_AT_ONCE: usize = 22;
+
+/// The most bytes of the line of an id: a sign, nineteen digits, and the line's end.
+const MOST_ID_LINE: usize = 21;
+
+/// How many such lines always fit.
+pub(crate) const IDS_AT_ONCE: usize = 97;
 
 /// The most bytes of a number, and of a bar before it.
 const MOST_NUMBER: usize = 21;
@@ -102,6 +108,35 @@ fn put_boxes<const D: usize>(bytes: &mut [u8], end: usize, rows: &[Row<D>]) -> u
     let mut rest = rows;
     while let Some((last, before)) = rest.split_last() {
         start = put_box(bytes, start, last);
+        rest = before;
+    }
+    start
+}
+
+/// Puts the line of an id, so that it ends there, and answers where it starts.
+#[inline]
+fn put_id(bytes: &mut [u8], end: usize, id: &i64) -> usize
+    requires room { MOST_ID_LINE ≤ end }
+    requires within { end ≤ length bytes.old }
+    ensures put { drop result bytes.new ≡ row_line (id_values id.now) ++ drop end bytes.old }
+    ensures few { end ≤ result + MOST_ID_LINE }
+    ensures start { result ≤ end }
+{
+    bytes[end - 1] = b'\n';
+    put_number(bytes, end - 1, *id)
+}
+
+/// Puts the lines of ids, so that they end there, and answers where they start.
+fn put_ids(bytes: &mut [u8], end: usize, ids: &[i64]) -> usize
+    requires room { MOST_ID_LINE * length ids.now ≤ end }
+    requires within { end ≤ length bytes.old }
+    ensures put { drop result bytes.new ≡ lines_of_ids ids.now ++ drop end bytes.old }
+    ensures start { result ≤ end }
+{
+    let mut start = end;
+    let mut rest = ids;
+    while let Some((last, before)) = rest.split_last() {
+        start = put_id(bytes, start, last);
         rest = before;
     }
     start
@@ -227,6 +262,14 @@ impl Lines {
         ensures { self.new ≡ flat_map (λ row. row_line (box_values row)) rows.now }
     {
         self.start = put_boxes(&mut self.bytes, MOST_BYTES, rows);
+    }
+
+    /// The lines of ids, in the place of what was put so far.
+    pub(crate) fn set_ids(&mut self, ids: &[i64])
+        requires { length ids.now ≤ IDS_AT_ONCE }
+        ensures { self.new ≡ lines_of_ids ids.now }
+    {
+        self.start = put_ids(&mut self.bytes, MOST_BYTES, ids);
     }
 
     /// Puts the bytes before the rest, if there is room for them.
@@ -385,6 +428,7 @@ impl Lines {
             Rows::Two(boxes) => self.put_columns_of_boxes(&boxes[from..to], places),
             Rows::Three(boxes) => self.put_columns_of_boxes(&boxes[from..to], places),
             Rows::Listed(_) => self.put_listed_columns(rows, places, from, to),
+            Rows::Ids(_) => self.put_listed_columns(rows, places, from, to),
         }
     }
 

@@ -10,10 +10,10 @@ ghost use Rattle.rt_bytes.specs.Devices.{WritesTo};
 ghost use Rattle.rt_table_row.specs.Entries.{listed_values, field_value};
 ghost use Rattle.rt_reply.specs.Rows.{values_in};
 ghost use Rattle.rt_reply.specs.Changes.{change_seen};
-ghost use Rattle.rt_shell_lines.specs.Lines.{value_text, row_line, columns_line, row_at, column_at, after_bars, between_bars, listed_after_bars, lines_of_boxes, lines_of_columns, change_line, reply_lines, refusal_line};
+ghost use Rattle.rt_shell_lines.specs.Lines.{value_text, row_line, columns_line, row_at, column_at, after_bars, between_bars, listed_after_bars, lines_of_boxes, lines_of_ids, lines_of_columns, change_line, reply_lines, refusal_line};
 ghost use Rattle.rt_shell_lines.specs.Writing.{WritesNext, WritesColumns};
 
-use crate::lines::{BOXES_AT_ONCE, Lines};
+use crate::lines::{BOXES_AT_ONCE, IDS_AT_ONCE, Lines};
 use crate::value::{write_integer, write_value};
 use itoa::Buffer;
 use rt_bytes::{ByteWriter, WriteFault, write_parts, write_whole};
@@ -220,6 +220,7 @@ fn write_rows<W: ByteWriter>(rows: &Rows, writer: &mut W) -> Result<(), WriteFau
         Rows::Two(rows) => write_boxes(rows.as_slice(), writer),
         Rows::Three(rows) => write_boxes(rows.as_slice(), writer),
         Rows::Listed(rows) => write_list(rows, writer),
+        Rows::Ids(ids) => write_ids(ids.as_slice(), writer),
     }
 }
 
@@ -236,6 +237,21 @@ fn write_boxes<W: ByteWriter, const D: usize>(
     while !rest.is_empty() {
         let (few, later) = rest.split_at(rest.len().min(BOXES_AT_ONCE));
         lines.set_boxes(few);
+        write_whole(writer, lines.as_slice())?;
+        rest = later;
+    }
+    Ok(())
+}
+
+/// Writes the lines of ids, as many at a time as always fit.
+fn write_ids<W: ByteWriter>(ids: &[i64], writer: &mut W) -> Result<(), WriteFault>
+    ensures { WritesTo W.ByteWriter writer.old writer.new result (lines_of_ids ids.now) }
+{
+    let mut lines = Lines::new();
+    let mut rest = ids;
+    while !rest.is_empty() {
+        let (few, later) = rest.split_at(rest.len().min(IDS_AT_ONCE));
+        lines.set_ids(few);
         write_whole(writer, lines.as_slice())?;
         rest = later;
     }

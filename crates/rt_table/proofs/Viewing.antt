@@ -1,12 +1,12 @@
 -- The views of a table, looked up by name.
-use Rattle.std.proofs.Common.{◌≡◌, ℕ, zero, suc, ◌<◌, Bool, true, false, cond, not, ◌||◌, List, [], ◌∷◌, map, filter, length, get_or, Some, None, Ok, refl, sym, ap, ◌∙◌, arith}
+use Rattle.std.proofs.Common.{◌≡◌, ℕ, ℤ, zero, suc, ◌<◌, Bool, true, false, cond, not, ◌||◌, List, [], ◌∷◌, map, filter, length, get_or, Some, None, Ok, refl, sym, ap, ◌∙◌, arith}
 use Rattle.std.specs.Prelude.{position}
 use Rattle.std.specs.List.{list_any, remove}
 use Rattle.std.proofs.lemmas.List.Elements.{filter_agree}
 use Rattle.rt_table_row.proofs.Filters.{any_position}
 use Rattle.rt_sql_statement.specs.declared.value.Value.{Value}
 use Rattle.rt_sql_statement.specs.declared.statement.Test.{Test}
-use Rattle.rt_table_row.specs.Rows.{values_of}
+use Rattle.rt_table_row.specs.Rows.{TableRow, values_of}
 use Rattle.rt_table_row.specs.Conditions.{holds, has_columns, picked}
 use Rattle.rt_table_row.specs.Filters.{Placed, admits, IsFilterOf}
 use Rattle.rt_table_row.specs.Tables.{TableLists, select, unwatch, has_view, is_view}
@@ -14,7 +14,7 @@ use Rattle.rt_table_row.specs.Views.{View}
 use Rattle.rt_sql_statement.specs.Name.{same_name}
 use Rattle.rt_table_view.specs.declared.view.Watched.{Watched}
 use Rattle.rt_table_view.specs.Watching.{view_of}
-use Rattle.rt_table.specs.Replies.{Shows}
+use Rattle.rt_table.specs.Replies.{Shows, ShowsIds}
 
 pub any_mapped : {X Y : Type 0} (p : Y → Bool) (f : X → Y) (xs : List X) → list_any p (map f xs) ≡ list_any (λ x. p (f x)) xs
 any_mapped p f [] = refl
@@ -57,6 +57,11 @@ pub selected : (lists : TableLists) (cond : List Test) (test : Placed) → IsFil
     → Shows (select lists cond) values
 selected lists cond test is values shown =
     (picked lists.columns cond lists.rows, known_select lists cond is.known, shown ∙ ap (map values_of) (filter_agree (admits test) (holds lists.columns cond) is.same lists.rows))
+
+pub selected_ids : (lists : TableLists) (cond : List Test) (test : Placed) → IsFilterOf lists.columns cond test → (ids : List ℤ) → ids ≡ map (λ row. row.id) (filter (admits test) lists.rows)
+    → ShowsIds (select lists cond) ids
+selected_ids lists cond test is ids shown =
+    (picked lists.columns cond lists.rows, known_select lists cond is.known, shown ∙ ap (map (λ (row : TableRow). row.id)) (filter_agree (admits test) (holds lists.columns cond) is.same lists.rows))
 
 pub unwatched : (lists : TableLists) (name : List ℕ) → has_view lists name ≡ true → unwatch lists name ≡ Ok (record lists { views = filter (λ view. not (is_view name view)) lists.views })
 unwatched lists name there = rw there

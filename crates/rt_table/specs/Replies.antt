@@ -1,5 +1,5 @@
 -- What a call answers that may run out of memory, and rows as lists of values. Source: own.
-use Rattle.std.specs.Prelude.{◌≡◌, ◌⊎◌, ℕ, List, map, Result, Ok, Err}
+use Rattle.std.specs.Prelude.{◌≡◌, ◌⊎◌, ℕ, ℤ, List, map, Result, Ok, Err}
 use Rattle.rt_sql_statement.specs.declared.value.Value.{Value}
 use Rattle.rt_sql_statement.specs.declared.refusal.Refusal.{Refusal}
 use Rattle.rt_sql_statement.specs.declared.refusal.Refusal.TheVariants.{OutOfMemory}
@@ -18,6 +18,10 @@ Refuses wanted refusal = (wanted ≡ Err refusal) ⊎ (refusal ≡ OutOfMemory)
 -- the rows that are wanted, each as its values
 abbrev pub Shows : Result (List TableRow) Refusal → List (List Value) → Type 0
 Shows wanted values = (rows : List TableRow) × (wanted ≡ Ok rows) × (values ≡ map values_of rows)
+
+-- their ids
+abbrev pub ShowsIds : Result (List TableRow) Refusal → List ℤ → Type 0
+ShowsIds wanted ids = (rows : List TableRow) × (wanted ≡ Ok rows) × (ids ≡ map (λ row. row.id) rows)
 
 -- `visited` nodes of the tree are reached by a window of the condition
 abbrev pub VisitsBy : {D : ℕ} → Held D → List Test → ℕ → Type 0

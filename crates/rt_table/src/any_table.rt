@@ -44,7 +44,7 @@ impl Model for AnyTable {
 impl AnyTable {
     ghost use Rattle.rt_table_row.specs.Tables.{new_table, has_view, select, watch, unwatch, view};
     ghost use Rattle.rt_reply.specs.Rows.{values_in};
-    ghost use Rattle.rt_table.specs.Replies.{Refuses, Shows, VisitsAnyBy};
+    ghost use Rattle.rt_table.specs.Replies.{Refuses, Shows, ShowsIds, VisitsAnyBy};
     ghost use Rattle.rt_table.specs.Edits.{edit_outcome, FollowsAnyEdit};
     ghost use Rattle.rt_table.specs.AnyTrees.{new_tree};
     ghost use Rattle.rt_table_store.specs.declared.select.Nodes.TheVariants.{Counted};
@@ -160,6 +160,22 @@ impl AnyTable {
                 let rows = Rows::three(rows);
                 Ok(Found { rows, visited })
             }
+        }
+    }
+
+    /// The ids of the rows that a condition picks, by rising id. They are sorted without their rows.
+    ///
+    /// # Errors
+    ///
+    /// Those of `select`.
+    pub fn select_ids(&self, cond: Cond) -> Result<Vec<i64>, Refusal>
+        ensures ok { IfOk result (λ ids. ShowsIds (select self.now.lists cond) ids.items) }
+        ensures err { IfErr result (Refuses (select self.now.lists cond)) }
+    {
+        match &self.axes {
+            Axes::One(table) => table.select_ids(cond),
+            Axes::Two(table) => table.select_ids(cond),
+            Axes::Three(table) => table.select_ids(cond),
         }
     }
 

@@ -84,7 +84,7 @@ impl<const D: usize> Table<D> {
     ghost use Rattle.rt_table_row.specs.Tables.{new_table, has_view, select, watch, unwatch, view, edited};
     ghost use Rattle.rt_table_row.specs.Entries.{step_of};
     ghost use Rattle.rt_table_plan.specs.Plans.{Plans};
-    ghost use Rattle.rt_table.specs.Replies.{Refuses, Shows, VisitsBy};
+    ghost use Rattle.rt_table.specs.Replies.{Refuses, Shows, ShowsIds, VisitsBy};
     ghost use Rattle.rt_reply.specs.Rows.{values_of_rows};
     ghost use Rattle.rt_table_step.specs.Steps.{ApplyTo};
     ghost use Rattle.rt_table.specs.Ready.{IsReady};
@@ -165,6 +165,20 @@ impl<const D: usize> Table<D> {
     {
         let condition = Filter::new(self.alloc, &self.columns, cond)?;
         Ok(select(self.alloc, &self.store, &condition, nodes)?)
+    }
+
+    /// The ids of the rows that a condition picks, by rising id.
+    ///
+    /// # Errors
+    ///
+    /// Those of `select`.
+    pub fn select_ids(&self, cond: Cond) -> Result<Vec<i64>, Refusal>
+        ensures ok { IfOk result (λ ids. ShowsIds (select self.now.lists cond) ids.items) }
+        ensures err { IfErr result (Refuses (select self.now.lists cond)) }
+    {
+        let condition = Filter::new(self.alloc, &self.columns, cond)?;
+        let ids = self.store.select_ids(self.alloc, &condition)?;
+        Ok(ids)
     }
 
     /// The rows of a view, by rising id. No node is visited for them.

@@ -30,7 +30,7 @@ use Rattle.rt_table_row.specs.Filters.{Placed, admits}
 use Rattle.rt_table_row.specs.Windows.{IsWindowAt}
 use Rattle.rt_table_row.proofs.Windows.{window-keeps}
 use Rattle.rt_table_store.specs.Trees.{leaf_row, IsTreeOf}
-use Rattle.rt_table_store.specs.Picking.{Stands, passes}
+use Rattle.rt_table_store.specs.Picking.{Stands, ArePicked, passes, picked_rows, picked_ids}
 use Rattle.rt_table_store.proofs.Order.{eq_same, eq_from}
 use Rattle.rt_table_store.proofs.Sorted.{Rises, rises, rises-filter}
 use Rattle.rt_table_store.proofs.Soundness.{flat_from, found_in}
@@ -81,6 +81,14 @@ leaf_rises D (row ∷ rows) rise = (all_leaf rows rise.0, leaf_rises D rows rise
 pub leaf_ids : (D : ℕ) (rows : List TableRow) → map (λ (r : Row D). r.id) (map leaf_row rows) ≡ map (λ (row : TableRow). row.id) rows
 leaf_ids D [] = refl
 leaf_ids D (row ∷ rows) = ap (λ ids. row.id ∷ ids) (leaf_ids D rows)
+
+pub ids_rise : (rows : List TableRow) → Rises (λ (row : TableRow). row.id) rows → Rises (λ (id : ℤ). id) (map (λ (row : TableRow). row.id) rows)
+ids_rise [] rise = tt
+ids_rise (row ∷ rows) rise = (all_ids rows rise.0, ids_rise rows rise.1)
+  where
+    all_ids : (others : List TableRow) → AllByRecursion (λ (other : TableRow). row.id <ℤ other.id) others → AllByRecursion (λ (id : ℤ). row.id <ℤ id) (map (λ (other : TableRow). other.id) others)
+    all_ids [] above = tt
+    all_ids (other ∷ others) above = (above.0, all_ids others above.1)
 
 module _ {D : ℕ} where
   pub same_row : Row D → Row D → Bool
@@ -185,7 +193,8 @@ module _ {D : ℕ} where
                 let there = found_in (λ (z : TableRow). int_eq r.id z.id) rows row at in
                 subst (Admits window) ((sides-Decides row.box r.rect).0 parts.1) (keeps row there.0 parts.0)
 
-        counts_kept : (test : Row D → Bool) → count_by test (filter (passes p rows) found) ≡ count_by test (map leaf_row (filter p rows))
+        -- what passes is picked
+        pub counts_kept : (test : Row D → Bool) → count_by test (filter (passes p rows) found) ≡ count_by test (map leaf_row (filter p rows))
         counts_kept test =
             count_kept (passes p rows) test found
             ∙ count_alike (λ r. passes p rows r && test r) (λ r. passes_here p rows r && test r) found (λ r h. ap (λ b. b && test r) (found_alike r h))
@@ -196,13 +205,29 @@ module _ {D : ℕ} where
             ∙ sym (count_kept p (λ row. test (leaf_row row)) rows)
             ∙ sym (count-mapped test leaf_row (λ row. test (leaf_row row)) (filter p rows) (λ k d h. refl))
 
-        -- sorted by id they are the table's rows that pass
-        pub sorted_are : (kept sorted : List (Row D)) → kept ≡ filter (passes p rows) found → IsPermutation kept sorted → IsSortedByKey (λ (r : Row D). r.id) int_cmp sorted →
-            sorted ≡ map leaf_row (filter p rows)
-        sorted_are kept sorted kept_is moved in_order =
-            same_counts (λ (r : Row D). r.id) same_row row_itself row_same sorted (map leaf_row (filter p rows)) (sorted_climbs (λ (r : Row D). r.id) sorted in_order)
-            (leaf_rises D (filter p rows) (rises-filter (λ (row : TableRow). row.id) p rows rise))
-            (λ test. count_permuted test kept sorted moved ∙ ap (count_by test) kept_is ∙ counts_kept test)
+    -- ---- rows that are picked, in any order
+
+    module _ (condition : Placed) (kept : List (Row D)) (picked : ArePicked condition rows kept) where
+      pass_rise : Rises (λ (row : TableRow). row.id) (filter (admits condition) rows)
+      pass_rise = rises-filter (λ (row : TableRow). row.id) (admits condition) rows rise
+
+      -- sorted by id they are the table's rows that pass
+      pub sorted_picked : (sorted : List (Row D)) → IsPermutation kept sorted → IsSortedByKey (λ (r : Row D). r.id) int_cmp sorted → sorted ≡ picked_rows condition rows
+      sorted_picked sorted moved in_order =
+          same_counts (λ (r : Row D). r.id) same_row row_itself row_same sorted (picked_rows condition rows) (sorted_climbs (λ (r : Row D). r.id) sorted in_order)
+          (leaf_rises D (filter (admits condition) rows) pass_rise)
+          (λ test. count_permuted test kept sorted moved ∙ picked test)
+
+      -- and so are their ids
+      pub ids_picked : (ids : List ℤ) → IsPermutation (map (λ (r : Row D). r.id) kept) ids → IsSortedByKey (λ (id : ℤ). id) int_cmp ids → ids ≡ picked_ids condition rows
+      ids_picked ids moved in_order =
+          same_counts (λ (id : ℤ). id) int_eq eq_same eq_from ids (picked_ids condition rows) (sorted_climbs (λ (id : ℤ). id) ids in_order)
+          (ids_rise (filter (admits condition) rows) pass_rise)
+          (λ test. count_permuted test (map (λ (r : Row D). r.id) kept) ids moved
+          ∙ count-mapped test (λ (r : Row D). r.id) (λ (r : Row D). test r.id) kept (λ k d h. refl)
+          ∙ picked (λ (r : Row D). test r.id)
+          ∙ sym (count-mapped test (λ (r : Row D). r.id) (λ (r : Row D). test r.id) (picked_rows condition rows) (λ k d h. refl))
+          ∙ ap (count_by test) (leaf_ids D (filter (admits condition) rows)))
 
     -- the window of the condition loses no row of which it holds
     pub window_loses_none : HasBoxes tree → (filter : Placed) (window : List Interval) → IsWindowAt D filter window → (row : TableRow) → Contains rows row →

@@ -12,6 +12,7 @@ pub mod Staying
 pub mod Replaced
 pub mod Soundness
 pub mod Everywhere
+pub mod AllIds
 pub mod Alike
 pub mod Admitted
 pub mod Found

@@ -1,5 +1,5 @@
 -- The rows that a condition picks, and rows of a tree as the rows of a table. Source: own.
-use Rattle.std.specs.Prelude.{◌≡◌, ℕ, Bool, false, List, Some, map, filter}
+use Rattle.std.specs.Prelude.{◌≡◌, ℕ, ℤ, Bool, false, List, Some, map, filter, count_by}
 use Rattle.std.specs.Option.{option_map, option_map_or}
 use Rattle.rt_box.specs.declared.interval.Interval.{Interval}
 use Rattle.rt_box.specs.Window.{IsUnlimited}
@@ -27,6 +27,10 @@ module _ {D : ℕ} where
   abbrev pub picked_rows : Placed → List TableRow → List (Row D)
   picked_rows condition rows = map leaf_row (filter (admits condition) rows)
 
+  -- these are the picked rows, each once, in any order
+  abbrev pub ArePicked : Placed → List TableRow → List (Row D) → Type 0
+  ArePicked condition rows found = (test : Row D → Bool) → count_by test found ≡ count_by test (picked_rows condition rows)
+
   -- `visited` nodes are reached by a window of the condition
   abbrev pub VisitsBy : Placed → ShadowLists D → ℕ → Type 0
   VisitsBy condition tree visited = (window : List Interval) × IsWindowAt D condition window × Visits tree window visited
@@ -34,6 +38,10 @@ module _ {D : ℕ} where
   -- `visited` nodes are reached by a window without limits
   abbrev pub VisitsFreely : ShadowLists D → ℕ → Type 0
   VisitsFreely tree visited = (window : List Interval) → IsUnlimited D window → Visits tree window visited
+
+-- the ids of the rows of which the condition holds
+abbrev pub picked_ids : Placed → List TableRow → List ℤ
+picked_ids condition rows = map (λ row. row.id) (filter (admits condition) rows)
 
 -- a window of the condition has no limits
 abbrev pub HasFreeWindow : ℕ → Placed → Type 0

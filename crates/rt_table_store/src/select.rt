@@ -3,22 +3,23 @@
 //! An id that the condition fixes is looked up. Otherwise the tree is searched by the condition's window, and what the
 //! window doesn't say is tested row by row.
 
-ghost use Rattle.std.specs.Prelude.{◌≡◌, ◌≤◌, All, true, IfOk, IfSome};
+ghost use Rattle.std.specs.Prelude.{◌≡◌, ◌≤◌, All, true, map, IfOk, IfSome};
 ghost use Rattle.std.specs.Option.{option_to_list};
+ghost use Rattle.rt_box.specs.Rect.{IsBox};
 ghost use Rattle.rt_box.specs.Window.{Admits};
 ghost use Rattle.rt_tree.specs.Search.{FindsIn};
 ghost use Rattle.rt_table_row.specs.Rows.{TableRow};
 ghost use Rattle.rt_table_row.specs.Filters.{admits};
 ghost use Rattle.rt_table_row.specs.Windows.{IsWindowAt};
 ghost use Rattle.rt_table_store.specs.Trees.{Visits};
-ghost use Rattle.rt_table_store.specs.Picking.{Stands, passing_rows, picked_rows, HasFreeWindow, VisitsBy, VisitsFreely};
+ghost use Rattle.rt_table_store.specs.Picking.{Stands, ArePicked, passing_rows, picked_rows, picked_ids, HasFreeWindow, VisitsBy, VisitsFreely};
 ghost use Rattle.rt_table_store.specs.declared.select.Nodes.TheVariants.{Counted};
 
 use crate::store::Store;
 use rt_box::Window;
 use rt_table_row::Filter;
 use rt_tree::{Found, Row, Tree};
-use rt_tree_sort::sort_by_id;
+use rt_tree_sort::{sort_by_id, sort_ids};
 use std::alloc::{AllocError, Global};
 
 /// How many rows a list has room for at first, if a window has limits.
@@ -54,6 +55,14 @@ fn looked_up_id<const D: usize>(condition: &Filter, nodes: Nodes) -> Option<i64>
     }
 }
 
+/// Whether it is known that the condition holds of each row with a box: its window has no limits, and says all that it asks.
+fn picks_all<const D: usize>(condition: &Filter) -> bool
+    requires { D ≤ 3 }
+    ensures { result ≡ true → ((row : TableRow) → IsBox D row.box → admits condition.now row ≡ true) }
+{
+    condition.is_said::<D>() && condition.window::<D>() == Window::all()
+}
+
 /// Searches a tree. A window without limits admits all rows, so that the list has room for them from the start.
 #[tactic(auto, using(crate::proofs::Found::finds_alone))]
 fn search<const D: usize>(
@@ -71,6 +80,17 @@ fn search<const D: usize>(
     let mut rows = Vec::with_capacity(alloc, room)?;
     let visited = tree.search_into(alloc, window, &mut rows)?;
     Ok(Found { rows, visited })
+}
+
+/// The ids of these rows.
+fn ids_of<const D: usize>(alloc: Global, rows: &[Row<D>]) -> Result<Vec<i64>, AllocError>
+    ensures { IfOk result (λ ids. ids.items ≡ map (λ row. row.id) rows.now) }
+{
+    let mut ids = Vec::with_capacity(alloc, rows.len())?;
+    for row in rows {
+        ids.push(row.id)?;
+    }
+    Ok(ids)
 }
 
 impl<const D: usize> Store<D> {
@@ -116,7 +136,29 @@ impl<const D: usize> Store<D> {
         self.passing_rows(alloc, condition, &rows)
     }
 
-    /// Searches by a window of the condition, and keeps the rows of which it holds.
+    /// Searches by a window of the condition: the rows of which it holds, in the order of the tree.
+    fn found_by_window(
+        &self,
+        alloc: Global,
+        condition: &Filter,
+        window: &Window<D>,
+    ) -> Result<Found<Vec<Row<D>>>, AllocError>
+        requires { IsWindowAt D condition.now window.now }
+        ensures rows { IfOk result (λ found. ArePicked condition.now self.now.rows found.rows.items) }
+        ensures visited { IfOk result (λ found. Visits self.now.tree window.now found.visited) }
+    {
+        // The rows rise by id and are those of the tree, whose cells have boxes.
+        self.facts();
+        self.tree.has_boxes();
+        let Found {
+            rows: found,
+            visited,
+        } = search(alloc, &self.tree, window)?;
+        let rows = self.tested_rows(alloc, condition, window, found)?;
+        Ok(Found { rows, visited })
+    }
+
+    /// Searches by a window of the condition, and sorts the rows of which it holds.
     fn select_by_window(
         &self,
         alloc: Global,
@@ -127,16 +169,33 @@ impl<const D: usize> Store<D> {
         ensures rows { IfOk result (λ found. found.rows.items ≡ picked_rows condition.now self.now.rows) }
         ensures visited { IfOk result (λ found. Visits self.now.tree window.now found.visited) }
     {
-        // The rows rise by id and are those of the tree, whose cells have boxes.
+        // The rows rise by id.
         self.facts();
-        self.tree.has_boxes();
         let Found {
             rows: found,
             visited,
-        } = search(alloc, &self.tree, window)?;
-        let mut rows = self.tested_rows(alloc, condition, window, found)?;
+        } = self.found_by_window(alloc, condition, window)?;
+        let mut rows = found;
         sort_by_id(&mut rows);
         Ok(Found { rows, visited })
+    }
+
+    /// Searches by a window of the condition, and sorts the ids of the rows of which it holds.
+    fn ids_by_window(
+        &self,
+        alloc: Global,
+        condition: &Filter,
+        window: &Window<D>,
+    ) -> Result<Vec<i64>, AllocError>
+        requires { IsWindowAt D condition.now window.now }
+        ensures { IfOk result (λ ids. ids.items ≡ picked_ids condition.now self.now.rows) }
+    {
+        // The rows rise by id.
+        self.facts();
+        let found = self.found_by_window(alloc, condition, window)?;
+        let ids = ids_of(alloc, found.rows.as_slice())?;
+        let sorted = sort_ids(alloc, ids)?;
+        Ok(sorted)
     }
 
     /// The row of an id that the condition fixes, if the condition holds of it: no other row passes. It takes no memory.
@@ -203,5 +262,40 @@ impl<const D: usize> Store<D> {
         }
         let window = condition.window();
         self.select_by_window(alloc, condition, &window)
+    }
+
+    /// The ids of all rows, where the condition holds of each of them: no node is visited.
+    fn all_ids(&self, alloc: Global, condition: &Filter) -> Result<Vec<i64>, AllocError>
+        requires { (row : TableRow) → IsBox D row.box → admits condition.now row ≡ true }
+        ensures { IfOk result (λ ids. ids.items ≡ picked_ids condition.now self.now.rows) }
+    {
+        // The rows rise by id and are those of the tree, whose cells have boxes.
+        self.facts();
+        self.tree.has_boxes();
+        let ids = Vec::from_slice(alloc, self.tree.ids())?;
+        let sorted = sort_ids(alloc, ids)?;
+        Ok(sorted)
+    }
+
+    /// The ids of the rows of which the condition holds, by rising id. They are sorted without their rows.
+    ///
+    /// # Errors
+    ///
+    /// `AllocError` if no memory is left.
+    pub fn select_ids(&self, alloc: Global, condition: &Filter) -> Result<Vec<i64>, AllocError>
+        ensures { IfOk result (λ ids. ids.items ≡ picked_ids condition.now self.now.rows) }
+    {
+        // There are one to three axes.
+        self.facts();
+        if let Some(id) = condition.id() {
+            let found = self.select_by_id(alloc, condition, &id)?;
+            let ids = ids_of(alloc, found.rows.as_slice())?;
+            return Ok(ids);
+        }
+        if picks_all::<D>(condition) {
+            return self.all_ids(alloc, condition);
+        }
+        let window = condition.window();
+        self.ids_by_window(alloc, condition, &window)
     }
 }

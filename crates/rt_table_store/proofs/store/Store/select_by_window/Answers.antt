@@ -1,64 +1,15 @@
-use Rattle.std.proofs.Common.{◌≡◌, List, rules, ap, ◌∙◌, subst}
+use Rattle.std.proofs.Common.{List, subst, ◌∙◌}
 use Rattle.std.specs.Prelude.{IsPermutation}
 use Rattle.std.proofs.lemmas.List.{with_items_is}
 use Rattle.std.proofs.lemmas.List.Sorted.{length_permutation}
-use Rattle.rt_check.specs.Shadow.{ShadowLists}
 use Rattle.rt_tree_walk.specs.declared.searching.Row.{Row}
-use Rattle.rt_tree.specs.Boxes.{HasBoxes}
-use Rattle.rt_tree.specs.Search.{FindsIn}
-use Rattle.rt_table_row.specs.Filters.{admits}
-use Rattle.rt_table_store.specs.StoreLists.{StoreLists}
-use Rattle.rt_table_store.proofs.Found.{all_stand, sorted_are, window_loses_none}
+use Rattle.rt_table_store.proofs.Found.{sorted_picked}
 use Rattle.rt_table_store.proofs.store.Store.select_by_window.Goals as goal
-
-pub tested_rows-requires : goal.tested_rows-requires
-tested_rows-requires g c =
-    let tree : c.self.inside.tree.lists ≡ c.args.self.now.tree = ap (λ (v : StoreLists g.row.D). v.tree) c.self.view_is in
-    let finds : FindsIn c.args.self.now.tree c.args.window.now c.in_ok-found.field-0.rows.items c.in_ok-found.field-0.visited =
-    subst (λ (t : ShadowLists g.row.D). FindsIn t c.args.window.now c.in_ok-found.field-0.rows.items c.in_ok-found.field-0.visited) tree c.in_ok-found.ensures in (
-      search rules,
-      (
-        search rules,
-        (
-          search rules,
-          (
-            c.facts.ensures.few,
-            (
-              c.requires,
-              (
-                all_stand c.args.self.now.rows c.args.self.now.tree c.facts.ensures.rising c.facts.ensures.stands c.args.window.now c.in_ok-found.field-0.rows.items c.in_ok-found.field-0.visited finds,
-                finds.admitted,
-              ),
-            ),
-          ),
-        ),
-      ),
-    )
 
 pub returns-clause-rows : goal.returns-clause-rows
 returns-clause-rows g c =
-    let tree : c.self.inside.tree.lists ≡ c.args.self.now.tree = ap (λ (v : StoreLists g.row.D). v.tree) c.self.view_is in
-    let boxes : HasBoxes c.args.self.now.tree = subst (λ (t : ShadowLists g.row.D). HasBoxes t) tree c.has_boxes.ensures in
-    let finds : FindsIn c.args.self.now.tree c.args.window.now c.in_ok-found.field-0.rows.items c.in_ok-found.field-0.visited =
-    subst (λ (t : ShadowLists g.row.D). FindsIn t c.args.window.now c.in_ok-found.field-0.rows.items c.in_ok-found.field-0.visited) tree c.in_ok-found.ensures in
-    let moved : IsPermutation c.in_ok-rows.rows.items c.sort_by_id.new.rows = subst (λ (rows : List (Row g.row.D)). IsPermutation rows c.sort_by_id.new.rows) c.deref_mut.ensures.value c.sort_by_id.ensures.permutation in
-    let kept = with_items_is c.in_ok-rows.rows c.sort_by_id.new.rows (length_permutation c.deref_mut.result.now c.sort_by_id.new.rows c.sort_by_id.ensures.permutation ∙ c.deref_mut.ensures.len) in
-    kept ∙ sorted_are c.args.self.now.rows c.args.self.now.tree c.facts.ensures.rising c.facts.ensures.stands c.args.window.now c.in_ok-found.field-0.rows.items c.in_ok-found.field-0.visited finds
-    (admits c.args.condition.now)
-    (window_loses_none c.args.self.now.rows c.args.self.now.tree c.facts.ensures.rising c.facts.ensures.stands boxes c.args.condition.now c.args.window.now c.requires)
-    c.in_ok-rows.rows.items c.sort_by_id.new.rows
-    c.in_ok-rows.ensures
-    moved
-    c.sort_by_id.ensures.sorted
-
-pub returns-clause-visited : goal.returns-clause-visited
-returns-clause-visited g c =
-    let tree : c.self.inside.tree.lists ≡ c.args.self.now.tree = ap (λ (v : StoreLists g.row.D). v.tree) c.self.view_is in
-    let finds : FindsIn c.args.self.now.tree c.args.window.now c.in_ok-found.field-0.rows.items c.in_ok-found.field-0.visited =
-    subst (λ (t : ShadowLists g.row.D). FindsIn t c.args.window.now c.in_ok-found.field-0.rows.items c.in_ok-found.field-0.visited) tree c.in_ok-found.ensures in
-    record {
-      numbers = finds.numbers;
-      once = finds.once;
-      only = finds.only;
-      counted = finds.counted;
-    }
+    let found = c.in_ok-found.field-0.rows in
+    let moved : IsPermutation found.items c.sort_by_id.new.rows = subst (λ (rows : List (Row g.row.D)). IsPermutation rows c.sort_by_id.new.rows) c.deref_mut.ensures.value c.sort_by_id.ensures.permutation in
+    let kept = with_items_is found c.sort_by_id.new.rows (length_permutation c.deref_mut.result.now c.sort_by_id.new.rows c.sort_by_id.ensures.permutation ∙ c.deref_mut.ensures.len) in
+    kept ∙ sorted_picked c.args.self.now.rows c.args.self.now.tree c.facts.ensures.rising c.facts.ensures.stands c.args.condition.now found.items c.in_ok-found.ensures.rows
+    c.sort_by_id.new.rows moved c.sort_by_id.ensures.sorted
