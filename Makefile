@@ -10,7 +10,8 @@
 # make bindings  proves the calls for other languages, builds lib/libjuicedelta.a and lib/libjuicedelta.so, and tests them
 # make install   copies what make and make bindings built, with headers, packages, documents and completions, below a folder:
 #                make install PREFIX=FOLDER
-# make dist      packs the same in dist/, for machines without the toolchain
+# make dist      packs the same in dist/, for machines without the toolchain, and a wheel of the Python package
+# make deb       packs the same as a Debian package in dist/
 # make fuzz      tries random calls of the libraries beside plain lists, and scripts in parts beside scripts in one piece:
 #                make fuzz SECONDS=N. It needs what make bindings built
 # make bench     prints the times of the R*-tree's choices and of the calls of whole trees; if make built it, of scripts through
@@ -18,7 +19,7 @@
 
 SHELL := /bin/bash
 
-.PHONY: build demo try picture test bindings install dist check gate fuzz bench tools
+.PHONY: build demo try picture test bindings install dist deb check gate fuzz bench tools
 
 build: tools
 	@scripts/build
@@ -44,6 +45,9 @@ install:
 
 dist:
 	@scripts/dist
+
+deb:
+	@scripts/deb
 
 check: tools
 	@scripts/prove

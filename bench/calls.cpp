@@ -1,18 +1,11 @@
 // The work of `rt_bench tree 2 ROWS` on uniform rows, by the C calls: calls ROWS. The same rows and windows are drawn by the same
 // arithmetic. Compiled with -DWRAPPER, by juicedelta.hpp; with -DPEER_BOOST or -DPEER_SPATIALINDEX, by Boost.Geometry's
 // rtree<.., rstar<51>> or libspatialindex's R*-tree, which need their headers. Prints a line of nanoseconds a call and a checksum for each kind of call.
-#include <chrono>
-#include <cmath>
-#include <cstdint>
-#include <cstdio>
+#include "draw.hpp"
 #include <cstdlib>
 #include <numeric>
 #include <utility>
 #include <vector>
-
-struct Box {
-    int32_t min[2], max[2];
-};
 
 #if defined(PEER_BOOST)
 #include <boost/geometry.hpp>
@@ -168,48 +161,17 @@ public:
 };
 #endif
 
-// Numbers that look random (the finalizer of SplitMix64: Steele, Lea, Flood 2014).
-static uint64_t mixed(uint64_t seed)
-{
-    uint64_t z = seed + 0x9E3779B97F4A7C15u;
-    z = (z ^ (z >> 30)) * 0xBF58476D1CE4E5B9u;
-    z = (z ^ (z >> 27)) * 0x94D049BB133111EBu;
-    return z ^ (z >> 31);
-}
-// The box of the row with this number, wider by `grow` at each end.
-static Box box_of(uint64_t row, int32_t grow)
-{
-    Box box;
-    for (uint64_t axis = 0; axis < 2; axis++) {
-        uint64_t seed = mixed(row * 8 + axis);
-        int32_t low = int32_t(seed % 1000000), side = int32_t(mixed(seed) % 100);
-        box.min[axis] = low - grow, box.max[axis] = low + side + grow;
-    }
-    return box;
-}
-static double now() { return std::chrono::duration<double, std::nano>(std::chrono::steady_clock::now().time_since_epoch()).count(); }
-template <class Call> static void timed(const char *name, uint64_t calls, Call call)
-{
-    int64_t sum = 0;
-    double begun = now();
-    for (uint64_t at = 0; at < calls; at++)
-        sum += call(at);
-    std::printf("%s %.0f %lld\n", name, (now() - begun) / double(calls), static_cast<long long>(sum));
-}
-
 int main(int count, char **words)
 {
     const uint64_t rows = count > 1 ? std::strtoull(words[1], nullptr, 10) : 100000, few = 2000, many = 200;
-    // Half the side of a window that holds this number of rows: a hundredth of them is a thousand of 100,000.
-    auto reach = [=](uint64_t held) { return int32_t(std::sqrt(double(1000000000000 * held / rows))) / 2; };
-    auto window = [=](uint64_t at, int32_t grow) { return box_of(mixed(at) % rows + 1, grow); };
-    const int32_t ten = reach(10), thousand = reach(rows / 100 + 1);
+    // A hundredth of the rows is a thousand of 100,000.
+    const int32_t ten = reach(rows, 10), thousand = reach(rows, rows / 100 + 1);
     Tree tree;
     timed("insert", rows, [&](uint64_t at) { return tree.insert(int64_t(at + 1), box_of(at + 1, 0)), 0; });
-    timed("search_10", few, [&](uint64_t at) { return tree.search(window(at, ten)); });
-    timed("search_1000", many, [&](uint64_t at) { return tree.search(window(at, thousand)); });
-    timed("count_1000", many, [&](uint64_t at) { return tree.count(window(at, thousand)); });
-    timed("nearest_10", few, [&](uint64_t at) { return tree.nearest(window(at, ten).min); });
+    timed("search_10", few, [&](uint64_t at) { return tree.search(window(rows, at, ten)); });
+    timed("search_1000", many, [&](uint64_t at) { return tree.search(window(rows, at, thousand)); });
+    timed("count_1000", many, [&](uint64_t at) { return tree.count(window(rows, at, thousand)); });
+    timed("nearest_10", few, [&](uint64_t at) { return tree.nearest(window(rows, at, ten).min); });
     timed("delete", rows / 2, [&](uint64_t at) {
         uint64_t row = at * 7919 % rows + 1;
         return tree.remove(int64_t(row), box_of(row, 0)), 0;

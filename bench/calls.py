@@ -1,6 +1,7 @@
 """The same calls on a tree of the Python package, of Debian's python3-rtree, and on a table of Python's sqlite3: calls.py WHO ROWS.
 
-Prints a line of nanoseconds of the processor a call and a checksum for each kind of call, as calls.cpp does.
+Prints a line of nanoseconds of the processor a call and a checksum for each kind of call, as calls.cpp does. Of `pack`, which makes
+a tree of all rows, and `search_10s`, the windows of `search_10` in one call, it prints those a row and a window.
 """
 
 import sys
@@ -28,6 +29,12 @@ class Juicedelta:
     def nearest(self, point):
         return len(list(self.tree.nearest(point, 10)))
 
+    def pack(self, boxes):
+        return len(type(self.tree).from_rows(range(len(boxes)), boxes))
+
+    def search_many(self, boxes):
+        return sum(self.tree.intersection_many(boxes).ids)
+
 
 class Rtree:
     def __init__(self):
@@ -50,6 +57,11 @@ class Rtree:
     def nearest(self, point):
         # With those that are as near as the tenth.
         return min(10, len(list(self.tree.nearest(point + point, 10))))
+
+    def pack(self, boxes):
+        return len(type(self.tree)(((id, box, None) for id, box in enumerate(boxes)), properties=self.tree.properties))
+
+    search_many = None  # it has none
 
 
 class Sqlite:
@@ -74,7 +86,7 @@ class Sqlite:
     def count(self, box):
         return self.run("SELECT count(*) " + self.TOUCHES, box).fetchone()[0]
 
-    nearest = None  # it has none
+    nearest = pack = search_many = None  # it has none
 
 
 def main():
@@ -100,8 +112,16 @@ def main():
         total = sum(call(*words) or 0 for words in inputs)
         print(name, (time.process_time_ns() - begun) // len(inputs), total)
 
+    def timed_list(name, call, items):
+        if call:
+            begun = time.process_time_ns()
+            total = call(items)
+            print(name, (time.process_time_ns() - begun) // len(items), total)
+
+    timed_list("pack", tree.pack, boxes)
     timed("insert", tree.insert, list(enumerate(boxes)))
     timed("search_10", tree.search, [(box,) for box in small])
+    timed_list("search_10s", tree.search_many, list(small))
     timed("search_1000", tree.search, [(box,) for box in large])
     timed("count_1000", tree.count, [(box,) for box in large])
     if tree.nearest:

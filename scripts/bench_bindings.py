@@ -32,7 +32,7 @@ def works(*command, **options):
 
 def compiled(room, name, *words):
     program = os.path.join(room, name)
-    command = ["g++", "-O2", "-std=c++17", "-Ibindings/c", "bench/calls.cpp", *words, "-o", program]
+    command = ["g++", "-O2", "-std=c++17", "-Ibench", "-Ibindings/c", "bench/calls.cpp", *words, "-o", program]
     if works(*command, cwd=TOP):
         return [program, ROWS]
     print(f"{name} is left out: `{' '.join(command[:-2])}` fails here")

@@ -62,8 +62,9 @@ def inserts(lines):
 
 
 def recipe(name):
-    """The block of the guide whose fence says ```sh NAME."""
-    return re.search(rf"^```sh {name}\n(.*?)^```$", (ROOT / "docs/GUIDE.md").read_text(), re.M | re.S)[1]
+    """The block of the guide whose fence says ```sh NAME, if there is one."""
+    found = re.search(rf"^```sh {name}\n(.*?)^```$", (ROOT / "docs/GUIDE.md").read_text(), re.M | re.S)
+    return found and found[1]
 
 
 def case(name):
@@ -91,18 +92,23 @@ def missing_module():
 def through_sqlite(folder):
     """rtsh gets the script of a worked case by each recipe, and what it prints of it goes back into the database."""
     (folder / "bin").mkdir()
-    (folder / "examples").symlink_to(ROOT / "examples")
+    for name in ("examples", "scripts"):
+        (folder / name).symlink_to(ROOT / name)
     shell = folder / "bin" / "rtsh"
     run(["sqlite3", "map.db"], TREES, folder)
     rows = ["sqlite3", "map.db", ROWS.format("height")]
     yield case("sqlite_by_quote.out"), run(["sqlite3", "map.db", ROWS.format("CAST(height AS TEXT)")], folder=folder)
     yield "INSERT INTO trees " in run(["sqlite3", "map.db", ".dump"], folder=folder), False
-    # A refusal leaves the database as it was.
-    for name, wanted in (("mode_insert", run(rows, folder=folder)), ("quote", case("sqlite_by_quote.out"))):
-        shell.write_text(f"#!/bin/sh\ncat > given\nexec cat {DATA / f'sqlite_by_{name}.out'}\n")
+    # A refusal leaves the database as it was. What goes back last has texts in place of REALs.
+    texts = case("sqlite_by_quote.out")
+    for name, wanted in (("mode_insert", run(rows, folder=folder)), ("quote", texts), ("from_sqlite", texts)):
+        if not recipe(f"guide_{name}"):
+            continue
+        printed = DATA / f"sqlite_by_{'mode_insert' if name == 'mode_insert' else 'quote'}.out"
+        shell.write_text(f"#!/bin/sh\ncat > given\nexec cat {printed}\n")
         shell.chmod(0o755)
         run(["bash", "-c", recipe(f"guide_{name}") + recipe("guide_to_sqlite")], folder=folder)
-        if name == "quote" or run(["sqlite3", "--version"]).startswith(SQLITE + " "):
+        if name == "quote" or (name == "mode_insert" and run(["sqlite3", "--version"]).startswith(SQLITE + " ")):
             yield (folder / "given").read_bytes().decode(), case(f"sqlite_by_{name}.sql")
         yield run(rows, folder=folder), wanted
 

@@ -13,15 +13,16 @@
  * Boxes. A box is 2 * axes numbers: first the minimum on each axis, then the maximum on each (minx, miny, maxx, maxy).
  * Both ends belong to it. A row's box has no minimum above its maximum; a window that has one has no point. A point is a
  * number for each axis. Many rows are a list of ids and a list of their boxes, one after another in the same order.
- * Lengths count the numbers, ids or bytes that a pointer leads to: 2 * axes for a box, axes for a point, and for a list of
- * boxes 2 * axes for each id that its list of ids has room for. With another length the call answers BAD_LENGTH.
+ * Lengths count the numbers, ids or bytes that a pointer leads to: 2 * axes for a box, axes for a point, and as many for
+ * each box or point of a list, which has one for each id, start or count that the call's other list has room for. With
+ * another length the call answers BAD_LENGTH.
  * Relations. A window finds the rows that touch it, lie within it or hold it, as juicedelta_relation says. A window without
  * a point touches no row and has none within it, and each row holds it.
  *
  * Answers. Each call answers JUICEDELTA_OK, or the first code of its comment that applies. No call ends the process. A call
  * that answers another code than OK changes neither an object nor an output argument, but BUFFER_TOO_SMALL writes `total`;
- * where a call does more, its comment says so. Pointers are never NULL, not even to a list of length 0. What two pointers
- * of a call lead to does not overlap. No call keeps a pointer.
+ * where a call does more, its comment says so. Pointers are never NULL, not even to a list of length 0. What a pointer of a
+ * call leads to does not overlap what it writes through another. No call keeps a pointer.
  *
  * Threads. No call that writes may overlap another call on the same handle; calls that read (a const handle) may overlap
  * each other. What orders writers and readers (a lock, a join, an atomic) is the caller's. Each thread has its own buffers.
@@ -54,7 +55,9 @@ typedef enum juicedelta_code {
     JUICEDELTA_BAD_DUMP = 13,        /* the text is not the dump of a sound tree */
     JUICEDELTA_BAD_LENGTH = 14,      /* a box, a point or a list has a wrong length */
     JUICEDELTA_BAD_AXES = 15,        /* a tree has one, two or three axes */
-    JUICEDELTA_BAD_RELATION = 16     /* a relation is touches, within or holds */
+    JUICEDELTA_BAD_RELATION = 16,    /* a relation is touches, within or holds */
+    JUICEDELTA_EMPTY = 17,           /* the tree has no rows */
+    JUICEDELTA_BAD_BYTES = 18        /* the bytes are not those of a sound tree */
 } juicedelta_code;
 
 /* Which rows a window finds. */
@@ -95,12 +98,27 @@ int32_t juicedelta_close(juicedelta_handle *handle);
  * ALREADY_OPEN, BAD_AXES, BAD_CAPACITY, OUT_OF_MEMORY. */
 int32_t juicedelta_tree_open(juicedelta_handle *handle, uint32_t axes, uint32_t capacity, uint64_t first_key,
                              uint64_t second_key);
+/* Opens a tree with these rows, packed all at once. BAD_BOX and ID_TAKEN write the place, from 0, of the first row that is
+ * refused so to `at`: the first with a bad box, or the first whose id an earlier row has.
+ * ALREADY_OPEN, BAD_AXES, BAD_CAPACITY, BAD_LENGTH, BAD_BOX, TREE_FULL, ID_TAKEN, OUT_OF_MEMORY. */
+int32_t juicedelta_tree_open_rows(juicedelta_handle *handle, uint32_t axes, uint32_t capacity, const int64_t *ids,
+                                  size_t ids_length, const int32_t *boxes, size_t boxes_length, uint64_t first_key,
+                                  uint64_t second_key, uint64_t *at);
 /* Opens a tree with a dump's capacity and rows, inserted in ascending order of ids, so its own dump may differ. A dump is
  * bad too if `rtsh check` finds a problem. ALREADY_OPEN, BAD_AXES; BAD_DUMP, TREE_FULL or OUT_OF_MEMORY as they are met. */
 int32_t juicedelta_tree_open_dump(juicedelta_handle *handle, uint32_t axes, const uint8_t *text, size_t length,
                                   uint64_t first_key, uint64_t second_key);
+/* Opens the tree that juicedelta_tree_to_bytes wrote. ALREADY_OPEN, BAD_AXES; BAD_BYTES, TREE_FULL or OUT_OF_MEMORY as they
+ * are met. */
+int32_t juicedelta_tree_open_bytes(juicedelta_handle *handle, uint32_t axes, const uint8_t *bytes, size_t length,
+                                   uint64_t first_key, uint64_t second_key);
 /* Inserts a row. BAD_LENGTH, BAD_BOX, ID_TAKEN, TREE_FULL, OUT_OF_MEMORY. */
 int32_t juicedelta_tree_insert(juicedelta_handle *handle, int64_t id, const int32_t *box, size_t length);
+/* Inserts all rows, in their order, or none. BAD_BOX and ID_TAKEN write the place, from 0, of the first row that is refused
+ * so to `at`: the first with a bad box, or the first whose id the tree or an earlier row has.
+ * BAD_LENGTH, BAD_BOX, ID_TAKEN, TREE_FULL, OUT_OF_MEMORY. */
+int32_t juicedelta_tree_insert_rows(juicedelta_handle *handle, const int64_t *ids, size_t ids_length, const int32_t *boxes,
+                                    size_t boxes_length, uint64_t *at);
 /* Gives a row another box; nothing changes if it is the same. BAD_LENGTH, BAD_BOX, ID_MISSING, OUT_OF_MEMORY. */
 int32_t juicedelta_tree_move(juicedelta_handle *handle, int64_t id, const int32_t *box, size_t length);
 /* Removes a row. It needs no memory. ID_MISSING. */
@@ -114,9 +132,22 @@ int32_t juicedelta_tree_axes(const juicedelta_handle *handle, uint32_t *axes);
 int32_t juicedelta_tree_len(const juicedelta_handle *handle, uint64_t *rows);
 /* Tells a row's box. BAD_LENGTH, ID_MISSING. */
 int32_t juicedelta_tree_get(const juicedelta_handle *handle, int64_t id, int32_t *box, size_t length);
+/* Tells the least box that holds each row's. BAD_LENGTH, EMPTY. */
+int32_t juicedelta_tree_bounds(const juicedelta_handle *handle, int32_t *box, size_t length);
+/* Writes the ids of the rows from place `from` on, as many as there are or the list has room for, and tells how many rows
+ * the tree has. The order of places stays until the tree changes. From a place past the last it writes none. */
+int32_t juicedelta_tree_ids(const juicedelta_handle *handle, uint64_t from, int64_t *ids, size_t ids_length,
+                            uint64_t *total);
+/* As juicedelta_tree_ids, and writes the boxes of these rows. BAD_LENGTH. */
+int32_t juicedelta_tree_rows(const juicedelta_handle *handle, uint64_t from, int64_t *ids, size_t ids_length,
+                             int32_t *boxes, size_t boxes_length, uint64_t *total);
 /* Tells how many rows the window finds. BAD_RELATION, BAD_LENGTH, OUT_OF_MEMORY. */
 int32_t juicedelta_tree_count(const juicedelta_handle *handle, uint32_t relation, const int32_t *window, size_t length,
                               uint64_t *total);
+/* As juicedelta_tree_count, of each window of a list; counts[i] is that of window i. BAD_RELATION, BAD_LENGTH,
+ * OUT_OF_MEMORY. */
+int32_t juicedelta_tree_count_many(const juicedelta_handle *handle, uint32_t relation, const int32_t *windows,
+                                   size_t windows_length, uint64_t *counts, size_t counts_length);
 /* Writes the ids of the rows that the window finds to the start of `ids`, each once, in no stated order, and how many there
  * are. BAD_RELATION, BAD_LENGTH, OUT_OF_MEMORY, BUFFER_TOO_SMALL. */
 int32_t juicedelta_tree_search(const juicedelta_handle *handle, uint32_t relation, const int32_t *window, size_t length,
@@ -124,10 +155,40 @@ int32_t juicedelta_tree_search(const juicedelta_handle *handle, uint32_t relatio
 /* As juicedelta_tree_search, and writes the boxes of these rows. */
 int32_t juicedelta_tree_search_rows(const juicedelta_handle *handle, uint32_t relation, const int32_t *window, size_t length,
                                     int64_t *ids, size_t ids_length, int32_t *boxes, size_t boxes_length, uint64_t *total);
+/* As juicedelta_tree_search, of each window of a list: the ids that window i finds stand from starts[i] to starts[i + 1],
+ * those of the last window to `total`. BAD_RELATION, BAD_LENGTH, OUT_OF_MEMORY, BUFFER_TOO_SMALL. */
+int32_t juicedelta_tree_search_many(const juicedelta_handle *handle, uint32_t relation, const int32_t *windows,
+                                    size_t windows_length, uint64_t *starts, size_t starts_length, int64_t *ids,
+                                    size_t ids_length, uint64_t *total);
 /* Writes the `ids_length` rows nearest to the point, or all if there are fewer, and how many it wrote: the nearest first, of
  * two equally near that with the lower id. The distance is that to the box, 0 inside of it. BAD_LENGTH, OUT_OF_MEMORY. */
 int32_t juicedelta_tree_nearest(const juicedelta_handle *handle, const int32_t *point, size_t length,
                                 int64_t *ids, size_t ids_length, int32_t *boxes, size_t boxes_length, uint64_t *total);
+/* As juicedelta_tree_nearest, of the rows within the distance alone: the squared distance is at most its square.
+ * BAD_LENGTH, OUT_OF_MEMORY. */
+int32_t juicedelta_tree_within(const juicedelta_handle *handle, const int32_t *point, size_t length, uint64_t distance,
+                               int64_t *ids, size_t ids_length, int32_t *boxes, size_t boxes_length, uint64_t *total);
+/* As juicedelta_tree_nearest, of the rows nearest to a box: the distance is the least between points of both.
+ * BAD_LENGTH, BAD_BOX, OUT_OF_MEMORY. */
+int32_t juicedelta_tree_nearest_to(const juicedelta_handle *handle, const int32_t *box, size_t length,
+                                   int64_t *ids, size_t ids_length, int32_t *boxes, size_t boxes_length, uint64_t *total);
+/* Writes the ids of the `k` rows nearest to each point of a list, in the order of juicedelta_tree_nearest. `starts` tells
+ * where those of each point stand, as for juicedelta_tree_search_many. BAD_LENGTH, OUT_OF_MEMORY, BUFFER_TOO_SMALL. */
+int32_t juicedelta_tree_nearest_many(const juicedelta_handle *handle, const int32_t *points, size_t points_length,
+                                     uint64_t k, uint64_t *starts, size_t starts_length, int64_t *ids, size_t ids_length,
+                                     uint64_t *total);
+/* Writes each pair of rows, one of each tree, whose boxes touch, once, in no stated order: its ids to the same place of two
+ * lists of one length; and tells how many there are. The codes of both handles come first. The handles may be the same.
+ * BAD_AXES: the trees' axes differ. BAD_LENGTH, OUT_OF_MEMORY, BUFFER_TOO_SMALL. */
+int32_t juicedelta_tree_join(const juicedelta_handle *left, const juicedelta_handle *right, int64_t *left_ids,
+                             size_t left_length, int64_t *right_ids, size_t right_length, uint64_t *total);
+/* As juicedelta_tree_join, of each pair of two different rows of one tree; the lower id is on the left. BAD_LENGTH,
+ * OUT_OF_MEMORY, BUFFER_TOO_SMALL. */
+int32_t juicedelta_tree_join_self(const juicedelta_handle *handle, int64_t *left_ids, size_t left_length,
+                                  int64_t *right_ids, size_t right_length, uint64_t *total);
+/* Writes the tree in a compact form, from which juicedelta_tree_open_bytes makes the same tree, and the form's length.
+ * OUT_OF_MEMORY, BUFFER_TOO_SMALL. */
+int32_t juicedelta_tree_to_bytes(const juicedelta_handle *handle, uint8_t *bytes, size_t length, uint64_t *total);
 /* Writes the dump, as `.nodes` prints it, with no zero byte behind it, and its length. OUT_OF_MEMORY, BUFFER_TOO_SMALL. */
 int32_t juicedelta_tree_dump(const juicedelta_handle *handle, uint8_t *text, size_t length, uint64_t *total);
 

@@ -5,9 +5,11 @@
 #include <atomic>
 #include <cstdio>
 #include <cstdlib>
+#include <limits>
 #include <malloc.h>
 #include <new>
 #include <numeric>
+#include <set>
 #include <thread>
 #include <type_traits>
 #include <unistd.h>
@@ -58,6 +60,17 @@ template <class Call> static juicedelta_code refused(Call call)
         return error.code();
     }
     return JUICEDELTA_OK;
+}
+
+// The code, and the place that the error tells, or -1.
+template <class Call> static std::pair<juicedelta_code, int> refused_at(Call call)
+{
+    try {
+        call();
+    } catch (const juicedelta::Error &error) {
+        return {error.code(), error.at() ? int(*error.at()) : -1};
+    }
+    return {JUICEDELTA_OK, -1};
 }
 
 template <int D> static juicedelta::Box<D> cube(std::int32_t min, std::int32_t max)
@@ -148,10 +161,123 @@ template <int D> static void relations()
     CHECK(found(tree, cube<D>(1, 0), Relation::holds).size() == 100);
 }
 
+template <int D> static bool touch(const juicedelta::Box<D> &one, const juicedelta::Box<D> &other)
+{
+    for (int axis = 0; axis < D; axis++)
+        if (one.min[axis] > other.max[axis] || other.min[axis] > one.max[axis])
+            return false;
+    return true;
+}
+
+static Ids sorted(Ids ids) { return std::sort(ids.begin(), ids.end()), ids; }
+
+// Calls for many rows, windows and points beside those for one, and beside loops.
+template <int D> static void many_rows()
+{
+    std::vector<juicedelta::Row<D>> rows;
+    std::vector<juicedelta::Box<D>> windows;
+    std::vector<juicedelta::Point<D>> points;
+    int last = 0;
+    for (int id = 0; id < 1500; id++) {
+        int at = id * 7919 % 15000;
+        rows.push_back({id, cube<D>(at, at + id % 30)});
+        last = std::max(last, at + id % 30);
+        if (id % 50 == 0) {
+            windows.push_back(cube<D>(at, at + 400));
+            points.push_back({windows.back().min});
+        }
+    }
+    Tree<D> tree = Tree<D>::from_rows(rows.begin(), rows.begin() + 1000, 8);
+    tree.insert_rows(std::vector<juicedelta::Row<D>>(rows.begin() + 1000, rows.end()));
+    CHECK(tree.size() == 1500 && !tree.empty() && *tree.bounds() == cube<D>(0, last) && !Tree<D>().bounds());
+    std::vector<juicedelta::Row<D>> read(tree.rows().begin(), tree.rows().end());
+    std::sort(read.begin(), read.end(), [](auto &one, auto &other) { return one.id < other.id; });
+    CHECK(read == rows && Tree<D>().rows().begin() == Tree<D>().rows().end() && Tree<D>().empty());
+    auto found = tree.search_many(windows, Relation::within);
+    auto counts = tree.count_many(windows, Relation::within);
+    auto nearest = tree.nearest_many(points, 3);
+    CHECK(found.size() == 30 && counts.size() == 30 && nearest.size() == 30);
+    for (std::size_t place = 0; place < windows.size(); place++) {
+        Ids own(found[place].begin(), found[place].end()), to;
+        CHECK(sorted(own) == sorted(tree.search(windows[place], Relation::within)) && own.size() == counts[place]);
+        tree.search_to(std::back_inserter(to), windows[place], Relation::within);
+        CHECK(sorted(to) == sorted(own) && found[place].empty() == own.empty() && nearest[place].size() == 3);
+        auto first = tree.nearest(points[place], 3), box = tree.nearest_to({points[place].at, points[place].at}, 3);
+        CHECK(first == box && first[0].id == *nearest[place].begin() && first[2].id == *(nearest[place].end() - 1));
+        auto within = tree.within(points[place], 2000);
+        CHECK(within == tree.nearest(points[place], within.size()));
+        CHECK(within.size() == 1500 || tree.nearest(points[place], within.size() + 1) != within);
+    }
+    CHECK(tree.search_many(std::vector<juicedelta::Box<D>>()).size() == 0 && tree.count_many(std::vector<juicedelta::Box<D>>()).empty());
+    CHECK(tree.within({cube<D>(0, 0).min}, 0).size() == 1 && tree.within({cube<D>(0, 0).min}, UINT64_MAX).size() == 1500);
+    auto half = Tree<D>::from_rows(rows.begin(), rows.begin() + 300);
+    Ids pairs, wanted, own;
+    for (auto [left, right] : half.join(tree))
+        pairs.push_back(left * 10000 + right);
+    for (auto [left, right] : half.join())
+        own.push_back(left * 10000 + right);
+    for (int left = 0; left < 300; left++)
+        for (int right = 0; right < 1500; right++)
+            if (touch(rows[left].box, rows[right].box))
+                wanted.push_back(left * 10000 + right);
+    CHECK(sorted(pairs) == wanted);
+    auto is_other = [](auto it) { return it % 10000 >= 300 || it / 10000 >= it % 10000; };
+    wanted.erase(std::remove_if(wanted.begin(), wanted.end(), is_other), wanted.end());
+    CHECK(sorted(own) == wanted);
+    auto same = Tree<D>::from_bytes(tree.to_bytes());
+    CHECK(same.size() == 1500 && same.dump() == tree.dump() && *same.get(77) == rows[77].box);
+}
+
+// The least box of whole numbers, by the definition.
+static void grids()
+{
+    const double origins[] = {0, -1e6, 0.3, 1e9};
+    for (double scale : {1.0, 1e7, 1 / 3.0, 0.1})
+        for (double origin : origins) {
+            if (scale * origin > 1e14)
+                continue;
+            juicedelta::Grid grid(scale, {origin, -origin, origin});
+            auto back = [&](double k, int axis) { return (axis % 2 ? -origin : origin) + k / scale; };
+            for (int turn = 0; turn < 500; turn++) {
+                juicedelta::FloatBox<3> box;
+                for (int axis = 0; axis < 3; axis++) {
+                    box.min[axis] = back(turn * 4000037 - 1000000000, axis) + (turn % 3 ? turn / 500.0 / scale : 0);
+                    box.max[axis] = box.min[axis] + (turn % 5 ? turn / 100.0 / scale : 0);
+                }
+                auto whole = grid.box(box);
+                auto floats = grid.floats(whole);
+                for (int axis = 0; axis < 3; axis++) {
+                    CHECK(floats.min[axis] == back(whole.min[axis], axis) && floats.max[axis] == back(whole.max[axis], axis));
+                    CHECK(floats.min[axis] <= box.min[axis] && box.min[axis] < back(whole.min[axis] + 1.0, axis));
+                    CHECK(floats.max[axis] >= box.max[axis] && box.max[axis] > back(whole.max[axis] - 1.0, axis));
+                }
+                CHECK(grid.box(floats) == whole && grid.point<3>({floats.min}).at == whole.min);
+            }
+        }
+    juicedelta::Grid degrees(1e7);
+    CHECK((degrees.box<2>({{13.405, 52.52}, {13.40500001, 52.52}}) == juicedelta::Box<2>{{134050000, 525200000}, {134050001, 525200000}}));
+    const double nan = std::numeric_limits<double>::quiet_NaN(), most = std::numeric_limits<double>::infinity();
+    auto is_refused = [](auto call) {
+        try {
+            call();
+        } catch (const std::logic_error &) {
+            return true;
+        }
+        return false;
+    };
+    const double wrong[][2] = {{nan, 0}, {0, nan}, {-300, 0}, {0, 300}, {-most, 0}, {0, most}, {1, 0}};
+    for (auto [min, max] : wrong)
+        CHECK(is_refused([&] { degrees.box<1>({{min}, {max}}); }));
+    CHECK(is_refused([&] { degrees.point<1>({{nan}}); }) && is_refused([&] { degrees.point<1>({{214.8}}); }));
+    for (double scale : {0.0, -1.0, nan, most})
+        CHECK(is_refused([&] { juicedelta::Grid grid(scale); }));
+    CHECK(is_refused([&] { juicedelta::Grid grid(1, 1e15); }) && is_refused([&] { juicedelta::Grid grid(1, nan); }));
+}
+
 // Each code once, but OUT_OF_MEMORY and ENDED.
 static void codes()
 {
-    using juicedelta::check;
+    using juicedelta::detail::check;
     Tree<2> tree, moved = std::move(tree);
     Shell shell;
     juicedelta::Box<2> box = {{0, 0}, {1, 1}};
@@ -178,7 +304,21 @@ static void codes()
     CHECK(refused([&] { moved.count(box, static_cast<Relation>(3)); }) == JUICEDELTA_BAD_RELATION);
     CHECK(std::string(juicedelta::Error(JUICEDELTA_ID_TAKEN).what()) == "the id is taken");
     CHECK(std::string(juicedelta::Error(JUICEDELTA_BAD_RELATION).what()) == "a relation is touches, within or holds");
-    CHECK(std::string(juicedelta::Error(JUICEDELTA_BAD_RELATION + 1).what()) == "unknown code");
+    CHECK(std::string(juicedelta::Error(JUICEDELTA_BAD_BYTES + 1).what()) == "unknown code");
+    // Many rows: the place of the one that is refused.
+    using Rows = std::vector<juicedelta::Row<2>>;
+    const Rows bad = {{5, box}, {6, {{0, 2}, {1, 1}}}}, taken = {{5, box}, {6, box}, {5, box}};
+    CHECK(refused_at([&] { Tree<2>::from_rows(bad); }) == std::pair(JUICEDELTA_BAD_BOX, 1));
+    CHECK(refused_at([&] { moved.insert_rows(bad); }) == std::pair(JUICEDELTA_BAD_BOX, 1));
+    CHECK(refused_at([&] { Tree<2>::from_rows(taken); }) == std::pair(JUICEDELTA_ID_TAKEN, 2));
+    CHECK(refused_at([&] { moved.insert_rows(taken); }) == std::pair(JUICEDELTA_ID_TAKEN, 2));
+    CHECK(refused_at([&] { moved.insert(1, box); }) == std::pair(JUICEDELTA_ID_TAKEN, -1));
+    CHECK(refused([&] { Tree<2>::from_rows(taken, 4); }) == JUICEDELTA_BAD_CAPACITY);
+    CHECK(refused([&] { check(juicedelta_tree_bounds(Tree<1>().handle(), ends, 2)); }) == JUICEDELTA_EMPTY);
+    CHECK(refused([&] { Tree<2>::from_bytes("none"); }) == JUICEDELTA_BAD_BYTES);
+    CHECK(refused([&] { Tree<3>::from_bytes(moved.to_bytes()); }) == JUICEDELTA_BAD_BYTES);
+    CHECK(refused([&] { moved.nearest_to({{0, 2}, {1, 1}}); }) == JUICEDELTA_BAD_BOX);
+    CHECK(refused([&] { tree.join(moved); }) == JUICEDELTA_CLOSED && refused([&] { moved.join(tree); }) == JUICEDELTA_CLOSED);
     CHECK(juicedelta::version() == JUICEDELTA_VERSION_NUMBER);
     CHECK(moved.size() == 1);
 }
@@ -226,6 +366,11 @@ static void results()
         before = allocations;
         CHECK(tree.nearest({{5000}}, rows).size() == ids.size() && allocations - before == (rows > 0));
     }
+    auto rows = tree.rows();
+    Ids ids;
+    for (auto &row : rows)
+        ids.push_back(row.id);
+    CHECK(ids.size() == 10000 && std::set<std::int64_t>(ids.begin(), ids.end()).size() == 10000);
     when_allocating = [] { CHECK(finds(tree, 100, 199)); };
     CHECK(finds(tree, 500, 599) && !when_allocating);
     std::size_t before = held;
@@ -330,6 +475,10 @@ int main(int count, char **)
         relations<1>();
         relations<2>();
         relations<3>();
+        many_rows<1>();
+        many_rows<2>();
+        many_rows<3>();
+        grids();
         codes();
         results();
         refusals(2, [](const Tree<1> &tree) { tree.search({{0}, {999}}); });

@@ -19,7 +19,9 @@ from concurrent.futures import ProcessPoolExecutor
 
 sys.path.insert(0, os.path.dirname(os.path.abspath(__file__)))
 import juicedelta  # noqa: E402
-from juicedelta import Change, Item, JuicedeltaError, RTree, Shell, StatementRefused, _calls, _owner, _trees  # noqa: E402
+from juicedelta import (  # noqa: E402
+    BadValue, Change, Item, JuicedeltaError, MissingId, NoMemory, RTree, Shell, StatementRefused, _calls, _many, _owner, _trees,
+)
 
 
 def refused(call, *words):
@@ -117,7 +119,7 @@ def test_random(dimension, capacity, turns):
 def test_codes():
     """Each code, but 11 and 9; the package has no way to 2, 3, 8, 12, 14, 15 and 16, so they are tried below it."""
     tree, closed, shell, total = RTree(), RTree(), Shell(), ctypes.c_uint64()
-    box = _trees._packed(tree._form.box, (0, 0, 1, 1))
+    box = tree._form.packed((0, 0, 1, 1))
     ids, handle, to = array.array("q", [0]), ctypes.byref(_calls.Handle()), ctypes.byref(total)
     tree.insert(1, (0, 0, 1, 1))
     closed.close()
@@ -128,15 +130,35 @@ def test_codes():
     assert _calls.tree_open(tree._at, 2, 51, 1, 2) == 3
     assert refused(tree.insert, 2, (0, 2, 1, 1)) == refused(tree.move, 1, (0, 2, 1, 1)) == 5
     assert refused(tree.insert, 1, (0, 0, 1, 1)) == 6
+    raised(KeyError, "no row has that id", tree.delete, 2)
+    raised(KeyError, "no row has that id", tree.object, 2)
+    raised(ValueError, "the id is taken", tree.insert, 1, (0, 0, 1, 1))
+    assert issubclass(MissingId, KeyError) and issubclass(NoMemory, MemoryError) and issubclass(BadValue, ValueError)
     assert refused(tree.delete, 2) == refused(tree.delete, 2, (0, 0, 1, 1)) == refused(tree.move, 2, (0, 0, 1, 1)) == 7
     assert _calls.tree_search(tree._at, 0, box, 4, ids.buffer_info()[0], 0, to) == 8
     assert refused(RTree.from_dump, "rtree 2 5 1 0\n") == 13
     assert _calls.tree_insert(tree._at, 2, box, 3) == _calls.tree_count(tree._at, 0, box, 2, to) == 14
     assert _calls.tree_open(handle, 4, 51, 1, 2) == _calls.tree_open_dump(handle, 0, b"", 0, 1, 2) == 15
     assert _calls.tree_count(tree._at, 3, box, 4, to) == 16
-    words = [str(JuicedeltaError(code)) for code in range(1, 17)]
+    words = [str(JuicedeltaError(code)) for code in range(1, 19)]
     assert words[2] == "an object is held already" and words[11] == "the script is longer than 2^63 bytes"
-    assert len(set(words)) == 16 and "unknown code" not in words and str(JuicedeltaError(17)) == "unknown code"
+    assert len(set(words)) == 18 and "unknown code" not in words and str(JuicedeltaError(19)) == "unknown code"
+    # Each call for many rows, and where the refused row is.
+    one, two, closed, empty = [(0, 0, 1, 1)], [(0, 0, 1, 1), (0, 2, 1, 1)], RTree(), RTree()
+    closed.close()
+    for call in (closed.join, closed.columns, closed.to_bytes, lambda: closed.bounds, lambda: closed.insert_many([1], one)):
+        assert refused(call) == 1
+    assert _calls.tree_bounds(shell._at, ids.buffer_info()[0], 1) == 2
+    assert refused(RTree.from_rows, [], [], 2, 52) == 4
+    for call in (lambda *rows: RTree.from_rows(*rows), RTree().insert_many):
+        assert raised(BadValue, "min is above max, at place 1", call, [5, 6], two).at == 1
+        assert raised(BadValue, "taken, at place 2", call, [5, 6, 5], one * 3).at == 2
+        assert refused(call, [5, 6], one) == 14
+    assert raised(BadValue, "", tree.insert_many, [9, 1], one * 2).at == 1 and 9 not in tree
+    assert refused(tree.nearest, (0, 2, 1, 1)) == 5 and refused(tree.intersection_many, array.array("i", [1])) == 14
+    assert refused(RTree(3).join, tree) == 15 and empty.bounds is None and _calls.tree_bounds(empty._at, ids.buffer_info()[0], 4) == 17
+    assert refused(RTree.from_bytes, b"none") == refused(RTree.from_bytes, tree.to_bytes(), 3) == 18
+    assert _calls.tree_search_many(tree._at, 0, ids.buffer_info()[0], 0, to, 1, ids.buffer_info()[0], 0, to) == 14
     raised(ValueError, "not (0, 0, 1, 2)", tree.delete, 1, (0, 0, 1, 2))
     for relation in ("inside", "", None, 1):
         raised(ValueError, "'touches', 'within' or 'holds'", tree.count, (0, 0, 1, 1), relation)
@@ -190,13 +212,15 @@ def test_options():
 
 
 def test_owners():
-    """No object shares a handle: none is copied or pickled, and one that is made anew closes the old."""
+    """No object shares a handle: a tree is copied and pickled by its bytes, a shell is not, and one that is made anew closes the old."""
     tree, shell = RTree(), Shell()
     tree.insert(1, (0, 0, 1, 1))
     shell.execute("CREATE VIRTUAL TABLE t USING rtree_i32(id, a, b); INSERT INTO t VALUES (1, 2, 3); SELECT")
-    ways = [copy.copy, copy.deepcopy] + [lambda it, p=p: pickle.dumps(it, p) for p in range(pickle.HIGHEST_PROTOCOL + 1)]
+    ways = [copy.copy, copy.deepcopy] + [lambda it, p=p: pickle.loads(pickle.dumps(it, p)) for p in range(pickle.HIGHEST_PROTOCOL + 1)]
     for way in ways:
-        raised(TypeError, "RTree objects can't be copied or pickled", way, tree)
+        other = way(tree)
+        other.insert(2, (5, 5, 6, 6))
+        assert sorted(other.rows()) == [(1, (0, 0, 1, 1)), (2, (5, 5, 6, 6))] and list(tree) == [1]
         raised(TypeError, "Shell objects can't be copied or pickled", way, shell)
     assert refused(tree.__init__, 2, 52) == 4 and list(tree) == [1] and shell.execute(" * FROM t;") == ["1|2|3"]
     close, answers = _calls.close, []
@@ -217,7 +241,7 @@ def test_owners():
 
 def fails(code):
     if code:
-        raise JuicedeltaError(code)
+        raise MissingId(code) if code == 7 else BadValue(code, 3)
     Shell().rows("CREATE VIRTUAL TABLE t USING rtree_i32(id, a, b); SELECT c FROM t;")
 
 
@@ -225,12 +249,14 @@ def test_errors():
     """Errors keep their numbers and words where they are copied, and on their way from another process."""
 
     def is_whole(error):
-        if isinstance(error, JuicedeltaError):
-            return (error.code, str(error)) == (7, "no row has that id")
+        if isinstance(error, MissingId):
+            return (error.code, error.at, str(error)) == (7, None, "no row has that id")
+        if isinstance(error, BadValue):
+            return (error.code, error.at, str(error)) == (6, 3, "the id is taken, at place 3")
         return (error.statement, error.number, error.words, str(error)) == (2, 8, "no such column", "no such column")
 
     with ProcessPoolExecutor(1) as executor, multiprocessing.Pool(1) as pool:
-        for code, kind in ((7, JuicedeltaError), (0, StatementRefused)):
+        for code, kind in ((7, MissingId), (6, BadValue), (0, StatementRefused)):
             error = raised(kind, "", fails, code)
             pickled = [pickle.loads(pickle.dumps(error, protocol)) for protocol in range(pickle.HIGHEST_PROTOCOL + 1)]
             for it in [error, copy.copy(error), copy.deepcopy(error), *pickled]:
@@ -270,12 +296,22 @@ def test_order():
         "tree_search": lambda tree: tree.intersection(box), "tree_search_rows": lambda tree: tree.contains(box, True),
         "tree_count": lambda tree: tree.count(box), "tree_get": lambda tree: tree.box(1), "tree_len": len,
         "tree_nearest": lambda tree: tree.nearest((0, 0)), "tree_dump": lambda tree: tree.dump(),
+        "tree_within": lambda tree: tree.within((0, 0), 1), "tree_rows": lambda tree: tree.columns(), "tree_bounds": lambda tree: tree.bounds,
+        "tree_join": lambda tree: tree.join(tree), "tree_search_many": lambda tree: tree.intersection_many([box]),
+        "tree_count_many": lambda tree: tree.count_many([box]), "tree_to_bytes": lambda tree: tree.to_bytes(),
     }
     writes = {
         "tree_insert": lambda tree: tree.insert(2, box), "tree_move": lambda tree: tree.move(1, box), "close": lambda tree: tree.close(),
-        "tree_remove": lambda tree: tree.delete(1), "tree_clear": lambda tree: tree.clear(),
+        "tree_insert_rows": lambda tree: tree.insert_many([2], [box]), "tree_remove": lambda tree: tree.delete(1),
+        "tree_clear": lambda tree: tree.clear(),
     }
-    calls = {name: getattr(_trees, name) for name in (*reads, *writes)}
+    calls = {name: getattr(_calls, name) for name in (*reads, *writes)}
+
+    def put(name, call):
+        for module in (_trees, _many):
+            if hasattr(module, name):
+                setattr(module, name, call)
+
     for name in reads:
         assert not calls[name]._flags_ & ctypes._FUNCFLAG_PYTHONAPI
 
@@ -293,11 +329,11 @@ def test_order():
             said.append("write")
             return calls[write](*words)
 
-        setattr(_trees, read, reads_slowly)
+        put(read, reads_slowly)
         readers = started(lambda: reads[read](tree), lambda: reads[read](tree))
         inside.wait(60)
-        setattr(_trees, read, calls[read])
-        setattr(_trees, write, writes_now)
+        put(read, calls[read])
+        put(write, writes_now)
         writer = started(lambda: writes[write](tree))
         for _ in range(5000):
             if not tree._guard.writes:
@@ -309,7 +345,7 @@ def test_order():
         for it in (readers, writer, late):
             joined(*it)
         assert said == ["read", "read", "write", 1 if write == "close" else 7 if (read, write) == ("tree_get", "tree_remove") else 0]
-        setattr(_trees, write, calls[write])
+        put(write, calls[write])
         assert not tree._guard.reads and not tree._guard.writes
 
     for read in reads:
@@ -320,9 +356,9 @@ def test_order():
     tree.insert(1, box)
     for name, call in {**reads, **writes}.items():
         if name != "close":
-            setattr(_trees, name, lambda *words: 1 // 0)
+            put(name, lambda *words: 1 // 0)
             raised(ZeroDivisionError, "", call, tree)
-            setattr(_trees, name, calls[name])
+            put(name, calls[name])
             joined(*started(lambda: tree.move(1, (0, 0, 2, 2)), lambda: tree.move(1, box)))
             assert len(tree) == 1 and list(tree.intersection((2, 2, 2, 2))) in ([], [1])
 
@@ -572,7 +608,7 @@ def test_version():
 
 def test_memory():
     tree = RTree()
-    packed = _trees._packed(tree._form.box, (0, 0, 1, 1))
+    packed = tree._form.packed((0, 0, 1, 1))
     os.write(2, b"<")
     code = _calls.tree_insert(tree._at, 1, packed, 4)
     os.write(2, b">")
@@ -596,7 +632,7 @@ def main(words):
         test()
     for test in (test_many_rows, test_random_changes, test_version, test_million):
         test()
-    if doctest.testmod(juicedelta) != (0, 15):
+    if doctest.testmod(juicedelta) != (0, 23):
         raise SystemExit("a doctest fails, or isn't found")
 
 

@@ -1,9 +1,29 @@
 """A program with each call, for `mypy --strict`: an answer has the type that is written, and an `ignore` hides an error."""
 
-from typing import Iterator, List, Tuple, Union
+import array
+import copy
+import sqlite3
+from typing import Any, Iterator, List, Optional, Tuple, Union
 
 import juicedelta
-from juicedelta import Change, Item, JuicedeltaError, Relation, RTree, Shell, StatementRefused, Value
+from juicedelta import (
+    BadValue,
+    Change,
+    Columns,
+    Grid,
+    Item,
+    JuicedeltaError,
+    Many,
+    MissingId,
+    NoMemory,
+    Pairs,
+    Relation,
+    RTree,
+    Shell,
+    StatementRefused,
+    Value,
+)
+from juicedelta.dask import Plane
 
 
 class Id:
@@ -49,6 +69,44 @@ def trees(either: bool) -> None:
     print(number, list(ids), list(both), there, all_ids)
 
 
+def many_rows() -> None:
+    ids, boxes = array.array("q", [1, 2]), [(0, 0, 1, 1), (5, 5, 6, 6)]
+    tree: RTree = RTree.from_rows(ids, boxes, 2, 51, objects=["one", None])
+    other: RTree = RTree.from_items([(1, boxes[0], "one"), (2, boxes[1])], dimension=2)
+    tree.insert(3, boxes[1], "three")
+    tree.insert(4, boxes[1], obj=4)
+    tree.insert_many(range(5, 7), boxes, objects=[5, 6])
+    columns: Columns = tree.columns()
+    numbers: "array.array[int]" = columns.ids
+    rows: Iterator[Item] = tree.rows(part=100)
+    it: Any = next(rows).object or tree.object(3)
+    box: Optional[Tuple[Any, ...]] = tree.bounds
+    many: Many = tree.intersection_many(boxes, "within")
+    many = tree.nearest_many([(0, 0)], 2)
+    numbers += many.ids + many.starts + tree.count_many(memoryview(array.array("i", boxes[0])), relation="holds")
+    pairs: Pairs = tree.join(other)
+    left: "array.array[int]" = tree.join().left + pairs.right
+    near: Iterator[int] = tree.within((0, 0), 5.5)
+    near = tree.nearest((0, 0, 1, 1), 2)
+    rows = tree.within((0, 0), 5, objects=True)
+    data: bytes = tree.to_bytes()
+    with RTree.from_bytes(data, 2) as read:
+        text: str = repr(copy.copy(read))
+    print(columns.boxes, it, box, left, list(near), list(rows), text)
+
+
+def floats() -> None:
+    grid = Grid(10_000_000, (0, 0))
+    whole: Tuple[int, ...] = grid.box((0, 0.5, 1, 1)) + grid.point((0.5, 0))
+    back: Tuple[float, ...] = grid.floats(whole[:4]) + grid.origin + (grid.scale,)
+    tree = RTree(grid=grid, interleaved=False)
+    tree.insert(1, (0.5, 1.5, 2, 3))
+    box: Tuple[float, ...] = tree.box(1)
+    read: RTree = RTree.from_sqlite(sqlite3.connect(":memory:"), "t", 51, grid=grid) if not tree else tree
+    read.to_sqlite(sqlite3.connect(":memory:"), "t", ["name"])
+    print(back, box, list(tree.nearest((0.5, 0.5))), RTree.from_bytes(tree.to_bytes(), grid=grid, interleaved=False))
+
+
 def shells() -> None:
     shell = Shell(capacity=51)
     lines: List[str] = shell.execute("CREATE VIRTUAL TABLE t USING rtree_i32(id, a, b, +c);")
@@ -56,20 +114,36 @@ def shells() -> None:
     view, sign, values = changes[0]
     words: str = view + sign + changes[0].view
     rows: List[Tuple[Value, ...]] = shell.rows("SELECT * FROM t")
+    connection = sqlite3.connect(":memory:")
+    number: int = shell.save_sqlite(connection, "t", ["c"]) + Shell().load_sqlite(connection, "t", reals_as_text=True)
     lines += shell.finish()
     shell.close()
-    print(lines, words, values, rows)
+    print(lines, words, values, rows, number)
+
+
+def planes(client: Any) -> None:
+    """Not called."""
+    plane = Plane.from_partitions(client, [([1], [(0, 0, 1, 1)])], tiles=4, dimension=2, capacity=51)
+    ids: List[int] = list(plane.intersection((0, 0, 1, 1))) + list(plane.nearest((0, 0), 3))
+    number: int = plane.count((0, 0, 1, 1)) + len(plane) + plane.dimension
+    many: Many = plane.intersection_many([(0, 0, 1, 1)])
+    pairs: Pairs = plane.join()
+    pairs = plane.join(plane)
+    box: Optional[Tuple[int, ...]] = plane.bounds
+    print(ids, number, many, pairs, box)
 
 
 def errors(code: JuicedeltaError, refusal: StatementRefused) -> str:
     numbers: Tuple[int, int, int] = code.code, refusal.statement, refusal.number
-    return f"{numbers}{refusal.words}{juicedelta.__version__}"
+    kinds: Tuple[KeyError, ValueError, MemoryError] = MissingId(7), BadValue(5, 3), NoMemory(9)
+    place: Optional[int] = code.at
+    return f"{numbers}{refusal.words}{juicedelta.__version__}{kinds}{place}"
 
 
 def wrong(tree: RTree, shell: Shell) -> None:
     """Not called."""
     tree.insert(1.5, (0, 0, 1, 1))  # type: ignore[arg-type]
-    tree.move(1, (0.5, 0, 1, 1))  # type: ignore[arg-type]
+    tree.move(1, ("0", 0, 1, 1))  # type: ignore[arg-type]
     tree.count("0011")  # type: ignore[arg-type]
     tree.count((0, 0, 1, 1), "inside")  # type: ignore[arg-type]
     tree.search((0, 0, 1, 1))  # type: ignore[attr-defined]
@@ -80,5 +154,7 @@ def wrong(tree: RTree, shell: Shell) -> None:
 
 if __name__ == "__main__":
     trees(True)
+    many_rows()
+    floats()
     shells()
     print(errors(JuicedeltaError(7), StatementRefused(1, 5, "no such table")))

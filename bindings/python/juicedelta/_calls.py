@@ -10,6 +10,8 @@ import os
 from pathlib import Path
 from typing import Any, Callable, Tuple
 
+from . import __version__
+
 Call = Callable[..., int]
 
 
@@ -20,20 +22,26 @@ class Handle(ctypes.Structure):
 
 
 def _load() -> Tuple[ctypes.PyDLL, ctypes.CDLL]:
-    # In a checkout this is the checkout, three folders up; in an installed package it is the folder of libraries.
-    above = Path(__file__).resolve().parents[3]
-    beside = [str(file) for file in (above / "lib" / "libjuicedelta.so", above / "libjuicedelta.so") if file.exists()]
-    file = os.environ.get("JUICEDELTA_LIBRARY") or (beside + ["libjuicedelta.so"])[0]
+    # A wheel has the library beside this file. Three folders up is the checkout, or, installed, the folder of libraries.
+    own, above = Path(__file__).resolve().parent, Path(__file__).resolve().parents[3]
+    files = [folder / "libjuicedelta.so" for folder in (own, above / "lib", above)]
+    file = os.environ.get("JUICEDELTA_LIBRARY") or next((str(it) for it in files if it.exists()), "libjuicedelta.so")
     try:
-        return ctypes.PyDLL(file), ctypes.CDLL(file)
+        library, reading = ctypes.PyDLL(file), ctypes.CDLL(file)
+        version = 0
+        for part in __version__.split("."):
+            version = 1000 * version + int(part)
+        if library.juicedelta_version() != version:
+            raise OSError(f"{file} is a library of another version than {__version__}")
+        return library, reading
     except OSError as error:
         raise ImportError(f"{error}: `make bindings` builds lib/libjuicedelta.so, or JUICEDELTA_LIBRARY names it") from error
 
 
 library, _reading_library = _load()
 _POINTER, _SIZE, _WORD, _NUMBER, _ID = ctypes.c_void_p, ctypes.c_size_t, ctypes.c_uint64, ctypes.c_uint32, ctypes.c_int64
-# A box, a point or a text that is read, and its length; and what is written.
-_GIVEN, _WRITTEN = (ctypes.c_char_p, _SIZE), (_POINTER, _SIZE)
+# A box, a point or a text that is read, and its length; a list that is read; and what is written.
+_GIVEN, _LIST, _WRITTEN = (ctypes.c_char_p, _SIZE), (_POINTER, _SIZE), (_POINTER, _SIZE)
 
 
 def _declared(call: Any, *words: Any) -> Call:
@@ -53,8 +61,11 @@ close = _writes("close")
 
 tree_open = _writes("tree_open", _NUMBER, _NUMBER, _WORD, _WORD)
 tree_open_dump = _writes("tree_open_dump", _NUMBER, *_GIVEN, _WORD, _WORD)
+tree_open_rows = _writes("tree_open_rows", _NUMBER, _NUMBER, *_LIST, *_LIST, _WORD, _WORD, _POINTER)
+tree_open_bytes = _writes("tree_open_bytes", _NUMBER, *_GIVEN, _WORD, _WORD)
 tree_insert = _writes("tree_insert", _ID, *_GIVEN)
 tree_move = _writes("tree_move", _ID, *_GIVEN)
+tree_insert_rows = _writes("tree_insert_rows", *_LIST, *_LIST, _POINTER)
 tree_remove = _writes("tree_remove", _ID)
 tree_clear = _writes("tree_clear")
 
@@ -64,7 +75,18 @@ tree_count = _reads("tree_count", _NUMBER, *_GIVEN, _POINTER)
 tree_search = _reads("tree_search", _NUMBER, *_GIVEN, *_WRITTEN, _POINTER)
 tree_search_rows = _reads("tree_search_rows", _NUMBER, *_GIVEN, *_WRITTEN, *_WRITTEN, _POINTER)
 tree_nearest = _reads("tree_nearest", *_GIVEN, *_WRITTEN, *_WRITTEN, _POINTER)
+tree_nearest_to = _reads("tree_nearest_to", *_GIVEN, *_WRITTEN, *_WRITTEN, _POINTER)
+tree_within = _reads("tree_within", *_GIVEN, _WORD, *_WRITTEN, *_WRITTEN, _POINTER)
+tree_bounds = _reads("tree_bounds", *_WRITTEN)
+tree_ids = _reads("tree_ids", _WORD, *_WRITTEN, _POINTER)
+tree_rows = _reads("tree_rows", _WORD, *_WRITTEN, *_WRITTEN, _POINTER)
+tree_join = _reads("tree_join", _POINTER, *_WRITTEN, *_WRITTEN, _POINTER)
+tree_join_self = _reads("tree_join_self", *_WRITTEN, *_WRITTEN, _POINTER)
+tree_search_many = _reads("tree_search_many", _NUMBER, *_LIST, *_WRITTEN, *_WRITTEN, _POINTER)
+tree_count_many = _reads("tree_count_many", _NUMBER, *_LIST, *_WRITTEN)
+tree_nearest_many = _reads("tree_nearest_many", *_LIST, _WORD, *_WRITTEN, *_WRITTEN, _POINTER)
 tree_dump = _reads("tree_dump", *_WRITTEN, _POINTER)
+tree_to_bytes = _reads("tree_to_bytes", *_WRITTEN, _POINTER)
 
 script_open = _writes("script_open", _NUMBER, _WORD, _WORD)
 script_exec = _writes("script_exec", *_GIVEN)

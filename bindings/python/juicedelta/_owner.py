@@ -7,10 +7,12 @@ import operator
 import secrets
 import threading
 from threading import get_ident
-from typing import Any, List, NoReturn, SupportsIndex
+from typing import Any, List, Optional, SupportsIndex, TypeVar
 
 from ._calls import Call, Handle, close
-from ._errors import accept
+from ._errors import error_at
+
+T = TypeVar("T", bound="Owner")
 
 
 class Guard:
@@ -98,10 +100,15 @@ class Owner:
 
     _at: Any = None
 
-    def _hold(self, opening: Call, *words: object) -> None:
-        """Opens an object by that call. Then, not if it is refused, it frees what was held before."""
-        at = ctypes.byref(Handle())
-        accept(opening(at, *words, secrets.randbits(64), secrets.randbits(64)))
+    def _hold(self, opening: Call, *words: object, place: Optional[ctypes.c_uint64] = None) -> None:
+        """Opens an object by that call. Then, not if it is refused, it frees what was held before.
+
+        A call for many rows writes the place of one that is refused.
+        """
+        at, behind = ctypes.byref(Handle()), () if place is None else (ctypes.byref(place),)
+        code = opening(at, *words, secrets.randbits(64), secrets.randbits(64), *behind)
+        if code:
+            raise error_at(code, place)
         self.close()
         self._at = at
 
@@ -113,7 +120,13 @@ class Owner:
     def __del__(self) -> None:
         self.close()
 
-    def __reduce_ex__(self, protocol: SupportsIndex) -> NoReturn:
+    def __enter__(self: T) -> T:
+        return self
+
+    def __exit__(self, *_: object) -> None:
+        self.close()
+
+    def __reduce_ex__(self, protocol: SupportsIndex) -> Any:
         # Of two objects with one handle, the first to go would close the other.
         raise TypeError(f"{type(self).__name__} objects can't be copied or pickled: each owns what the library holds for it")
 

@@ -3,12 +3,14 @@
 from __future__ import annotations
 
 import ctypes
-from typing import List, SupportsIndex, Tuple
+import sqlite3
+from typing import List, Sequence, SupportsIndex, Tuple
 
 from ._calls import script_drop_output, script_exec, script_finish, script_open, script_output, script_output_length
 from ._errors import accept
 from ._owner import Owner, capacity_of
 from ._script import Change, Value, begun_by, changes_of, ended, lines_of, refusal_of, rows_of
+from ._sqlite import all_or_nothing, create, find, quoted, replace_rows, script_of
 
 _SHORT = 1000  # For a text of this many characters, where it stops is computed only if that matters.
 
@@ -59,6 +61,28 @@ class Shell(Owner):
         the text are carried out, but their changes aren't answered: feed one at a time if that matters.
         """
         return changes_of(self._answered(text))
+
+    def load_sqlite(self, connection: sqlite3.Connection, table: str, reals_as_text: bool = False) -> int:
+        """Makes a table with the columns and rows of an rtree_i32 table, and answers the number of rows.
+
+        A REAL value is a ValueError that names its row, or becomes a text. Other errors are those of `rows`.
+        """
+        for statement in script_of(connection, table, reals_as_text):
+            self._answered(statement)
+        found = connection.cursor().execute(f"SELECT count(*) FROM {quoted(table)}")
+        return int(found.fetchone()[0])
+
+    def save_sqlite(self, connection: sqlite3.Connection, table: str, auxiliary: Sequence[str] = ()) -> int:
+        """Puts a table's rows into the rtree_i32 table of that name in place of its own, and answers their number.
+
+        A table that is missing is made if there are rows, with these auxiliary columns.
+        """
+        rows = self.rows(f"SELECT * FROM {quoted(table)}")
+        with all_or_nothing(connection):
+            found = find(connection, table)
+            if found is None and rows:
+                found = create(connection, table, (len(rows[0]) - len(auxiliary)) // 2, auxiliary)
+            return replace_rows(connection, found, list(zip(*rows))) if found else 0
 
     def finish(self) -> List[str]:
         """Ends the script, and answers the lines that its end prints: a last statement without `;` is refused."""

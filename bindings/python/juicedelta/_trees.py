@@ -4,44 +4,39 @@ from __future__ import annotations
 
 import array
 import ctypes
+import math
 import re
 import struct
 from operator import index
 from threading import get_ident
-from typing import Dict, Iterable, Iterator, List, Literal, NamedTuple, Optional, SupportsIndex, Tuple, Union, overload
+from typing import Any, Iterator, List, Literal, Optional, SupportsFloat, SupportsIndex, Tuple, Union, overload
 
 from ._calls import (
-    Call,
     close,
     tree_clear,
     tree_count,
     tree_dump,
     tree_get,
     tree_insert,
-    tree_len,
     tree_move,
     tree_nearest,
+    tree_nearest_to,
     tree_open,
     tree_open_dump,
     tree_remove,
     tree_search,
     tree_search_rows,
+    tree_within,
 )
-from ._errors import BUFFER_TOO_SMALL, ID_MISSING, JuicedeltaError, accept
-from ._owner import Guard, Owner, capacity_of, whole
+from ._errors import BUFFER_TOO_SMALL, ID_MISSING, JuicedeltaError, accept, error_of
+from ._form import Coordinates, Form
+from ._grid import Grid
+from ._many import Item, ManyRows, NUMBER_OF, Relation, form_of, relation_of
+from ._owner import capacity_of, whole
 
-Relation = Literal["touches", "within", "holds"]
 _LEAST, _GREATEST = -(2**63), 2**63 - 1
 # Numbers of ctypes pass sooner than Python's.
-_TOUCHES, _WITHIN, _HOLDS = map(ctypes.c_uint32, range(3))
-_NUMBER_OF: Dict[str, ctypes.c_uint32] = {"touches": _TOUCHES, "within": _WITHIN, "holds": _HOLDS}
-
-
-class Item(NamedTuple):
-    """A row of a tree."""
-
-    id: int
-    bbox: Tuple[int, ...]
+_TOUCHES, _WITHIN, _HOLDS = NUMBER_OF.values()
 
 
 class _Memory:
@@ -81,28 +76,12 @@ def _ids(memory: _Memory) -> Iterator[int]:
     return iter(ids)
 
 
-def _items(memory: _Memory, room: int, form: _Form) -> Iterator[Item]:
-    """The rows that a call wrote: ids, and behind room for so many of them boxes, of a word for each axis."""
-    boxes = memory.cells[room : room + form.axes * memory.cells[memory.length]]
-    return map(Item, _ids(memory), form.box.iter_unpack(boxes))
-
-
-class _Form:
-    """The number of axes, and what follows from it. A call takes it once: another thread may make the tree anew."""
-
-    __slots__ = ("axes", "length", "box", "point", "pack")
-
-    def __init__(self, axes: int) -> None:
-        self.axes, self.length = axes, ctypes.c_size_t(2 * axes)
-        self.box, self.point = struct.Struct(f"={2 * axes}i"), struct.Struct(f"={axes}i")
-        self.pack = self.box.pack
-
-
-class RTree(Owner):
+class RTree(ManyRows):
     """A map from ids to boxes of `dimension` axes, 1 to 3, that is searched by boxes. Both ends belong to a box.
 
-    Coordinates are the least number of each axis, and then the greatest of each. They and ids are whole numbers. A call
-    that is refused raises JuicedeltaError. A tree can't be copied or pickled; `from_dump` makes a second one of its dump.
+    Coordinates are the least number of each axis, and then the greatest of each, or, if not `interleaved`, the least and
+    the greatest of one axis after another. They and ids are whole numbers; with a grid coordinates are floats, given and
+    answered. A call that is refused raises JuicedeltaError. A row may have an object, which stays in Python.
 
     >>> shops = RTree()
     >>> shops.insert(1, (10, 5, 14, 9))
@@ -118,29 +97,30 @@ class RTree(Owner):
     >>> sorted(RTree.from_dump(shops.dump()))
     [1, 2]
     >>> shops.move(2, (15, 0, 27, 6))
-    >>> sorted(shops.intersection((0, 0, 20, 8)))
-    [1, 2]
+    >>> sorted(shops.intersection((0, 0, 20, 8))), shops.bounds
+    ([1, 2], (10, 0, 27, 9))
+    >>> many = RTree.from_rows(range(1000), [(x, 0, x + 1, 1) for x in range(1000)])
+    >>> list(many.count_many([(0, 0, 9, 9), (990, 0, 2000, 0)])), len(many.join().left)
+    ([10, 11], 999)
+    >>> places = RTree(grid=Grid(10_000_000))
+    >>> places.insert(1, (13.405, 52.52, 13.405, 52.52), "Berlin")
+    >>> [(item.object, item.bbox) for item in places.nearest((13.4, 52.5), objects=True)]
+    [('Berlin', (13.405, 52.52, 13.405, 52.52))]
     """
 
-    _guard: Guard
-
-    def __init__(self, dimension: SupportsIndex = 2, capacity: SupportsIndex = 51) -> None:
-        self._start(whole(dimension, "dimension"), tree_open, capacity_of(capacity))
-
-    def _start(self, dimension: int, opening: Call, *words: object) -> None:
-        if dimension not in (1, 2, 3):
-            raise ValueError("dimension is 1, 2 or 3")
-        if self._at is None:
-            self._guard = Guard()
-        self._hold(opening, dimension, *words)
-        self.dimension = dimension
-        self._form = _Form(dimension)
+    def __init__(
+        self, dimension: SupportsIndex = 2, capacity: SupportsIndex = 51, *, grid: Optional[Grid] = None,
+        interleaved: bool = True
+    ) -> None:
+        form = form_of(dimension, grid, interleaved)
+        self._start(form.axes, form, tree_open, capacity_of(capacity))
 
     @classmethod
     def from_dump(cls, text: str) -> RTree:
         """The rows of a dump, which `dump`, or `.nodes` in a script, wrote."""
         tree, axes, data = cls.__new__(cls), re.match("rtree ([123]) ", text), text.encode()
-        tree._start(int(axes.group(1)) if axes else 2, tree_open_dump, data, len(data))
+        form = Form(int(axes.group(1)) if axes else 2)
+        tree._start(form.axes, form, tree_open_dump, data, len(data))
         return tree
 
     def close(self) -> None:
@@ -148,15 +128,15 @@ class RTree(Owner):
         if self._at is not None:
             self._guard.write(close, self._at)
 
-    def insert(self, id: SupportsIndex, coordinates: Iterable[SupportsIndex]) -> None:
-        """Inserts a row. An id that is taken is an error."""
-        # Not by `_checked`, `_packed` and Guard.write, which would take a tenth longer. So in `delete` and `_found`.
+    def insert(self, id: SupportsIndex, coordinates: Coordinates, obj: Any = None) -> None:
+        """Inserts a row, and an object if one is given. An id that is taken is an error."""
+        # Not by `_checked`, `Form.packed` and Guard.write, which would take a tenth longer. So in `delete` and `_found`.
         number = id if type(id) is int and _LEAST <= id <= _GREATEST else _checked(id)
         form, guard, me = self._form, self._guard, get_ident()
         try:
             box = form.pack(*coordinates)
         except struct.error as error:
-            raise _unfit(form.box) from error
+            raise form.unfit() from error
         try:
             guard.writes.append(me)
             if guard.reads:
@@ -167,19 +147,20 @@ class RTree(Owner):
             if guard.waiting:
                 guard.tell()
         if code:
-            raise JuicedeltaError(code)
+            raise error_of(code)
+        if obj is not None:
+            self._objects[number] = obj
 
-    def move(self, id: SupportsIndex, coordinates: Iterable[SupportsIndex]) -> None:
+    def move(self, id: SupportsIndex, coordinates: Coordinates) -> None:
         """Gives a row another box. An id that is missing is an error."""
         number, form = _checked(id), self._form
-        box = _packed(form.box, coordinates)
+        box = form.packed(coordinates)
         accept(self._guard.write(tree_move, self._at, number, box, form.length))
 
-    def delete(self, id: SupportsIndex, coordinates: Optional[Iterable[SupportsIndex]] = None) -> None:
+    def delete(self, id: SupportsIndex, coordinates: Optional[Coordinates] = None) -> None:
         """Removes a row. An id that is missing is an error, as are coordinates, if given, that aren't those of its box."""
         if coordinates is not None:
-            form = self._form.box
-            given, box = form.unpack(_packed(form, coordinates)), self.box(id)
+            given, box = self._form.unpacked(self._form.packed(coordinates)), self.box(id)
             if given != box:
                 raise ValueError(f"the box of row {id} is {box}, not {given}")
         number = id if type(id) is int and _LEAST <= id <= _GREATEST else _checked(id)
@@ -194,78 +175,84 @@ class RTree(Owner):
             if guard.waiting:
                 guard.tell()
         if code:
-            raise JuicedeltaError(code)
+            raise error_of(code)
+        if self._objects:
+            self._objects.pop(number, None)
 
-    def box(self, id: SupportsIndex) -> Tuple[int, ...]:
+    def box(self, id: SupportsIndex) -> Tuple[Any, ...]:
         """The box of a row. An id that is missing is an error."""
         number, form, memory = _checked(id), self._form, _taken(_FEW)
         code = self._guard.read(tree_get, self._at, number, memory.at, form.length)
-        box = form.box.unpack_from(memory.cells)
+        box = form.unpacked(memory.cells)
         _given_back(memory)
         accept(code)
         return box
 
-    def count(self, coordinates: Iterable[SupportsIndex], relation: Relation = "touches") -> int:
+    def object(self, id: SupportsIndex) -> Any:
+        """The object of a row, or None if none was given. An id that is missing is an error."""
+        if id not in self:
+            raise error_of(ID_MISSING)
+        return self._objects.get(index(id))
+
+    def count(self, coordinates: Coordinates, relation: Relation = "touches") -> int:
         """How many rows have a point in common with the box, lie within it, or hold it."""
-        number, form, total = _NUMBER_OF.get(relation), self._form, ctypes.c_uint64()
-        if number is None:
-            raise ValueError("relation is 'touches', 'within' or 'holds'")
-        box = _packed(form.box, coordinates)
+        number, form, total = relation_of(relation), self._form, ctypes.c_uint64()
+        box = form.packed(coordinates)
         accept(self._guard.read(tree_count, self._at, number, box, form.length, ctypes.byref(total)))
         return total.value
 
     @overload
-    def intersection(self, coordinates: Iterable[SupportsIndex], objects: Literal[False] = False) -> Iterator[int]: ...
+    def intersection(self, coordinates: Coordinates, objects: Literal[False] = False) -> Iterator[int]: ...
 
     @overload
-    def intersection(self, coordinates: Iterable[SupportsIndex], objects: Literal[True]) -> Iterator[Item]: ...
+    def intersection(self, coordinates: Coordinates, objects: Literal[True]) -> Iterator[Item]: ...
 
     @overload
     def intersection(
-        self, coordinates: Iterable[SupportsIndex], objects: bool
+        self, coordinates: Coordinates, objects: bool
     ) -> Union[Iterator[int], Iterator[Item]]: ...
 
     def intersection(
-        self, coordinates: Iterable[SupportsIndex], objects: bool = False
+        self, coordinates: Coordinates, objects: bool = False
     ) -> Union[Iterator[int], Iterator[Item]]:
         """The ids of the rows that have a point in common with the box, in no stated order; with `objects` the rows."""
         return self._found(_TOUCHES, coordinates, objects)
 
     @overload
-    def contains(self, coordinates: Iterable[SupportsIndex], objects: Literal[False] = False) -> Iterator[int]: ...
+    def contains(self, coordinates: Coordinates, objects: Literal[False] = False) -> Iterator[int]: ...
 
     @overload
-    def contains(self, coordinates: Iterable[SupportsIndex], objects: Literal[True]) -> Iterator[Item]: ...
+    def contains(self, coordinates: Coordinates, objects: Literal[True]) -> Iterator[Item]: ...
 
     @overload
-    def contains(self, coordinates: Iterable[SupportsIndex], objects: bool) -> Union[Iterator[int], Iterator[Item]]: ...
+    def contains(self, coordinates: Coordinates, objects: bool) -> Union[Iterator[int], Iterator[Item]]: ...
 
     def contains(
-        self, coordinates: Iterable[SupportsIndex], objects: bool = False
+        self, coordinates: Coordinates, objects: bool = False
     ) -> Union[Iterator[int], Iterator[Item]]:
         """As `intersection`, the rows of which each point lies in the box: those that it contains."""
         return self._found(_WITHIN, coordinates, objects)
 
     @overload
-    def covering(self, coordinates: Iterable[SupportsIndex], objects: Literal[False] = False) -> Iterator[int]: ...
+    def covering(self, coordinates: Coordinates, objects: Literal[False] = False) -> Iterator[int]: ...
 
     @overload
-    def covering(self, coordinates: Iterable[SupportsIndex], objects: Literal[True]) -> Iterator[Item]: ...
+    def covering(self, coordinates: Coordinates, objects: Literal[True]) -> Iterator[Item]: ...
 
     @overload
-    def covering(self, coordinates: Iterable[SupportsIndex], objects: bool) -> Union[Iterator[int], Iterator[Item]]: ...
+    def covering(self, coordinates: Coordinates, objects: bool) -> Union[Iterator[int], Iterator[Item]]: ...
 
     def covering(
-        self, coordinates: Iterable[SupportsIndex], objects: bool = False
+        self, coordinates: Coordinates, objects: bool = False
     ) -> Union[Iterator[int], Iterator[Item]]:
         """As `intersection`, the rows that hold each point of the box."""
         return self._found(_HOLDS, coordinates, objects)
 
     def _found(
-        self, relation: ctypes.c_uint32, coordinates: Iterable[SupportsIndex], objects: bool
+        self, relation: ctypes.c_uint32, coordinates: Coordinates, objects: bool
     ) -> Union[Iterator[int], Iterator[Item]]:
         form, guard, me = self._form, self._guard, get_ident()
-        box, memory, width = _packed(form.box, coordinates), _taken(_FEW), 1 + form.axes if objects else 1
+        box, memory, width = form.packed(coordinates), _taken(_FEW), 1 + form.axes if objects else 1
         while True:
             room = memory.length // width
             try:
@@ -283,7 +270,7 @@ class RTree(Owner):
                     guard.tell()
             if code != BUFFER_TOO_SMALL:
                 accept(code)
-                return _items(memory, room, form) if objects else _ids(memory)
+                return self._found_items(memory, room, form) if objects else _ids(memory)
             needed = width * memory.cells[memory.length]
             if needed > _MOST_KEPT:
                 _given_back(memory)
@@ -292,43 +279,77 @@ class RTree(Owner):
     # One with `objects` behind `num_results`, and one with it by name alone, each for a literal and for a bool.
     @overload
     def nearest(
-        self, coordinates: Iterable[SupportsIndex], num_results: SupportsIndex = 1, objects: Literal[False] = False
+        self, coordinates: Coordinates, num_results: SupportsIndex = 1, objects: Literal[False] = False
     ) -> Iterator[int]: ...
 
     @overload
     def nearest(
-        self, coordinates: Iterable[SupportsIndex], num_results: SupportsIndex, objects: Literal[True]
+        self, coordinates: Coordinates, num_results: SupportsIndex, objects: Literal[True]
     ) -> Iterator[Item]: ...
 
     @overload
     def nearest(
-        self, coordinates: Iterable[SupportsIndex], num_results: SupportsIndex = 1, *, objects: Literal[True]
+        self, coordinates: Coordinates, num_results: SupportsIndex = 1, *, objects: Literal[True]
     ) -> Iterator[Item]: ...
 
     @overload
     def nearest(
-        self, coordinates: Iterable[SupportsIndex], num_results: SupportsIndex, objects: bool
+        self, coordinates: Coordinates, num_results: SupportsIndex, objects: bool
     ) -> Union[Iterator[int], Iterator[Item]]: ...
 
     @overload
     def nearest(
-        self, coordinates: Iterable[SupportsIndex], num_results: SupportsIndex = 1, *, objects: bool
+        self, coordinates: Coordinates, num_results: SupportsIndex = 1, *, objects: bool
     ) -> Union[Iterator[int], Iterator[Item]]: ...
 
     def nearest(
-        self, coordinates: Iterable[SupportsIndex], num_results: SupportsIndex = 1, objects: bool = False
+        self, coordinates: Coordinates, num_results: SupportsIndex = 1, objects: bool = False
     ) -> Union[Iterator[int], Iterator[Item]]:
-        """The ids of the rows nearest to a point, the nearest first, of equal ones the lower id; with `objects` the rows."""
-        numbers = tuple(coordinates)
-        low, high = numbers[: self.dimension], numbers[self.dimension :]
-        if high and low != high:
-            raise ValueError("nearest takes a number for each axis, or a box that is a point")
+        """The ids of the rows nearest to a point or a box, the nearest first, of equal ones the lower id; with `objects`
+        the rows."""
+        numbers, form = tuple(coordinates), self._form
         most = num_results if type(num_results) is int else whole(num_results, "num_results")
-        room, form = min(max(most, 0), len(self)), self._form
-        point, memory = _packed(form.point, low), _taken((1 + form.axes) * room)
-        there = (memory.at, room, memory.front + 8 * room, 2 * form.axes * room, memory.total)
-        accept(self._guard.read(tree_nearest, self._at, point, form.axes, *there))
-        return _items(memory, room, form) if objects else _ids(memory)
+        room = min(max(most, 0), len(self))
+        if len(numbers) > form.axes:
+            call, place, length = tree_nearest_to, form.packed(numbers), form.width
+        else:
+            call, place, length = tree_nearest, form.packed_point(numbers), form.axes
+        memory = _taken((1 + form.axes) * room)
+        accept(self._guard.read(call, self._at, place, length, *_there(memory, room, form)))
+        return self._found_items(memory, room, form) if objects else _ids(memory)
+
+    @overload
+    def within(
+        self, point: Coordinates, distance: SupportsFloat, objects: Literal[False] = False
+    ) -> Iterator[int]: ...
+
+    @overload
+    def within(self, point: Coordinates, distance: SupportsFloat, objects: Literal[True]) -> Iterator[Item]: ...
+
+    @overload
+    def within(
+        self, point: Coordinates, distance: SupportsFloat, objects: bool
+    ) -> Union[Iterator[int], Iterator[Item]]: ...
+
+    def within(
+        self, point: Coordinates, distance: SupportsFloat, objects: bool = False
+    ) -> Union[Iterator[int], Iterator[Item]]:
+        """As `nearest`, all rows whose distance from the point is at most this one, which is rounded up to whole steps."""
+        form = self._form
+        number, at, room = _steps(distance, form), form.packed_point(point), _FEW
+        while True:
+            memory = _taken((1 + form.axes) * room)
+            room = memory.length // (1 + form.axes)
+            accept(self._guard.read(tree_within, self._at, at, form.axes, number, *_there(memory, room, form)))
+            if memory.cells[memory.length] < room:
+                return self._found_items(memory, room, form) if objects else _ids(memory)
+            _given_back(memory)
+            room *= 4
+
+    def _found_items(self, memory: _Memory, room: int, form: Form) -> Iterator[Item]:
+        """The rows that a call wrote: ids, and behind room for so many of them boxes, of a word for each axis."""
+        boxes = memory.cells[room : room + form.axes * memory.cells[memory.length]]
+        return self._items(_ids(memory), form.boxes(boxes))
 
     def dump(self) -> str:
         """The dump, which `rtsh check` checks and `rtsh draw` draws."""
@@ -344,11 +365,13 @@ class RTree(Owner):
     def clear(self) -> None:
         """Takes all rows out."""
         accept(self._guard.write(tree_clear, self._at))
+        self._objects.clear()
 
-    def __len__(self) -> int:
-        rows = ctypes.c_uint64()
-        accept(self._guard.read(tree_len, self._at, ctypes.byref(rows)))
-        return rows.value
+    def __repr__(self) -> str:
+        try:
+            return f"<{type(self).__name__} of {self.dimension} axes with {len(self)} rows>"
+        except JuicedeltaError:
+            return f"<{type(self).__name__}, closed>"
 
     def __contains__(self, id: SupportsIndex) -> bool:
         number, memory = _checked(id), _taken(_FEW)
@@ -360,18 +383,23 @@ class RTree(Owner):
         return True
 
     def __iter__(self) -> Iterator[int]:
-        return self.intersection([-(2**31)] * self.dimension + [2**31 - 1] * self.dimension)
+        return iter(self.columns().ids)
 
 
-def _packed(form: struct.Struct, coordinates: Iterable[SupportsIndex]) -> bytes:
+def _there(memory: _Memory, room: int, form: Form) -> Tuple[object, ...]:
+    """Where a call writes rows, ids first."""
+    return memory.at, room, memory.front + 8 * room, form.width * room, memory.total
+
+
+def _steps(distance: SupportsFloat, form: Form) -> int:
+    """The distance in whole steps."""
     try:
-        return form.pack(*coordinates)
-    except struct.error as error:
-        raise _unfit(form) from error
-
-
-def _unfit(form: struct.Struct) -> ValueError:
-    return ValueError(f"coordinates are {form.size // 4} whole numbers of 32 bits here")
+        steps = math.ceil(distance if form.grid is None else float(distance) * form.grid.scale)
+    except (TypeError, ValueError, OverflowError):
+        raise ValueError("a distance is a finite number") from None
+    if steps < 0:
+        raise ValueError("a distance is at least 0")
+    return min(steps, 2**64 - 1)
 
 
 def _checked(id: SupportsIndex) -> int:

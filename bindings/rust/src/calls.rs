@@ -58,6 +58,34 @@ extern "C" {
         first_key: u64,
         second_key: u64,
     ) -> i32;
+    pub fn juicedelta_tree_open_rows(
+        handle: &mut Handle,
+        axes: u32,
+        capacity: u32,
+        ids: *const i64,
+        ids_length: usize,
+        rects: *const i32,
+        rects_length: usize,
+        first_key: u64,
+        second_key: u64,
+        at: &mut u64,
+    ) -> i32;
+    pub fn juicedelta_tree_open_bytes(
+        handle: &mut Handle,
+        axes: u32,
+        bytes: *const u8,
+        length: usize,
+        first_key: u64,
+        second_key: u64,
+    ) -> i32;
+    pub fn juicedelta_tree_insert_rows(
+        handle: &mut Handle,
+        ids: *const i64,
+        ids_length: usize,
+        rects: *const i32,
+        rects_length: usize,
+        at: &mut u64,
+    ) -> i32;
     pub fn juicedelta_tree_insert(handle: &mut Handle, id: i64, rect: *const i32, length: usize) -> i32;
     pub fn juicedelta_tree_move(handle: &mut Handle, id: i64, rect: *const i32, length: usize) -> i32;
     pub fn juicedelta_tree_remove(handle: &mut Handle, id: i64) -> i32;
@@ -102,6 +130,85 @@ extern "C" {
         rects_length: usize,
         total: &mut u64,
     ) -> i32;
+    pub fn juicedelta_tree_nearest_to(
+        handle: &Handle,
+        rect: *const i32,
+        length: usize,
+        ids: *mut i64,
+        ids_length: usize,
+        rects: *mut i32,
+        rects_length: usize,
+        total: &mut u64,
+    ) -> i32;
+    pub fn juicedelta_tree_within(
+        handle: &Handle,
+        point: *const i32,
+        length: usize,
+        distance: u64,
+        ids: *mut i64,
+        ids_length: usize,
+        rects: *mut i32,
+        rects_length: usize,
+        total: &mut u64,
+    ) -> i32;
+    pub fn juicedelta_tree_bounds(handle: &Handle, rect: *mut i32, length: usize) -> i32;
+    pub fn juicedelta_tree_rows(
+        handle: &Handle,
+        from: u64,
+        ids: *mut i64,
+        ids_length: usize,
+        rects: *mut i32,
+        rects_length: usize,
+        total: &mut u64,
+    ) -> i32;
+    pub fn juicedelta_tree_join(
+        left: &Handle,
+        right: &Handle,
+        left_ids: *mut i64,
+        left_length: usize,
+        right_ids: *mut i64,
+        right_length: usize,
+        total: &mut u64,
+    ) -> i32;
+    pub fn juicedelta_tree_join_self(
+        handle: &Handle,
+        left_ids: *mut i64,
+        left_length: usize,
+        right_ids: *mut i64,
+        right_length: usize,
+        total: &mut u64,
+    ) -> i32;
+    pub fn juicedelta_tree_search_many(
+        handle: &Handle,
+        relation: u32,
+        windows: *const i32,
+        windows_length: usize,
+        starts: *mut u64,
+        starts_length: usize,
+        ids: *mut i64,
+        ids_length: usize,
+        total: &mut u64,
+    ) -> i32;
+    pub fn juicedelta_tree_count_many(
+        handle: &Handle,
+        relation: u32,
+        windows: *const i32,
+        windows_length: usize,
+        counts: *mut u64,
+        counts_length: usize,
+    ) -> i32;
+    pub fn juicedelta_tree_nearest_many(
+        handle: &Handle,
+        points: *const i32,
+        points_length: usize,
+        k: u64,
+        starts: *mut u64,
+        starts_length: usize,
+        ids: *mut i64,
+        ids_length: usize,
+        total: &mut u64,
+    ) -> i32;
+    pub fn juicedelta_tree_to_bytes(handle: &Handle, bytes: *mut u8, length: usize, total: &mut u64) -> i32;
     pub fn juicedelta_tree_dump(handle: &Handle, text: *mut u8, length: usize, total: &mut u64) -> i32;
 
     pub fn juicedelta_script_open(handle: &mut Handle, capacity: u32, first_key: u64, second_key: u64) -> i32;

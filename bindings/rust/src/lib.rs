@@ -4,9 +4,13 @@
 //! reads, so that several threads may search one tree at once (`Sync`). A call that is refused answers an [`Error`] and
 //! changes nothing, unless it says otherwise. A thread keeps the memory that its searches write to, 1 MiB at most; a
 //! search that needs more than is kept runs twice.
+#![warn(missing_docs)]
 
 mod calls;
 mod found;
+mod grid;
+mod many;
+mod rows;
 mod shell;
 #[cfg(test)]
 mod tests;
@@ -14,21 +18,40 @@ mod tree;
 
 use std::fmt;
 
+pub use grid::{Grid, OffGrid};
+pub use many::Many;
+pub use rows::{Iter, RowsError};
 pub use shell::Shell;
-pub use tree::Tree;
+pub use tree::{Axes, Supported, Tree};
 
 /// A box of D axes, with both ends; `min` is at most `max` on each.
+///
+/// ```
+/// use juicedelta::Rect;
+/// assert_eq!(Rect::new([0, 0], [20, 8]), Rect { min: [0, 0], max: [20, 8] });
+/// ```
 #[repr(C)]
 #[derive(Clone, Copy, Debug, PartialEq, Eq, Hash)]
 pub struct Rect<const D: usize> {
+    /// The least number on each axis.
     pub min: [i32; D],
+    /// The greatest number on each axis.
     pub max: [i32; D],
+}
+
+impl<const D: usize> Rect<D> {
+    /// The box with these ends.
+    pub const fn new(min: [i32; D], max: [i32; D]) -> Self {
+        Self { min, max }
+    }
 }
 
 /// A row of a tree.
 #[derive(Clone, Copy, Debug, PartialEq, Eq, Hash)]
 pub struct Row<const D: usize> {
+    /// Which row of the tree it is.
     pub id: i64,
+    /// Its box.
     pub rect: Rect<D>,
 }
 
@@ -47,31 +70,58 @@ pub enum Relation {
 }
 
 /// Why a call was refused, numbered as in `juicedelta.h`. Its text is the library's.
+///
+/// ```
+/// use juicedelta::{Error, Tree};
+/// let error = Tree::<2>::new()?.remove(7).unwrap_err();
+/// assert_eq!((error, error.to_string().as_str()), (Error::IdMissing, "no row has that id"));
+/// # Ok::<(), Error>(())
+/// ```
 #[repr(i32)]
 #[derive(Clone, Copy, Debug, PartialEq, Eq, Hash)]
 #[non_exhaustive]
 pub enum Error {
+    /// Nothing is held.
     Closed = 1,
+    /// An object of another kind is held.
     OtherKind = 2,
+    /// An object is held already.
     AlreadyOpen = 3,
+    /// The capacity is not from 5 to 51.
     BadCapacity = 4,
+    /// On some axis min is above max.
     BadBox = 5,
+    /// The id is taken.
     IdTaken = 6,
+    /// No row has that id.
     IdMissing = 7,
+    /// The result is longer than the buffer.
     BufferTooSmall = 8,
+    /// No memory is left.
     OutOfMemory = 9,
+    /// The tree has as many rows as a tree may have.
     TreeFull = 10,
+    /// The script has ended.
     Ended = 11,
+    /// The script is longer than 2^63 bytes.
     TooLong = 12,
+    /// The text is not the dump of a sound tree.
     BadDump = 13,
+    /// A box, a point or a list has a wrong length.
     BadLength = 14,
+    /// A tree has one, two or three axes.
     BadAxes = 15,
+    /// A relation is touches, within or holds.
     BadRelation = 16,
+    /// The tree has no rows.
+    Empty = 17,
+    /// The bytes are not those of a sound tree.
+    BadBytes = 18,
 }
 
 impl Error {
     /// All of them, by their numbers.
-    const ALL: [Self; 16] = [
+    const ALL: [Self; 18] = [
         Self::Closed,
         Self::OtherKind,
         Self::AlreadyOpen,
@@ -88,6 +138,8 @@ impl Error {
         Self::BadLength,
         Self::BadAxes,
         Self::BadRelation,
+        Self::Empty,
+        Self::BadBytes,
     ];
 }
 
@@ -109,6 +161,10 @@ fn check(code: i32) -> Result<(), Error> {
 }
 
 /// The library's version: 1,002,003 stands for 1.2.3.
+///
+/// ```
+/// assert!(juicedelta::version() >= 1_000);
+/// ```
 pub fn version() -> u32 {
     // SAFETY: it takes nothing.
     unsafe { calls::juicedelta_version() }

@@ -5,7 +5,7 @@ use std::cell::Cell;
 use std::io::Write;
 
 use crate::calls::{self, Handle};
-use crate::{check, version, Error, Rect, Relation, Row, Shell, Tree};
+use crate::{check, version, Axes, Error, Grid, Iter, OffGrid, Rect, Relation, Row, RowsError, Shell, Supported, Tree};
 
 /// What a thread allocated: how often, and how many bytes it holds, and held at most. Refuses the allocation at `refused`.
 #[derive(Clone, Copy)]
@@ -65,14 +65,17 @@ fn sorted(mut ids: Vec<i64>) -> Vec<i64> {
     ids
 }
 
-fn calls_of_trees<const D: usize>() -> Result<(), Error> {
+fn calls_of_trees<const D: usize>() -> Result<(), Error>
+where
+    Axes<D>: Supported,
+{
     let mut tree = Tree::<D>::with_capacity(5)?;
     is_shared(&tree);
     for id in 0..200 {
         tree.insert(id.into(), &cube(10 * id, 10 * id + 5))?;
     }
     tree.remove(100)?;
-    assert_eq!((tree.len()?, tree.count(&cube(0, 2000))?, tree.count(&cube(995, 1012))?), (199, 199, 2));
+    assert_eq!((tree.len(), tree.count(&cube(0, 2000))?, tree.count(&cube(995, 1012))?), (199, 199, 2));
     assert_eq!(tree.search(&cube(0, 2000))?.len(), 199);
     let rows = tree.search_rows(&cube(45, 45))?;
     assert_eq!((rows.len(), rows[0].id, rows[0].rect), (1, 4, cube(40, 45)));
@@ -80,7 +83,7 @@ fn calls_of_trees<const D: usize>() -> Result<(), Error> {
     assert_eq!((ids(3)?, ids(0)?, ids(1000)?.len()), (vec![0, 1, 2], vec![], 199));
     assert_eq!((tree.get(7)?, tree.get(100)?), (Some(cube(70, 75)), None));
     tree.update(7, &cube(-20, 0))?;
-    assert_eq!((tree.nearest(&[-10; D], 1)?[0].id, tree.count(&cube(70, 75))?, tree.len()?), (7, 0, 199));
+    assert_eq!((tree.nearest(&[-10; D], 1)?[0].id, tree.count(&cube(70, 75))?, tree.len()), (7, 0, 199));
     assert_eq!(tree.nearest(&[-10; D], 2)?[0], Row { id: 7, rect: cube(-20, 0) });
     assert_eq!(tree.update(7, &cube(1, 0)), Err(Error::BadBox));
     assert_eq!(tree.update(100, &cube(0, 1)), Err(Error::IdMissing));
@@ -88,10 +91,10 @@ fn calls_of_trees<const D: usize>() -> Result<(), Error> {
     tree.update(7, &cube(-20, 0))?;
     assert_eq!((tree.get(7)?, tree.dump()?), (Some(cube(-20, 0)), dump));
     let read = Tree::<D>::from_dump(&tree.dump()?)?;
-    assert_eq!((read.len()?, read.get(199)?, read.count(&cube(995, 1012))?), (199, Some(cube(1990, 1995)), 2));
-    assert_eq!(format!("{read:?}"), format!("Tree {{ axes: {D}, len: Ok(199), .. }}"));
+    assert_eq!((read.len(), read.get(199)?, read.count(&cube(995, 1012))?), (199, Some(cube(1990, 1995)), 2));
+    assert_eq!(format!("{read:?}"), format!("Tree {{ axes: {D}, len: 199, .. }}"));
     tree.clear()?;
-    assert_eq!((tree.is_empty()?, tree.search(&cube(0, 2000))?), (true, vec![]));
+    assert_eq!((tree.is_empty(), tree.search(&cube(0, 2000))?), (true, vec![]));
     Ok(())
 }
 
@@ -125,7 +128,10 @@ fn is_related<const D: usize>(relation: Relation, row: &Rect<D>, window: &Rect<D
 }
 
 /// Searches beside a loop over all rows. One window in eight has no point.
-fn relations_of<const D: usize>() -> Result<(), Error> {
+fn relations_of<const D: usize>() -> Result<(), Error>
+where
+    Axes<D>: Supported,
+{
     let (mut below, mut tree, mut rows) = (numbers(), Tree::<D>::with_capacity(8)?, vec![]);
     let mut draw = |least: i32, widest: i32| {
         let min = [(); D].map(|()| below(100));
@@ -160,6 +166,129 @@ fn relations() -> Result<(), Error> {
     relations_of::<3>()
 }
 
+/// Calls for many rows, windows and points beside those for one, and beside loops.
+fn many_rows_of<const D: usize>() -> Result<(), Error>
+where
+    Axes<D>: Supported,
+{
+    let mut below = numbers();
+    let mut draw = |widest| {
+        let min = [0; D].map(|_| below(10_000));
+        Rect { min, max: min.map(|it| it + below(widest)) }
+    };
+    let rows: Vec<Row<D>> = (0..1000).map(|id| Row { id: 7 * id - 300, rect: draw(90) }).collect();
+    let windows: Vec<Rect<D>> = (0..40).map(|_| draw(900)).collect();
+    let points: Vec<[i32; D]> = windows.iter().map(|it| it.min).collect();
+    let mut tree = Tree::from_rows_with_capacity(&rows[..800], 8)?;
+    tree.insert_rows(&rows[800..900])?;
+    tree.extend(rows[900..].iter().copied());
+    let by_id = |mut rows: Vec<Row<D>>| {
+        rows.sort_unstable_by_key(|row| row.id);
+        rows
+    };
+    assert_eq!(
+        (by_id(tree.iter().collect()), tree.iter().len(), Tree::<D>::default().iter().len()),
+        (rows.clone(), 1000, 0)
+    );
+    let bounds = tree.bounds()?.unwrap();
+    for axis in 0..D {
+        let low = rows.iter().map(|row| row.rect.min[axis]).min();
+        assert_eq!(
+            (Some(bounds.min[axis]), Some(bounds.max[axis])),
+            (low, rows.iter().map(|row| row.rect.max[axis]).max())
+        );
+    }
+    for relation in [Relation::Touches, Relation::Within, Relation::Holds] {
+        let (found, counts) = (tree.search_many(relation, &windows)?, tree.count_many(relation, &windows)?);
+        for (place, window) in windows.iter().enumerate() {
+            let ids = |it: &&Row<D>| is_related(relation, &it.rect, window);
+            let wanted: Vec<i64> = rows.iter().filter(ids).map(|row| row.id).collect();
+            assert_eq!((sorted(found[place].to_vec()), counts[place]), (wanted.clone(), wanted.len() as u64));
+        }
+        assert_eq!((found.len(), found.iter().flatten().count()), (40, found.ids.len()));
+    }
+    let near = tree.nearest_many(&points, 3)?;
+    for (point, ids) in points.iter().zip(near.iter()) {
+        let first = tree.nearest(point, 3)?;
+        assert!(first.iter().map(|row| row.id).eq(ids.iter().copied()));
+        assert_eq!(tree.nearest_to(&Rect::new(*point, *point), 3)?, first);
+        let within = tree.within(point, 2000)?;
+        assert_eq!(tree.nearest(point, within.len())?, within);
+        assert!(within.len() == 1000 || tree.nearest(point, within.len() + 1)?.last() != within.last());
+    }
+    assert_eq!((tree.within(&points[0], u64::MAX)?.len(), tree.nearest_many(&[], 3)?.len()), (1000, 0));
+    assert!(
+        tree.search_many(Relation::Touches, &[])?.is_empty() && tree.count_many(Relation::Touches, &[])?.is_empty()
+    );
+    let other: Tree<D> = rows.iter().map(|row| Row { id: row.id + 1, rect: row.rect }).take(300).collect();
+    let touching = |one: &Rect<D>, other: &Rect<D>| is_related(Relation::Touches, one, other);
+    let wanted = |others: &[Row<D>], shift: i64, own: bool| -> Vec<(i64, i64)> {
+        let pairs = rows.iter().flat_map(|one| others.iter().map(move |other| (one, other)));
+        let pairs = pairs.filter(|(one, other)| touching(&one.rect, &other.rect) && (!own || one.id < other.id));
+        pairs.map(|(one, other)| (one.id, other.id + shift)).collect()
+    };
+    let (mut pairs, mut own) = (tree.join(&other)?, tree.join_self()?);
+    pairs.sort_unstable();
+    own.sort_unstable();
+    assert_eq!((pairs, own), (wanted(&rows[..300], 1, false), wanted(&rows, 0, true)));
+    let read = Tree::<D>::from_bytes(&tree.to_bytes()?)?;
+    assert_eq!((read.dump()?, read.get(7 - 300)?), (tree.dump()?, Some(rows[1].rect)));
+    Ok(())
+}
+
+#[test]
+fn many_rows() -> Result<(), Error> {
+    many_rows_of::<1>()?;
+    many_rows_of::<2>()?;
+    many_rows_of::<3>()?;
+    // More than a part of those that are read at once.
+    let tree: Tree<1> = (0..9000).map(|id| Row { id, rect: cube(id as i32, id as i32) }).collect();
+    let (mut rows, half): (Iter<1>, Vec<i64>) = (tree.iter(), tree.iter().map(|row| row.id).take(5000).collect());
+    rows.nth(4999);
+    assert_eq!((rows.len(), sorted(rows.map(|row| row.id).chain(half).collect())), (4000, (0..9000).collect()));
+    Ok(())
+}
+
+/// The least box of whole numbers, by the definition.
+#[test]
+fn grids() -> Result<(), OffGrid> {
+    for (scale, start) in
+        [(1.0, 0.0), (1e7, 0.0), (100.0, -4_649_776.5), (1.0 / 3.0, 7.0), (0.1, 1e9), (3.7e5, 1.0 / 7.0)]
+    {
+        let grid = Grid::new(scale, [start, -start])?;
+        for turn in 0..500 {
+            let off = |share: f64| f64::from(turn % 3) * share * f64::from(turn) / scale;
+            let min = [0, 1].map(|axis| grid.floats(&[turn * 4_000_037 - 1_000_000_000; 2])[axis] + off(0.01));
+            let max = min.map(|it| it + off(0.03));
+            let rect = grid.rect(min, max)?;
+            let (low, high) = (grid.floats(&rect.min), grid.floats(&rect.max));
+            let (next, last) = (grid.floats(&rect.min.map(|it| it + 1)), grid.floats(&rect.max.map(|it| it - 1)));
+            for axis in 0..2 {
+                assert!(
+                    low[axis] <= min[axis]
+                        && min[axis] < next[axis]
+                        && last[axis] < max[axis]
+                        && max[axis] <= high[axis]
+                );
+            }
+            assert_eq!((grid.rect(low, high)?, grid.point(low)?), (rect, rect.min));
+        }
+    }
+    let (degrees, nan, most) = (Grid::new(1e7, [0.0])?, f64::NAN, f64::INFINITY);
+    for (min, max) in [(nan, 0.0), (0.0, nan), (-300.0, 0.0), (0.0, 300.0), (-most, 0.0), (0.0, most), (1.0, 0.0)] {
+        assert_eq!(degrees.rect([min], [max]), Err(OffGrid));
+    }
+    assert_eq!(
+        (degrees.point([nan]), degrees.point([214.8]), degrees.point([-214.8])),
+        (Err(OffGrid), Err(OffGrid), Err(OffGrid))
+    );
+    for (scale, start) in [(0.0, 0.0), (-1.0, 0.0), (nan, 0.0), (most, 0.0), (1.0, 1e15), (1.0, nan)] {
+        assert_eq!(Grid::new(scale, [start]), Err(OffGrid));
+    }
+    assert_eq!(Grid::new(1.0, [0.0])?.rect([-2147483648.0], [2147483647.0])?, Rect::new([i32::MIN], [i32::MAX]));
+    Ok(())
+}
+
 // Between writes, which need the tree alone, the threads of a scope read it side by side.
 #[test]
 fn threads() -> Result<(), Error> {
@@ -178,9 +307,9 @@ fn threads() -> Result<(), Error> {
                 assert_eq!(tree.count_where(Relation::Holds, &window)?, wanted.len() as u64);
                 assert_eq!(tree.search_rows(&window)?.len(), wanted.len());
                 assert_eq!(tree.get(at.into())?, Some(cube(at, at + 2 + shift)));
-                assert_eq!((tree.nearest(&[-1, -1], 1)?[0].id, tree.len()?), (0, rows as u64));
+                assert_eq!((tree.nearest(&[-1, -1], 1)?[0].id, tree.len()), (0, rows as usize));
             }
-            assert_eq!(Tree::<2>::from_dump(&tree.dump()?)?.len()?, rows as u64);
+            assert_eq!(Tree::<2>::from_dump(&tree.dump()?)?.len(), rows as usize);
             Ok(())
         };
         std::thread::scope(|scope| {
@@ -214,8 +343,8 @@ fn shells() -> Result<(), Error> {
 fn codes() -> Result<(), Error> {
     let (mut tree, rect) = (Tree::<2>::new()?, cube(0, 1));
     tree.insert(1, &rect)?;
-    assert_eq!(Tree::<2>(Handle::default()).len(), Err(Error::Closed));
-    assert_eq!(Tree::<1>(Shell::new()?.0).len(), Err(Error::OtherKind));
+    assert_eq!(Tree::<2>(Handle::default()).dump(), Err(Error::Closed));
+    assert_eq!(Tree::<1>(Shell::new()?.0).dump(), Err(Error::OtherKind));
     // SAFETY: the handle is open, and stays as it is; no window is read.
     unsafe {
         assert_eq!(check(calls::juicedelta_tree_open(&mut tree.0, 2, 51, 1, 2)), Err(Error::AlreadyOpen));
@@ -230,7 +359,22 @@ fn codes() -> Result<(), Error> {
     assert_eq!(tree.insert(1, &rect), Err(Error::IdTaken));
     assert_eq!(tree.remove(2), Err(Error::IdMissing));
     assert_eq!(Tree::<2>::from_dump(b"rtree 2 5 1 0\n").err(), Some(Error::BadDump));
-    assert_eq!((tree.len()?, tree.get(1)?), (1, Some(rect)));
+    assert_eq!(Tree::<2>::from_bytes(b"none").err(), Some(Error::BadBytes));
+    assert_eq!(Tree::<3>::from_bytes(&tree.to_bytes()?).err(), Some(Error::BadBytes));
+    // SAFETY: the tree is open, and a box of one axis has two numbers.
+    let bounds = unsafe { calls::juicedelta_tree_bounds(&Tree::<1>::new()?.0, [0, 0].as_mut_ptr(), 2) };
+    assert_eq!((check(bounds), tree.nearest_to(&cube(1, 0), 1)), (Err(Error::Empty), Err(Error::BadBox)));
+    let refused = |error, at| Some(RowsError { error, at });
+    let row = |id, rect| Row { id, rect };
+    let (bad, taken) = ([row(5, rect), row(6, cube(1, 0))], [row(5, rect), row(6, rect), row(5, rect)]);
+    assert_eq!(Tree::from_rows(&bad).err(), refused(Error::BadBox, Some(1)));
+    assert_eq!(tree.insert_rows(&bad).err(), refused(Error::BadBox, Some(1)));
+    assert_eq!(Tree::from_rows(&taken).err(), refused(Error::IdTaken, Some(2)));
+    assert_eq!(tree.insert_rows(&taken).err(), refused(Error::IdTaken, Some(2)));
+    assert_eq!(tree.insert_rows(&[row(9, rect), row(1, rect)]).err(), refused(Error::IdTaken, Some(1)));
+    assert_eq!(Tree::from_rows_with_capacity(&taken, 52).err(), refused(Error::BadCapacity, None));
+    assert_eq!(refused(Error::IdTaken, Some(2)).unwrap().to_string(), "the id is taken, at place 2");
+    assert_eq!((tree.len(), tree.get(1)?), (1, Some(rect)));
     Ok(())
 }
 
@@ -314,7 +458,7 @@ fn output() -> Result<(), Error> {
 #[test]
 fn many() -> Result<(), Error> {
     let tree = line(1 << 20)?;
-    assert_eq!((tree.len()?, tree.count(&cube(7, 1006))?), (1 << 20, 1000));
+    assert_eq!((tree.len(), tree.count(&cube(7, 1006))?), (1 << 20, 1000));
     let before = COUNTS.get().held;
     COUNTS.set(Counts { most_held: before, ..COUNTS.get() });
     for rows in [131_072, 1 << 20] {
@@ -333,6 +477,6 @@ fn memory() -> Result<(), Error> {
     let _ = marks.write(b"<");
     let answer = tree.insert(1, &rect);
     let _ = marks.write(b">");
-    assert_eq!((answer, tree.len()?), (Err(Error::OutOfMemory), 0));
+    assert_eq!((answer, tree.len()), (Err(Error::OutOfMemory), 0));
     Ok(())
 }

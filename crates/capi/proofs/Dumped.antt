@@ -3,7 +3,7 @@ use Rattle.std.proofs.Common.{◌≡◌, ℕ, List, Result, Ok, Err, sym, subst,
 use Rattle.rt_check_dump.specs.declared.dump.AnyShadow.{AnyShadow}
 use Rattle.rt_handle.specs.declared.object.Object.{Object}
 use Rattle.capi.specs.declared.code.Code.{Code}
-use Rattle.capi.specs.declared.code.Code.TheVariants.{Done, Closed, OtherKind, AlreadyOpen, BadCapacity, BadBox, IdTaken, IdMissing, BufferTooSmall, OutOfMemory, TreeFull, Ended, TooLong, BadDump, BadLength, BadAxes, BadRelation}
+use Rattle.capi.specs.declared.code.Code.TheVariants.{Done, Closed, OtherKind, AlreadyOpen, BadCapacity, BadBox, IdTaken, IdMissing, BufferTooSmall, OutOfMemory, TreeFull, Ended, TooLong, BadDump, BadLength, BadAxes, BadRelation, Empty, BadBytes}
 use Rattle.capi.specs.Loading.{ReadsText, LoadsAny, LoadsDump}
 use Rattle.capi.specs.Trees.{IsAxes, IsAnySound, axes_of}
 
@@ -27,6 +27,8 @@ module _ (axes : ℕ) (is_axes : IsAxes axes) (text : List ℕ) where
   loads-text any read same (Err BadLength) h = absurd h
   loads-text any read same (Err BadAxes) h = absurd h
   loads-text any read same (Err BadRelation) h = absurd h
+  loads-text any read same (Err Empty) h = absurd h
+  loads-text any read same (Err BadBytes) h = absurd h
 
   -- a shadow of another number of axes is none of this one
   pub loads-other : (any : AnyShadow) → ReadsText text (Ok any) → (axes_of any ≡ axes → ⊥) → LoadsDump axes text (Err BadDump)
@@ -51,3 +53,5 @@ module _ (axes : ℕ) (is_axes : IsAxes axes) (text : List ℕ) where
   loads-none BadLength h = absurd h
   loads-none BadAxes h = absurd h
   loads-none BadRelation h = absurd h
+  loads-none Empty h = absurd h
+  loads-none BadBytes h = absurd h

@@ -5,4 +5,6 @@ pub mod Loaded
 mod OnTrees
 pub mod Picking
 pub mod Reaching
+pub mod Rowing
+pub mod Told
 pub mod Writing

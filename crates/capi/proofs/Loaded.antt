@@ -12,7 +12,7 @@ use Rattle.rt_tree_walk.proofs.Judging.{count-mapped}
 use Rattle.rt_tree.specs.Rows.{row_in, rows_of}
 use Rattle.rt_table_store.proofs.Alike.{count_permuted}
 use Rattle.capi.specs.declared.code.Code.{Code}
-use Rattle.capi.specs.declared.code.Code.TheVariants.{Done, Closed, OtherKind, AlreadyOpen, BadCapacity, BadBox, IdTaken, IdMissing, BufferTooSmall, OutOfMemory, TreeFull, Ended, TooLong, BadDump, BadLength, BadAxes, BadRelation}
+use Rattle.capi.specs.declared.code.Code.TheVariants.{Done, Closed, OtherKind, AlreadyOpen, BadCapacity, BadBox, IdTaken, IdMissing, BufferTooSmall, OutOfMemory, TreeFull, Ended, TooLong, BadDump, BadLength, BadAxes, BadRelation, Empty, BadBytes}
 use Rattle.capi.specs.Loading.{AreUnique, AreOrdered, HasCells, GivesTree, Loads}
 use Rattle.capi.proofs.Entries.{unique-from-sound, ordered-from-sound}
 
@@ -55,3 +55,5 @@ module _ {D : ℕ} (s : ShadowLists D) (sound : IsSound s) (cells : List (RawCel
   refused capacity BadLength h = absurd h
   refused capacity BadAxes h = absurd h
   refused capacity BadRelation h = absurd h
+  refused capacity Empty h = absurd h
+  refused capacity BadBytes h = absurd h

@@ -7,7 +7,7 @@ use Rattle.rt_handle.specs.declared.object.Object.{Object}
 use Rattle.capi.specs.Calls.{OnTree, Fills, Opens}
 use Rattle.capi.specs.Codes.{number_of}
 use Rattle.capi.specs.declared.code.Code.{Code}
-use Rattle.capi.specs.declared.code.Code.TheVariants.{Done, Closed, OtherKind, AlreadyOpen, BadCapacity, BadBox, IdTaken, IdMissing, BufferTooSmall, OutOfMemory, TreeFull, Ended, TooLong, BadDump, BadLength, BadAxes, BadRelation}
+use Rattle.capi.specs.declared.code.Code.TheVariants.{Done, Closed, OtherKind, AlreadyOpen, BadCapacity, BadBox, IdTaken, IdMissing, BufferTooSmall, OutOfMemory, TreeFull, Ended, TooLong, BadDump, BadLength, BadAxes, BadRelation, Empty, BadBytes}
 
 pub on_tree_by_id : (says : ℤ → (D : ℕ) → HeldTree D → TreeLists D → Code → Type 0) (id given : ℤ) (held new : Option Object) (object after : Object)
     (number told : ℤ) → held ≡ Some object → new ≡ Some after → number ≡ told → id ≡ given →
@@ -36,6 +36,8 @@ filled made refused new object BadDump number is so none same = absurd is
 filled made refused new object BadLength number is so none same = absurd is
 filled made refused new object BadAxes number is so none same = absurd is
 filled made refused new object BadRelation number is so none same = absurd is
+filled made refused new object Empty number is so none same = absurd is
+filled made refused new object BadBytes number is so none same = absurd is
 
 pub opened : (made : Object → Type 0) (refused : Code → Type 0) (old new : Option Object) (object : Object) (code : Code) (number : ℤ) →
     old ≡ None → Fills object new code → made object → refused OutOfMemory → number ≡ number_of code → Opens old new made refused number

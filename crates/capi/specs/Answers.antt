@@ -4,8 +4,13 @@ use Rattle.rt_handle.specs.Passes.{IsClosed}
 use Rattle.rt_handle.specs.declared.pass.Lease.{Lease}
 use Rattle.capi.specs.Codes.{number_of}
 use Rattle.capi.specs.declared.answer.Answer.{Answer}
+use Rattle.capi.specs.declared.answer.PairAnswer.{PairAnswer}
 use Rattle.capi.specs.declared.code.Code.{Code}
 
 -- the code's number, and the pass that the lease was
 abbrev pub Returns : Code → Lease → Answer → Type 0
 Returns code lease answer = (answer.code ≡ number_of code) × IsClosed lease answer.pass
+
+-- the code's number, and both passes
+abbrev pub ReturnsBoth : Code → Lease → Lease → PairAnswer → Type 0
+ReturnsBoth code one other answer = (answer.code ≡ number_of code) × IsClosed one answer.one × IsClosed other answer.other

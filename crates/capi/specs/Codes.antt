@@ -1,7 +1,7 @@
 -- The numbers and the words of codes (own).
 use Rattle.std.specs.Prelude.{◌≡◌, ◌≢◌, ℕ, ℤ, pos, List, codes, Option, Some, None}
 use Rattle.capi.specs.declared.code.Code.{Code}
-use Rattle.capi.specs.declared.code.Code.TheVariants.{Done, Closed, OtherKind, AlreadyOpen, BadCapacity, BadBox, IdTaken, IdMissing, BufferTooSmall, OutOfMemory, TreeFull, Ended, TooLong, BadDump, BadLength, BadAxes, BadRelation}
+use Rattle.capi.specs.declared.code.Code.TheVariants.{Done, Closed, OtherKind, AlreadyOpen, BadCapacity, BadBox, IdTaken, IdMissing, BufferTooSmall, OutOfMemory, TreeFull, Ended, TooLong, BadDump, BadLength, BadAxes, BadRelation, Empty, BadBytes}
 
 abbrev pub number_of : Code → ℤ
 number_of Done = pos 0
@@ -21,6 +21,8 @@ number_of BadDump = pos 13
 number_of BadLength = pos 14
 number_of BadAxes = pos 15
 number_of BadRelation = pos 16
+number_of Empty = pos 17
+number_of BadBytes = pos 18
 
 abbrev pub text_of : Code → List ℕ
 text_of Done = codes "done"
@@ -40,6 +42,8 @@ text_of BadDump = codes "the text is not the dump of a sound tree"
 text_of BadLength = codes "a box, a point or a list has a wrong length"
 text_of BadAxes = codes "a tree has one, two or three axes"
 text_of BadRelation = codes "a relation is touches, within or holds"
+text_of Empty = codes "the tree has no rows"
+text_of BadBytes = codes "the bytes are not those of a sound tree"
 
 -- the number is that of the code, or of none
 abbrev pub IsNumberOf : ℤ → Option Code → Type 0

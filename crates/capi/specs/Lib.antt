@@ -3,7 +3,10 @@ pub mod Buffers
 pub mod Calls
 pub mod Codes
 pub mod Loading
+pub mod Near
 pub mod Numbers
+pub mod Packing
+pub mod Pairs
 pub mod Relations
 pub mod Scripts
 pub mod Trees

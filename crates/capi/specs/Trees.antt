@@ -50,7 +50,7 @@ MakesNoTree axes capacity code = ⊥
 module _ {D : ℕ} where
   -- a tree of no rows whose nodes have that many cells at most
   abbrev pub IsEmptyTree : ℕ → TreeLists D → Type 0
-  IsEmptyTree capacity tree = tree ≡ record { lists = empty_lists capacity; spare = 0 }
+  IsEmptyTree capacity tree = tree ≡ record { lists = empty_lists capacity; spare = 0; ids = [] }
 
   abbrev pub IsNew : ℕ → HeldTree D → Type 0
   IsNew capacity kept = (kept.capacity ≡ capacity) × IsEmptyTree capacity kept.tree

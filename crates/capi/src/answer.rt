@@ -1,7 +1,7 @@
 //! What a call that reads answers.
 
 ghost use Rattle.std.specs.Prelude.{◌≡◌};
-ghost use Rattle.capi.specs.Answers.{Returns};
+ghost use Rattle.capi.specs.Answers.{Returns, ReturnsBoth};
 
 use crate::code::Code;
 use rt_handle::{Lease, Pass};
@@ -22,5 +22,27 @@ pub fn hand_back(code: Code, lease: Lease) -> Answer
     Answer {
         code: code.number(),
         pass: lease.close(),
+    }
+}
+
+/// What a call that reads two handles answers: the number of a code, and both passes.
+#[repr(C)]
+pub struct PairAnswer {
+    /// The number of the code.
+    pub code: i32,
+    /// The pass of the one handle.
+    pub one: Pass,
+    /// The pass of the other.
+    pub other: Pass,
+}
+
+/// The answer of a call that read by two leases.
+pub fn hand_back_both(code: Code, one: Lease, other: Lease) -> PairAnswer
+    ensures { ReturnsBoth code one other result }
+{
+    PairAnswer {
+        code: code.number(),
+        one: one.close(),
+        other: other.close(),
     }
 }

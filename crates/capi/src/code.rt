@@ -40,6 +40,10 @@ pub enum Code {
     BadAxes,
     /// A relation is one of three.
     BadRelation,
+    /// The tree has no rows.
+    Empty,
+    /// The bytes aren't those of a sound tree with that many axes.
+    BadBytes,
 }
 
 impl Code {
@@ -65,6 +69,8 @@ impl Code {
             Code::BadLength => 14,
             Code::BadAxes => 15,
             Code::BadRelation => 16,
+            Code::Empty => 17,
+            Code::BadBytes => 18,
         }
     }
 }

@@ -3,9 +3,10 @@
 //! Each call answers the number of a `Code`. No call ends the process, and one that refuses leaves the handle as it was.
 //! `bindings/c/juicedelta.h` declares the calls for C.
 //!
-//! The exports stand in `tree`, `script`, `handle`, `words` and `version`. A call that writes takes the object out of the
-//! handle, works on it, and puts it back. A call that reads takes the handle's words and a pass, and gives the pass back in
-//! an `Answer`. A pass has no bytes, so on x86-64 C reads an `Answer` as its code in one register.
+//! The exports stand in `tree`, `script`, `handle`, `words` and `version`, and with what they do in `packing` (a tree made of
+//! rows), `near` (the rows near a point or a box) and `pairs` (the pairs of rows that touch). A call that writes takes the
+//! object out of the handle, works on it, and puts it back. A call that reads takes the handle's words and a pass, and gives
+//! the pass back in an `Answer`. A pass has no bytes, so on x86-64 C reads an `Answer` as its code in one register.
 //!
 //! An export can't be generic. So it looks which tree the object is, and hands it to a generic function: of `edit` (what
 //! changes a tree), `query` (what is read of it), `dump` (its text) or `load` (a tree made of the rows of a dump).
@@ -15,7 +16,8 @@
 //!
 //! Stands on `rt_handle`, and in proofs on `rt_table_store`. Definitions: `specs/Codes.antt` (the numbers and words of
 //! codes), `Calls.antt` (what a call does to what a handle holds, or reads of it), `Answers.antt` (how the pass comes back),
-//! `Trees.antt` and `Scripts.antt` (what a call does to a tree and to a script shell), `Relations.antt` (each relation is
+//! `Trees.antt` and `Scripts.antt` (what a call does to a tree and to a script shell), `Packing.antt`, `Near.antt` and
+//! `Pairs.antt` (the same for the exports of those modules), `Relations.antt` (each relation is
 //! defined once, there, by the points of boxes), `Numbers.antt` (boxes and rows as C has them), `Buffers.antt`, and
 //! `Words.antt`. `Loading.antt` and `Windows.antt` are for proofs here.
 #![tactic(auto)]
@@ -28,7 +30,10 @@ mod edit;
 mod handle;
 mod keys;
 mod load;
+mod near;
 mod numbers;
+mod packing;
+mod pairs;
 mod query;
 mod relation;
 mod script;

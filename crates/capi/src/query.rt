@@ -126,7 +126,7 @@ fn give<const D: usize>(rows: &[Row<D>], ids: &mut [i64], total: &mut u64) -> Co
 }
 
 /// Writes the ids of the rows and the numbers of their boxes to the start of the buffers, and how many rows they are.
-fn give_rows<const D: usize>(
+pub fn give_rows<const D: usize>(
     rows: &[Row<D>],
     ids: &mut [i64],
     boxes: &mut [i32],

@@ -30,6 +30,8 @@ impl Code {
             Code::BadLength => "a box, a point or a list has a wrong length",
             Code::BadAxes => "a tree has one, two or three axes",
             Code::BadRelation => "a relation is touches, within or holds",
+            Code::Empty => "the tree has no rows",
+            Code::BadBytes => "the bytes are not those of a sound tree",
         }
     }
 
@@ -55,6 +57,8 @@ impl Code {
             14 => Some(Code::BadLength),
             15 => Some(Code::BadAxes),
             16 => Some(Code::BadRelation),
+            17 => Some(Code::Empty),
+            18 => Some(Code::BadBytes),
             _ => None,
         }
     }

@@ -178,7 +178,7 @@ same_transcript options marks script one other first second (pieces, cut, prints
 -- ---- a script that may go on
 
 -- which pieces have ended in a text is determined
-ended_one_way : (x : List ℕ) (ps qs : List PieceText) → EndedPieces x ps → EndedPieces x qs → ps ≡ qs
+pub ended_one_way : (x : List ℕ) (ps qs : List PieceText) → EndedPieces x ps → EndedPieces x qs → ps ≡ qs
 ended_one_way x [] [] h k = refl
 ended_one_way x [] (q ∷ qs) (inl gap) k =
     let a = first_gap x gap in
@@ -200,7 +200,7 @@ ended_one_way x (p ∷ ps) (q ∷ qs) h k =
     let same_pieces = ended_one_way h.1 ps qs h.4 (subst (λ l. EndedPieces l qs) (sym same_rest) k.4) in cc
 
 -- only the marks of pieces that print matter
-remarked_as_far : (options : Options) (marks others : Marks) (p : Progress) (pieces : List PieceText) (parts : List (List ℕ)) (status : Status)
+pub remarked_as_far : (options : Options) (marks others : Marks) (p : Progress) (pieces : List PieceText) (parts : List (List ℕ)) (status : Status)
     → ((n : ℕ) → n ≤ p.pieces + length parts → marks n ≡ others n) → Prints options marks p pieces parts status → Prints options others p pieces parts status
 remarked_as_far options marks others p [] parts status agree prints = prints
 remarked_as_far options marks others p (piece ∷ pieces) parts status agree (outcome, gives, later, lines, more) =

@@ -8,3 +8,7 @@ pub mod Changes
 pub mod Packing
 pub mod PackingInside
 pub mod Join
+pub mod Bounds
+pub mod BoundsInside
+pub mod Restoring
+pub mod RestoringInside

@@ -1,15 +1,16 @@
 -- A tree from outside.
-use Rattle.std.specs.Prelude.{ℕ, ◌+◌, ◌-◌, ◌*◌, ◌/◌, ◌^◌, ℤ, Option, pos, [], ◌∷◌, None, length}
+use Rattle.std.specs.Prelude.{ℕ, ◌+◌, ◌-◌, ◌*◌, ◌/◌, ◌^◌, ℤ, List, Option, pos, [], ◌∷◌, None, length}
 use Rattle.std.specs.Option.{option_map, option_map_or}
 use Rattle.rt_box.specs.Capacity.{least_fill}
 use Rattle.rt_check.specs.Shadow.{ShadowLists}
 use Rattle.rt_check.specs.Conditions.{node_of, IsSound}
 use Rattle.rt_tree_outside.specs.InOrder.{IsPreorder, AreByRisingId}
 
--- its nodes and row entries, and how many more rows it takes without asking for memory
+-- its nodes and row entries, how many more rows it takes without asking for memory, and the order in which it tells its ids
 pub record TreeLists (D : ℕ) : Type 0 where
   pub lists : ShadowLists D
   pub spare : ℕ
+  pub ids : List ℤ
 
 module _ {D : ℕ} where
   -- the level of the node of that number, if it is listed

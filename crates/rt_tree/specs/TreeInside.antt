@@ -1,6 +1,6 @@
 -- How a `Tree` keeps its nodes. No public clause cites this module.
 use Rattle.std.specs.Prelude.{◌≡◌, ℕ, ◌+◌, ◌≤◌, [], vec_capacity}
-use Rattle.indexmap.specs.IndexMap.{spare, index_map_len}
+use Rattle.indexmap.specs.IndexMap.{spare, index_map_len, keys}
 use Rattle.rt_tree_node.specs.Whole.{IsWhole, IsBranched, HasRoom, row_count, most_rows_of_a_tree}
 use Rattle.rt_tree_outside.specs.Outside.{outside}
 use Rattle.rt_tree.specs.Lists.{TreeLists}
@@ -8,7 +8,7 @@ use Rattle.rt_tree.specs.declared.tree.Tree.TheInside.{Inside}
 
 module _ {D : ℕ} where
   abbrev pub lists_of : Inside D → TreeLists D
-  lists_of t = record { lists = outside t.arena; spare = t.spare }
+  lists_of t = record { lists = outside t.arena; spare = t.spare; ids = keys t.arena.leaves }
 
   -- the nodes are sound and no cell is pending; there is room for the rows and for as many more as are promised
   pub record IsKept (t : Inside D) : Type 0 where

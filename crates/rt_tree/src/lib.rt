@@ -5,6 +5,9 @@
 //! their cells, and an entry for each row.
 //!
 //! - `from_rows` makes a tree of a list of rows, packed all at once.
+//! - `from_shadow` makes a tree of a shadow: that very tree if its nodes stand in preorder, which is tested and not proved, or
+//!   else one of its rows.
+//! - `to_bytes` writes the tree in a compact form, and `from_bytes` makes a tree with given bytes.
 //! - `insert` and `remove` take no memory and don't fail: `reserve` made the room. Each other row stays, and if no node gets
 //!   overfull or underfull, no other row moves. Each step is named: where best children lead each cell that is placed, which
 //!   cells an overfull node gives up, and by which cut one is split. `take` removes a row that may be missing.
@@ -16,19 +19,27 @@
 //!   list of the caller's, and `count` says how many they are.
 //! - `nearest` lists the rows whose boxes are nearest to a point, `within` those of them within a distance, and
 //!   `nearest_to` the rows nearest to a box.
-//! - `join` lists the pairs of rows, one of each of two trees, whose boxes touch.
+//! - `join` lists the pairs of rows, one of each of two trees, whose boxes touch, and `join_self` those of one tree.
+//! - `bounds` is the least box around all rows. `ids` tells the ids in an order that stays while the tree does.
 //!
-//! Stands on `rt_tree_node`, `rt_tree_walk`, `rt_tree_outside`, `rt_tree_nearest`, `rt_tree_join`, `rt_tree_place`, `rt_tree_remove` and
-//! `rt_tree_pack`, and on `rt_check` for the tree from outside. Definitions: `specs/Lists.antt` (a tree from outside),
-//! `Rows.antt`, `Boxes.antt`, `Changes.antt` (insertion, removal and replacement), `Search.antt`, `Join.antt`, `Way.antt`,
-//! `Packing.antt` (a tree of a list of rows), and `specs/Nearest.antt` of `rt_tree_nearest`.
+//! Stands on `rt_tree_node`, `rt_tree_walk`, `rt_tree_outside`, `rt_tree_nearest`, `rt_tree_join`, `rt_tree_place`,
+//! `rt_tree_remove`, `rt_tree_pack`, `rt_tree_restore` and `rt_tree_bytes`, and on `rt_check` for the tree from outside.
+//! Definitions: `specs/Lists.antt` (a tree from outside), `Rows.antt`, `Boxes.antt`, `Bounds.antt`, `Changes.antt` (insertion,
+//! removal and replacement), `Search.antt`, `Join.antt`, `Way.antt`, `Packing.antt` (a tree of a list of rows),
+//! `Restoring.antt` (a tree of a shadow), `specs/Nearest.antt` of `rt_tree_nearest`, and `specs/TreeBytes.antt` of
+//! `rt_tree_bytes`.
 #![tactic(auto)]
 
+mod bounds;
+mod bytes;
 mod packing;
+mod restoring;
 mod tree;
 
+pub use rt_tree_bytes::BytesFault;
 pub use rt_tree_join::Pair;
 pub use rt_tree_node::Work;
 pub use rt_tree_pack::PackFault;
+pub use rt_tree_restore::RestoreFault;
 pub use rt_tree_walk::{Found, Row};
 pub use tree::{MOST_ROWS_OF_A_TREE, Tree};

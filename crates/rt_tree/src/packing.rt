@@ -63,7 +63,10 @@ fn row_cell<const D: usize>(row: &Row<D>) -> Cell<D>
 }
 
 /// The rows as cells of leaves, in their order.
-fn row_cells<const D: usize>(alloc: Global, rows: &[Row<D>]) -> Result<Vec<Cell<D>>, AllocError>
+pub(crate) fn row_cells<const D: usize>(
+    alloc: Global,
+    rows: &[Row<D>],
+) -> Result<Vec<Cell<D>>, AllocError>
     ensures { IfOk result (λ cells. cells.items ≡ map cell_of rows.now) }
 {
     let mut cells = Vec::with_capacity(alloc, rows.len())?;

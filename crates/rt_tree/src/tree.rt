@@ -3,8 +3,8 @@
 //! Rows come and go without taking memory: `reserve` makes room for the nodes of any tree with that many rows. Between two
 //! calls no cell is pending and no node is out of shape (`IsKept` in `specs/TreeInside.antt`).
 
-ghost use Rattle.std.specs.Prelude.{◌≡◌, ◌≢◌, ◌<◌, ◌≤◌, ◌+◌, ◌-◌, ◌*◌, ◌/◌, ◌^◌, ℤ, max, length, is_some, Some, None, IsSome, IfSome, IfNone, IfOk, IfErr, OnOk, OnErr};
-ghost use Rattle.std.specs.List.{list_any};
+ghost use Rattle.std.specs.Prelude.{◌≡◌, ◌≢◌, ◌<◌, ◌≤◌, ◌+◌, ◌-◌, ◌*◌, ◌/◌, ◌^◌, ◌↔◌, ℤ, [], max, length, is_some, Some, None, IsSome, IfSome, IsNone, IfNone, IfOk, IfErr, OnOk, OnErr};
+ghost use Rattle.std.specs.List.{list_any, count_by};
 ghost use Rattle.std.specs.Ordering.{int_eq};
 ghost use Rattle.rt_box.specs.Capacity.{least_fill};
 ghost use Rattle.rt_tree_node.specs.Whole.{most_rows_of_a_tree};
@@ -13,21 +13,29 @@ ghost use Rattle.rt_tree.specs.Rows.{box_of, rows_of, GainsRow, LosesRow};
 ghost use Rattle.rt_tree.specs.Boxes.{HasBoxes};
 ghost use Rattle.rt_tree.specs.Changes.{IsInsertion, IsRemoval, ReplacesOther};
 ghost use Rattle.rt_tree.specs.Packing.{ids, IsPackedOf};
+ghost use Rattle.rt_tree.specs.Restoring.{IsRestoredOf, IsRestoreFaultOf};
 ghost use Rattle.rt_tree.specs.Search.{FindsIn, FindsInAfter, CountsIn};
-ghost use Rattle.rt_tree.specs.Join.{JoinsIn};
+ghost use Rattle.rt_tree.specs.Join.{JoinsIn, JoinsItselfIn};
+ghost use Rattle.rt_tree.specs.Bounds.{IsLeastAround};
+ghost use Rattle.rt_tree_bytes.specs.TreeBytes.{tree_bytes};
 ghost use Rattle.rt_tree_pack.specs.Packing.{IsFaultOf};
 ghost use Rattle.rt_tree_walk.specs.Search.{StaysInFront};
 ghost use Rattle.rt_tree_nearest.specs.Nearest.{nearest_rows, rows_within, nearest_rows_to};
 
+use crate::bounds::root_box;
+use crate::bytes::bytes_arena;
 use crate::packing::{bare_arena, pack_rows};
+use crate::restoring::shadow_arena;
 use rt_box::{Capacity, Rect, Window};
 use rt_check::Shadow;
-use rt_tree_join::{Pair, join};
+use rt_tree_bytes::{BytesFault, bytes_of};
+use rt_tree_join::{Pair, join, join_self};
 use rt_tree_nearest::{nearest, nearest_to, within};
 use rt_tree_node::{Arena, Node, Work, leaves_facts};
 use rt_tree_pack::PackFault;
 use rt_tree_place::{insert_row, levels_are_few, nodes_are_few};
 use rt_tree_remove::{find_row, remove_found, replace_found};
+use rt_tree_restore::RestoreFault;
 use rt_tree_outside::shadow_of;
 use rt_tree_walk::{Found, Row, count, search, search_into};
 use slab::Slab;
@@ -196,7 +204,7 @@ impl<const D: usize> Tree<D> {
     pub fn new(alloc: Global, keys: RandomState, capacity: Capacity) -> Result<Tree<D>, AllocError>
         requires some { 1 ≤ D }
         requires few { D ≤ 3 }
-        ensures { IfOk result (λ tree. tree ≡ record { lists = empty_lists capacity; spare = 0 }) }
+        ensures { IfOk result (λ tree. tree ≡ record { lists = empty_lists capacity; spare = 0; ids = [] }) }
     {
         let arena = bare_arena(alloc, keys, capacity, NODES_AHEAD)?;
         Ok(Tree { arena, spare: 0 })
@@ -222,6 +230,46 @@ impl<const D: usize> Tree<D> {
         ensures fault { IfErr result (λ fault. IsFaultOf (ids rows.now) fault) }
     {
         let arena = pack_rows(alloc, keys, capacity, rows)?;
+        Ok(Tree { arena, spare: 0 })
+    }
+
+    /// A tree of the shadow's rows. If the shadow is sound and its nodes stand in preorder, as `shadow` lists them, it is that
+    /// very tree, which tests show; else the rows are packed. Look-ups by id hash by `keys`, which are to be random if others
+    /// choose the ids.
+    ///
+    /// # Errors
+    ///
+    /// `NoBox` if a row's cell has some lo above its hi, `TooMany` if there are more rows than `MOST_ROWS_OF_A_TREE`, `Repeated` if
+    /// two have one id, and `Memory` if no memory is left.
+    pub fn from_shadow(
+        alloc: Global,
+        keys: RandomState,
+        shadow: &Shadow<D>,
+    ) -> Result<Tree<D>, RestoreFault>
+        requires some { 1 ≤ D }
+        requires few { D ≤ 3 }
+        ensures tree { IfOk result (λ tree. IsRestoredOf tree.lists shadow.now) }
+        ensures spare { IfOk result (λ tree. tree.spare ≡ 0) }
+        ensures fault { IfErr result (λ fault. IsRestoreFaultOf shadow.now fault) }
+    {
+        let arena = shadow_arena(alloc, keys, shadow)?;
+        Ok(Tree { arena, spare: 0 })
+    }
+
+    /// The tree that has these bytes, which `to_bytes` has written. Look-ups by id hash by `keys`, which are to be random if
+    /// others choose the ids.
+    ///
+    /// # Errors
+    ///
+    /// `Bad` if no tree of `D` axes is found that has these bytes, `TooMany` if they have more rows than `MOST_ROWS_OF_A_TREE`, and
+    /// `Memory` if no memory is left. What is taken is no more than a few times what the bytes take.
+    pub fn from_bytes(alloc: Global, keys: RandomState, bytes: &[u8]) -> Result<Tree<D>, BytesFault>
+        requires some { 1 ≤ D }
+        requires few { D ≤ 3 }
+        ensures tree { IfOk result (λ tree. tree_bytes tree.lists ≡ bytes.now) }
+        ensures spare { IfOk result (λ tree. tree.spare ≡ 0) }
+    {
+        let arena = bytes_arena(alloc, keys, bytes)?;
         Ok(Tree { arena, spare: 0 })
     }
 
@@ -268,8 +316,18 @@ impl<const D: usize> Tree<D> {
         Some(location.rect)
     }
 
-    /// The ids of the rows, each once, in no order.
+    /// The least box around all rows, or `None` if there are none.
+    pub fn bounds(&self) -> Option<Rect<D>>
+        ensures none { IsNone result ↔ (rows_of self.now.lists ≡ []) }
+        ensures some { IfSome result (IsLeastAround (rows_of self.now.lists)) }
+    {
+        root_box(&self.arena)
+    }
+
+    /// The ids of the rows, each once. Their order is none in particular, but stays while the tree does.
     pub fn ids(&self) -> &[i64]
+        ensures order { result.now ≡ self.now.ids }
+        ensures once { (id : ℤ) → count_by (int_eq id) result.now ≤ 1 }
         ensures ids { (id : ℤ) → list_any (int_eq id) result.now ≡ is_some (box_of self.now.lists id) }
         ensures count { length result.now ≡ length self.now.lists.rows }
     {
@@ -291,6 +349,17 @@ impl<const D: usize> Tree<D> {
         shadow_of(alloc, keys, &self.arena)
     }
 
+    /// The tree in a compact form: with two axes 24 bytes a row, and little more for the nodes.
+    ///
+    /// # Errors
+    ///
+    /// `AllocError` if no memory is left.
+    pub fn to_bytes(&self, alloc: Global) -> Result<Vec<u8>, AllocError>
+        ensures { IfOk result (λ bytes. bytes.items ≡ tree_bytes self.now.lists) }
+    {
+        bytes_of(alloc, &self.arena)
+    }
+
     /// A law: whatever was done to the tree, the checker finds no problem in it, its nodes are in preorder, and its row
     /// entries stand by rising id. The call does nothing.
     pub fn is_in_shape(&self)
@@ -307,11 +376,13 @@ impl<const D: usize> Tree<D> {
         let _ = self.arena.nodes.len();
     }
 
-    /// A law: a tree has at most 2^31 rows, and at most one node for each `capacity.least() - 1` of them, and one more. If it
-    /// has levels above the leaves, it has at least twice `capacity.least()` to the power of their number as many rows. So it
-    /// has at most 20 levels of nodes while it has at most 2^20 rows, and at most 31 in all. The call does nothing.
+    /// A law: a tree has as many row entries as rows, at most 2^31, and at most one node for each `capacity.least() - 1` of
+    /// them, and one more. If it has levels above the leaves, it has at least twice `capacity.least()` to the power of their
+    /// number as many rows. So it has at most 20 levels of nodes while it has at most 2^20 rows, and at most 31 in all. The call
+    /// does nothing.
     pub fn is_small(&self)
         ensures rows { length self.now.lists.rows ≤ most_rows_of_a_tree }
+        ensures entries { length self.now.lists.rows ≡ length (rows_of self.now.lists) }
         ensures nodes { length self.now.lists.nodes ≤ most_nodes self.now.lists }
         ensures powers { 1 ≤ root_level self.now.lists → least_rows self.now.lists ≤ length self.now.lists.rows }
         ensures few_levels { length self.now.lists.rows ≤ 2 ^ 20 → root_level self.now.lists < 20 }
@@ -433,6 +504,18 @@ impl<const D: usize> Tree<D> {
         join(alloc, &self.arena, &other.arena)
     }
 
+    /// The pairs of two different rows of this tree whose boxes touch, each pair once, in no stated order. The lower id stands on
+    /// the left.
+    ///
+    /// # Errors
+    ///
+    /// `AllocError` if no memory is left for the pairs, or for the list of the pairs of nodes that are still to come.
+    pub fn join_self(&self, alloc: Global) -> Result<Vec<Pair>, AllocError>
+        ensures { IfOk result (λ pairs. JoinsItselfIn self.now.lists pairs.items) }
+    {
+        join_self(alloc, &self.arena)
+    }
+
     /// Makes room for `more` further rows. The room grows by as many rows as there are, so that many reservations of one row
     /// each copy a node only a few times; but first to 2^20 rows, and from there to the most rows that a tree may have.
     ///
@@ -445,6 +528,7 @@ impl<const D: usize> Tree<D> {
         ensures keeps { self.old.spare ≤ self.new.spare }
         ensures most { self.new.spare ≤ max self.old.spare (max more (length self.old.lists.rows)) }
         ensures lists { self.new.lists ≡ self.old.lists }
+        ensures ids { self.new.ids ≡ self.old.ids }
     {
         if more <= self.spare {
             return Ok(());

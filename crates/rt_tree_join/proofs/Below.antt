@@ -33,7 +33,7 @@ flat-flat f g (x ∷ xs) = flat_map-append f (g x) (flat_map g xs) ∙ ap (λ l.
 
 module _ {D : ℕ} where
   -- ---- one tree
-  rows-inner : (t : Arena D) (l k : ℕ) → level_at t.nodes k ≡ Some (suc l) →
+  pub rows-inner : (t : Arena D) (l k : ℕ) → level_at t.nodes k ≡ Some (suc l) →
       rows_under t.nodes (suc l) k ≡ flat_map (λ c. rows_under t.nodes l (key_of c)) (cells_at t.nodes k)
   rows-inner t l k at =
       ap (λ cells. map row_of cells ++ flat_map (leaf_rows t.nodes) (flat_map (λ c. keys_in t.nodes l (key_of c)) (cells_at t.nodes k))) (leaf-at_inner t.nodes k l at)
@@ -43,10 +43,10 @@ module _ {D : ℕ} where
   rows-none t zero k at e = rows-leaf t.nodes k at ∙ ap (map row_of) e
   rows-none t (suc l) k at e = rows-inner t l k at ∙ ap (flat_map (λ c. rows_under t.nodes l (key_of c))) e
 
-  keys-inner : (t : Arena D) (l k : ℕ) → length (keys_in t.nodes (suc l) k) ≡ suc (sum_by (λ c. length (keys_in t.nodes l (key_of c))) (cells_at t.nodes k))
+  pub keys-inner : (t : Arena D) (l k : ℕ) → length (keys_in t.nodes (suc l) k) ≡ suc (sum_by (λ c. length (keys_in t.nodes l (key_of c))) (cells_at t.nodes k))
   keys-inner t l k = ap suc (length-flat_map (λ c. keys_in t.nodes l (key_of c)) (cells_at t.nodes k))
 
-  keys-some : (t : Arena D) (l k : ℕ) → 1 ≤ length (keys_in t.nodes l k)
+  pub keys-some : (t : Arena D) (l k : ℕ) → 1 ≤ length (keys_in t.nodes l k)
   keys-some t zero k = omega arith
   keys-some t (suc l) k = omega (arith, keys-inner t l k)
 
@@ -55,7 +55,7 @@ module _ {D : ℕ} where
 
   module _ (t : Arena D) (s : IsSettled t) where
     -- each child with all that is below it
-    children : (l k : ℕ) → level_at t.nodes k ≡ Some (suc l) → All (λ c. IsSubtree t (subtree_of l c)) (cells_at t.nodes k)
+    pub children : (l k : ℕ) → level_at t.nodes k ≡ Some (suc l) → All (λ c. IsSubtree t (subtree_of l c)) (cells_at t.nodes k)
     children l k at = λ i d h.
         let c = get_or (cells_at t.nodes k) i d in
         let low : level_at t.nodes (key_of c) ≡ Some l = levels-below t s k l at i d h in

@@ -1,8 +1,9 @@
 -- Boxes that touch.
-use Rattle.std.proofs.Common.{◌≡◌, ℕ, zero, suc, ◌+◌, ◌*◌, ◌<◌, ◌%◌, ◌/◌, ◌==◌, cond, true, false, ℤ, pos, ◌≤ℤ◌, ◌↔◌, List, [], ◌∷◌, length, map, get_or, arith, refl, ap, sym, ◌∙◌, subst, inl, inr}
+use Rattle.std.proofs.Common.{◌≡◌, ℕ, zero, suc, ◌+◌, ◌*◌, ◌<◌, ◌%◌, ◌/◌, ◌^◌, ◌≤◌, drop, ◌==◌, cond, true, false, ℤ, pos, ◌≤ℤ◌, ◌↔◌, List, [], ◌∷◌, length, map, get_or, arith, refl, ap, sym, ◌∙◌, subst, inl, inr}
 use Rattle.std.specs.Prelude.{int_le}
 use Rattle.std.specs.Bool.{Decides}
 use Rattle.std.specs.List.{All, AllZip, filter}
+use Rattle.std.proofs.Math.Nat.{two-pow-succ, div-div-eq-div-mul}
 use Rattle.std.proofs.lemmas.Bool.{true≢false, cases_Bool, cases_eq}
 use Rattle.std.proofs.lemmas.Bool.Decides.{Decides-and, Decides-eqb, same_from_decides}
 use Rattle.std.proofs.lemmas.Int.{ints}
@@ -15,6 +16,7 @@ use Rattle.rt_box.specs.Rect.{IsBox, Holds, coordinates}
 use Rattle.rt_box.specs.Window.{Admits, Narrows}
 use Rattle.rt_box.proofs.Lists.{AllZip-from_places, AllZip-get_or_both}
 use Rattle.rt_box.proofs.Narrowing.{length-coordinates, Admits-narrowed}
+use Rattle.rt_tree_walk.proofs.Picked.{Tells-cells}
 use Rattle.rt_tree_walk.proofs.Ints.{int_le-true, int_le-from}
 use Rattle.rt_tree_node.specs.declared.cell.Cell.{Cell}
 use Rattle.rt_tree_walk.specs.Visits.{picked}
@@ -150,3 +152,18 @@ module _ {D : ℕ} where
       same_from_decides {P = touch rect c.rect ≡ true} (bits % 2 == 1) (touch rect c.rect)
       ((λ e. here.0 (told.0.0 (bit.0 e))), (λ e. bit.1 (told.0.1 (here.1 e)))) ((λ e. e), (λ e. e)) in
       ap (λ v. cond v (c ∷ picked cs (bits / 2)) (picked cs (bits / 2))) same ∙ ap (λ l. cond (touch rect c.rect) (c ∷ l) l) rest
+
+  -- the same of the cells from a place on, and of the bits from there on
+  pub picked-later : (n : ℕ) (rect window : List Interval) (cells : List (Cell D)) (bits : ℕ) → n ≤ length cells → IsTouching D rect window →
+      All (IsBox D) (map (λ c. c.rect) cells) → Tells (Admits window) (map (λ c. c.rect) cells) bits →
+      (picked (drop n cells) (bits / 2 ^ n) ≡ filter (λ c. touch rect c.rect) (drop n cells)) × (bits / 2 ^ n < 2 ^ length (drop n cells))
+  picked-later zero rect window cells bits within touches boxes told =
+      let same : bits / 2 ^ 0 ≡ bits = omega arith in
+      let below = (Tells-cells (Admits window) (map (λ c. c.rect) cells) cells bits refl told).1 in
+      (ap (picked cells) same ∙ picked-touching rect window cells bits touches boxes told, omega (arith, same, below))
+  picked-later (suc n) rect window [] bits within touches boxes told = absurd (omega (arith, within))
+  picked-later (suc n) rect window (c ∷ cs) bits within touches boxes told =
+      let double : 2 ^ suc n ≡ 2 * 2 ^ n = omega (arith, two-pow-succ n) in
+      let half : bits / 2 / 2 ^ n ≡ bits / 2 ^ suc n = div-div-eq-div-mul bits 2 (2 ^ n) ∙ ap (λ k. bits / k) (sym double) in
+      let rest = picked-later n rect window cs (bits / 2) (omega (arith, within)) touches (All-tail (IsBox D) c.rect (map (λ x. x.rect) cs) boxes) told.1 in
+      (ap (picked (drop n cs)) (sym half) ∙ rest.0, omega (arith, half, rest.1))

@@ -76,7 +76,7 @@ module _ {D : ℕ} where
   left-joined test others a b =
       ap (count_by test) (flat_map-append (pairs_with others) a b) ∙ count-append test (touching_pairs a others) (touching_pairs b others)
 
-  with-joined : (a b : List (Row D)) (r : Row D) → pairs_with (a ++ b) r ≡ pairs_with a r ++ pairs_with b r
+  pub with-joined : (a b : List (Row D)) (r : Row D) → pairs_with (a ++ b) r ≡ pairs_with a r ++ pairs_with b r
   with-joined a b r =
       let q : Row D → Bool = λ s. touch r.rect s.rect in
       ap (map (pair_of r)) (filter-append q a b) ∙ map-append (pair_of r) (filter q a) (filter q b)
@@ -115,7 +115,7 @@ module _ {D : ℕ} where
         ∙ pairs-apart rs others (All-tail (λ x. Holds a x.rect) r rs in_a) in_b
 
   -- ---- pairs of leaves' cells
-  row-pairs : (others : List (Cell D)) (c : Cell D) → pairs_with (map row_of others) (row_of c) ≡ pairs_of_row Left others c
+  pub row-pairs : (others : List (Cell D)) (c : Cell D) → pairs_with (map row_of others) (row_of c) ≡ pairs_of_row Left others c
   row-pairs [] c = refl
   row-pairs (e ∷ es) c = by (touch c.rect e.rect) (row-pairs es c)
     where

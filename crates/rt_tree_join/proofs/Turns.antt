@@ -19,9 +19,9 @@ use Rattle.rt_tree_join.proofs.Counting.{right-none}
 use Rattle.rt_tree_join.proofs.Once.{pairs-once}
 
 module _ {D : ℕ} where
-  -- the pairs so far and those below what is due are all
-  pub record Joining (t u : Arena D) (pairs : List Pair) (due : List (Due D)) : Type 0 where
-    pub each : (test : Pair → Bool) → count_by test pairs + sum_by (count_due t u test) due ≡ count_by test (touching_pairs (rows_in t) (rows_in u))
+  -- the pairs so far and those below what is due are as many as there are in all
+  pub record Joining (t u : Arena D) (total : (Pair → Bool) → ℕ) (pairs : List Pair) (due : List (Due D)) : Type 0 where
+    pub each : (test : Pair → Bool) → count_by test pairs + sum_by (count_due t u test) due ≡ total test
     pub nodes : All (IsDue t u) due
 
   module _ (t u : Arena D) where
@@ -54,14 +54,8 @@ module _ {D : ℕ} where
     starts-no_right v due none is =
         starts-none due (ap (λ (rows : List (Row D)). touching_pairs (rows_in t) rows) (rows-none u u.level u.root v.whole.linked.root_level none) ∙ right-none (rows_in t)) is
 
-    pub Joining-start : (pairs : List Pair) (due : List (Due D)) → pairs ≡ [] → StartsWith t u due → Joining t u pairs due
-    Joining-start pairs due none so = record {
-      each = λ test. omega (arith, ap (count_by test) none, so.each test);
-      nodes = so.nodes;
-    }
-
     -- ---- a turn
-    module _ (pairs : List Pair) (due rest : List (Due D)) (next : Due D) (so : Joining t u pairs due) (e : due ≡ rest ++ next ∷ []) where
+    module _ (total : (Pair → Bool) → ℕ) (pairs : List Pair) (due rest : List (Due D)) (next : Due D) (so : Joining t u total pairs due) (e : due ≡ rest ++ next ∷ []) where
       nodes-split : All (IsDue t u) (rest ++ next ∷ [])
       nodes-split = subst (All (IsDue t u)) e so.nodes
 
@@ -69,7 +63,7 @@ module _ {D : ℕ} where
       next-due = All-head (IsDue t u) next [] (All-right (IsDue t u) rest (next ∷ []) nodes-split)
 
       module _ (pairs1 : List Pair) (due1 : List (Due D)) (goes : Goes t u next pairs pairs1 rest due1) where
-        pub Joining-step : Joining t u pairs1 due1
+        pub Joining-step : Joining t u total pairs1 due1
         Joining-step = record {
           each = λ test.
               let c = count_due t u test in
@@ -86,10 +80,16 @@ module _ {D : ℕ} where
             let after = ap (sum_by c) goes.is ∙ sum_by-append c rest goes.more in
             omega (arith, before, after, goes.fewer)
 
-    pub Joining-end : IsSettled t → IsSettled u → (pairs : List Pair) (due : List (Due D)) → due ≡ [] → Joining t u pairs due → Joins t u pairs
-    Joining-end s v pairs due none so = record { each = all; once = λ left right. omega (arith, all (has_ids left right), pairs-once left right t u s v) }
+    pub Joining-end : (total : (Pair → Bool) → ℕ) (pairs : List Pair) (due : List (Due D)) → due ≡ [] → Joining t u total pairs due →
+        (test : Pair → Bool) → count_by test pairs ≡ total test
+    Joining-end total pairs due none so test =
+        let empty : sum_by (count_due t u test) due ≡ 0 = ap (sum_by (count_due t u test)) none in
+        omega (arith, so.each test, empty)
+
+    -- the pairs below what was due at first are all
+    pub joins-all : IsSettled t → IsSettled u → (due : List (Due D)) (pairs pairs1 : List Pair) → StartsWith t u due → pairs ≡ [] →
+        ((test : Pair → Bool) → count_by test pairs1 ≡ count_by test pairs + sum_by (count_due t u test) due) → Joins t u pairs1
+    joins-all s v due pairs pairs1 starts none come = record { each = all; once = λ left right. omega (arith, all (has_ids left right), pairs-once left right t u s v) }
       where
-        all : (test : Pair → Bool) → count_by test pairs ≡ count_by test (touching_pairs (rows_in t) (rows_in u))
-        all test =
-            let empty : sum_by (count_due t u test) due ≡ 0 = ap (sum_by (count_due t u test)) none in
-            omega (arith, so.each test, empty)
+        all : (test : Pair → Bool) → count_by test pairs1 ≡ count_by test (touching_pairs (rows_in t) (rows_in u))
+        all test = omega (arith, come test, starts.each test, ap (count_by test) none)

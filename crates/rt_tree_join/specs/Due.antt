@@ -1,5 +1,5 @@
 -- What is due in the middle of a join. No public clause cites this module.
-use Rattle.std.specs.Prelude.{◌≡◌, ℕ, ℤ, ◌+◌, ◌-◌, ◌*◌, ◌<◌, Bool, List, [], ◌++◌, Option, Some, None, All, length, map, count_by, sum_by, Vec}
+use Rattle.std.specs.Prelude.{◌≡◌, ℕ, ℤ, ◌+◌, ◌-◌, ◌*◌, ◌<◌, Bool, List, [], ◌++◌, Option, Some, None, All, drop, length, map, count_by, sum_by, Vec}
 use Rattle.std.specs.List.{filter, flat_map}
 use Rattle.std.specs.declared.alloc.Global.{Global}
 use Rattle.rt_box.specs.declared.interval.Interval.{Interval}
@@ -26,6 +26,10 @@ pair_of_ids Left id other = record { left = id; right = other }
 pair_of_ids Right id other = record { left = other; right = id }
 
 module _ {D : ℕ} where
+  -- the cells that touch the box
+  abbrev pub touched_by : List Interval → List (Cell D) → List (Cell D)
+  touched_by rect cells = filter (λ c. touch rect c.rect) cells
+
   -- ---- what one node gives
   abbrev pub pair_cells : Side → Cell D → Cell D → Pair
   pair_cells side c e = pair_of_ids side c.number e.number
@@ -64,6 +68,10 @@ module _ {D : ℕ} where
   -- the children of a node that touch the other's box, each with that one
   abbrev pub opened : Side → NodeCells D → Subtree D → List (Due D)
   opened side node other = map (child_due side (node.level - 1) other) (filter (λ c. touch other.rect c.rect) node.cells)
+
+  -- the same of those from a place on
+  abbrev pub opened_from : Side → NodeCells D → ℕ → Subtree D → List (Due D)
+  opened_from side node from other = map (child_due side (node.level - 1) other) (filter (λ c. touch other.rect c.rect) (drop from node.cells))
 
   -- ---- what is below nodes
   abbrev pub keys_of_subtree : Arena D → Subtree D → List ℕ
@@ -108,3 +116,7 @@ module _ {D : ℕ} where
 
   abbrev pub GoesOn : Arena D → Arena D → Due D → Vec Pair Global → Vec Pair Global → Vec (Due D) Global → Vec (Due D) Global → Type 0
   GoesOn t u next pairs pairs1 due due1 = Goes t u next pairs.items pairs1.items due.items due1.items
+
+  -- the pairs below what was due have come
+  abbrev pub PairsDue : Arena D → Arena D → Vec (Due D) Global → Vec Pair Global → Vec Pair Global → Type 0
+  PairsDue t u due old new = (test : Pair → Bool) → count_by test new.items ≡ count_by test old.items + sum_by (count_due t u test) due.items

@@ -1,11 +1,11 @@
 //! The pairs of nodes that are due, and how a node is opened.
 
-ghost use Rattle.std.specs.Prelude.{◌≡◌, ◌<◌, ◌≤◌, ◌-◌, ◌++◌, map, MatchOption, OnOk};
+ghost use Rattle.std.specs.Prelude.{◌≡◌, ◌<◌, ◌≤◌, ◌-◌, ◌++◌, length, map, MatchOption, OnOk};
 ghost use Rattle.std.specs.List.{filter};
 ghost use Rattle.rt_tree_node.specs.Places.{cells_at, hull_at};
 ghost use Rattle.rt_tree_node.specs.Whole.{IsWhole};
 ghost use Rattle.rt_tree_join.specs.Join.{touch};
-ghost use Rattle.rt_tree_join.specs.Due.{due_of, subtree_of, opened, IsRoot};
+ghost use Rattle.rt_tree_join.specs.Due.{due_of, subtree_of, opened_from, IsRoot};
 
 use crate::touching::touching_cells;
 use rt_box::Rect;
@@ -40,7 +40,7 @@ pub(crate) enum Side {
 impl<const D: usize> Subtree<D> {
     /// The child that a cell names.
     #[inline]
-    fn child(cell: &Cell<D>, level: u8) -> Subtree<D>
+    pub(crate) fn child(cell: &Cell<D>, level: u8) -> Subtree<D>
         ensures { result ≡ subtree_of level cell.now }
     {
         Subtree {
@@ -87,24 +87,27 @@ impl<const D: usize> Due<D> {
     }
 }
 
-/// Opens a node of one tree against one of the other: each child is due with that one whose box touches its box.
+/// Opens a node of one tree against one of the other: each child from a place on is due with that one whose box touches its
+/// box.
 pub(crate) fn open<const D: usize>(
     due: &mut Vec<Due<D>>,
     side: Side,
     node: &Node<D>,
+    from: usize,
     other: &Subtree<D>,
 ) -> Result<(), AllocError>
-    requires { 0 < node.now.level }
-    ensures { OnOk result (due.new.items ≡ due.old.items ++ opened side node.now other.now) }
+    requires high { 0 < node.now.level }
+    requires within { from ≤ length node.now.cells }
+    ensures { OnOk result (due.new.items ≡ due.old.items ++ opened_from side node.now from other.now) }
 {
-    let bits = touching_cells(node, &other.rect);
+    let bits = touching_cells(node, from, &other.rect);
     let level = node.level() - 1;
     due.reserve(bits.count_ones() as usize)?;
     let alloc = *due.allocator();
     let mut list = mem::replace(due, Vec::new(alloc));
     let mut rest = bits;
     while rest != 0 {
-        let cell = node.cell(rest.trailing_zeros() as usize);
+        let cell = node.cell(from + rest.trailing_zeros() as usize);
         list.push_reserved(Due::of(side, &Subtree::child(&cell, level), other));
         rest &= rest - 1;
     }

@@ -3,10 +3,11 @@
 //! A stack holds the pairs of nodes that are due. Of the two nodes that come next, that of the higher level is opened
 //! against the other; the rows of two leaves are compared.
 
-ghost use Rattle.std.specs.Prelude.{◌≡◌, ◌^◌, ◌<◌, ◌≤◌, ◌++◌, [], length, IfOk, OnOk};
+ghost use Rattle.std.specs.Prelude.{◌≡◌, ◌^◌, ◌<◌, ◌≤◌, ◌++◌, [], drop, length, All, IfOk, OnOk};
 ghost use Rattle.rt_tree_node.specs.Whole.{IsWhole};
 ghost use Rattle.rt_tree_join.specs.Join.{Joins};
-ghost use Rattle.rt_tree_join.specs.Due.{IsDue, StartsWith, GoesOn, AreHeld, PairsLeaves, pair_of_ids, pairs_of_row, pairs_picked};
+ghost use Rattle.rt_tree_join.specs.Itself.{in_order};
+ghost use Rattle.rt_tree_join.specs.Due.{IsDue, StartsWith, GoesOn, PairsDue, AreHeld, PairsLeaves, pair_of_ids, pairs_of_row, pairs_picked};
 
 use crate::due::{Due, Side, Subtree, open};
 use crate::touching::touching_cells;
@@ -41,24 +42,40 @@ impl Pair {
             },
         }
     }
+
+    /// The pair with the lower id on the left.
+    #[inline]
+    pub(crate) fn in_order(self) -> Pair
+        ensures { result ≡ in_order self }
+    {
+        if self.right < self.left {
+            return Pair {
+                left: self.right,
+                right: self.left,
+            };
+        }
+        self
+    }
 }
 
-/// Pairs a row of one tree with the rows of a leaf of the other whose boxes touch its box.
-fn pair_row<const D: usize>(
+/// Pairs a row of one tree with the rows of a leaf of the other from a place on whose boxes touch its box.
+pub(crate) fn pair_row<const D: usize>(
     pairs: &mut Vec<Pair>,
     side: Side,
     row: &Cell<D>,
     leaf: &Node<D>,
+    from: usize,
 ) -> Result<(), AllocError>
-    ensures { OnOk result (pairs.new.items ≡ pairs.old.items ++ pairs_of_row side leaf.now.cells row.now) }
+    requires { from ≤ length leaf.now.cells }
+    ensures { OnOk result (pairs.new.items ≡ pairs.old.items ++ pairs_of_row side (drop from leaf.now.cells) row.now) }
 {
-    let bits = touching_cells(leaf, &row.rect);
+    let bits = touching_cells(leaf, from, &row.rect);
     pairs.reserve(bits.count_ones() as usize)?;
     let alloc = *pairs.allocator();
     let mut list = mem::replace(pairs, Vec::new(alloc));
     let mut rest = bits;
     while rest != 0 {
-        let other = leaf.cell(rest.trailing_zeros() as usize);
+        let other = leaf.cell(from + rest.trailing_zeros() as usize);
         list.push_reserved(Pair::of(side, row.number, other.number));
         rest &= rest - 1;
     }
@@ -81,7 +98,7 @@ fn pair_rows<const D: usize>(
     let mut rest = bits;
     while rest != 0 {
         let row = leaf.cell(rest.trailing_zeros() as usize);
-        pair_row(pairs, side, &row, other)?;
+        pair_row(pairs, side, &row, other, 0)?;
         rest &= rest - 1;
     }
     Ok(())
@@ -100,8 +117,8 @@ fn pair_leaves<const D: usize>(
     requires right { AreHeld right_rect.now right.now.cells }
     ensures { OnOk result (PairsLeaves left.now.cells right.now.cells pairs.old pairs.new) }
 {
-    let rows = touching_cells(left, right_rect);
-    let others = touching_cells(right, left_rect);
+    let rows = touching_cells(left, 0, right_rect);
+    let others = touching_cells(right, 0, left_rect);
     if rows.count_ones() <= others.count_ones() {
         return pair_rows(pairs, Side::Left, left, rows, right);
     }
@@ -126,11 +143,11 @@ fn visit<const D: usize>(
 {
     if next.left.level < next.right.level {
         let node = node_at(&right.nodes, next.right.key);
-        return open(due, Side::Right, node, &next.left);
+        return open(due, Side::Right, node, 0, &next.left);
     }
     let node = node_at(&left.nodes, next.left.key);
     if next.left.level > 0 {
-        return open(due, Side::Left, node, &next.right);
+        return open(due, Side::Left, node, 0, &next.right);
     }
     let other = node_at(&right.nodes, next.right.key);
     pair_leaves(pairs, node, &next.left.rect, other, &next.right.rect)
@@ -163,6 +180,28 @@ fn first_due<const D: usize>(
     Ok(due)
 }
 
+/// Pairs the rows below the pairs of nodes that are due, until none is.
+pub(crate) fn pair_due<const D: usize>(
+    pairs: &mut Vec<Pair>,
+    due: &mut Vec<Due<D>>,
+    left: &Arena<D>,
+    right: &Arena<D>,
+) -> Result<(), AllocError>
+    requires left_whole { IsWhole left.now }
+    requires left_settled { left.now.pending.items ≡ [] }
+    requires right_whole { IsWhole right.now }
+    requires right_settled { right.now.pending.items ≡ [] }
+    requires few { D ≤ 3 }
+    requires due { All (IsDue left.now right.now) due.old.items }
+    ensures pairs { OnOk result (PairsDue left.now right.now due.old pairs.old pairs.new) }
+    ensures done { OnOk result (due.new.items ≡ []) }
+{
+    while let Some(next) = due.pop() {
+        visit(pairs, due, left, right, &next)?;
+    }
+    Ok(())
+}
+
 /// The pairs of rows, one of each tree, whose boxes touch: each pair once, in no stated order.
 ///
 /// It looks at the pairs of nodes whose boxes touch, from the roots down, and at no others.
@@ -184,8 +223,6 @@ pub fn join<const D: usize>(
 {
     let mut pairs = Vec::new(alloc);
     let mut due = first_due(alloc, left, right)?;
-    while let Some(next) = due.pop() {
-        visit(&mut pairs, &mut due, left, right, &next)?;
-    }
+    pair_due(&mut pairs, &mut due, left, right)?;
     Ok(pairs)
 }

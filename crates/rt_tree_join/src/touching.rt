@@ -1,9 +1,9 @@
 //! Which cells of a node touch a box.
 
-ghost use Rattle.std.specs.Prelude.{◌≡◌, ◌^◌, ◌<◌, ◌≤◌, length};
-ghost use Rattle.std.specs.List.{filter};
+ghost use Rattle.std.specs.Prelude.{◌≡◌, ◌^◌, ◌<◌, ◌≤◌, drop, length};
 ghost use Rattle.rt_tree_walk.specs.Visits.{picked};
-ghost use Rattle.rt_tree_join.specs.Join.{touch, IsTouching};
+ghost use Rattle.rt_tree_join.specs.Join.{IsTouching};
+ghost use Rattle.rt_tree_join.specs.Due.{touched_by};
 
 use rt_box::{Operator, Rect, Window};
 use rt_tree_node::Node;
@@ -23,13 +23,14 @@ fn touching<const D: usize>(rect: &Rect<D>) -> Window<D>
     window
 }
 
-/// The cells of a node whose boxes touch the box: a bit for each, and the first one's is the lowest.
+/// The cells of a node from a place on whose boxes touch the box: a bit for each, and the first one's is the lowest.
 #[inline]
-pub(crate) fn touching_cells<const D: usize>(node: &Node<D>, rect: &Rect<D>) -> u64
-    ensures within { result < 2 ^ length node.now.cells }
+pub(crate) fn touching_cells<const D: usize>(node: &Node<D>, from: usize, rect: &Rect<D>) -> u64
+    requires { from ≤ length node.now.cells }
+    ensures within { result < 2 ^ length (drop from node.now.cells) }
     ensures few { length node.now.cells ≤ 64 }
-    ensures cells { picked node.now.cells result ≡ filter (λ c. touch rect.now c.rect) node.now.cells }
+    ensures cells { picked (drop from node.now.cells) result ≡ touched_by rect.now (drop from node.now.cells) }
 {
     node.facts();
-    touching(rect).admitted(node.boxes())
+    touching(rect).admitted(node.boxes()) >> from
 }

@@ -32,6 +32,7 @@ use Rattle.rt_tree_walk.proofs.Listed.{levels-below, listed-there, listed-once, 
 use Rattle.rt_tree_nearest.proofs.Distances.{distance-le}
 use Rattle.rt_tree_walk.proofs.Below.{leaf_rows, rows_under, child-hull, held-below}
 use Rattle.rt_tree_nearest.specs.declared.candidate.Branch.{Branch}
+use Rattle.rt_tree_walk.specs.Rows.{rows_in}
 use Rattle.rt_tree_nearest.specs.Nearest.{box_distance}
 use Rattle.rt_tree_nearest.specs.Candidates.{queued}
 

@@ -9,3 +9,6 @@ pub mod Answered
 pub mod Steps
 pub mod Queueing
 pub mod Points
+pub mod Narrowed
+pub mod Aimed
+pub mod Picks

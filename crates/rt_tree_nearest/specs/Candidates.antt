@@ -1,5 +1,5 @@
 -- What a search keeps, and what it has still to see. No public clause cites this module.
-use Rattle.std.specs.Prelude.{◌≡◌, ℕ, ◌^◌, ◌<◌, ◌≤◌, ◌⊎◌, Bool, true, false, suc, List, [], ◌∷◌, ◌++◌, map, filter, take, length, All, nat_le}
+use Rattle.std.specs.Prelude.{◌≡◌, ℕ, ◌^◌, ◌<◌, ◌≤◌, ◌⊎◌, Bool, true, false, suc, List, [], ◌∷◌, ◌++◌, map, filter, take, length, All, Contains, count_by, nat_le}
 use Rattle.std.specs.declared.cmp.Ordering.{Ordering}
 use Rattle.std.specs.declared.cmp.Reverse.{Reverse}
 use Rattle.std.specs.Ordering.{ordering_then, nat_cmp, int_cmp, is_gt}
@@ -8,6 +8,9 @@ use Rattle.std.specs.BinaryHeap.{IsHeap, KeepsHeap, heap_items}
 use Rattle.std.specs.declared.alloc.Global.{Global}
 use Rattle.std.specs.declared.collections.BinaryHeap.{BinaryHeap}
 use Rattle.rt_box.specs.declared.interval.Interval.{Interval}
+use Rattle.rt_box.specs.Bits.{Tells}
+use Rattle.rt_box.specs.Rect.{IsBox}
+use Rattle.rt_box.specs.Window.{Admits}
 use Rattle.rt_tree_choice.specs.Sorting.{sort_by}
 use Rattle.rt_tree_node.specs.declared.arena.Arena.{Arena}
 use Rattle.rt_tree_node.specs.declared.cell.Cell.{Cell}
@@ -31,6 +34,10 @@ IsBeyond limit distance = (n : ℕ) × (n < 2 ^ 128) × (limit < n) × (n ≤ di
 abbrev pub compare_branches : Reverse Branch → Reverse Branch → Ordering
 compare_branches x y = nat_cmp y.0.distance x.0.distance
 
+-- a window that admits each box within the limit
+abbrev pub AdmitsNear : ℕ → List Interval → ℕ → List Interval → Type 0
+AdmitsNear axes target limit window = (b : List Interval) → IsBox axes b → box_distance b target ≤ limit → Admits window b
+
 module _ {D : ℕ} where
   -- a cell above the leaves
   abbrev pub branch_of : List Interval → Cell D → Branch
@@ -48,6 +55,18 @@ module _ {D : ℕ} where
     pub moved : IsPermutation (old ++ map (queued target) (filter (is_near target most) cells)) new
     pub fits : All (λ c. box_distance c.rect target < 2 ^ 128) cells
     pub order : KeepsHeap compare_branches old new
+
+  -- ---- a query's window: it admits each box within the limit
+  pub record IsAimed (q : Query D) : Type 0 where
+    pub box : IsBox D q.target
+    pub window : AdmitsNear D q.target q.limit q.window
+
+  -- the bits tell which cells the window admits
+  pub record PicksNear (q : Query D) (cells : List (Cell D)) (bits : ℕ) : Type 0 where
+    pub few : length cells ≤ 64
+    pub below : bits < 2 ^ length cells
+    pub told : Tells (Admits q.window) (map (λ c. c.rect) cells) bits
+    pub boxes : All (IsBox D) (map (λ c. c.rect) cells)
 
   -- ---- rows
   -- a cell of a leaf
@@ -87,6 +106,20 @@ module _ {D : ℕ} where
   pub record Explores (q : Query D) (n : NodeCells D) (kept kept1 : List (Candidate D)) (heap heap1 : List (Reverse Branch)) : Type 0 where
     pub rows : n.level ≡ 0 → Keeps q (map (candidate_of q.target) n.cells) kept kept1 × (heap1 ≡ heap)
     pub nodes : (l : ℕ) → n.level ≡ suc l → (kept1 ≡ kept) × ((most : ℕ) × IsReach q kept most × Queues q.target most n.cells heap heap1)
+
+  -- ---- a nearer limit
+  -- a cell of the node names the node at the key
+  abbrev pub NamesKey : NodeCells D → ℕ → Type 0
+  NamesKey n key = (c : Cell D) × Contains n.cells c × (key ≡ key_of c)
+
+  -- the limit is no farther than the query's, and the tree has as many rows within it as are asked for
+  pub record IsNearLimit (t : Arena D) (q : Query D) (limit : ℕ) : Type 0 where
+    pub within : limit ≤ q.limit
+    pub enough : q.k ≤ count_by (λ r. nat_le (box_distance r.rect q.target) limit) (rows_in t)
+
+  -- the query itself, or it with such a limit
+  abbrev pub IsNarrowed : Arena D → Query D → Query D → Type 0
+  IsNarrowed t q nearer = (nearer ≡ q) ⊎ ((limit : ℕ) × IsNearLimit t q limit × IsAimed nearer × (nearer ≡ record { target = q.target; k = q.k; limit = limit; window = nearer.window }))
 
   -- ---- the answer
   -- the rows of some candidates, in order

@@ -10,12 +10,12 @@ ghost use Rattle.std.specs.List.Sorted.{IsPermutation};
 ghost use Rattle.std.specs.BinaryHeap.{KeepsHeap, heap_items};
 ghost use Rattle.slab.specs.Slab.{ContainsKey};
 ghost use Rattle.rt_tree_node.specs.Whole.{IsWhole};
-ghost use Rattle.rt_tree_nearest.specs.Candidates.{IsKeptIn, QueuesFrom, ExploresFrom, IsAnswer};
+ghost use Rattle.rt_tree_nearest.specs.Candidates.{IsAimed, IsKeptIn, QueuesFrom, ExploresFrom, IsAnswer};
 
 use crate::candidate::Branch;
 use crate::keep::{Kept, keep_rows, ordered, reach};
+use crate::narrow::narrow;
 use crate::query::Query;
-use rt_box::Rect;
 use rt_tree_node::{Arena, Node, node_at};
 use rt_tree_walk::Row;
 use std::alloc::{AllocError, Global};
@@ -25,17 +25,22 @@ use std::collections::BinaryHeap;
 /// Puts the children of a node that aren't too far into the heap.
 fn push_children<const D: usize>(
     branches: &mut BinaryHeap<Reverse<Branch>>,
-    target: &Rect<D>,
+    query: &Query<D>,
     node: &Node<D>,
     most: u128,
 ) -> Result<(), AllocError>
-    ensures { OnOk result (QueuesFrom target.now most node.now.cells branches.old branches.new) }
+    requires aimed { IsAimed query.now }
+    requires within { most ≤ query.now.limit }
+    ensures { OnOk result (QueuesFrom query.now.target most node.now.cells branches.old branches.new) }
 {
-    for at in 0..node.len() {
-        let branch = Branch::new(&node.cell(at), target);
+    let mut rest = query.near_cells(node);
+    while rest != 0 {
+        let cell = node.cell(rest.trailing_zeros() as usize);
+        let branch = Branch::new(&cell, &query.target);
         if branch.distance <= most {
             branches.push(Reverse(branch))?;
         }
+        rest &= rest - 1;
     }
     Ok(())
 }
@@ -48,18 +53,19 @@ fn explore<const D: usize>(
     query: &Query<D>,
     node: &Node<D>,
 ) -> Result<(), AllocError>
-    requires { IsKeptIn query.now kept.old }
+    requires kept { IsKeptIn query.now kept.old }
+    requires aimed { IsAimed query.now }
     ensures { OnOk result (ExploresFrom query.now node.now kept.old kept.new branches.old branches.new) }
 {
     if node.level() == 0 {
         return keep_rows(alloc, kept, query, node);
     }
     let most = reach(kept, query);
-    push_children(branches, &query.target, node, most)
+    push_children(branches, query, node, most)
 }
 
 /// The rows that the query asks for, in order.
-pub(crate) fn browse<const D: usize>(
+fn browse<const D: usize>(
     alloc: Global,
     tree: &Arena<D>,
     query: &Query<D>,
@@ -67,11 +73,10 @@ pub(crate) fn browse<const D: usize>(
     requires whole { IsWhole tree.now }
     requires settled { tree.now.pending.items ≡ [] }
     requires few { D ≤ 3 }
+    requires aimed { IsAimed query.now }
+    requires some { 1 ≤ query.now.k }
     ensures { IfOk result (λ rows. IsAnswer tree.now query.now rows.items) }
 {
-    if query.k == 0 {
-        return Ok(Vec::new(alloc));
-    }
     let mut kept = Kept::Few(Vec::new(alloc));
     let mut branches = BinaryHeap::new(alloc);
     branches.push(Reverse(Branch {
@@ -91,4 +96,22 @@ pub(crate) fn browse<const D: usize>(
         )?;
     }
     ordered(alloc, kept)
+}
+
+/// The rows that the query asks for, in order. A search within a near limit finds them, and sees less of the tree.
+pub(crate) fn find<const D: usize>(
+    alloc: Global,
+    tree: &Arena<D>,
+    query: &Query<D>,
+) -> Result<Vec<Row<D>>, AllocError>
+    requires whole { IsWhole tree.now }
+    requires settled { tree.now.pending.items ≡ [] }
+    requires few { D ≤ 3 }
+    requires aimed { IsAimed query.now }
+    ensures { IfOk result (λ rows. IsAnswer tree.now query.now rows.items) }
+{
+    if query.k == 0 {
+        return Ok(Vec::new(alloc));
+    }
+    browse(alloc, tree, &narrow(alloc, tree, query)?)
 }

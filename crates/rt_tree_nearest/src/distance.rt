@@ -41,3 +41,13 @@ pub(crate) fn squared_distance<const D: usize>(one: &Rect<D>, other: &Rect<D>) -
     }
     distance
 }
+
+/// The sum of the gaps between the boxes on all axes: what is far by it is likely to be far.
+#[inline]
+pub(crate) fn gaps<const D: usize>(one: &Rect<D>, other: &Rect<D>) -> u64 {
+    let mut sum: u64 = 0;
+    for axis in 0..one.axes() {
+        sum = sum.saturating_add(u64::from(gap(one.range(axis), other.range(axis))));
+    }
+    sum
+}

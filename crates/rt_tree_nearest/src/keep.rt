@@ -2,7 +2,7 @@
 
 ghost use Rattle.std.specs.Prelude.{◌≡◌, ◌<◌, ◌≤◌, [], ◌∷◌, map, length, IfOk, OnOk};
 ghost use Rattle.std.specs.BinaryHeap.{IsHeap, heap_items};
-ghost use Rattle.rt_tree_nearest.specs.Candidates.{candidate_of, compare, items_in, IsKept, IsKeptIn, IsReach, KeepsFrom, ReplacesFrom, IsOrdered};
+ghost use Rattle.rt_tree_nearest.specs.Candidates.{candidate_of, compare, items_in, IsAimed, IsKept, IsKeptIn, IsReach, KeepsFrom, ReplacesFrom, IsOrdered};
 
 use crate::candidate::Candidate;
 use crate::query::Query;
@@ -91,16 +91,15 @@ pub(crate) fn keep_rows<const D: usize>(
     query: &Query<D>,
     leaf: &Node<D>,
 ) -> Result<(), AllocError>
-    requires { IsKeptIn query.now kept.old }
+    requires kept { IsKeptIn query.now kept.old }
+    requires aimed { IsAimed query.now }
     ensures { OnOk result (KeepsFrom query.now (map (candidate_of query.now.target) leaf.now.cells) kept.old kept.new) }
 {
-    for at in 0..leaf.len() {
-        keep(
-            alloc,
-            kept,
-            query,
-            Candidate::new(&leaf.cell(at), &query.target),
-        )?;
+    let mut rest = query.near_cells(leaf);
+    while rest != 0 {
+        let cell = leaf.cell(rest.trailing_zeros() as usize);
+        keep(alloc, kept, query, Candidate::new(&cell, &query.target))?;
+        rest &= rest - 1;
     }
     Ok(())
 }

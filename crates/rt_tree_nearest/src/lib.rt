@@ -5,7 +5,8 @@
 //! - `nearest_to`: the same by the squared distance between the rows' boxes and a box.
 //!
 //! What is nearest is looked at first, and what is farther than `k` rows seen is left out, so a search for few rows goes
-//! into few nodes.
+//! into few nodes. A near leaf gives a first limit (`narrow`), and a window around it tells most cells that are beyond it
+//! without their distances (`query`).
 //!
 //! They ask for a whole tree without pending cells, and take memory for what they return, for at most `k` rows that they
 //! keep, and for a heap of the nodes that they have seen.
@@ -18,6 +19,7 @@ mod browse;
 mod candidate;
 mod distance;
 mod keep;
+mod narrow;
 mod nearby;
 mod query;
 

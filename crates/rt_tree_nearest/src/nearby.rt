@@ -5,7 +5,7 @@ ghost use Rattle.rt_tree_node.specs.Whole.{IsWhole};
 ghost use Rattle.rt_tree_walk.specs.Rows.{rows_in};
 ghost use Rattle.rt_tree_nearest.specs.Nearest.{nearest_rows, rows_within, nearest_rows_to, box_at};
 
-use crate::browse::browse;
+use crate::browse::find;
 use crate::query::Query;
 use rt_box::Rect;
 use rt_tree_node::Arena;
@@ -66,7 +66,7 @@ pub fn within<const D: usize>(
     let reach = u128::from(distance);
     let limit = reach * reach;
     let target = box_of(point);
-    browse(alloc, tree, &Query { target, k, limit })
+    find(alloc, tree, &Query::new(&target, k, limit))
 }
 
 /// The `k` rows whose boxes are nearest to the box, by squared distance and then by id; all rows if there are fewer. Boxes
@@ -86,10 +86,5 @@ pub fn nearest_to<const D: usize>(
     requires few { D ≤ 3 }
     ensures { IfOk result (λ rows. rows.items ≡ nearest_rows_to rect.now k (rows_in tree.now)) }
 {
-    let query = Query {
-        target: *rect,
-        k,
-        limit: u128::MAX,
-    };
-    browse(alloc, tree, &query)
+    find(alloc, tree, &Query::new(rect, k, u128::MAX))
 }

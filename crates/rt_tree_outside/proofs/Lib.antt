@@ -8,3 +8,4 @@ pub mod Fitting
 pub mod Flawless
 pub mod Subtrees
 pub mod Rows
+pub mod Shown

@@ -1,5 +1,5 @@
 -- The rows of a tree from outside.
-use Rattle.std.proofs.Common.{◌≡◌, ◌≢◌, ℕ, zero, suc, ◌<◌, ◌≤◌, Bool, true, false, cond, ℤ, ◌<ℤ◌, ◌≤ℤ◌, pos, List, [], ◌∷◌, length, map, get_or, Option, None, arith, refl, ap, sym, ◌∙◌, subst, inl, inr}
+use Rattle.std.proofs.Common.{◌≡◌, ◌≢◌, ℕ, zero, suc, ◌<◌, ◌≤◌, Bool, false, cond, ℤ, ◌<ℤ◌, ◌≤ℤ◌, pos, List, [], ◌∷◌, length, map, get_or, Option, None, arith, refl, ap, sym, ◌∙◌, subst, inl, inr}
 use Rattle.std.specs.List.{All, sum_by, count_by, IsDistinct}
 use Rattle.std.specs.Ordering.{int_eq}
 use Rattle.std.proofs.lemmas.Bool.{cases_Bool, cases_lt, true≢false}

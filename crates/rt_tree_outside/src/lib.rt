@@ -1,6 +1,7 @@
 //! An R*-tree from outside: as the checker takes it, with numbers in the place of keys.
 //!
 //! - `shadow_of`: the tree's nodes in preorder, numbered from 1, and its row entries by rising id.
+//! - `is_seen_as`: whether the tree from outside is a shadow that is at hand.
 //! - `laws`: the checker finds no problem in it, its nodes are in preorder, and its leaves' cells are the rows.
 //!
 //! It asks for a whole tree without pending cells, and takes memory for what it returns and for lists of nodes.
@@ -11,6 +12,8 @@
 
 pub mod laws;
 mod outside;
-mod preorder;
+pub mod preorder;
+mod seen;
 
-pub use outside::shadow_of;
+pub use outside::{cell_row, shadow_of};
+pub use seen::is_seen_as;

@@ -47,7 +47,8 @@ fn cell_number<const D: usize>(cell: &Cell<D>, level: u8, numbers: &[usize]) -> 
     number_at(numbers, cell.key())
 }
 
-fn cell_row<const D: usize>(cell: &Cell<D>, level: u8, numbers: &[usize]) -> RawCell<D>
+/// A cell as it is seen from outside.
+pub fn cell_row<const D: usize>(cell: &Cell<D>, level: u8, numbers: &[usize]) -> RawCell<D>
     requires known { 0 < level → key_of cell.now < length numbers.now }
     requires small { All (λ n. n < 2 ^ 63) numbers.now }
     ensures { result ≡ cell_row (noted numbers.now) level cell.now }
@@ -89,7 +90,7 @@ fn parent_number<const D: usize>(node: &Node<D>, numbers: &[usize]) -> Option<i6
 }
 
 /// The node at a key, with numbers in the place of keys.
-fn node_row<const D: usize>(
+pub(crate) fn node_row<const D: usize>(
     alloc: Global,
     node: &Node<D>,
     key: Key,
@@ -154,7 +155,7 @@ fn ids_of(alloc: Global, leaves: &IndexMap<i64, Key, RandomState>) -> Result<Vec
 }
 
 /// The ids of the rows, in rising order.
-fn rising_ids(
+pub(crate) fn rising_ids(
     alloc: Global,
     leaves: &IndexMap<i64, Key, RandomState>,
 ) -> Result<Vec<i64>, AllocError>
@@ -166,7 +167,11 @@ fn rising_ids(
 }
 
 /// The entry of a row: its leaf by its number.
-fn row_entry(leaves: &IndexMap<i64, Key, RandomState>, id: &i64, numbers: &[usize]) -> RowEntry
+pub(crate) fn row_entry(
+    leaves: &IndexMap<i64, Key, RandomState>,
+    id: &i64,
+    numbers: &[usize],
+) -> RowEntry
     requires known { ForSome (leaf_of int_eq leaves.now id.now) (λ key. key < length numbers.now) }
     requires small { All (λ n. n < 2 ^ 63) numbers.now }
     ensures { result ≡ row_entry (noted numbers.now) (leaf_of int_eq leaves.now) id.now }

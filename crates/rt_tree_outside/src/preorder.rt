@@ -45,10 +45,7 @@ fn list_next<const D: usize>(
 }
 
 /// The keys of the nodes in preorder.
-pub(crate) fn preorder<const D: usize>(
-    alloc: Global,
-    tree: &Arena<D>,
-) -> Result<Vec<Key>, AllocError>
+pub fn preorder<const D: usize>(alloc: Global, tree: &Arena<D>) -> Result<Vec<Key>, AllocError>
     requires whole { IsWhole tree.now }
     requires settled { tree.now.pending.items ≡ [] }
     requires few { D ≤ 3 }
@@ -64,11 +61,7 @@ pub(crate) fn preorder<const D: usize>(
 }
 
 /// Notes for each listed key its place in the list, counted from 1. Keys are below `bound`.
-pub(crate) fn number_keys(
-    alloc: Global,
-    order: &[Key],
-    bound: usize,
-) -> Result<Vec<usize>, AllocError>
+pub fn number_keys(alloc: Global, order: &[Key], bound: usize) -> Result<Vec<usize>, AllocError>
     requires within { All (λ key. key < bound) order.now }
     requires few { length order.now < 2 ^ 63 }
     ensures len { IfOk result (λ numbers. length numbers.items ≡ bound) }

@@ -16,7 +16,7 @@
 
 mod entries;
 mod fault;
-mod fill;
+mod filling;
 mod level;
 mod node;
 mod packing;
@@ -25,4 +25,7 @@ mod tile;
 
 pub use entries::enter;
 pub use fault::PackFault;
+pub use filling::fill;
+pub use node::pack_node;
 pub use packing::pack;
+pub use root::lift_root;

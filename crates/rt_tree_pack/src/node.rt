@@ -5,16 +5,12 @@ ghost use Rattle.slab.specs.Slab.{HasRoomFor};
 ghost use Rattle.rt_box.specs.Capacity.{least_fill};
 ghost use Rattle.rt_tree_pack.specs.Steps.{MayPack, PacksNode};
 
-use crate::fill::fill;
+use crate::filling::fill;
 use rt_tree_node::{Arena, Cell, Key, Node, add_node, hull_at, slab_facts};
 use rt_tree_place::cell_for;
 
 /// Makes a node of the cells, and returns the cell that names it.
-pub(crate) fn pack_node<const D: usize>(
-    tree: &mut Arena<D>,
-    level: u8,
-    cells: &[Cell<D>],
-) -> Cell<D>
+pub fn pack_node<const D: usize>(tree: &mut Arena<D>, level: u8, cells: &[Cell<D>]) -> Cell<D>
     requires few { D ≤ 3 }
     requires may { MayPack tree.old level cells.now }
     requires room { HasRoomFor tree.old.nodes 1 }

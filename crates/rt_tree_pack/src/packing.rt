@@ -5,7 +5,7 @@ ghost use Rattle.rt_tree_node.specs.Whole.{HasRoom, most_rows_of_a_tree};
 ghost use Rattle.rt_tree_pack.specs.Packing.{IsBare, AreEntered, Packs};
 ghost use Rattle.rt_tree_pack.specs.Steps.{PacksBelow};
 
-use crate::fill::fill;
+use crate::filling::fill;
 use crate::level::pack_level;
 use crate::root::lift_root;
 use crate::tile::tile;

@@ -20,7 +20,7 @@ fn put_node<const D: usize>(nodes: &mut Slab<Node<D>>, key: Key, node: Node<D>)
 }
 
 /// Makes the root, which has no cells, a level higher. `rect` may be any box.
-pub(crate) fn lift_root<const D: usize>(tree: &mut Arena<D>, rect: &Rect<D>)
+pub fn lift_root<const D: usize>(tree: &mut Arena<D>, rect: &Rect<D>)
     requires few { D ≤ 3 }
     requires present { ContainsKey tree.old.nodes tree.old.root }
     requires height { tree.old.level < 255 }

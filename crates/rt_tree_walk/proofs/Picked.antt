@@ -1,5 +1,5 @@
 -- The cells that a number's bits pick.
-use Rattle.std.proofs.Common.{◌≡◌, ℕ, zero, suc, ◌+◌, ◌-◌, ◌*◌, ◌/◌, ◌%◌, ◌==◌, ◌^◌, ◌<◌, ◌≤◌, cond, List, [], ◌∷◌, All, length, map, get_or, refl, sym, ap, subst, ◌∙◌, arith, inl, inr}
+use Rattle.std.proofs.Common.{◌≡◌, ℕ, zero, suc, ◌-◌, ◌/◌, ◌%◌, ◌==◌, ◌^◌, ◌<◌, ◌≤◌, cond, List, [], ◌∷◌, All, length, map, get_or, refl, sym, ap, subst, ◌∙◌, arith, inl, inr}
 use Rattle.std.proofs.Math.Nat.{two-pow-succ}
 use Rattle.std.proofs.lemmas.Bool.{cases_eq}
 use Rattle.std.proofs.lemmas.List.{length-map}
@@ -22,10 +22,10 @@ module _ {D : ℕ} where
   abbrev turn : Cell D → List (Cell D) → ℕ → List (Cell D)
   turn c rest digit = cond (digit == 1) (c ∷ rest) rest
 
-  picked-odd : (c : Cell D) (cs : List (Cell D)) (bits half : ℕ) → bits % 2 ≡ 1 → bits / 2 ≡ half → picked (c ∷ cs) bits ≡ c ∷ picked cs half
+  pub picked-odd : (c : Cell D) (cs : List (Cell D)) (bits half : ℕ) → bits % 2 ≡ 1 → bits / 2 ≡ half → picked (c ∷ cs) bits ≡ c ∷ picked cs half
   picked-odd c cs bits half odd e = ap (turn c (picked cs (bits / 2))) odd ∙ ap (λ n. c ∷ picked cs n) e
 
-  picked-even : (c : Cell D) (cs : List (Cell D)) (bits half : ℕ) → bits % 2 ≡ 0 → bits / 2 ≡ half → picked (c ∷ cs) bits ≡ picked cs half
+  pub picked-even : (c : Cell D) (cs : List (Cell D)) (bits half : ℕ) → bits % 2 ≡ 0 → bits / 2 ≡ half → picked (c ∷ cs) bits ≡ picked cs half
   picked-even c cs bits half even e = ap (turn c (picked cs (bits / 2))) even ∙ ap (picked cs) e
 
   -- where no bit is set, no cell is picked

@@ -1,8 +1,8 @@
 -- Numbers for keys, summed over a list that has each key at most once.
-use Rattle.std.proofs.Common.{◌≡◌, ◌≢◌, ℕ, zero, suc, ◌+◌, ◌*◌, ◌<◌, ◌≤◌, cond, List, [], ◌∷◌, ◌++◌, length, get_or, take, nat_eq, nat_lt, eq-eqb, ne_eqb, arith, refl, ap, sym, ◌∙◌, inl, inr}
+use Rattle.std.proofs.Common.{◌≡◌, ◌≢◌, ℕ, zero, suc, ◌+◌, ◌*◌, ◌<◌, ◌≤◌, cond, List, [], ◌∷◌, ◌++◌, nat_eq, nat_lt, eq-eqb, ne_eqb, arith, refl, ap, sym, ◌∙◌, inl, inr}
 use Rattle.std.specs.List.{sum_by}
 use Rattle.std.proofs.lemmas.Bool.{cases_eq, cases_lt, lt-ltb, le-ltb}
-use Rattle.std.proofs.lemmas.List.Sums.{sum_by-cons, sum_by-append}
+use Rattle.std.proofs.lemmas.List.Sums.{sum_by-cons}
 use Rattle.rt_tree_node.proofs.Counts.{count-append, count-one_yes, count-one_no}
 use Rattle.rt_tree_node.proofs.Sums.{upto}
 use Rattle.rt_tree_walk.specs.Search.{times}

@@ -1,5 +1,6 @@
-use Rattle.std.proofs.Common.{rules, ◌≡◌, ℕ, ◌-◌, ◌<◌, ◌++◌, [], ◌∷◌, List, length, map, arith, ap, sym, ◌∙◌, Vec, Global, vec_len, vec_capacity, append_assoc, append-nil, ℤ, FitsSigned, to_z, of_z, w64}
+use Rattle.std.proofs.Common.{rules, ◌≡◌, ℕ, ◌+◌, ◌-◌, ◌<◌, ◌++◌, [], ◌∷◌, List, drop, length, length-drop, map, arith, ap, sym, ◌∙◌, Vec, Global, vec_len, vec_capacity, append_assoc, append-nil, ℤ, FitsSigned, to_z, of_z, w64}
 use Rattle.std.proofs.lemmas.Int.{to_z-of_z}
+use Rattle.std.proofs.lemmas.List.{get_or-drop}
 use Rattle.std.specs.Int.Bits.{bit_and}
 use lib.Bits.{and_le_r}
 use lib.Count.{count_trailing_zeros}
@@ -12,7 +13,7 @@ use Rattle.rt_tree_join.proofs.joining.pair_row.Goals as goal
 
 pub loop-rest-init : goal.loop-rest-init
 loop-rest-init g c =
-    let cells = c.args.leaf.now.cells in
+    let cells = drop c.args.from c.args.leaf.now.cells in
     let bits = c.touching_cells-bits in
     let pair = pair_cells c.args.side c.args.row.now in
     let same : c.replace-list.result.items ≡ c.args.pairs.now.items = ap (λ (list : Vec Pair Global). list.items) c.replace-list.ensures.value ∙ c.in_ok-reserve.ensures.items in
@@ -26,25 +27,27 @@ loop-rest-init g c =
 pub cell-other-requires : goal.cell-other-requires
 cell-other-requires g c =
     let some : 0 < c.loop-rest.rest = omega (arith, c.loop-rest-test.true) in
-    let within : count_trailing_zeros 64 c.loop-rest.rest < length c.args.leaf.now.cells =
-    (picked-first 64 c.args.leaf.now.cells c.loop-rest.rest c.touching_cells-bits.ensures.few some c.loop-rest.invariant.below).within in
+    let cells = drop c.args.from c.args.leaf.now.cells in
+    let long = length-drop c.args.from c.args.leaf.now.cells in
+    let first = picked-first 64 cells c.loop-rest.rest (omega (arith, long, c.touching_cells-bits.ensures.few)) some c.loop-rest.invariant.below in
+    let within : c.args.from + count_trailing_zeros 64 c.loop-rest.rest < length c.args.leaf.now.cells = omega (arith, first.within, long) in
     search rules
 
 pub push_reserved-requires : goal.push_reserved-requires
 push_reserved-requires g c =
-    let cells = c.args.leaf.now.cells in
-    let first = picked-first 64 cells c.loop-rest.rest c.touching_cells-bits.ensures.few (omega (arith, c.loop-rest-test.true)) c.loop-rest.invariant.below in
+    let cells = drop c.args.from c.args.leaf.now.cells in
+    let first = picked-first 64 cells c.loop-rest.rest (omega (arith, length-drop c.args.from c.args.leaf.now.cells, c.touching_cells-bits.ensures.few)) (omega (arith, c.loop-rest-test.true)) c.loop-rest.invariant.below in
     omega (arith, ap length (first.is c.cell-other.result), c.loop-rest.invariant.room)
 
 pub loop-rest-preserved : goal.loop-rest-preserved
 loop-rest-preserved g c =
-    let cells = c.args.leaf.now.cells in
+    let cells = drop c.args.from c.args.leaf.now.cells in
     let rest : ℕ = c.loop-rest.rest in
     let next : ℕ = bit_and rest (rest - 1) in
     let before = c.loop-rest.invariant in
     let pair = pair_cells c.args.side c.args.row.now in
-    let first = picked-first 64 cells rest c.touching_cells-bits.ensures.few (omega (arith, c.loop-rest-test.true)) before.below in
-    let is : picked cells rest ≡ c.cell-other.result ∷ picked cells next = first.is c.cell-other.result ∙ ap (λ x. x ∷ picked cells next) (sym c.cell-other.ensures) in
+    let first = picked-first 64 cells rest (omega (arith, length-drop c.args.from c.args.leaf.now.cells, c.touching_cells-bits.ensures.few)) (omega (arith, c.loop-rest-test.true)) before.below in
+    let is : picked cells rest ≡ c.cell-other.result ∷ picked cells next = first.is c.cell-other.result ∙ ap (λ x. x ∷ picked cells next) (get_or-drop c.args.from c.args.leaf.now.cells (count_trailing_zeros 64 rest) c.cell-other.result ∙ sym c.cell-other.ensures) in
     let list = c.loop-rest.list.items in
     let row_fits : FitsSigned w64 c.args.row.now.number = search rules in
     let other_fits : FitsSigned w64 c.cell-other.result.number = search rules in
@@ -61,7 +64,7 @@ loop-rest-preserved g c =
 
 pub returns : goal.returns
 returns g c =
-    let cells = c.args.leaf.now.cells in
+    let cells = drop c.args.from c.args.leaf.now.cells in
     let pair = pair_cells c.args.side c.args.row.now in
     let none : c.loop-rest.rest ≡ 0 = omega (arith, c.loop-rest-test.false) in
     sym (ap (λ (ps : List Pair). c.loop-rest.list.items ++ ps) (ap (λ n. map pair (picked cells n)) none ∙ ap (map pair) (picked-none cells)) ∙ append-nil c.loop-rest.list.items)

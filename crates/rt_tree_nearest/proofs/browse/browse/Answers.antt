@@ -18,14 +18,14 @@ pub loop-first-init : goal.loop-first-init
 loop-first-init g c =
     let s : IsSettled c.args.tree.now = record { whole = c.requires.whole; none = c.requires.settled } in
     let q = c.args.query.now in
-    let kept : List (Candidate g.row.D) = c.new-2.result.items in
+    let kept : List (Candidate g.row.D) = c.new.result.items in
     let branches = heap_items c.push.new.self in
     let root : Reverse Branch = record { 0 = record { distance = 0; key = c.args.tree.now.root } } in
     let moved : IsPermutation (root ∷ []) branches =
     subst (λ (es : List (Reverse Branch)). IsPermutation (root ∷ es) branches) c.new-branches.ensures.items c.in_ok-push.ensures.permutation in
-    let room : length kept < q.k = omega (arith, ap length c.new-2.ensures.items, c.if-query-eq0.false) in
+    let room : length kept < q.k = omega (arith, ap length c.new.ensures.items, c.requires.some) in
     record {
-      searched = start q c.args.tree.now s root branches refl refl moved kept c.new-2.ensures.items;
+      searched = start q c.args.tree.now s root branches refl refl moved kept c.new.ensures.items;
       shape = room;
       ordered = c.in_ok-push.ensures.heap_order c.new-branches.ensures.heap_order;
     }

@@ -1,8 +1,12 @@
-use Rattle.std.proofs.Common.{◌+◌, ◌-◌, ◌/◌, ◌^◌, ◌<◌, ◌≤◌, length, arith, ap, subst}
+use Rattle.std.proofs.Common.{◌≡◌, true, refl, ◌+◌, ◌-◌, ◌/◌, ◌^◌, ◌<◌, ◌≤◌, length, arith, ap, subst}
 use Rattle.rt_box.specs.Capacity.{least_fill}
+use Rattle.rt_tree_nearest.proofs.Same.{count-all}
+use Rattle.rt_tree_walk.specs.declared.searching.Row.{Row}
 use Rattle.rt_tree_outside.specs.Outside.{outside}
 use Rattle.rt_tree.specs.Lists.{TreeLists, root_level, least_rows}
+use Rattle.rt_tree.specs.Rows.{rows_of}
 use Rattle.rt_tree.proofs.Kept.{settled}
+use Rattle.rt_tree.proofs.Rows.{rows-counted}
 use Rattle.rt_tree.proofs.Shape.{nodes-long, root-high}
 use Rattle.rt_tree.proofs.Changed.{rows-are}
 use Rattle.rt_tree.proofs.Low.{low-root, many-rows}
@@ -51,3 +55,13 @@ returns-clause-levels g c =
     let t = c.self.inside.arena in
     let low : root_level (outside t) < 31 = omega (arith, root-high t (settled i k), low-root t (settled i k) k.branched 30 k.rows) in
     subst (λ (v : TreeLists g.row.D). root_level v.lists < 31) c.self.view_is low
+
+pub returns-clause-entries : goal.returns-clause-entries
+returns-clause-entries g c =
+    let i = c.self.inside in
+    let k = c.self.invariant in
+    let t = c.self.inside.arena in
+    let counted = rows-counted t (settled i k) (λ r. true) in
+    let all = count-all (λ (r : Row g.row.D). true) (rows_of (outside t)) (λ j d h. refl) in
+    let same : length (outside t).rows ≡ length (rows_of (outside t)) = omega (arith, rows-are i k, counted, all) in
+    subst (λ (v : TreeLists g.row.D). length v.lists.rows ≡ length (rows_of v.lists)) c.self.view_is same

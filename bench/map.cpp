@@ -1,0 +1,351 @@
+// The work of a map program: rows loaded at once, windows, the nearest rows, moves, joins, many windows in a call, and trees that are
+// kept. map ROWS [all]: with `all`, also what needs a tree into which each row was inserted. Compiled with -DPEER_BOOST or
+// -DPEER_SPATIALINDEX it does the same with Boost.Geometry's rtree or libspatialindex. Prints a line of nanoseconds a call, or a row,
+// and a checksum for each kind of work; `bytes` are resident bytes a row.
+#include "draw.hpp"
+#include <cstdlib>
+#include <cstring>
+#include <malloc.h>
+#include <memory>
+#include <string>
+#include <thread>
+#include <unistd.h>
+#include <utility>
+#include <vector>
+
+struct Rows {
+    std::vector<int64_t> ids;
+    std::vector<Box> boxes;
+};
+
+// Resident memory in bytes, after what was freed is given back.
+static double resident()
+{
+    malloc_trim(0);
+    long pages = 0, all = 0;
+    FILE *file = std::fopen("/proc/self/statm", "r");
+    if (file == nullptr || std::fscanf(file, "%ld %ld", &all, &pages) != 2)
+        std::exit(1);
+    std::fclose(file);
+    return double(pages) * double(sysconf(_SC_PAGESIZE));
+}
+
+#if defined(PEER_BOOST)
+#include <boost/geometry.hpp>
+#include <boost/geometry/index/rtree.hpp>
+#include <boost/iterator/function_output_iterator.hpp>
+namespace bg = boost::geometry;
+namespace bgi = boost::geometry::index;
+
+template <int Most> class TreeOf {
+    using At = bg::model::point<int32_t, 2, bg::cs::cartesian>;
+    using Area = bg::model::box<At>;
+    using Row = std::pair<Area, int64_t>;
+    bgi::rtree<Row, bgi::rstar<Most>> tree;
+    static Area of(const Box &box) { return {At(box.min[0], box.min[1]), At(box.max[0], box.max[1])}; }
+
+public:
+    TreeOf() = default;
+    explicit TreeOf(const Rows &rows)
+    {
+        std::vector<Row> all;
+        all.reserve(rows.ids.size());
+        for (size_t at = 0; at < rows.ids.size(); at++)
+            all.emplace_back(of(rows.boxes[at]), rows.ids[at]);
+        tree = bgi::rtree<Row, bgi::rstar<Most>>(all);
+    }
+    void insert(int64_t id, const Box &box) { tree.insert(Row(of(box), id)); }
+    void remove(int64_t id, const Box &box) { tree.remove(Row(of(box), id)); }
+    int64_t search(const Box &box) const
+    {
+        int64_t sum = 0;
+        auto add = [&](const Row &row) { sum += row.second; };
+        tree.query(bgi::intersects(of(box)), boost::make_function_output_iterator(add));
+        return sum;
+    }
+    int64_t nearest(const int32_t *at, unsigned k) const
+    {
+        int64_t rows = 0;
+        auto add = [&](const Row &) { rows++; };
+        tree.query(bgi::nearest(At(at[0], at[1]), k), boost::make_function_output_iterator(add));
+        return rows;
+    }
+};
+using Tree = TreeOf<51>;
+using Small = TreeOf<16>;
+#elif defined(PEER_SPATIALINDEX)
+#include <spatialindex/capi/sidx_api.h>
+
+class Tree {
+    IndexH tree;
+    struct Ends {
+        double min[2], max[2];
+        explicit Ends(const Box &box) : min{double(box.min[0]), double(box.min[1])}, max{double(box.max[0]), double(box.max[1])} {}
+    };
+    static IndexPropertyH properties()
+    {
+        IndexPropertyH made = IndexProperty_Create();
+        IndexProperty_SetIndexType(made, RT_RTree);
+        IndexProperty_SetIndexVariant(made, RT_Star);
+        IndexProperty_SetIndexStorage(made, RT_Memory);
+        IndexProperty_SetDimension(made, 2);
+        IndexProperty_SetIndexCapacity(made, 51);
+        IndexProperty_SetLeafCapacity(made, 51);
+        return made;
+    }
+    // What the stream of its loader reads.
+    static inline const Rows *source;
+    static inline size_t place;
+    static inline double ends[4];
+    static int next(int64_t *id, double **min, double **max, uint32_t *axes, const uint8_t **data, size_t *length)
+    {
+        if (place == source->ids.size())
+            return 1;
+        const Box &box = source->boxes[place];
+        ends[0] = box.min[0], ends[1] = box.min[1], ends[2] = box.max[0], ends[3] = box.max[1];
+        *id = source->ids[place++], *min = ends, *max = ends + 2, *axes = 2, *data = nullptr, *length = 0;
+        return 0;
+    }
+
+public:
+    explicit Tree(const Rows &rows)
+    {
+        source = &rows, place = 0;
+        tree = Index_CreateWithStream(properties(), next);
+    }
+    int64_t search(const Box &box) const
+    {
+        Ends wide(box);
+        int64_t *ids = nullptr, sum = 0;
+        uint64_t total = 0;
+        Index_Intersects_id(tree, wide.min, wide.max, 2, &ids, &total);
+        for (uint64_t at = 0; at < total; at++)
+            sum += ids[at];
+        Index_Free(ids);
+        return sum;
+    }
+};
+#else
+#include "juicedelta.h"
+
+static void must(int32_t code)
+{
+    if (code != JUICEDELTA_OK) {
+        std::fprintf(stderr, "map: code %d\n", int(code));
+        std::exit(1);
+    }
+}
+static const int32_t *of(const Box &box) { return box.min; }
+
+class Tree {
+    juicedelta_handle tree = {};
+
+public:
+    Tree() { must(juicedelta_tree_open(&tree, 2, 51, 1, 2)); }
+    explicit Tree(const Rows &rows)
+    {
+        uint64_t at = 0;
+        must(juicedelta_tree_open_rows(&tree, 2, 51, rows.ids.data(), rows.ids.size(), of(rows.boxes[0]), 4 * rows.ids.size(), 1, 2, &at));
+    }
+    Tree(const std::string &bytes, bool is_dump)
+    {
+        auto text = reinterpret_cast<const uint8_t *>(bytes.data());
+        must(is_dump ? juicedelta_tree_open_dump(&tree, 2, text, bytes.size(), 1, 2) : juicedelta_tree_open_bytes(&tree, 2, text, bytes.size(), 1, 2));
+    }
+    Tree(const Tree &) = delete;
+    ~Tree() { juicedelta_close(&tree); }
+    void insert(int64_t id, const Box &box) { must(juicedelta_tree_insert(&tree, id, of(box), 4)); }
+    void remove(int64_t id, const Box &) { must(juicedelta_tree_remove(&tree, id)); }
+    void move(int64_t id, const Box &box) { must(juicedelta_tree_move(&tree, id, of(box), 4)); }
+    int64_t search(const Box &box) const
+    {
+        thread_local std::vector<int64_t> ids(1 << 18);
+        uint64_t total = 0;
+        int64_t sum = 0;
+        must(juicedelta_tree_search(&tree, JUICEDELTA_TOUCHES, of(box), 4, ids.data(), ids.size(), &total));
+        for (uint64_t at = 0; at < total; at++)
+            sum += ids[at];
+        return sum;
+    }
+    int64_t search_many(const std::vector<Box> &windows, std::vector<int64_t> &ids) const
+    {
+        std::vector<uint64_t> starts(windows.size());
+        uint64_t total = 0;
+        int64_t sum = 0;
+        must(juicedelta_tree_search_many(&tree, JUICEDELTA_TOUCHES, of(windows[0]), 4 * windows.size(), starts.data(), starts.size(), ids.data(), ids.size(), &total));
+        for (uint64_t at = 0; at < total; at++)
+            sum += ids[at];
+        return sum;
+    }
+    int64_t nearest(const int32_t *point, unsigned k) const
+    {
+        int64_t ids[10];
+        int32_t boxes[40];
+        uint64_t total = 0;
+        must(juicedelta_tree_nearest(&tree, point, 2, ids, k, boxes, 4 * k, &total));
+        return int64_t(total);
+    }
+    int64_t join(const Tree &other, std::vector<int64_t> &left, std::vector<int64_t> &right) const
+    {
+        uint64_t total = 0;
+        int64_t sum = 0;
+        must(juicedelta_tree_join(&tree, &other.tree, left.data(), left.size(), right.data(), right.size(), &total));
+        for (uint64_t at = 0; at < total; at++)
+            sum += left[at];
+        return sum;
+    }
+    std::string text(bool is_dump) const
+    {
+        std::string bytes;
+        for (uint64_t total = 0;; bytes.resize(total)) {
+            auto text = reinterpret_cast<uint8_t *>(&bytes[0]);
+            int32_t code = is_dump ? juicedelta_tree_dump(&tree, text, bytes.size(), &total) : juicedelta_tree_to_bytes(&tree, text, bytes.size(), &total);
+            if (code != JUICEDELTA_BUFFER_TOO_SMALL)
+                return must(code), bytes;
+        }
+    }
+};
+#endif
+
+// Windows of ten rows and of a thousand.
+static void windows_of(const Tree &tree, uint64_t rows, const char *ten, const char *thousand)
+{
+    const int32_t near = reach(rows, 10), far = reach(rows, 1000);
+    timed(ten, 20000, [&](uint64_t at) { return tree.search(window(rows, at, near)); });
+    timed(thousand, 1000, [&](uint64_t at) { return tree.search(window(rows, at, far)); });
+}
+
+#if !defined(PEER_SPATIALINDEX)
+template <class Any> static void nearest_of(const Any &tree, uint64_t rows, const char *one, const char *ten)
+{
+    timed(one, 20000, [&](uint64_t at) { return tree.nearest(window(rows, at, 50).min, 1); });
+    timed(ten, 20000, [&](uint64_t at) { return tree.nearest(window(rows, at, 50).min, 10); });
+}
+
+// Two pairs a row: rows of the other tree are drawn by other numbers, and wider.
+static Rows others_of(uint64_t rows)
+{
+    Rows made;
+    const int32_t grow = reach(rows, 2) - 50 > 0 ? reach(rows, 2) - 50 : 0;
+    for (uint64_t row = 1; row <= rows; row++)
+        made.ids.push_back(int64_t(row)), made.boxes.push_back(box_of(row + (uint64_t(1) << 40), grow));
+    return made;
+}
+
+static void joins(const Tree &tree, uint64_t rows)
+{
+    const Rows others = others_of(rows);
+    timed("asked", rows, [&](uint64_t at) { return tree.search(others.boxes[at]); });
+#if !defined(PEER_BOOST)
+    const Tree other(others);
+    std::vector<int64_t> left(8 * rows), right(8 * rows);
+    double begun = now();
+    int64_t sum = tree.join(other, left, right);
+    std::printf("join %.0f %lld\n", (now() - begun) / double(rows), static_cast<long long>(sum));
+#endif
+}
+
+static void insertions(const Rows &all)
+{
+    const uint64_t rows = all.ids.size(), some = rows / 10;
+    auto at_row = [&](uint64_t turn) { return turn * 7919 % rows; };
+    Tree tree;
+    timed("insert", rows, [&](uint64_t at) { return tree.insert(all.ids[at], all.boxes[at]), 0; });
+    windows_of(tree, rows, "inserted_10", "inserted_1000");
+    nearest_of(tree, rows, "nearest_1", "nearest_10");
+    // There and back, so that each kind of work meets the same tree.
+    auto moved = [&](uint64_t row) { Box box = all.boxes[row]; return box.min[0] += 30, box.max[0] += 30, box; };
+    timed("replace", some, [&](uint64_t at) {
+        uint64_t row = at_row(at);
+        return tree.remove(all.ids[row], all.boxes[row]), tree.insert(all.ids[row], moved(row)), 0;
+    });
+    timed("back", some, [&](uint64_t at) {
+        uint64_t row = at_row(at);
+        return tree.remove(all.ids[row], moved(row)), tree.insert(all.ids[row], all.boxes[row]), 0;
+    });
+#if defined(PEER_BOOST)
+    Small small;
+    for (uint64_t at = 0; at < rows; at++)
+        small.insert(all.ids[at], all.boxes[at]);
+    nearest_of(small, rows, "small_1", "small_10");
+#else
+    timed("move", some, [&](uint64_t at) { uint64_t row = at_row(at); return tree.move(all.ids[row], moved(row)), 0; });
+#endif
+}
+#endif
+
+#if !defined(PEER_BOOST) && !defined(PEER_SPATIALINDEX)
+// Each way of keeping a tree: the time a row to write and to read it, and its bytes a row.
+static void kept(const Tree &tree, uint64_t rows, bool is_dump, const char *write, const char *read, const char *size)
+{
+    double begun = now();
+    const std::string bytes = tree.text(is_dump);
+    double written = now();
+    const Tree again(bytes, is_dump);
+    double opened = now();
+    const int same = again.text(is_dump) == bytes;
+    std::printf("%s %.0f %d\n%s %.0f %d\n%s %.1f %d\n", write, (written - begun) / double(rows), same, read, (opened - written) / double(rows), same, size, double(bytes.size()) / double(rows), same);
+}
+
+static void many_windows(const Tree &tree, uint64_t rows)
+{
+    const uint64_t count = 100000;
+    std::vector<Box> windows;
+    for (uint64_t turn = 0; turn < count; turn++)
+        windows.push_back(window(rows, turn, reach(rows, 10)));
+    std::vector<int64_t> ids(64 * count);
+    timed("calls", count, [&](uint64_t at) { return tree.search(windows[at]); });
+    double begun = now();
+    int64_t sum = tree.search_many(windows, ids);
+    std::printf("many %.0f %lld\n", (now() - begun) / double(count), static_cast<long long>(sum));
+}
+
+// The time that `threads` threads take for a window each.
+static double side_by_side(const Tree &tree, uint64_t rows, unsigned threads)
+{
+    const uint64_t count = 200000;
+    std::vector<std::thread> all;
+    double begun = now();
+    for (unsigned thread = 0; thread < threads; thread++)
+        all.emplace_back([&tree, rows, thread] {
+            volatile int64_t sum = 0;
+            for (uint64_t turn = 0; turn < count; turn++)
+                sum = sum + tree.search(window(rows, turn * 4 + thread, reach(rows, 10)));
+        });
+    for (std::thread &thread : all)
+        thread.join();
+    return (now() - begun) / double(count * threads);
+}
+#endif
+
+int main(int count, char **words)
+{
+    const uint64_t rows = count > 1 ? std::strtoull(words[1], nullptr, 10) : 100000;
+    const bool has_all = count > 2 && std::strcmp(words[2], "all") == 0;
+    Rows all;
+    for (uint64_t row = 1; row <= rows; row++)
+        all.ids.push_back(int64_t(row)), all.boxes.push_back(box_of(row, 0));
+    all.ids.shrink_to_fit(), all.boxes.shrink_to_fit();
+    const double before = resident(), begun = now();
+    auto tree = std::make_unique<Tree>(all);
+    const double loaded = now();
+    std::printf("load %.0f 0\nbytes %.1f 0\n", (loaded - begun) / double(rows), (resident() - before) / double(rows));
+    windows_of(*tree, rows, "packed_10", "packed_1000");
+#if !defined(PEER_SPATIALINDEX)
+    joins(*tree, rows);
+#if !defined(PEER_BOOST)
+    many_windows(*tree, rows);
+    const double one = side_by_side(*tree, rows, 1), four = side_by_side(*tree, rows, 4);
+    std::printf("one_thread %.0f 0\nfour_threads %.0f 0\n", one, four);
+    if (has_all) {
+        kept(*tree, rows, true, "dump", "open_dump", "dump_bytes");
+        kept(*tree, rows, false, "to_bytes", "open_bytes", "bytes_bytes");
+    }
+#endif
+    tree.reset();
+    if (has_all)
+        insertions(all);
+#else
+    (void)has_all;
+#endif
+}

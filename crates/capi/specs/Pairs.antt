@@ -1,0 +1,53 @@
+-- What a call tells of the pairs of rows whose boxes touch (own).
+use Rattle.std.specs.Prelude.{◌≡◌, ℕ, ℤ, List, length, map, Option, Some, None}
+use Rattle.rt_tree.specs.Join.{JoinsIn}
+use Rattle.rt_tree.specs.Lists.{TreeLists}
+use Rattle.rt_tree_join.specs.declared.joining.Pair.{Pair}
+use Rattle.rt_handle.specs.declared.object.Object.{Object}
+use Rattle.rt_handle.specs.declared.object.Object.TheVariants.{Script as AScript, Line, Plane, Space}
+use Rattle.capi.specs.Buffers.{Copies, Sized}
+use Rattle.capi.specs.Calls.{Answers}
+use Rattle.capi.specs.Codes.{number_of}
+use Rattle.capi.specs.declared.code.Code.{Code}
+use Rattle.capi.specs.declared.code.Code.TheVariants.{Closed, OtherKind, OutOfMemory, BadLength, BadAxes}
+
+abbrev pub left_ids : List Pair → List ℤ
+left_ids pairs = map (λ p. p.left) pairs
+
+abbrev pub right_ids : List Pair → List ℤ
+right_ids pairs = map (λ p. p.right) pairs
+
+-- the ids of each pair stand at one place of two buffers, and the number of pairs is told; or there is no room for them all, and
+-- both buffers are as before
+abbrev pub GivesPairs : List Pair → List ℤ → List ℤ → List ℤ → List ℤ → ℕ → Code → Type 0
+GivesPairs pairs left new_left right new_right total code =
+    (total ≡ length pairs) × Copies (left_ids pairs) left new_left code × Copies (right_ids pairs) right new_right code
+
+-- Of two objects the call says that one is no tree, or else that the trees have different numbers of axes; of two trees with as
+-- many axes it says this.
+abbrev pub OfObjects : Object → Object → ((D : ℕ) → TreeLists D → TreeLists D → Code → Type 0) → ℤ → Type 0
+OfObjects (AScript script) other says number = number ≡ number_of OtherKind
+OfObjects one (AScript script) says number = number ≡ number_of OtherKind
+OfObjects (Line one) (Line other) says number = Answers number (says 1 one.tree other.tree)
+OfObjects (Plane one) (Plane other) says number = Answers number (says 2 one.tree other.tree)
+OfObjects (Space one) (Space other) says number = Answers number (says 3 one.tree other.tree)
+OfObjects one other says number = number ≡ number_of BadAxes
+
+-- of two handles the call says that one is closed, or else this of their objects
+abbrev pub OfTrees : Option Object → Option Object → ((D : ℕ) → TreeLists D → TreeLists D → Code → Type 0) → ℤ → Type 0
+OfTrees None other says number = number ≡ number_of Closed
+OfTrees (Some one) None says number = number ≡ number_of Closed
+OfTrees (Some one) (Some other) says number = OfObjects one other says number
+
+module _ {D : ℕ} where
+  -- the same of the pairs of rows of two trees whose boxes touch; or no memory is left, and nothing changes
+  abbrev pub GivesJoined : List ℤ → List ℤ → List ℤ → List ℤ → ℕ → ℕ → TreeLists D → TreeLists D → Code → Type 0
+  GivesJoined left new_left right new_right told total one other OutOfMemory =
+      (new_left ≡ left) × (new_right ≡ right) × (total ≡ told)
+  GivesJoined left new_left right new_right told total one other code =
+      (pairs : List Pair) × JoinsIn one.lists other.lists pairs × GivesPairs pairs left new_left right new_right total code
+
+  -- if both buffers have one length; else a length is wrong
+  abbrev pub Joins : List ℤ → List ℤ → List ℤ → List ℤ → ℕ → ℕ → TreeLists D → TreeLists D → Code → Type 0
+  Joins left new_left right new_right told total one other code = Sized (length right) (length left)
+      (GivesJoined left new_left right new_right told total one other code) (code ≡ BadLength)

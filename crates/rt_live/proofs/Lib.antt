@@ -1,0 +1,10 @@
+pub mod Order
+pub mod Sorted
+pub mod Alike
+pub mod ById
+pub mod Once
+pub mod Found
+pub mod Kept
+pub mod Telling
+pub mod Views
+pub mod Following

@@ -1,0 +1,12 @@
+use Rattle.std.proofs.Common.{List, Option, sym, subst}
+use Rattle.rt_box.specs.declared.interval.Interval.{Interval}
+use Rattle.rt_tree.specs.Rows.{rows_of}
+use Rattle.rt_live.specs.Finding.{is_new, Appends}
+use Rattle.rt_live.proofs.Found.{appended-none}
+use Rattle.rt_live.proofs.finding.append_there.Goals as goal
+
+pub returns-in-None : goal.returns-in-None
+returns-in-None g c =
+    let rows = rows_of c.args.tree.now.lists in
+    let found = c.args.scratch.now.found.items in
+    subst (λ (o : Option (List Interval)). Appends rows (is_new o c.args.except.now) found found) (sym c.in-None.is) (appended-none rows found c.args.except.now)

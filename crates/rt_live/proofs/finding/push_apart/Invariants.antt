@@ -1,0 +1,7 @@
+use Rattle.std.proofs.Common.{◌≡◌, ◌++◌, take}
+use Rattle.std.specs.List.{filter}
+use Rattle.rt_live.specs.Finding.{is_apart}
+use Rattle.rt_live.proofs.finding.push_apart.Given as goal
+
+abbrev pub invariant-loop-row : goal.invariant-loop-row
+invariant-loop-row g l = l.found.items ≡ l.fn.found.items ++ filter (is_apart l.except) (take l.row-index l.rows)

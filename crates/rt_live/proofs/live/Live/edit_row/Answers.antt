@@ -1,0 +1,24 @@
+use Rattle.std.proofs.Common.{◌≡◌, ◌∙◌, ◌≤◌, ◌<◌, length, None, refl, sym, ap, rules, arith}
+use Rattle.rt_check.specs.Shadow.{ShadowLists}
+use Rattle.rt_tree.specs.Rows.{box_of}
+use Rattle.rt_tree_node.specs.Whole.{most_rows_of_a_tree}
+use Rattle.rt_live.proofs.Views.{row-box, rows-long, row-stays}
+use Rattle.rt_live.proofs.live.Live.edit_row.Goals as goal
+
+pub returns-then-does_stay-clause-ok : goal.returns-then-does_stay-clause-ok
+returns-then-does_stay-clause-ok g c =
+    let i = c.self.inside in
+    row-stays i (record i { changes = c.clear.new.self }) c.args.self.now c.self.view_is c.args.id.now c.args.was.now c.args.is.now c.requires.was (sym c.does_stay.ensures ∙ c.if-does_stay.true) refl refl c.clear.ensures.items
+
+pub set_box-requires : goal.set_box-requires
+set_box-requires g c =
+    let i = c.self.inside in
+    let d : g.row.D ≤ 3 = c.self.invariant.few in
+    let tree = c.make_room.new.tree.lists in
+    let same : tree ≡ i.rows.lists = c.make_room.ensures.lists in
+    let was : box_of tree c.args.id.now ≡ c.args.was.now =
+    ap (λ (s : ShadowLists g.row.D). box_of s c.args.id.now) same ∙ sym (row-box i i c.args.self.now c.self.view_is c.args.id.now) ∙ c.requires.was in
+    let long : length tree.rows ≡ length c.args.self.now.lists.rows =
+    ap (λ (s : ShadowLists g.row.D). length s.rows) same ∙ sym (rows-long i i c.args.self.now c.self.view_is c.is_in_shape.ensures) in
+    let few : c.args.was.now ≡ None → length tree.rows < most_rows_of_a_tree = λ none. let h = c.requires.few none in omega (arith, long, h) in
+    search rules

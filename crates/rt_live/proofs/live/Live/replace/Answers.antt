@@ -1,0 +1,28 @@
+use Rattle.std.proofs.Common.{◌≡◌, ◌∙◌, ◌≤◌, ◌<◌, length, None, sym, rules}
+use Rattle.rt_tree_node.specs.Whole.{most_rows_of_a_tree}
+use Rattle.rt_live.specs.Rows.{box_at}
+use Rattle.rt_live.proofs.Views.{row-box}
+use Rattle.rt_live.proofs.live.Live.replace.Goals as goal
+
+pub returns-then-is_none-clause-fault : goal.returns-then-is_none-clause-fault
+returns-then-is_none-clause-fault g c =
+    let none : c.get-was.result ≡ None = search rules in
+    row-box c.self.inside c.self.inside c.args.self.now c.self.view_is c.args.id.now ∙ sym c.get-was.ensures ∙ none
+
+pub edit_row-requires : goal.edit_row-requires
+edit_row-requires g c =
+    let d : g.row.D ≤ 3 = c.self.invariant.few in
+    let some : c.get-was.result ≡ None → ⊥ = search rules in
+    let was : box_at c.args.self.now.lists.rows c.args.id.now ≡ c.get-was.result = row-box c.self.inside c.self.inside c.args.self.now c.self.view_is c.args.id.now ∙ sym c.get-was.ensures in
+    let few : c.get-was.result ≡ None → length c.args.self.now.lists.rows < most_rows_of_a_tree = λ none. absurd (some none) in
+    search rules
+
+pub returns-in_err-edit_row-clause-missing : goal.returns-in_err-edit_row-clause-missing
+returns-in_err-edit_row-clause-missing g c = λ none.
+    let some : c.get-was.result ≡ None → ⊥ = search rules in
+    absurd (some (c.get-was.ensures ∙ sym (row-box c.self.inside c.self.inside c.args.self.now c.self.view_is c.args.id.now) ∙ none))
+
+pub returns-clause-missing : goal.returns-clause-missing
+returns-clause-missing g c = λ none.
+    let some : c.get-was.result ≡ None → ⊥ = search rules in
+    absurd (some (c.get-was.ensures ∙ sym (row-box c.self.inside c.self.inside c.args.self.now c.self.view_is c.args.id.now) ∙ none))

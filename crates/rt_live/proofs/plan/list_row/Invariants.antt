@@ -1,0 +1,6 @@
+use Rattle.std.proofs.Common.{◌≡◌, ◌++◌, take}
+use Rattle.rt_live.specs.Changes.{told_each}
+use Rattle.rt_live.proofs.plan.list_row.Given as goal
+
+abbrev pub invariant-loop-window : goal.invariant-loop-window
+invariant-loop-window g l = l.changes.items ≡ l.fn.changes.items ++ told_each (take l.window-index l.windows) l.id l.was l.is

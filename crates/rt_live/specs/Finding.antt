@@ -1,0 +1,34 @@
+-- Rows that are found in a list, in any order. No public clause cites this module.
+use Rattle.std.specs.Prelude.{◌≡◌, ℕ, ◌+◌, Bool, not, ◌&&◌, ◌||◌, List, Option, filter, count_by}
+use Rattle.rt_box.specs.declared.interval.Interval.{Interval}
+use Rattle.rt_check.specs.Shadow.{ShadowLists}
+use Rattle.rt_tree_walk.specs.declared.searching.Row.{Row}
+use Rattle.rt_tree.specs.Rows.{rows_of}
+use Rattle.rt_live.specs.declared.finding.Scratch.{Scratch}
+use Rattle.rt_live.specs.Rows.{rows_by_id}
+use Rattle.rt_live.specs.Changes.{touches}
+
+module _ {D : ℕ} where
+  -- the row doesn't touch the box
+  abbrev pub is_apart : Option (List Interval) → Row D → Bool
+  is_apart rect r = not (touches rect r.rect)
+
+  -- the row touches the one box, and not the other
+  abbrev pub is_new : Option (List Interval) → Option (List Interval) → Row D → Bool
+  is_new rect except r = touches rect r.rect && is_apart except r
+
+  -- the row touches one of the boxes
+  abbrev pub touches_either : Option (List Interval) → Option (List Interval) → Row D → Bool
+  touches_either was is r = touches was r.rect || touches is r.rect
+
+  -- the rows that pass were appended: as many more pass any other test
+  pub record Appends (rows : List (Row D)) (pass : Row D → Bool) (old new : List (Row D)) : Type 0 where
+    pub each : (test : Row D → Bool) → count_by test new ≡ count_by test old + count_by (λ r. pass r && test r) rows
+
+  -- of the rows of a tree, those were appended to what was found that touch the one box and not the other
+  abbrev pub AppendsNew : ShadowLists D → Option (List Interval) → Option (List Interval) → Scratch D → Scratch D → Type 0
+  AppendsNew s rect except old new = Appends (rows_of s) (is_new rect except) old.found.items new.found.items
+
+  -- the rows of a tree that touch one of the boxes, by rising id
+  abbrev pub rows_around : ShadowLists D → Option (List Interval) → Option (List Interval) → List (Row D)
+  rows_around s was is = filter (touches_either was is) (rows_by_id s)

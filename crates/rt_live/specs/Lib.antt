@@ -1,0 +1,7 @@
+pub mod Rows
+pub mod Changes
+pub mod Live
+pub mod LiveInside
+pub mod Following
+pub mod Finding
+pub mod Faults

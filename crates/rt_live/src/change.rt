@@ -1,0 +1,67 @@
+//! Changes: what a window is told of a row.
+
+ghost use Rattle.std.specs.Prelude.{◌≡◌, ◌++◌, OnOk};
+ghost use Rattle.rt_live.specs.Changes.{told_of_row, told_of_window, listed};
+
+use std::alloc::AllocError;
+
+/// What a row did in a window.
+#[derive(Clone, Copy, PartialEq, Eq, Debug)]
+pub enum Kind {
+    /// It left the window.
+    Left,
+    /// It came into the window.
+    Came,
+    /// It has another box, and is in the window as before.
+    Moved,
+}
+
+/// What a window is told of a row.
+#[derive(Clone, Copy, PartialEq, Eq, Debug)]
+pub struct Change {
+    /// The id of the window.
+    pub window: i64,
+    /// The id of the row.
+    pub id: i64,
+    /// What the row did.
+    pub kind: Kind,
+}
+
+/// What a window is told of a row that was edited.
+pub(crate) fn told_of_row(was_in: bool, is_in: bool) -> Option<Kind>
+    ensures { result ≡ told_of_row was_in is_in }
+{
+    match (was_in, is_in) {
+        (true, true) => Some(Kind::Moved),
+        (true, false) => Some(Kind::Left),
+        (false, true) => Some(Kind::Came),
+        (false, false) => None,
+    }
+}
+
+/// What a window that was edited is told of a row.
+pub(crate) fn told_of_window(was_in: bool, is_in: bool) -> Option<Kind>
+    ensures { result ≡ told_of_window was_in is_in }
+{
+    match (was_in, is_in) {
+        (true, false) => Some(Kind::Left),
+        (false, true) => Some(Kind::Came),
+        _ => None,
+    }
+}
+
+/// Lists what a window is told of a row, if it is told anything.
+pub(crate) fn push_told(
+    changes: &mut Vec<Change>,
+    window: i64,
+    id: i64,
+    told: Option<Kind>,
+) -> Result<(), AllocError>
+    ensures { OnOk result (changes.new.items ≡ changes.old.items ++ listed window id told) }
+{
+    let Some(kind) = told else {
+        return Ok(());
+    };
+    changes.push(Change { window, id, kind })?;
+    Ok(())
+}

@@ -1,0 +1,86 @@
+//! What an edit tells, listed before anything changes.
+
+ghost use Rattle.std.specs.Prelude.{◌≡◌, ◌≤◌, ◌++◌, false, OnOk};
+ghost use Rattle.rt_live.specs.Rows.{rows_by_id};
+ghost use Rattle.rt_live.specs.Changes.{stays, told_each, row_changes, window_changes};
+
+use crate::change::{Change, push_told, told_of_row, told_of_window};
+use crate::finding::{Scratch, find_either};
+use crate::touching::is_touched;
+use rt_box::Rect;
+use rt_tree::{Row, Tree};
+use std::alloc::{AllocError, Global};
+
+/// Lists what these windows are told of a row that had the one box and has the other.
+fn list_row<const D: usize>(
+    changes: &mut Vec<Change>,
+    windows: &[Row<D>],
+    id: &i64,
+    was: &Option<Rect<D>>,
+    is: &Option<Rect<D>>,
+) -> Result<(), AllocError>
+    ensures { OnOk result (changes.new.items ≡ changes.old.items ++ told_each windows.now id.now was.now is.now) }
+{
+    for window in windows {
+        let was_in = is_touched(was, &window.rect);
+        let is_in = is_touched(is, &window.rect);
+        push_told(changes, window.id, *id, told_of_row(was_in, is_in))?;
+    }
+    Ok(())
+}
+
+/// Lists what a window that had the one box and has the other is told of these rows.
+fn list_window<const D: usize>(
+    changes: &mut Vec<Change>,
+    rows: &[Row<D>],
+    window: &i64,
+    was: &Option<Rect<D>>,
+    is: &Option<Rect<D>>,
+) -> Result<(), AllocError>
+    ensures { OnOk result (changes.new.items ≡ changes.old.items ++ window_changes rows.now window.now was.now is.now) }
+{
+    for row in rows {
+        let was_in = is_touched(was, &row.rect);
+        let is_in = is_touched(is, &row.rect);
+        push_told(changes, *window, row.id, told_of_window(was_in, is_in))?;
+    }
+    Ok(())
+}
+
+/// Plans what the windows are told of a row that gets another box. Of the windows, those are looked at that touch one of
+/// the boxes.
+pub(crate) fn plan_row<const D: usize>(
+    alloc: Global,
+    windows: &Tree<D>,
+    id: &i64,
+    was: &Option<Rect<D>>,
+    is: &Option<Rect<D>>,
+    scratch: &mut Scratch<D>,
+    changes: &mut Vec<Change>,
+) -> Result<(), AllocError>
+    requires few { D ≤ 3 }
+    requires moves { stays was.now is.now ≡ false }
+    ensures { OnOk result (changes.new.items ≡ row_changes (rows_by_id windows.now.lists) id.now was.now is.now) }
+{
+    find_either(alloc, windows, was, is, scratch)?;
+    changes.clear();
+    list_row(changes, scratch.found.as_slice(), id, was, is)
+}
+
+/// Plans what a window is told that gets another box. Of the rows, those are looked at that touch one of the boxes.
+pub(crate) fn plan_window<const D: usize>(
+    alloc: Global,
+    rows: &Tree<D>,
+    window: &i64,
+    was: &Option<Rect<D>>,
+    is: &Option<Rect<D>>,
+    scratch: &mut Scratch<D>,
+    changes: &mut Vec<Change>,
+) -> Result<(), AllocError>
+    requires { D ≤ 3 }
+    ensures { OnOk result (changes.new.items ≡ window_changes (rows_by_id rows.now.lists) window.now was.now is.now) }
+{
+    find_either(alloc, rows, was, is, scratch)?;
+    changes.clear();
+    list_window(changes, scratch.found.as_slice(), window, was, is)
+}

@@ -1,0 +1,5 @@
+pub mod Lists
+pub mod Claimed
+pub mod Gained
+pub mod Joined
+pub mod Places

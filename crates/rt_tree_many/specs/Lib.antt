@@ -1,0 +1,2 @@
+pub mod Insertion
+pub mod Parts

@@ -1,0 +1,17 @@
+pub mod Lists
+pub mod Frames
+pub mod Ways
+pub mod Boxes
+pub mod Near
+pub mod Treated
+pub mod Stepped
+pub mod Climbed
+pub mod Entered
+pub mod Finished
+pub mod Placed
+pub mod Settled
+pub mod Seen
+pub mod Thinning
+pub mod Thinned
+pub mod Found
+pub mod Removed

@@ -1,0 +1,3 @@
+pub mod Uniqueness
+pub mod Faithful
+pub mod Chosen

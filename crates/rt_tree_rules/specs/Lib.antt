@@ -1,0 +1,7 @@
+pub mod Nested
+pub mod Choices
+pub mod Placing
+pub mod Removing
+pub mod Shadow
+pub mod Examples
+pub mod Laws
