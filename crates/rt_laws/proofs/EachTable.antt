@@ -8,8 +8,8 @@ use Rattle.std.proofs.lemmas.Option.{same_Some}
 use Rattle.std.proofs.Math.Seq.{map-set_same}
 use Rattle.rt_sql_statement.specs.Name.{same_name}
 use Rattle.rt_sql_statement.specs.declared.statement.Edit.{Edit}
-use Rattle.rt_sql_statement.specs.declared.statement.Stmt.{Stmt}
-use Rattle.rt_sql_statement.specs.declared.statement.Stmt.TheVariants.{Create, Drop, Edit as Edits, Watch, Unwatch}
+use Rattle.rt_sql_request.specs.declared.request.Stmt.{Stmt}
+use Rattle.rt_sql_request.specs.declared.request.Stmt.TheVariants.{Create, Drop, Edit as Edits, Watch, Unwatch}
 use Rattle.rt_sql_statement.specs.declared.statement.Test.{Test}
 use Rattle.rt_sql_statement.specs.declared.statement.ColumnDef.{ColumnDef}
 use Rattle.rt_sql_statement.specs.declared.refusal.Refusal.{Refusal}

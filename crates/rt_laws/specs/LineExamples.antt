@@ -5,8 +5,8 @@ use Rattle.std.specs.Fmt.{digits}
 use Rattle.rt_sql_statement.specs.declared.value.Value.{Value}
 use Rattle.rt_sql_statement.specs.declared.value.Value.TheVariants.{Null, Int, Text, Blob}
 use Rattle.rt_sql_statement.specs.declared.statement.ColumnDef.{ColumnDef}
-use Rattle.rt_sql_statement.specs.declared.statement.Stmt.{Stmt}
-use Rattle.rt_sql_statement.specs.declared.statement.Stmt.TheVariants.{Create, Check, Nodes}
+use Rattle.rt_sql_request.specs.declared.request.Stmt.{Stmt}
+use Rattle.rt_sql_request.specs.declared.request.Stmt.TheVariants.{Create, Check, Nodes}
 use Rattle.rt_check.specs.declared.problem.Condition.TheVariants.{FitsChild, HasCell}
 use Rattle.rt_reply.specs.declared.reply.Reply.TheVariants.{Nothing, Rows, Changes, Verdict}
 use Rattle.rt_session.specs.Session.{State, empty, state_after, answer, no_tree}

@@ -10,7 +10,7 @@ use Rattle.rt_sql_cut.specs.Pieces.{Pieces, EndedPieces}
 use Rattle.rt_check_dump.specs.declared.dump.AnyShadow.{AnyShadow}
 use Rattle.rt_check_dump.specs.Dump.{any_text}
 use Rattle.rt_sql.specs.Parse.{Parses}
-use Rattle.rt_sql_statement.specs.declared.statement.Stmt.{Stmt}
+use Rattle.rt_sql_request.specs.declared.request.Stmt.{Stmt}
 use Rattle.rt_sql_statement.specs.declared.refusal.Refusal.{Refusal}
 use Rattle.rt_sql_statement.specs.declared.refusal.Refusal.TheVariants.{OutOfMemory}
 use Rattle.rt_table_row.specs.Columns.{Columns}

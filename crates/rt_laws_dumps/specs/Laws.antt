@@ -2,7 +2,7 @@
 use Rattle.std.specs.Prelude.{◌≡◌, ℕ, ◌≤◌, List, length}
 use Rattle.rt_bytes.specs.declared.outcome.Status.{Status}
 use Rattle.rt_check.specs.Shadow.{ShadowLists}
-use Rattle.rt_sql_statement.specs.declared.statement.Stmt.{Stmt}
+use Rattle.rt_sql_request.specs.declared.request.Stmt.{Stmt}
 use Rattle.rt_table_row.specs.Rows.{TableRow}
 use Rattle.rt_table_row.specs.Edits.{Step}
 use Rattle.rt_table_store.specs.Moves.{FollowsSteps}

@@ -9,8 +9,8 @@ use Rattle.rt_sql_statement.specs.declared.value.Value.{Value}
 use Rattle.rt_sql_statement.specs.declared.statement.ColumnDef.{ColumnDef}
 use Rattle.rt_sql_statement.specs.declared.statement.Test.{Test}
 use Rattle.rt_sql_statement.specs.declared.statement.Edit.{Edit}
-use Rattle.rt_sql_statement.specs.declared.statement.Stmt.{Stmt}
-use Rattle.rt_sql_statement.specs.declared.statement.Stmt.TheVariants.{Create, Drop, Edit as Edits, Select, Check, Watch, Unwatch, View, Nodes}
+use Rattle.rt_sql_request.specs.declared.request.Stmt.{Stmt}
+use Rattle.rt_sql_request.specs.declared.request.Stmt.TheVariants.{Create, Drop, Edit as Edits, Select, Check, Watch, Unwatch, View, Nodes}
 use Rattle.rt_sql_statement.specs.declared.refusal.Refusal.{Refusal}
 use Rattle.rt_sql_statement.specs.declared.refusal.Refusal.TheVariants.{OutOfMemory, NoSuchTable, TableAlreadyExists, NoSuchColumn, NoSuchView, ViewAlreadyExists, TableIsWatched, TooManyTablesOrViews}
 use Rattle.rt_table_row.specs.Columns.{Columns, columns_of, has_name}

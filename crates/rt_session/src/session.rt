@@ -4,14 +4,15 @@
 //! and views is the table's part. `specs/Session.antt` defines the answer to each statement over plain lists.
 
 ghost use Rattle.std.specs.Prelude.{◌≡◌};
-ghost use Rattle.rt_sql_statement.specs.declared.statement.Stmt.TheVariants.{Create, Drop, Edit as Edits, Select, Watch, Unwatch, View, Check, Nodes};
+ghost use Rattle.rt_sql_request.specs.declared.request.Stmt.TheVariants.{Create, Drop, Edit as Edits, Select, Watch, Unwatch, View, Check, Nodes};
 ghost use Rattle.rt_session.specs.Session.{empty, CarriesOut};
 
 use crate::select::select;
 use crate::tables::{Named, have_views, place_of, place_of_view};
 use rt_box::Capacity;
 use rt_reply::{Reply, Shown, TreeDump};
-use rt_sql_statement::{ColumnDef, Cond, Edit, Items, Name, Refusal, Stmt};
+use rt_sql_request::Stmt;
+use rt_sql_statement::{ColumnDef, Cond, Edit, Items, Name, Refusal};
 use rt_table::AnyTable;
 use rt_table_row::Schema;
 use std::alloc::Global;

@@ -3,7 +3,7 @@ use Rattle.std.proofs.Common.{◌≡◌, Result, Ok, Err, true, false, refl, sym
 use Rattle.std.specs.Prelude.{◌⊎◌, ◌≢◌}
 use Rattle.rt_sql_cut.specs.Piece.{PieceText}
 use Rattle.rt_sql.specs.Parse.{ParsesUnlessMemory}
-use Rattle.rt_sql_statement.specs.declared.statement.Stmt.{Stmt}
+use Rattle.rt_sql_request.specs.declared.request.Stmt.{Stmt}
 use Rattle.rt_sql_statement.specs.declared.refusal.Refusal.{Refusal}
 use Rattle.rt_sql_statement.specs.declared.refusal.Refusal.TheVariants.{OutOfMemory}
 use Rattle.rt_reply.specs.declared.reply.Reply.{Reply}

@@ -8,7 +8,7 @@ use Rattle.rt_bytes.specs.declared.outcome.Status.TheVariants.{Clean, Refused}
 use Rattle.rt_sql_cut.specs.Piece.{PieceText}
 use Rattle.rt_sql_cut.specs.Pieces.{Pieces, EndedPieces}
 use Rattle.rt_sql.specs.Parse.{Parses}
-use Rattle.rt_sql_statement.specs.declared.statement.Stmt.{Stmt}
+use Rattle.rt_sql_request.specs.declared.request.Stmt.{Stmt}
 use Rattle.rt_sql_statement.specs.declared.refusal.Refusal.{Refusal}
 use Rattle.rt_sql_statement.specs.declared.refusal.Refusal.TheVariants.{OutOfMemory}
 use Rattle.rt_shell.specs.declared.engine.Options.{Options}

@@ -6,9 +6,9 @@ use Rattle.rt_sql_statement.specs.declared.statement.ColumnDef.{ColumnDef}
 use Rattle.rt_sql_statement.specs.declared.statement.Rule.{Rule}
 use Rattle.rt_sql_statement.specs.declared.statement.Rule.TheVariants.{Abort, Replace, Ignore}
 use Rattle.rt_sql_statement.specs.declared.statement.Source.{Source}
-use Rattle.rt_sql_statement.specs.declared.statement.Stmt.{Stmt}
+use Rattle.rt_sql_request.specs.declared.request.Stmt.{Stmt}
 use Rattle.rt_sql_statement.specs.declared.statement.Edit.TheVariants as edit
-use Rattle.rt_sql_statement.specs.declared.statement.Stmt.TheVariants as stmt
+use Rattle.rt_sql_request.specs.declared.request.Stmt.TheVariants as stmt
 use Rattle.rt_sql_statement.specs.declared.statement.Test.{Test}
 use Rattle.rt_sql.specs.declared.token.Sign.{Sign}
 use Rattle.rt_sql.specs.declared.token.Sign.TheVariants.{LeftParenthesis, RightParenthesis, Comma, Semicolon, Plus, Minus, Star, Equal}

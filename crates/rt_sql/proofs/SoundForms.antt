@@ -3,8 +3,8 @@ use Rattle.std.proofs.Common.{◌≡◌, ◌⊎◌, inl, inr, Bool, true, false,
 use Rattle.std.specs.Option.{is_some}
 use Rattle.rt_sql_statement.specs.declared.statement.Rule.{Rule}
 use Rattle.rt_sql_statement.specs.declared.statement.Rule.TheVariants.{Replace}
-use Rattle.rt_sql_statement.specs.declared.statement.Stmt.{Stmt}
-use Rattle.rt_sql_statement.specs.declared.statement.Stmt.TheVariants as stmt
+use Rattle.rt_sql_request.specs.declared.request.Stmt.{Stmt}
+use Rattle.rt_sql_request.specs.declared.request.Stmt.TheVariants as stmt
 use Rattle.rt_sql_statement.specs.declared.statement.Test.{Test}
 use Rattle.rt_sql.specs.declared.token.Sign.TheVariants.{LeftParenthesis, RightParenthesis, Semicolon, Plus, Minus, Star, Equal}
 use Rattle.rt_sql.specs.declared.token.Token.{Token}

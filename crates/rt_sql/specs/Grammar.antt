@@ -11,8 +11,8 @@ use Rattle.rt_sql_statement.specs.declared.statement.Rule.TheVariants.{Abort, Re
 use Rattle.rt_sql_statement.specs.declared.statement.Source.{Source}
 use Rattle.rt_sql_statement.specs.declared.statement.Source.TheVariants as sources
 use Rattle.rt_sql_statement.specs.declared.statement.Edit.TheVariants.{Insert, Update, Delete}
-use Rattle.rt_sql_statement.specs.declared.statement.Stmt.{Stmt}
-use Rattle.rt_sql_statement.specs.declared.statement.Stmt.TheVariants.{Create, Drop, Edit, Select, Check, Watch, Unwatch, View, Nodes}
+use Rattle.rt_sql_request.specs.declared.request.Stmt.{Stmt}
+use Rattle.rt_sql_request.specs.declared.request.Stmt.TheVariants.{Create, Drop, Edit, Select, Check, Watch, Unwatch, View, Nodes}
 use Rattle.rt_sql_statement.specs.declared.statement.Test.{Test}
 use Rattle.rt_sql_statement.specs.declared.statement.Test.TheVariants as tests
 use Rattle.rt_sql.specs.declared.token.Sign.{Sign}

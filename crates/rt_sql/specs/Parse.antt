@@ -5,7 +5,7 @@ use Rattle.rt_sql_cut.specs.declared.piece.Ending.{Ending}
 use Rattle.rt_sql_cut.specs.declared.piece.Ending.TheVariants.{Whole, Incomplete, TooLong}
 use Rattle.rt_sql_statement.specs.declared.refusal.Refusal.{Refusal}
 use Rattle.rt_sql_statement.specs.declared.refusal.Refusal.TheVariants.{SyntaxError, IncompleteInput, StatementTooLong, NotUtf8, IntegerOutOfRange, OutOfMemory, UnknownCommand}
-use Rattle.rt_sql_statement.specs.declared.statement.Stmt.{Stmt}
+use Rattle.rt_sql_request.specs.declared.request.Stmt.{Stmt}
 use Rattle.rt_sql.specs.declared.token.Token.{Token}
 use Rattle.rt_sql.specs.declared.token.Token.TheVariants as token
 use Rattle.rt_sql.specs.Grammar.{Spells, is_command}

@@ -24,7 +24,8 @@ use crate::number::Numbers;
 use crate::token::{Sign, Token};
 use crate::tokens::Tokens;
 pub(crate) use command::is_command;
-use rt_sql_statement::{Refusal, Rule, Stmt};
+use rt_sql_request::Stmt;
+use rt_sql_statement::{Refusal, Rule};
 use std::alloc::Global;
 
 /// An UPDATE, a DELETE, a CREATE or a DROP.

@@ -3,7 +3,7 @@
 //! - `parse` makes of a piece the statement that its tokens spell, or says by a `Refusal` why there
 //!   is none.
 //! - `refused_at` finds the token of a piece at which no statement goes on.
-//! - `Stmt`, what it is made of, and `Refusal` are those of `rt_sql_statement`, passed on.
+//! - `Stmt` (of `rt_sql_request`), what it is made of, and `Refusal` (of `rt_sql_statement`) are passed on.
 //! - `laws`: tokens spell at most one statement, and each piece has one answer.
 //!
 //! A piece is a statement exactly if its tokens spell it. Else it is refused by the first reason that applies,
@@ -27,7 +27,8 @@ mod tokens;
 mod word;
 
 pub use parser::{parse, refused_at};
+pub use rt_sql_request::Stmt;
 pub use rt_sql_statement::{
-    Blob, ColumnDef, Compare, Cond, Edit, Items, Name, Operator, Refusal, Rule, Source, Stmt, Test,
-    Text, Value,
+    Blob, ColumnDef, Compare, Cond, Edit, Items, Name, Operator, Refusal, Rule, Source, Test, Text,
+    Value,
 };

@@ -14,7 +14,8 @@ use crate::number::Numbers;
 use crate::token::Token;
 use crate::tokens::Tokens;
 use rt_sql_cut::{Ending, Piece};
-use rt_sql_statement::{Refusal, Stmt};
+use rt_sql_request::Stmt;
+use rt_sql_statement::Refusal;
 use std::alloc::Global;
 use std::ops::Range;
 

@@ -1,6 +1,6 @@
-//! SQL statements as data: what a script asks for, whatever text spells it.
+//! What SQL statements are made of, as data, whatever text spells it.
 //!
-//! - `Stmt` and what it is made of, in `statement`, `Name` and `Value` are plain data. Lists in them
+//! - Edits, conditions and columns, in `statement`, `Name` and `Value` are plain data. Lists in them
 //!   are `Items`, which contracts see as lists. Comparisons are those of `rt_box`, passed on.
 //! - `Refusal` has the number and the words that each refusal prints, those of tables and views too.
 //!
@@ -17,5 +17,5 @@ pub use name::Name;
 pub use refusal::Refusal;
 pub use rt_box::Operator;
 pub use sqlite_items::Items;
-pub use statement::{ColumnDef, Compare, Cond, Edit, Rule, Source, Stmt, Test};
+pub use statement::{ColumnDef, Compare, Cond, Edit, Rule, Source, Test};
 pub use value::{Blob, Text, Value};

@@ -13,7 +13,8 @@ use crate::grammar::literals::name;
 use crate::number::Numbers;
 use crate::tokens::Tokens;
 use crate::word::is_among;
-use rt_sql_statement::{Refusal, Stmt};
+use rt_sql_request::Stmt;
+use rt_sql_statement::Refusal;
 use std::alloc::Global;
 
 /// A `.watch` from its view on.

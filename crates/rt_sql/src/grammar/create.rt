@@ -12,7 +12,8 @@ use crate::grammar::literals::{digits, name};
 use crate::number::Numbers;
 use crate::token::{Sign, Token};
 use crate::tokens::Tokens;
-use rt_sql_statement::{ColumnDef, Name, Refusal, Stmt};
+use rt_sql_request::Stmt;
+use rt_sql_statement::{ColumnDef, Name, Refusal};
 use std::alloc::Global;
 
 /// Whether a word comes next.

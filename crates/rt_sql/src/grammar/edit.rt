@@ -13,7 +13,8 @@ use crate::grammar::literals::{digits, name};
 use crate::number::Numbers;
 use crate::token::{Sign, Token};
 use crate::tokens::Tokens;
-use rt_sql_statement::{Edit, Items, Name, Refusal, Rule, Source, Stmt, Value};
+use rt_sql_request::Stmt;
+use rt_sql_statement::{Edit, Items, Name, Refusal, Rule, Source, Value};
 use std::alloc::Global;
 
 /// What an INSERT does with a row whose id is taken: `OR` and a rule, or nothing.

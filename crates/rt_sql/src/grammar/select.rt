@@ -13,7 +13,8 @@ use crate::grammar::literals::{name, text};
 use crate::number::Numbers;
 use crate::token::Sign;
 use crate::tokens::Tokens;
-use rt_sql_statement::{Items, Name, Refusal, Stmt};
+use rt_sql_request::Stmt;
+use rt_sql_statement::{Items, Name, Refusal};
 use std::alloc::Global;
 
 /// The column that rows are ordered by, if `ORDER` comes next.
