@@ -4,7 +4,9 @@ pub mod Entries
 pub mod Loaded
 mod OnTrees
 pub mod Picking
+pub mod Pieces
 pub mod Reaching
 pub mod Rowing
+pub mod Searching
 pub mod Told
 pub mod Writing

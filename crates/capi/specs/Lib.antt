@@ -2,11 +2,14 @@ pub mod Answers
 pub mod Buffers
 pub mod Calls
 pub mod Codes
+pub mod Insertion
 pub mod Loading
+pub mod Many
 pub mod Near
 pub mod Numbers
 pub mod Packing
 pub mod Pairs
+pub mod Places
 pub mod Relations
 pub mod Scripts
 pub mod Trees

@@ -1,5 +1,5 @@
 -- The numbers by which a caller has boxes and rows (own).
-use Rattle.std.specs.Prelude.{◌≡◌, ℕ, ◌+◌, ◌*◌, ◌<◌, ℤ, ◌≤ℤ◌, List, ◌++◌, length, map, take, drop, All}
+use Rattle.std.specs.Prelude.{◌≡◌, ℕ, zero, suc, ◌+◌, ◌*◌, ◌<◌, ℤ, ◌≤ℤ◌, List, [], ◌∷◌, ◌++◌, length, map, take, drop, All}
 use Rattle.std.specs.List.{AllZip, flat_map}
 use Rattle.rt_box.specs.declared.interval.Interval.{Interval}
 use Rattle.rt_box.specs.Rect.{IsBox, los, his}
@@ -21,17 +21,22 @@ Writes numbers at old new = (take (at + length numbers) new ≡ take at old ++ n
 abbrev pub AreOrdered : ℕ → List ℤ → Type 0
 AreOrdered axes box = AllZip ◌≤ℤ◌ (take axes box) (drop axes box)
 
--- the box at that place of a list of boxes, which stand one after another
-abbrev pub box_at : ℕ → List ℤ → ℕ → List ℤ
-box_at axes numbers place = take (2 * axes) (drop (place * (2 * axes)) numbers)
+-- the piece at that place of a list of pieces, which are so long and stand one after another
+abbrev pub piece_at : ℕ → List ℤ → ℕ → List ℤ
+piece_at width xs place = take width (drop (place * width) xs)
+
+-- so many pieces of it
+abbrev pub pieces : ℕ → ℕ → List ℤ → List (List ℤ)
+pieces width zero xs = []
+pieces width (suc count) xs = take width xs ∷ pieces width count (drop width xs)
 
 -- each of so many boxes is such
 abbrev pub AreAllOrdered : ℕ → ℕ → List ℤ → Type 0
-AreAllOrdered axes count numbers = (place : ℕ) → place < count → AreOrdered axes (box_at axes numbers place)
+AreAllOrdered axes count numbers = (place : ℕ) → place < count → AreOrdered axes (piece_at (2 * axes) numbers place)
 
 -- the box at that place is not, and it is the first that isn't
 pub record IsFirstBad (axes : ℕ) (numbers : List ℤ) (place : ℕ) : Type 0 where
-  pub bad : ¬ AreOrdered axes (box_at axes numbers place)
+  pub bad : ¬ AreOrdered axes (piece_at (2 * axes) numbers place)
   pub first : AreAllOrdered axes place numbers
 
 module _ {D : ℕ} where

@@ -1,6 +1,6 @@
 -- What a call tells of the pairs of rows whose boxes touch (own).
 use Rattle.std.specs.Prelude.{◌≡◌, ℕ, ℤ, List, length, map, Option, Some, None}
-use Rattle.rt_tree.specs.Join.{JoinsIn}
+use Rattle.rt_tree.specs.Join.{JoinsIn, JoinsItselfIn}
 use Rattle.rt_tree.specs.Lists.{TreeLists}
 use Rattle.rt_tree_join.specs.declared.joining.Pair.{Pair}
 use Rattle.rt_handle.specs.declared.object.Object.{Object}
@@ -51,3 +51,13 @@ module _ {D : ℕ} where
   abbrev pub Joins : List ℤ → List ℤ → List ℤ → List ℤ → ℕ → ℕ → TreeLists D → TreeLists D → Code → Type 0
   Joins left new_left right new_right told total one other code = Sized (length right) (length left)
       (GivesJoined left new_left right new_right told total one other code) (code ≡ BadLength)
+
+  -- the same of the pairs of different rows of one tree whose boxes touch, the lower id on the left
+  abbrev pub GivesItself : List ℤ → List ℤ → List ℤ → List ℤ → ℕ → ℕ → TreeLists D → Code → Type 0
+  GivesItself left new_left right new_right told total tree OutOfMemory = (new_left ≡ left) × (new_right ≡ right) × (total ≡ told)
+  GivesItself left new_left right new_right told total tree code =
+      (pairs : List Pair) × JoinsItselfIn tree.lists pairs × GivesPairs pairs left new_left right new_right total code
+
+  abbrev pub JoinsItself : List ℤ → List ℤ → List ℤ → List ℤ → ℕ → ℕ → TreeLists D → Code → Type 0
+  JoinsItself left new_left right new_right told total tree code = Sized (length right) (length left)
+      (GivesItself left new_left right new_right told total tree code) (code ≡ BadLength)

@@ -1,5 +1,5 @@
 -- What windows admit. No contract of an exported call cites this module.
-use Rattle.std.specs.Prelude.{ℕ, ◌↔◌, ℤ, List}
+use Rattle.std.specs.Prelude.{ℕ, ◌↔◌, ℤ, List, take, drop}
 use Rattle.std.specs.List.{AllZip}
 use Rattle.rt_box.specs.declared.interval.Interval.{Interval}
 use Rattle.rt_box.specs.declared.operator.Operator.{Operator}
@@ -25,3 +25,7 @@ AdmitsCompared axes first least second greatest window =
 abbrev pub AdmitsRelated : ℕ → Relation → List ℤ → List ℤ → List Interval → Type 0
 AdmitsRelated axes relation min max window =
     (rect : List Interval) → IsBox axes rect → (Admits window rect ↔ Relates relation min max rect)
+
+-- the same of a window that is one list of numbers, the least first
+abbrev pub AdmitsPiece : ℕ → Relation → List ℤ → List Interval → Type 0
+AdmitsPiece axes relation box window = AdmitsRelated axes relation (take axes box) (drop axes box) window

@@ -3,11 +3,12 @@
 ghost use Rattle.std.specs.Prelude.{◌≡◌, ◌≢◌, ◌≤◌, pos, length, option_map};
 ghost use Rattle.rt_handle.specs.Passes.{IsOf, IsSame};
 ghost use Rattle.capi.specs.Buffers.{Copies};
+ghost use Rattle.capi.specs.Calls.{OfTree};
 ghost use Rattle.capi.specs.Codes.{number_of};
-ghost use Rattle.capi.specs.Pairs.{left_ids, right_ids, GivesPairs, GivesJoined, OfObjects, OfTrees, Joins};
+ghost use Rattle.capi.specs.Pairs.{left_ids, right_ids, GivesPairs, GivesJoined, OfObjects, OfTrees, Joins, GivesItself, JoinsItself};
 ghost use Rattle.capi.specs.declared.code.Code.TheVariants.{Done, BufferTooSmall};
 
-use crate::answer::{PairAnswer, hand_back_both};
+use crate::answer::{Answer, PairAnswer, hand_back, hand_back_both};
 use crate::code::Code;
 use rt_handle::{Object, Pass, Words};
 use rt_tree::{Pair, Tree};
@@ -58,6 +59,27 @@ fn join<const D: usize>(
         return Code::BadLength;
     }
     match one.join(alloc, other) {
+        Ok(pairs) => give_pairs(&pairs, left, right, total),
+        Err(_) => Code::OutOfMemory,
+    }
+}
+
+/// Writes the pairs of different rows of a tree whose boxes touch.
+fn join_self<const D: usize>(
+    alloc: Global,
+    tree: &Tree<D>,
+    left: &mut [i64],
+    right: &mut [i64],
+    total: &mut u64,
+) -> Code
+    ensures joined { JoinsItself left.old left.new right.old right.new total.old total.new tree.now result }
+    ensures kept { result ≢ Done → result ≢ BufferTooSmall →
+        (left.new ≡ left.old) × (right.new ≡ right.old) × (total.new ≡ total.old) }
+{
+    if right.len() != left.len() {
+        return Code::BadLength;
+    }
+    match tree.join_self(alloc) {
         Ok(pairs) => give_pairs(&pairs, left, right, total),
         Err(_) => Code::OutOfMemory,
     }
@@ -163,4 +185,32 @@ pub extern "C" fn juicedelta_tree_join(
         total,
     );
     hand_back_both(code, one_lease, other_lease)
+}
+
+/// The pairs of different rows of a tree whose boxes touch.
+#[unsafe(no_mangle)]
+pub extern "C" fn juicedelta_tree_join_self(
+    alloc: Global,
+    handle: &Words,
+    pass: Pass,
+    left: &mut [i64],
+    right: &mut [i64],
+    total: &mut u64,
+) -> Answer
+    requires { IsOf pass.at pass.held handle.now }
+    ensures told { OfTree pass.held
+        (λ D. JoinsItself left.old left.new right.old right.new total.old total.new) result.code }
+    ensures kept { result.code ≢ pos 0 → result.code ≢ pos 8 →
+        (left.new ≡ left.old) × (right.new ≡ right.old) × (total.new ≡ total.old) }
+    ensures pass { IsSame pass result.pass }
+{
+    let lease = pass.open();
+    let code = match lease.peek(handle) {
+        None => Code::Closed,
+        Some(Object::Line(kept)) => join_self(alloc, &kept.tree, left, right, total),
+        Some(Object::Plane(kept)) => join_self(alloc, &kept.tree, left, right, total),
+        Some(Object::Space(kept)) => join_self(alloc, &kept.tree, left, right, total),
+        Some(Object::Script(_)) => Code::OtherKind,
+    };
+    hand_back(code, lease)
 }
