@@ -19,8 +19,8 @@ use Rattle.rt_tree_walk.specs.Search.{row_of}
 use Rattle.rt_tree_walk.proofs.Listed.{levels-below}
 use Rattle.rt_tree_walk.proofs.Progress.{IsSettled}
 use Rattle.rt_tree_walk.specs.Rows.{rows_in}
-use Rattle.rt_tree_walk.proofs.Below.{rows_under, held-below}
-use Rattle.rt_tree_join.proofs.Below.{rows-none, rows-leaf, rows-inner, child-hull}
+use Rattle.rt_tree_walk.proofs.Below.{rows_under, rows-leaf, child-hull, held-below}
+use Rattle.rt_tree_join.proofs.Below.{rows-none, rows-inner}
 use Rattle.rt_tree.specs.Bounds.{HoldsRows, IsLeastAround}
 use Rattle.rt_tree.specs.BoundsInside.{IsRootBox}
 
@@ -62,7 +62,7 @@ module _ {D : ℕ} (t : Arena D) (s : IsSettled t) where
       Holds other (hull_at t.nodes k) × IsBox D (hull_at t.nodes k)
   least-below other zero k at some held =
       within other k some (unmapped (λ (r : Row D). Holds other r.rect) row_of (cells_at t.nodes k)
-      (subst (HoldsRows other) (rows-leaf t k at) held))
+      (subst (HoldsRows other) (rows-leaf t.nodes k at) held))
   least-below other (suc l) k at some held =
       let cells = cells_at t.nodes k in
       let parts = flat-parts (λ (r : Row D). Holds other r.rect) (λ (c : Cell D). rows_under t.nodes l (key_of c)) cells
