@@ -94,17 +94,29 @@ PLAIN(words);
 PLAIN(close);
 PLAIN(tree_open);
 PLAIN(tree_open_dump);
+PLAIN(tree_open_rows);
 PLAIN(tree_insert);
+PLAIN(tree_insert_rows);
 PLAIN(tree_move);
 PLAIN(tree_remove);
 PLAIN(tree_clear);
 PLAIN(tree_axes);
 PLAIN(tree_len);
 PLAIN(tree_get);
+PLAIN(tree_bounds);
+PLAIN(tree_ids);
+PLAIN(tree_rows);
 PLAIN(tree_count);
+PLAIN(tree_count_many);
 PLAIN(tree_search);
+PLAIN(tree_search_many);
 PLAIN(tree_search_rows);
 PLAIN(tree_nearest);
+PLAIN(tree_nearest_many);
+PLAIN(tree_nearest_to);
+PLAIN(tree_within);
+PLAIN(tree_join);
+PLAIN(tree_join_self);
 
 typedef struct pair {
     uint32_t axes;
@@ -276,6 +288,254 @@ static void pair_nearest(source *from, const pair *pair)
     CHECK(memcmp(rows.ids, wanted.ids, sizeof rows.ids) == 0 && memcmp(rows.boxes, wanted.boxes, sizeof rows.boxes) == 0);
 }
 
+/* The rows within a distance of a point, and those nearest to a box. */
+static void pair_near(source *from, const pair *pair)
+{
+    static rows rows, wanted;
+    int32_t box[ROOM], code;
+    size_t width = 2 * pair->axes, room = below(from, 50) == 0 ? BUFFER : below(from, 7);
+    size_t length = a_length(from, pair->axes), boxes = width * room + (below(from, 60) == 0 ? 1 + below(from, ROOM) : 0);
+    uint64_t distance = below(from, 20) == 0 ? UINT64_MAX - below(from, 2) : below(from, 300);
+    a_window(from, pair, box);
+    clear_rows(&rows), clear_rows(&wanted);
+    TRY(code, juicedelta_tree_within(&pair->tree, box, length, distance, rows.ids, room, rows.boxes, boxes, &rows.total),
+        rows.total == 77 && are_untouched(pair, &rows, 0));
+    CHECK(code == plain_tree_within(&pair->list, box, length, distance, wanted.ids, room, wanted.boxes, boxes, &wanted.total));
+    CHECK(memcmp(&rows, &wanted, sizeof rows) == 0);
+    length = a_length(from, width);
+    clear_rows(&rows), clear_rows(&wanted);
+    TRY(code, juicedelta_tree_nearest_to(&pair->tree, box, length, rows.ids, room, rows.boxes, boxes, &rows.total),
+        rows.total == 77 && are_untouched(pair, &rows, 0));
+    CHECK(code == plain_tree_nearest_to(&pair->list, box, length, wanted.ids, room, wanted.boxes, boxes, &wanted.total));
+    CHECK(memcmp(&rows, &wanted, sizeof rows) == 0);
+}
+
+/* What calls for many windows write: for window i, `total` ids from starts[i] on. */
+enum { MANY = 5, FOUND = MANY * BUFFER };
+typedef struct parts {
+    uint64_t starts[MANY + 1], counts[MANY + 1], total;
+    int64_t ids[FOUND];
+} parts;
+
+/* Fills them with 0x5a. */
+static void clear_parts(parts *parts)
+{
+    memset(parts, 0x5a, sizeof *parts);
+    parts->total = 77;
+}
+
+static int are_no_parts(const parts *parts)
+{
+    return parts->total == 77 && is_untouched(parts->starts, 0, sizeof parts->starts)
+        && is_untouched(parts->counts, 0, sizeof parts->counts) && is_untouched(parts->ids, 0, sizeof parts->ids);
+}
+
+/* Sorts the ids of each of so many windows. */
+static void sort_parts(parts *parts, size_t count)
+{
+    for (size_t at = 0; at < count; at++) {
+        uint64_t end = at + 1 < count ? parts->starts[at + 1] : parts->total;
+        CHECK(parts->starts[at] <= end && end <= parts->total);
+        qsort(parts->ids + parts->starts[at], end - parts->starts[at], sizeof *parts->ids, by_number);
+    }
+}
+
+static void pair_search_many(source *from, const pair *pair)
+{
+    static parts parts, wanted;
+    int32_t windows[BOX * MANY + ROOM] = {0}, code;
+    size_t count = below(from, MANY + 1), width = 2 * pair->axes, room = below(from, 4) == 0 ? below(from, 10) : FOUND;
+    size_t length = width * count + (below(from, 60) == 0 ? 1 + below(from, ROOM) : 0);
+    uint32_t relation = a_relation(from);
+    for (size_t at = 0; at < count; at++)
+        a_window(from, pair, windows + width * at);
+    clear_parts(&parts), clear_parts(&wanted);
+    TRY(code, juicedelta_tree_search_many(&pair->tree, relation, windows, length, parts.starts, count, parts.ids, room, &parts.total),
+        are_no_parts(&parts));
+    CHECK(code
+        == plain_tree_search_many(&pair->list, relation, windows, length, wanted.starts, count, wanted.ids, room, &wanted.total));
+    if (code == JUICEDELTA_OK)
+        sort_parts(&parts, count), sort_parts(&wanted, count);
+    CHECK(memcmp(&parts, &wanted, sizeof parts) == 0);
+    clear_parts(&parts), clear_parts(&wanted);
+    TRY(code, juicedelta_tree_count_many(&pair->tree, relation, windows, length, parts.counts, count), are_no_parts(&parts));
+    CHECK(code == plain_tree_count_many(&pair->list, relation, windows, length, wanted.counts, count));
+    CHECK(memcmp(&parts, &wanted, sizeof parts) == 0);
+}
+
+static void pair_nearest_many(source *from, const pair *pair)
+{
+    static parts parts, wanted;
+    int32_t points[BOX * MANY + ROOM], code;
+    size_t count = below(from, MANY + 1), room = below(from, 4) == 0 ? below(from, 10) : FOUND;
+    size_t length = pair->axes * count + (below(from, 60) == 0 ? 1 + below(from, ROOM) : 0);
+    uint64_t k = below(from, 60) == 0 ? UINT64_MAX - below(from, 2) : below(from, 7);
+    for (size_t at = 0; at < BOX * MANY + ROOM; at++)
+        points[at] = a_coordinate(from);
+    clear_parts(&parts), clear_parts(&wanted);
+    TRY(code, juicedelta_tree_nearest_many(&pair->tree, points, length, k, parts.starts, count, parts.ids, room, &parts.total),
+        are_no_parts(&parts));
+    CHECK(code == plain_tree_nearest_many(&pair->list, points, length, k, wanted.starts, count, wanted.ids, room, &wanted.total));
+    CHECK(memcmp(&parts, &wanted, sizeof parts) == 0);
+}
+
+/* Pairs of ids. */
+enum { PAIRS = 50000 };
+typedef struct pairs {
+    uint64_t total;
+    int64_t left[PAIRS], right[PAIRS];
+} pairs;
+
+static void clear_pairs(pairs *pairs)
+{
+    memset(pairs, 0x5a, sizeof *pairs);
+    pairs->total = 77;
+}
+
+static int are_no_pairs(const pairs *pairs, uint64_t from)
+{
+    return is_untouched(pairs->left, from * sizeof *pairs->left, sizeof pairs->left)
+        && is_untouched(pairs->right, from * sizeof *pairs->right, sizeof pairs->right);
+}
+
+typedef struct ids {
+    int64_t left, right;
+} ids;
+
+static int by_ids(const void *left, const void *right)
+{
+    const ids *one = left, *other = right;
+    int first = by_number(&one->left, &other->left);
+    return first != 0 ? first : by_number(&one->right, &other->right);
+}
+
+/* Both wrote the same pairs, in whatever order, and nothing else. */
+static void pairs_same(int32_t code, const pairs *left, const pairs *right)
+{
+    static ids sorted[2][PAIRS];
+    uint64_t written = code == JUICEDELTA_OK ? left->total : 0;
+    CHECK(left->total == right->total && are_no_pairs(left, written) && are_no_pairs(right, written));
+    for (size_t side = 0; side < 2; side++) {
+        const pairs *from = side == 0 ? left : right;
+        for (size_t at = 0; at < written; at++)
+            sorted[side][at].left = from->left[at], sorted[side][at].right = from->right[at];
+        qsort(sorted[side], written, sizeof **sorted, by_ids);
+    }
+    CHECK(memcmp(sorted[0], sorted[1], written * sizeof **sorted) == 0);
+}
+
+/* Joined with a tree of a few rows, which has another number of axes in one case of ten, and with itself. */
+static void pair_join(source *from, const pair *pair)
+{
+    static pairs pairs, wanted;
+    int64_t other_ids[9];
+    int32_t boxes[9 * BOX + ROOM], code;
+    struct pair other = *pair, given = *pair;
+    size_t count = below(from, 10), room = below(from, 4) == 0 ? below(from, 10) : PAIRS;
+    size_t right_room = room > 0 && below(from, 60) == 0 ? room - 1 : room;
+    uint64_t at = 77;
+    other.axes = below(from, 10) == 0 ? pair->axes % 3 + 1 : pair->axes;
+    other.tree.object = other.list.object = NULL, other.tree.count = other.list.count = 0;
+    for (size_t row = 0; row < count; row++) {
+        other_ids[row] = (int64_t)row - 4;
+        a_box(from, &other, 300, UINT32_MAX, boxes + 2 * other.axes * row);
+    }
+    code = juicedelta_tree_open_rows(&other.tree, other.axes, 5, other_ids, count, boxes, 2 * other.axes * count, 1, 2, &at);
+    CHECK(code == JUICEDELTA_OK && at == 77);
+    code = plain_tree_open_rows(&other.list, other.axes, 5, other_ids, count, boxes, 2 * other.axes * count, 1, 2, &at);
+    CHECK(code == JUICEDELTA_OK && at == 77);
+    if (below(from, 2) == 0)
+        given = other, other = *pair;
+    clear_pairs(&pairs), clear_pairs(&wanted);
+    TRY(code, juicedelta_tree_join(&given.tree, &other.tree, pairs.left, room, pairs.right, right_room, &pairs.total),
+        pairs.total == 77 && are_no_pairs(&pairs, 0));
+    CHECK(code == plain_tree_join(&given.list, &other.list, wanted.left, room, wanted.right, right_room, &wanted.total));
+    pairs_same(code, &pairs, &wanted);
+    pair_close(given.tree.object == pair->tree.object ? &other : &given);
+    clear_pairs(&pairs), clear_pairs(&wanted);
+    TRY(code, juicedelta_tree_join_self(&pair->tree, pairs.left, room, pairs.right, right_room, &pairs.total),
+        pairs.total == 77 && are_no_pairs(&pairs, 0));
+    CHECK(code == plain_tree_join_self(&pair->list, wanted.left, room, wanted.right, right_room, &wanted.total));
+    pairs_same(code, &pairs, &wanted);
+}
+
+/* All rows, in parts of some length: each comes once, and ids and rows come in one order. A part that begins past the last row
+ * is empty. */
+static void pair_walk(source *from, const pair *pair)
+{
+    static rows rows, wanted, part;
+    size_t width = 2 * pair->axes, length = 1 + below(from, 100);
+    uint64_t place = 0, total = 77;
+    CHECK(juicedelta_tree_rows(&pair->tree, 0, part.ids, 1, part.boxes, width + 1, &total) == JUICEDELTA_BAD_LENGTH && total == 77);
+    clear_rows(&rows);
+    arm(1);
+    CHECK(juicedelta_tree_rows(&pair->tree, 0, rows.ids, BUFFER, rows.boxes, width * BUFFER, &rows.total) == JUICEDELTA_OK);
+    CHECK(plain_tree_rows(&pair->list, 0, wanted.ids, BUFFER, wanted.boxes, width * BUFFER, &wanted.total) == JUICEDELTA_OK);
+    CHECK(rows.total == wanted.total && are_untouched(pair, &rows, rows.total) && are_same(pair, &rows, &wanted, rows.total));
+    do {
+        uint64_t left = place < rows.total ? rows.total - place : 0, written = left < length ? left : length;
+        clear_rows(&part);
+        CHECK(juicedelta_tree_rows(&pair->tree, place, part.ids, length, part.boxes, width * length, &part.total) == JUICEDELTA_OK);
+        CHECK(part.total == rows.total && are_untouched(pair, &part, written));
+        CHECK(memcmp(part.ids, rows.ids + place, written * sizeof *part.ids) == 0);
+        CHECK(memcmp(part.boxes, rows.boxes + width * place, width * written * sizeof *part.boxes) == 0);
+        clear_rows(&part);
+        CHECK(juicedelta_tree_ids(&pair->tree, place, part.ids, length, &part.total) == JUICEDELTA_OK && part.total == rows.total);
+        CHECK(memcmp(part.ids, rows.ids + place, written * sizeof *part.ids) == 0);
+        CHECK(is_untouched(part.ids, written * sizeof *part.ids, sizeof part.ids));
+        place += length;
+    } while (place < rows.total + length);
+    clear_rows(&part);
+    CHECK(juicedelta_tree_ids(&pair->tree, UINT64_MAX, part.ids, length, &part.total) == JUICEDELTA_OK && part.total == rows.total);
+    CHECK(!disarm() && are_untouched(pair, &part, 0));
+}
+
+static void pair_bounds(source *from, const pair *pair)
+{
+    int32_t box[ROOM], wanted[ROOM];
+    size_t length = a_length(from, 2 * pair->axes);
+    memset(box, 0x5a, sizeof box);
+    memset(wanted, 0x5a, sizeof wanted);
+    arm(1);
+    int32_t code = juicedelta_tree_bounds(&pair->tree, box, length);
+    CHECK(!disarm() && code == plain_tree_bounds(&pair->list, wanted, length) && memcmp(box, wanted, sizeof box) == 0);
+}
+
+/* A few rows come at once, of which one may have a taken id or a bad box; or the tree is made anew of its own rows and these. */
+static void pair_insert_rows(source *from, pair *pair)
+{
+    static rows rows;
+    struct pair packed = {pair->axes, {NULL, 0}, {NULL, 0}};
+    size_t width = 2 * pair->axes, count = below(from, 12), length = width * count + (below(from, 60) == 0);
+    uint64_t at = 77, plain_at = 77;
+    int32_t code;
+    for (size_t row = 0; row < count; row++) {
+        int32_t box[ROOM];
+        rows.ids[row] = an_id(from);
+        a_box(from, pair, 60, 200, box);
+        memcpy(rows.boxes + width * row, box, width * sizeof *box);
+    }
+    TRY(code, juicedelta_tree_insert_rows(&pair->tree, rows.ids, count, rows.boxes, length, &at), at == 77);
+    CHECK(code == plain_tree_insert_rows(&pair->list, rows.ids, count, rows.boxes, length, &plain_at) && at == plain_at);
+    if (below(from, 20) != 0)
+        return;
+    at = plain_at = 77;
+    CHECK(plain_tree_rows(&pair->list, 0, rows.ids + count, BUFFER - count, rows.boxes + width * count, width * (BUFFER - count),
+        &rows.total) == JUICEDELTA_OK);
+    count = below(from, 2) == 0 ? count + rows.total : count;
+    length = width * count + (below(from, 60) == 0);
+    uint32_t capacity = 4 + below(from, 49);
+    TRY(code, juicedelta_tree_open_rows(&packed.tree, packed.axes, capacity, rows.ids, count, rows.boxes, length, 1, 2, &at),
+        at == 77 && juicedelta_close(&packed.tree) == JUICEDELTA_CLOSED);
+    CHECK(code == plain_tree_open_rows(&packed.list, packed.axes, capacity, rows.ids, count, rows.boxes, length, 1, 2, &plain_at));
+    CHECK(at == plain_at);
+    if (code != JUICEDELTA_OK)
+        return;
+    pair_same(&packed);
+    pair_close(pair);
+    *pair = packed;
+}
+
 static void pair_insert(source *from, pair *pair, int64_t id)
 {
     int32_t box[ROOM], code;
@@ -384,7 +644,7 @@ static void pair_dump(source *from, pair *pair)
 static void pair_step(source *from, pair *pair)
 {
     int64_t id = an_id(from);
-    switch (below(from, 14)) {
+    switch (below(from, 20)) {
     case 0:
     case 1:
     case 2:
@@ -413,6 +673,28 @@ static void pair_step(source *from, pair *pair)
         break;
     case 12:
         pair_len(pair);
+        break;
+    case 13:
+        pair_near(from, pair);
+        break;
+    case 14:
+        pair_search_many(from, pair);
+        break;
+    case 15:
+        pair_nearest_many(from, pair);
+        break;
+    case 16:
+        pair_bounds(from, pair);
+        break;
+    case 17:
+        if (below(from, 10) == 0)
+            pair_insert_rows(from, pair);
+        break;
+    case 18:
+        if (below(from, 40) == 0)
+            pair_join(from, pair);
+        else if (below(from, 10) == 0)
+            pair_walk(from, pair);
         break;
     default:
         if (below(from, 400) == 0)

@@ -157,8 +157,8 @@ static void script_codes(void)
 /* The words of each code, of numbers that are none, and in buffers of each length. */
 static void words_of_codes(void)
 {
-    static const int32_t none[] = {INT32_MIN, -1, JUICEDELTA_BAD_RELATION + 1, 256, 65536, INT32_MAX};
-    for (int32_t at = -(int32_t)(sizeof none / sizeof *none); at <= JUICEDELTA_BAD_RELATION; at++) {
+    static const int32_t none[] = {INT32_MIN, -1, JUICEDELTA_BAD_BYTES + 1, 256, 65536, INT32_MAX};
+    for (int32_t at = -(int32_t)(sizeof none / sizeof *none); at <= JUICEDELTA_BAD_BYTES; at++) {
         int32_t code = at < 0 ? none[-1 - at] : at;
         for (size_t length = 0; length < 80; length++) {
             uint8_t text[80], wanted[80];
@@ -174,8 +174,8 @@ static void words_of_codes(void)
 
 /* What calls write; it is filled with 0x5a before. */
 typedef struct outputs {
-    uint64_t total;
-    int64_t ids[2];
+    uint64_t total, starts[2];
+    int64_t ids[2], others[2];
     int32_t boxes[2 * BOX + 1];
     uint32_t axes;
     uint8_t text[4];
@@ -197,7 +197,18 @@ static void refuse_all(juicedelta_handle *handle, int32_t code)
         CHECK(juicedelta_tree_search(handle, 3, upside, length, to.ids, 2, &to.total) == code);
         CHECK(juicedelta_tree_search_rows(handle, 3, upside, length, to.ids, 2, to.boxes, length, &to.total) == code);
         CHECK(juicedelta_tree_nearest(handle, upside, length, to.ids, 2, to.boxes, length, &to.total) == code);
+        CHECK(juicedelta_tree_insert_rows(handle, to.ids, 2, upside, length, &to.total) == code);
+        CHECK(juicedelta_tree_bounds(handle, to.boxes, length) == code);
+        CHECK(juicedelta_tree_rows(handle, 0, to.ids, 2, to.boxes, length, &to.total) == code);
+        CHECK(juicedelta_tree_within(handle, upside, length, 9, to.ids, 2, to.boxes, length, &to.total) == code);
+        CHECK(juicedelta_tree_nearest_to(handle, upside, length, to.ids, 2, to.boxes, length, &to.total) == code);
+        CHECK(juicedelta_tree_count_many(handle, 3, upside, length, to.starts, 2) == code);
+        CHECK(juicedelta_tree_search_many(handle, 3, upside, length, to.starts, 2, to.ids, 2, &to.total) == code);
+        CHECK(juicedelta_tree_nearest_many(handle, upside, length, 1, to.starts, 2, to.ids, 2, &to.total) == code);
     }
+    CHECK(juicedelta_tree_ids(handle, 0, to.ids, 2, &to.total) == code);
+    CHECK(juicedelta_tree_join(handle, handle, to.ids, 2, to.others, 1, &to.total) == code);
+    CHECK(juicedelta_tree_join_self(handle, to.ids, 2, to.others, 1, &to.total) == code);
     CHECK(juicedelta_tree_remove(handle, 1) == code);
     CHECK(juicedelta_tree_clear(handle) == code);
     CHECK(juicedelta_tree_axes(handle, &to.axes) == code);
@@ -212,10 +223,17 @@ static void refuse_lengths(juicedelta_handle *tree, size_t axes)
     outputs to;
     memset(&to, 0x5a, sizeof to);
     for (size_t length = 0; length <= ROOM; length++) {
-        if (length != axes)
+        if (length != axes) {
             CHECK(juicedelta_tree_nearest(tree, upside, length, to.ids, 0, to.boxes, 0, &to.total) == JUICEDELTA_BAD_LENGTH);
+            CHECK(juicedelta_tree_within(tree, upside, length, 9, to.ids, 0, to.boxes, 0, &to.total) == JUICEDELTA_BAD_LENGTH);
+            CHECK(juicedelta_tree_nearest_many(tree, upside, length, 1, to.starts, 1, to.ids, 0, &to.total)
+                == JUICEDELTA_BAD_LENGTH);
+        }
         if (length == 2 * axes)
             continue;
+        CHECK(juicedelta_tree_bounds(tree, to.boxes, length) == JUICEDELTA_BAD_LENGTH);
+        CHECK(juicedelta_tree_nearest_to(tree, upside, length, to.ids, 0, to.boxes, 0, &to.total) == JUICEDELTA_BAD_LENGTH);
+        CHECK(juicedelta_tree_insert_rows(tree, to.ids, 1, upside, length, &to.total) == JUICEDELTA_BAD_LENGTH);
         CHECK(juicedelta_tree_insert(tree, INT64_MIN, upside, length) == JUICEDELTA_BAD_LENGTH);
         CHECK(juicedelta_tree_move(tree, 5, upside, length) == JUICEDELTA_BAD_LENGTH);
         CHECK(juicedelta_tree_get(tree, 5, to.boxes, length) == JUICEDELTA_BAD_LENGTH);
@@ -224,8 +242,12 @@ static void refuse_lengths(juicedelta_handle *tree, size_t axes)
             CHECK(juicedelta_tree_count(tree, relation, upside, length, &to.total) == code);
             CHECK(juicedelta_tree_search(tree, relation, upside, length, to.ids, 0, &to.total) == code);
             CHECK(juicedelta_tree_search_rows(tree, relation, upside, length, to.ids, 0, to.boxes, 0, &to.total) == code);
+            CHECK(juicedelta_tree_count_many(tree, relation, upside, length, to.starts, 1) == code);
+            CHECK(juicedelta_tree_search_many(tree, relation, upside, length, to.starts, 1, to.ids, 0, &to.total) == code);
         }
     }
+    CHECK(juicedelta_tree_join(tree, tree, to.ids, 2, to.others, 1, &to.total) == JUICEDELTA_BAD_LENGTH);
+    CHECK(juicedelta_tree_join_self(tree, to.ids, 1, to.others, 2, &to.total) == JUICEDELTA_BAD_LENGTH);
     CHECK(is_untouched(&to, 0, sizeof to));
 }
 
@@ -239,11 +261,52 @@ static void refuse_lists(const juicedelta_handle *tree, size_t axes)
             if (boxes == 2 * axes * ids)
                 continue;
             CHECK(juicedelta_tree_nearest(tree, upside, axes, to.ids, ids, to.boxes, boxes, &to.total) == JUICEDELTA_BAD_LENGTH);
+            CHECK(juicedelta_tree_within(tree, upside, axes, 9, to.ids, ids, to.boxes, boxes, &to.total) == JUICEDELTA_BAD_LENGTH);
+            CHECK(juicedelta_tree_nearest_to(tree, upside, 2 * axes, to.ids, ids, to.boxes, boxes, &to.total)
+                == JUICEDELTA_BAD_LENGTH);
+            CHECK(juicedelta_tree_rows(tree, 0, to.ids, ids, to.boxes, boxes, &to.total) == JUICEDELTA_BAD_LENGTH);
             for (uint32_t relation = 0; relation < 4; relation++)
                 CHECK(juicedelta_tree_search_rows(tree, relation, upside, 2 * axes, to.ids, ids, to.boxes, boxes, &to.total)
                     == (relation < 3 ? JUICEDELTA_BAD_LENGTH : JUICEDELTA_BAD_RELATION));
         }
     CHECK(is_untouched(&to, 0, sizeof to));
+}
+
+/* The codes of a join with a handle that is closed, holds no tree, or holds one with other axes. */
+static void refuse_joins(const juicedelta_handle *tree, const juicedelta_handle *shell, uint32_t axes)
+{
+    const juicedelta_handle closed = {0};
+    juicedelta_handle other = {0};
+    outputs to;
+    memset(&to, 0x5a, sizeof to);
+    CHECK(juicedelta_tree_open(&other, axes % 3 + 1, 51, 1, 2) == JUICEDELTA_OK);
+    const struct {
+        const juicedelta_handle *one, *other;
+        int32_t code;
+    } all[] = {
+        {tree, &closed, JUICEDELTA_CLOSED}, {&closed, tree, JUICEDELTA_CLOSED}, {shell, &closed, JUICEDELTA_CLOSED},
+        {&closed, shell, JUICEDELTA_CLOSED}, {tree, shell, JUICEDELTA_OTHER_KIND}, {shell, tree, JUICEDELTA_OTHER_KIND},
+        {&other, tree, JUICEDELTA_BAD_AXES}, {tree, &other, JUICEDELTA_BAD_AXES},
+    };
+    for (size_t at = 0; at < sizeof all / sizeof *all; at++)
+        CHECK(juicedelta_tree_join(all[at].one, all[at].other, to.ids, 2, to.others, 1, &to.total) == all[at].code);
+    CHECK(is_untouched(&to, 0, sizeof to));
+    CHECK(juicedelta_close(&other) == JUICEDELTA_OK);
+}
+
+/* Rows that are refused, the first bad box before the first taken id. The tree has a row with the least id. */
+static void refuse_rows(juicedelta_handle *tree, size_t axes)
+{
+    int64_t ids[] = {7, INT64_MIN, 7};
+    int32_t boxes[3 * BOX] = {0};
+    uint64_t at = 77, rows = 77;
+    boxes[4 * axes] = 1;
+    CHECK(juicedelta_tree_insert_rows(tree, ids, 3, boxes, 6 * axes, &at) == JUICEDELTA_BAD_BOX && at == 2);
+    boxes[4 * axes] = 0;
+    CHECK(juicedelta_tree_insert_rows(tree, ids, 3, boxes, 6 * axes, &at) == JUICEDELTA_ID_TAKEN && at == 1);
+    ids[1] = 8;
+    CHECK(juicedelta_tree_insert_rows(tree, ids, 3, boxes, 6 * axes, &at) == JUICEDELTA_ID_TAKEN && at == 2);
+    CHECK(juicedelta_tree_len(tree, &rows) == JUICEDELTA_OK && rows == 1);
 }
 
 /* The codes of the calls that open; the handle stays closed. */
@@ -252,12 +315,25 @@ static void open_codes(void)
     static const uint32_t axes[] = {0, 4, 256 + 2, UINT32_MAX}, capacities[] = {0, 4, 52, 256 + 51, UINT32_MAX};
     juicedelta_handle tree = {0};
     const uint8_t *text = (const uint8_t *)"rtree 2 5 1 1 0\n";
+    /* Of two boxes with two axes the second is bad; three boxes with one axis are good. */
+    static const int32_t second[] = {1, 1, 2, 2, 0, 7, 9, 6};
+    static const int64_t ids[] = {4, 3, 4};
+    uint64_t place = 77;
     for (size_t at = 0; at < sizeof axes / sizeof *axes; at++) {
         CHECK(juicedelta_tree_open(&tree, axes[at], 52, 1, 2) == JUICEDELTA_BAD_AXES);
         CHECK(juicedelta_tree_open_dump(&tree, axes[at], text, 16, 1, 2) == JUICEDELTA_BAD_AXES);
+        CHECK(juicedelta_tree_open_rows(&tree, axes[at], 52, ids, 2, upside, 3, 1, 2, &place) == JUICEDELTA_BAD_AXES);
     }
-    for (size_t at = 0; at < sizeof capacities / sizeof *capacities; at++)
+    for (size_t at = 0; at < sizeof capacities / sizeof *capacities; at++) {
         CHECK(juicedelta_tree_open(&tree, 2, capacities[at], 1, 2) == JUICEDELTA_BAD_CAPACITY);
+        CHECK(juicedelta_tree_open_rows(&tree, 2, capacities[at], ids, 2, upside, 3, 1, 2, &place) == JUICEDELTA_BAD_CAPACITY);
+    }
+    for (size_t length = 0; length < 8; length++)
+        CHECK(juicedelta_tree_open_rows(&tree, 2, 5, ids, 2, upside, length, 1, 2, &place) == JUICEDELTA_BAD_LENGTH);
+    CHECK(place == 77);
+    CHECK(juicedelta_tree_open_rows(&tree, 2, 5, ids, 2, upside, 8, 1, 2, &place) == JUICEDELTA_BAD_BOX && place == 0);
+    CHECK(juicedelta_tree_open_rows(&tree, 2, 5, ids, 2, second, 8, 1, 2, &place) == JUICEDELTA_BAD_BOX && place == 1);
+    CHECK(juicedelta_tree_open_rows(&tree, 1, 5, ids, 3, second, 6, 1, 2, &place) == JUICEDELTA_ID_TAKEN && place == 2);
     CHECK(juicedelta_tree_open_dump(&tree, 2, text, 16, 1, 2) == JUICEDELTA_BAD_DUMP);
     CHECK(juicedelta_tree_open_dump(&tree, 2, text, 0, 1, 2) == JUICEDELTA_BAD_DUMP);
     refuse_all(&tree, JUICEDELTA_CLOSED);
@@ -279,6 +355,8 @@ static void tree_codes(uint32_t axes)
     CHECK(juicedelta_tree_axes(&tree, &told) == JUICEDELTA_OK && told == axes);
     CHECK(juicedelta_tree_open(&tree, 4, 52, 1, 2) == JUICEDELTA_ALREADY_OPEN);
     CHECK(juicedelta_tree_open_dump(&tree, 4, to.text, 0, 1, 2) == JUICEDELTA_ALREADY_OPEN);
+    CHECK(juicedelta_tree_open_rows(&tree, 4, 52, to.ids, 2, upside, 3, 1, 2, &to.total) == JUICEDELTA_ALREADY_OPEN);
+    CHECK(juicedelta_tree_bounds(&tree, to.boxes, width) == JUICEDELTA_EMPTY);
     CHECK(juicedelta_tree_insert(&tree, INT64_MIN, box, width) == JUICEDELTA_OK);
     CHECK(juicedelta_tree_insert(&tree, INT64_MIN, box, width) == JUICEDELTA_ID_TAKEN);
     CHECK(juicedelta_tree_insert(&tree, 5, upside, width) == JUICEDELTA_BAD_BOX);
@@ -288,16 +366,22 @@ static void tree_codes(uint32_t axes)
     CHECK(juicedelta_tree_move(&tree, 5, box, width) == JUICEDELTA_ID_MISSING);
     CHECK(juicedelta_tree_remove(&tree, 5) == JUICEDELTA_ID_MISSING);
     CHECK(juicedelta_tree_get(&tree, 5, to.boxes, width) == JUICEDELTA_ID_MISSING);
+    CHECK(juicedelta_tree_nearest_to(&tree, upside, width, to.ids, 0, to.boxes, 0, &to.total) == JUICEDELTA_BAD_BOX);
     refuse_lengths(&tree, axes);
     refuse_lists(&tree, axes);
     CHECK(juicedelta_script_open(&shell, 51, 1, 2) == JUICEDELTA_OK);
     CHECK(juicedelta_tree_open(&shell, axes, 51, 1, 2) == JUICEDELTA_ALREADY_OPEN);
     refuse_all(&shell, JUICEDELTA_OTHER_KIND);
+    refuse_joins(&tree, &shell, axes);
     CHECK(juicedelta_close(&shell) == JUICEDELTA_OK);
+    refuse_rows(&tree, axes);
     CHECK(is_untouched(&to, 0, sizeof to));
     CHECK(juicedelta_tree_search(&tree, 0, box, width, to.ids, 0, &to.total) == JUICEDELTA_BUFFER_TOO_SMALL && to.total == 1);
     CHECK(juicedelta_tree_search_rows(&tree, 0, box, width, to.ids, 0, to.boxes, 0, &to.total) == JUICEDELTA_BUFFER_TOO_SMALL);
     CHECK(juicedelta_tree_dump(&tree, to.text, 4, &to.total) == JUICEDELTA_BUFFER_TOO_SMALL && to.total > 4);
+    CHECK(juicedelta_tree_search_many(&tree, 0, box, width, to.starts, 1, to.ids, 0, &to.total) == JUICEDELTA_BUFFER_TOO_SMALL);
+    CHECK(juicedelta_tree_nearest_many(&tree, box, axes, 9, to.starts, 1, to.ids, 0, &to.total) == JUICEDELTA_BUFFER_TOO_SMALL);
+    CHECK(juicedelta_tree_join(&tree, &tree, to.ids, 0, to.others, 0, &to.total) == JUICEDELTA_BUFFER_TOO_SMALL && to.total == 1);
     CHECK(is_untouched(&to, sizeof to.total, sizeof to));
     CHECK(juicedelta_tree_len(&tree, &to.total) == JUICEDELTA_OK && to.total == 1);
     CHECK(juicedelta_tree_search(&tree, 0, box, width, to.ids, 2, &to.total) == JUICEDELTA_OK && to.ids[0] == INT64_MIN);
