@@ -11,7 +11,7 @@
 //! register.
 //!
 //! An export can't be generic. So it looks which tree the object is, and hands it to a generic function: of `edit` (what
-//! changes a tree), `query` (what is read of it), `dump` (its text) or `load` (a tree made of the rows of a dump).
+//! changes a tree), `query` (what is read of it), `dump` (its text) or `load` (a tree made of a dump).
 //! `numbers` holds the boxes and rows as C has them, `relation` how a box may lie to a window, `window` a window of the
 //! tree for each relation, `buffer` the copies into the caller's buffers, `keys` the keys of the hashes, `code` what a call
 //! answers, and `answer` what a call that reads answers.
@@ -26,6 +26,7 @@
 
 mod answer;
 mod buffer;
+mod bytes;
 mod code;
 mod dump;
 mod edit;
