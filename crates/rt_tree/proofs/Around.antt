@@ -81,7 +81,7 @@ module _ {D : ℕ} (t : Arena D) (s : IsSettled t) where
     some = λ none.
         let nothing : HoldsRows [] (rows_in t) = subst (HoldsRows []) (sym none) (All-nil (λ (r : Row D). Holds [] r.rect)) in
         flat (hull_at t.nodes t.root) (least-below [] t.level t.root high some nothing);
-    around = held-below t s [] t.level t.root high;
+    around = held-below t s t.level t.root high;
     least = λ other held. (least-below other t.level t.root high some held).0;
   }
     where
