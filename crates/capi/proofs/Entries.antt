@@ -1,14 +1,10 @@
 -- What a shadow has in which the checker finds no problem: no id twice, and boxes.
-use Rattle.std.proofs.Common.{◌≡◌, ℕ, Bool, true, false, not, ◌||◌, cond, ℤ, List, [], ◌∷◌, ◌++◌, length, Option, Some, None, Contains, arith, refl, sym, ap, subst, ◌∙◌, inl, inr}
-use Rattle.std.specs.Prelude.{count_by, find, ◌+◌, if◌then◌else◌}
+use Rattle.std.proofs.Common.{◌≡◌, ℕ, Bool, true, false, not, ◌||◌, cond, ℤ, List, [], ◌++◌, Option, Some, None, Contains, arith, refl, sym, subst, inl, inr}
 use Rattle.std.specs.List.{enumerate_from}
-use Rattle.std.specs.Option.{option_map, option_map_or}
+use Rattle.std.specs.Option.{option_map_or}
 use Rattle.std.specs.Ordering.{int_eq}
 use Rattle.std.proofs.lemmas.Bool.{cases_lt, eqb-true, true≢false}
 use Rattle.std.proofs.lemmas.Bool.Decides.{Decides-int_eq}
-use Rattle.std.proofs.lemmas.List.Elements.{All-contains_itself, All-weaker}
-use Rattle.indexmap.specs.Layout.{hash_map}
-use Rattle.rt_box.specs.declared.interval.Interval.{Interval}
 use Rattle.rt_check.specs.declared.node.NodeRow.{NodeRow}
 use Rattle.rt_check.specs.declared.node.RawCell.{RawCell}
 use Rattle.rt_check.specs.declared.node.RowEntry.{RowEntry}
@@ -16,13 +12,8 @@ use Rattle.rt_check.specs.declared.problem.Problem.{Problem}
 use Rattle.rt_check.specs.declared.problem.Condition.TheVariants.{HasPlace, NamesChild, IsOrdered, HoldsChild, FitsChild, IsFilled, HasEntry, HasCell}
 use Rattle.rt_check.specs.Shadow.{ShadowLists}
 use Rattle.rt_check.specs.Conditions.{is_leaf, names_child, is_ordered, holds_child, fits_child, is_filled, has_place, has_entry, has_cell, entry_of, leaf_cells, times_named, root_problems, node_problems, cell_problems, row_problems, IsSound}
-use Rattle.rt_tree_node.proofs.Counts.{count-cons}
 use Rattle.rt_tree_walk.proofs.Reaching.{counted-contained}
-use Rattle.rt_tree_walk.specs.declared.searching.Row.{Row}
-use Rattle.rt_tree.specs.Lists.{IsInShape}
-use Rattle.rt_tree.specs.Rows.{rows_of, box_of, GainsRow}
 use Rattle.rt_tree.proofs.Members.{contains-none}
-use Rattle.rt_table_store.proofs.Counted.{entries-counted as counted}
 use Rattle.rt_table_store.proofs.Soundness.{append_first, append_rest, none_fails, counted_in, flat_from, found_in, cell_passes}
 use Rattle.capi.specs.Loading.{AreUnique}
 

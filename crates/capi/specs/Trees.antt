@@ -1,5 +1,5 @@
 -- What a call does to a tree, by its code (own).
-use Rattle.std.specs.Prelude.{◌≡◌, ◌≢◌, ℕ, ◌*◌, ◌<◌, ◌≤◌, Bool, ℤ, ◌≤ℤ◌, List, [], ◌∷◌, ◌++◌, length, take, drop, count_by, Option, Result, Ok, Err, Some, None, IsSome}
+use Rattle.std.specs.Prelude.{◌≡◌, ◌≢◌, ℕ, ◌*◌, ◌<◌, ◌≤◌, Bool, ℤ, ◌≤ℤ◌, List, [], length, take, drop, count_by, Option, Result, Ok, Err, Some, None, IsSome}
 use Rattle.std.specs.List.{AllZip}
 use Rattle.rt_box.specs.declared.interval.Interval.{Interval}
 use Rattle.rt_box.specs.Capacity.{IsCapacity}
