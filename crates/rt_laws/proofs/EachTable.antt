@@ -1,6 +1,6 @@
 -- What holds of each table of a session, whatever was carried out: it holds of each table that is made, and stays when a
 -- table is edited or watched.
-use Rattle.std.proofs.Common.{◌≡◌, ◌∙◌, ℕ, ◌<◌, Bool, true, false, cond, List, [], ◌∷◌, ◌++◌, map, filter, length, get_or, set, Option, Some, None, Result, Ok, Err, refl, sym, ap, subst, arith, zero, suc}
+use Rattle.std.proofs.Common.{◌≡◌, ◌∙◌, ℕ, ◌<◌, Bool, true, false, cond, List, [], ◌∷◌, ◌++◌, map, filter, length, get_or, set, Some, None, Result, Ok, Err, refl, sym, ap, subst, arith, zero, suc}
 use Rattle.std.specs.Prelude.{All, find, not, ◌&&◌, if◌then◌else◌, nat_le, is_some}
 use Rattle.std.proofs.lemmas.List.{map-append}
 use Rattle.std.proofs.lemmas.List.Elements.{All-nil, All-cons, All-head, All-tail, All-append, All-set}

@@ -13,7 +13,7 @@ use Rattle.rt_sql_request.specs.declared.request.Stmt.TheVariants.{Create, Drop,
 use Rattle.rt_sql_statement.specs.declared.refusal.Refusal.{Refusal}
 use Rattle.rt_table_row.specs.Columns.{Columns, columns_of}
 use Rattle.rt_table_row.specs.Rows.{values_of}
-use Rattle.rt_table_row.specs.Edits.{Steps, and_then, steps_of}
+use Rattle.rt_table_row.specs.Edits.{and_then, steps_of}
 use Rattle.rt_table_row.specs.Tables.{TableLists, new_table, edited, watch, unwatch, view, has_view}
 use Rattle.rt_table.specs.AnyTrees.{new_tree}
 use Rattle.rt_reply.specs.declared.reply.Reply.{Reply}

@@ -15,7 +15,7 @@ use Rattle.rt_box.specs.declared.interval.Interval.{Interval}
 use Rattle.rt_box.specs.Capacity.{IsCapacity, least_fill, reinsertion_share}
 use Rattle.rt_tree_choice.specs.declared.split.Cut.{Cut}
 use Rattle.rt_tree_choice.specs.Sorting.{sort_by, positions}
-use Rattle.rt_tree_choice.specs.Split.{cut_at, cut_key, along, first_sizes, sorting}
+use Rattle.rt_tree_choice.specs.Split.{cut_at, cut_key, along, first_sizes}
 use Rattle.rt_tree_choice.specs.Reinsertion.{farthest_positions, by_distance}
 use Rattle.rt_tree_choice.proofs.Sorted.{length-sorting, sorting-within}
 use Rattle.rt_tree_rules.specs.Nested.{Row, Entry, Node, box, boxes, Tree, Waiting, if_level, of_level}
