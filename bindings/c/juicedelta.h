@@ -104,8 +104,9 @@ int32_t juicedelta_tree_open(juicedelta_handle *handle, uint32_t axes, uint32_t 
 int32_t juicedelta_tree_open_rows(juicedelta_handle *handle, uint32_t axes, uint32_t capacity, const int64_t *ids,
                                   size_t ids_length, const int32_t *boxes, size_t boxes_length, uint64_t first_key,
                                   uint64_t second_key, uint64_t *at);
-/* Opens a tree with a dump's capacity and rows, inserted in ascending order of ids, so its own dump may differ. A dump is
- * bad too if `rtsh check` finds a problem. ALREADY_OPEN, BAD_AXES; BAD_DUMP, TREE_FULL or OUT_OF_MEMORY as they are met. */
+/* Opens a tree with a dump's capacity and rows: the very tree, if its nodes are in preorder, as juicedelta_tree_dump writes
+ * them; else packed. A dump is bad too if `rtsh check` finds a problem. ALREADY_OPEN, BAD_AXES; BAD_DUMP, TREE_FULL or
+ * OUT_OF_MEMORY as they are met. */
 int32_t juicedelta_tree_open_dump(juicedelta_handle *handle, uint32_t axes, const uint8_t *text, size_t length,
                                   uint64_t first_key, uint64_t second_key);
 /* Opens the tree that juicedelta_tree_to_bytes wrote. ALREADY_OPEN, BAD_AXES; BAD_BYTES, TREE_FULL or OUT_OF_MEMORY as they

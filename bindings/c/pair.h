@@ -593,6 +593,17 @@ static void pair_clear(pair *pair)
     pair_same(pair);
 }
 
+/* The call writes these bytes of the tree. */
+static void writes(int32_t (*write)(const juicedelta_handle *, uint8_t *, size_t, uint64_t *), const juicedelta_handle *tree,
+                   const uint8_t *bytes, size_t length)
+{
+    uint64_t total = 77;
+    uint8_t *other = malloc(length);
+    CHECK(other != NULL && write(tree, other, length, &total) == JUICEDELTA_OK);
+    CHECK(total == length && memcmp(other, bytes, length) == 0);
+    free(other);
+}
+
 /* A dump with another byte, which may make it bad, or with another end, is opened by both. */
 static void pair_broken(source *from, const pair *pair, uint8_t *text, size_t length)
 {
@@ -631,6 +642,7 @@ static void pair_dump(source *from, pair *pair)
     TRY(code, juicedelta_tree_open_dump(&read.tree, read.axes, text, length, 1, 2),
         juicedelta_close(&read.tree) == JUICEDELTA_CLOSED);
     CHECK(code == JUICEDELTA_OK && plain_tree_open_dump(&read.list, read.axes, text, length, 1, 2) == JUICEDELTA_OK);
+    writes(juicedelta_tree_dump, &read.tree, text, length);
     pair_same(&read);
     pair_same(pair);
     CHECK(juicedelta_tree_open_dump(&read.tree, pair->axes, text, length, 1, 2) == JUICEDELTA_ALREADY_OPEN);
@@ -638,6 +650,51 @@ static void pair_dump(source *from, pair *pair)
     *pair = read;
     pair_broken(from, pair, text, length);
     free(text);
+}
+
+/* Bytes with another end are no tree's; with another byte they are no tree's, or those of the tree that they open. */
+static void broken_bytes(source *from, uint32_t axes, uint8_t *bytes, size_t length)
+{
+    juicedelta_handle tree = {0};
+    CHECK(juicedelta_tree_open_bytes(&tree, axes, bytes, below(from, (uint32_t)length), 1, 2) == JUICEDELTA_BAD_BYTES);
+    CHECK(juicedelta_tree_open_bytes(&tree, axes, bytes, length + 1, 1, 2) == JUICEDELTA_BAD_BYTES);
+    bytes[below(from, (uint32_t)length)] ^= (uint8_t)(1 + below(from, 255));
+    int32_t code = juicedelta_tree_open_bytes(&tree, axes, bytes, length, 1, 2);
+    CHECK(code == JUICEDELTA_OK || code == JUICEDELTA_BAD_BYTES);
+    if (code == JUICEDELTA_OK)
+        writes(juicedelta_tree_to_bytes, &tree, bytes, length);
+    CHECK(juicedelta_close(&tree) == (code == JUICEDELTA_OK ? JUICEDELTA_OK : JUICEDELTA_CLOSED));
+}
+
+/* The tree's bytes are opened in its place: it is the same tree, so its bytes and its dump are the same. */
+static void pair_bytes(source *from, pair *pair)
+{
+    juicedelta_handle read = {0};
+    uint64_t total = 77, length = 77, text_length = 77;
+    uint8_t none = 0x5a;
+    int32_t code;
+    TRY(code, juicedelta_tree_to_bytes(&pair->tree, &none, 0, &length), length == 77);
+    CHECK(code == JUICEDELTA_BUFFER_TOO_SMALL && length > 0 && none == 0x5a);
+    uint8_t *bytes = malloc(length + 1);
+    CHECK(bytes != NULL);
+    memset(bytes, 0x5a, length + 1);
+    TRY(code, juicedelta_tree_to_bytes(&pair->tree, bytes, length, &total), total == 77 && is_untouched(bytes, 0, length));
+    CHECK(code == JUICEDELTA_OK && total == length && bytes[length] == 0x5a);
+    CHECK(juicedelta_tree_open_bytes(&read, pair->axes % 3 + 1, bytes, length, 1, 2) == JUICEDELTA_BAD_BYTES);
+    TRY(code, juicedelta_tree_open_bytes(&read, pair->axes, bytes, length, 1, 2), juicedelta_close(&read) == JUICEDELTA_CLOSED);
+    CHECK(code == JUICEDELTA_OK);
+    CHECK(juicedelta_tree_open_bytes(&read, pair->axes, bytes, length, 1, 2) == JUICEDELTA_ALREADY_OPEN);
+    writes(juicedelta_tree_to_bytes, &read, bytes, length);
+    CHECK(juicedelta_tree_dump(&pair->tree, &none, 0, &text_length) == JUICEDELTA_BUFFER_TOO_SMALL);
+    uint8_t *text = malloc(text_length);
+    CHECK(text != NULL && juicedelta_tree_dump(&pair->tree, text, text_length, &total) == JUICEDELTA_OK);
+    writes(juicedelta_tree_dump, &read, text, text_length);
+    CHECK(juicedelta_close(&pair->tree) == JUICEDELTA_OK);
+    pair->tree = read;
+    pair_same(pair);
+    broken_bytes(from, pair->axes, bytes, length);
+    free(text);
+    free(bytes);
 }
 
 /* One call of both, or a few that belong together. */
@@ -701,6 +758,8 @@ static void pair_step(source *from, pair *pair)
             pair_clear(pair);
         else if (below(from, 40) == 0)
             pair_dump(from, pair);
+        else if (below(from, 40) == 0)
+            pair_bytes(from, pair);
     }
 }
 #endif

@@ -214,6 +214,7 @@ static void refuse_all(juicedelta_handle *handle, int32_t code)
     CHECK(juicedelta_tree_axes(handle, &to.axes) == code);
     CHECK(juicedelta_tree_len(handle, &to.total) == code);
     CHECK(juicedelta_tree_dump(handle, to.text, 4, &to.total) == code);
+    CHECK(juicedelta_tree_to_bytes(handle, to.text, 4, &to.total) == code);
     CHECK(is_untouched(&to, 0, sizeof to));
 }
 
@@ -322,6 +323,7 @@ static void open_codes(void)
     for (size_t at = 0; at < sizeof axes / sizeof *axes; at++) {
         CHECK(juicedelta_tree_open(&tree, axes[at], 52, 1, 2) == JUICEDELTA_BAD_AXES);
         CHECK(juicedelta_tree_open_dump(&tree, axes[at], text, 16, 1, 2) == JUICEDELTA_BAD_AXES);
+        CHECK(juicedelta_tree_open_bytes(&tree, axes[at], text, 16, 1, 2) == JUICEDELTA_BAD_AXES);
         CHECK(juicedelta_tree_open_rows(&tree, axes[at], 52, ids, 2, upside, 3, 1, 2, &place) == JUICEDELTA_BAD_AXES);
     }
     for (size_t at = 0; at < sizeof capacities / sizeof *capacities; at++) {
@@ -336,6 +338,8 @@ static void open_codes(void)
     CHECK(juicedelta_tree_open_rows(&tree, 1, 5, ids, 3, second, 6, 1, 2, &place) == JUICEDELTA_ID_TAKEN && place == 2);
     CHECK(juicedelta_tree_open_dump(&tree, 2, text, 16, 1, 2) == JUICEDELTA_BAD_DUMP);
     CHECK(juicedelta_tree_open_dump(&tree, 2, text, 0, 1, 2) == JUICEDELTA_BAD_DUMP);
+    CHECK(juicedelta_tree_open_bytes(&tree, 2, text, 16, 1, 2) == JUICEDELTA_BAD_BYTES);
+    CHECK(juicedelta_tree_open_bytes(&tree, 2, text, 0, 1, 2) == JUICEDELTA_BAD_BYTES);
     refuse_all(&tree, JUICEDELTA_CLOSED);
     CHECK(juicedelta_close(&tree) == JUICEDELTA_CLOSED);
 }
@@ -355,6 +359,7 @@ static void tree_codes(uint32_t axes)
     CHECK(juicedelta_tree_axes(&tree, &told) == JUICEDELTA_OK && told == axes);
     CHECK(juicedelta_tree_open(&tree, 4, 52, 1, 2) == JUICEDELTA_ALREADY_OPEN);
     CHECK(juicedelta_tree_open_dump(&tree, 4, to.text, 0, 1, 2) == JUICEDELTA_ALREADY_OPEN);
+    CHECK(juicedelta_tree_open_bytes(&tree, 4, to.text, 0, 1, 2) == JUICEDELTA_ALREADY_OPEN);
     CHECK(juicedelta_tree_open_rows(&tree, 4, 52, to.ids, 2, upside, 3, 1, 2, &to.total) == JUICEDELTA_ALREADY_OPEN);
     CHECK(juicedelta_tree_bounds(&tree, to.boxes, width) == JUICEDELTA_EMPTY);
     CHECK(juicedelta_tree_insert(&tree, INT64_MIN, box, width) == JUICEDELTA_OK);
@@ -379,6 +384,8 @@ static void tree_codes(uint32_t axes)
     CHECK(juicedelta_tree_search(&tree, 0, box, width, to.ids, 0, &to.total) == JUICEDELTA_BUFFER_TOO_SMALL && to.total == 1);
     CHECK(juicedelta_tree_search_rows(&tree, 0, box, width, to.ids, 0, to.boxes, 0, &to.total) == JUICEDELTA_BUFFER_TOO_SMALL);
     CHECK(juicedelta_tree_dump(&tree, to.text, 4, &to.total) == JUICEDELTA_BUFFER_TOO_SMALL && to.total > 4);
+    /* Six bytes of the head, two of the node, eight of the id, and four of each number. */
+    CHECK(juicedelta_tree_to_bytes(&tree, to.text, 4, &to.total) == JUICEDELTA_BUFFER_TOO_SMALL && to.total == 16 + 4 * width);
     CHECK(juicedelta_tree_search_many(&tree, 0, box, width, to.starts, 1, to.ids, 0, &to.total) == JUICEDELTA_BUFFER_TOO_SMALL);
     CHECK(juicedelta_tree_nearest_many(&tree, box, axes, 9, to.starts, 1, to.ids, 0, &to.total) == JUICEDELTA_BUFFER_TOO_SMALL);
     CHECK(juicedelta_tree_join(&tree, &tree, to.ids, 0, to.others, 0, &to.total) == JUICEDELTA_BUFFER_TOO_SMALL && to.total == 1);
@@ -388,6 +395,52 @@ static void tree_codes(uint32_t axes)
     CHECK(juicedelta_tree_get(&tree, INT64_MIN, got, width) == JUICEDELTA_OK && memcmp(got, box, width * sizeof *box) == 0);
     CHECK(juicedelta_close(&tree) == JUICEDELTA_OK);
     refuse_all(&tree, JUICEDELTA_CLOSED);
+}
+
+/* A dump whose leaves stand before the root, as no tree writes them, and the dump of its rows packed. */
+static void other_order(void)
+{
+    static const char leaves_first[] =
+        "rtree 1 5 3 3 6\nnode 1 0 3 3\ncell 1 0 0\ncell 2 1 1\ncell 3 2 2\nnode 2 0 3 3\ncell 4 10 10\ncell 5 11 11\n"
+        "cell 6 12 12\nnode 3 1 - 2\ncell 1 0 2\ncell 2 10 12\nrow 1 1\nrow 2 1\nrow 3 1\nrow 4 2\nrow 5 2\nrow 6 2\nend\n";
+    static const char packed[] =
+        "rtree 1 5 1 3 6\nnode 1 1 - 2\ncell 2 0 10\ncell 3 11 12\nnode 2 0 1 4\ncell 1 0 0\ncell 2 1 1\ncell 3 2 2\n"
+        "cell 4 10 10\nnode 3 0 1 2\ncell 5 11 11\ncell 6 12 12\nrow 1 2\nrow 2 2\nrow 3 2\nrow 4 2\nrow 5 3\nrow 6 3\nend\n";
+    juicedelta_handle tree = {0};
+    const uint8_t *text = (const uint8_t *)leaves_first;
+    CHECK(juicedelta_tree_open_dump(&tree, 1, text, sizeof leaves_first - 1, 1, 2) == JUICEDELTA_OK);
+    writes(juicedelta_tree_dump, &tree, (const uint8_t *)packed, sizeof packed - 1);
+    CHECK(juicedelta_close(&tree) == JUICEDELTA_OK);
+}
+
+/* A tree of two axes with a row, as bytes that were written by hand. Each other value of each of the first eight bytes makes no
+ * tree, but that of the capacity. */
+static void bytes_by_hand(void)
+{
+    static const uint8_t hand[] = {'J', 'D', 'T', 1, 2, 5, 0, 1, 0xff, 0xff, 0xff, 0xff, 0xff, 0xff, 0xff, 0xf9, 0xff, 0xff, 0xff,
+        0xfe, 0, 0, 0, 3, 0, 0, 1, 4, 0, 1, 0, 5};
+    static const int32_t wanted[] = {-2, 3, 260, 65541};
+    juicedelta_handle tree = {0};
+    uint8_t bytes[sizeof hand], text[8];
+    int32_t box[4];
+    uint64_t total = 77;
+    CHECK(juicedelta_tree_open_bytes(&tree, 2, hand, sizeof hand, 1, 2) == JUICEDELTA_OK);
+    CHECK(juicedelta_tree_len(&tree, &total) == JUICEDELTA_OK && total == 1);
+    CHECK(juicedelta_tree_get(&tree, -7, box, 4) == JUICEDELTA_OK && memcmp(box, wanted, sizeof box) == 0);
+    writes(juicedelta_tree_to_bytes, &tree, hand, sizeof hand);
+    CHECK(juicedelta_tree_remove(&tree, -7) == JUICEDELTA_OK);
+    CHECK(juicedelta_tree_to_bytes(&tree, text, sizeof text, &total) == JUICEDELTA_OK && total == 8);
+    CHECK(memcmp(text, hand, 7) == 0 && text[7] == 0);
+    CHECK(juicedelta_close(&tree) == JUICEDELTA_OK);
+    for (size_t at = 0; at < 8; at++)
+        for (int value = 0; value < 256; value++) {
+            memcpy(bytes, hand, sizeof hand);
+            bytes[at] = (uint8_t)value;
+            int is_tree = value == hand[at] || (at == 5 && value >= 5 && value <= 51);
+            CHECK(juicedelta_tree_open_bytes(&tree, 2, bytes, sizeof bytes, 1, 2)
+                == (is_tree ? JUICEDELTA_OK : JUICEDELTA_BAD_BYTES));
+            CHECK(juicedelta_close(&tree) == (is_tree ? JUICEDELTA_OK : JUICEDELTA_CLOSED));
+        }
 }
 
 /* The window finds the only row by these relations. */
@@ -561,6 +614,8 @@ int main(int count, char **words)
         script_codes();
         words_of_codes();
         open_codes();
+        other_order();
+        bytes_by_hand();
         for (uint32_t axes = 1; axes <= 3; axes++) {
             tree_codes(axes);
             relations(axes);

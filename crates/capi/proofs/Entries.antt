@@ -1,14 +1,10 @@
--- What a shadow has in which the checker finds no problem: as many entries as rows, no id twice, and boxes.
-use Rattle.std.proofs.Common.{◌≡◌, ℕ, Bool, true, false, not, ◌||◌, cond, ℤ, List, [], ◌∷◌, ◌++◌, length, Option, Some, None, Contains, arith, refl, sym, ap, subst, ◌∙◌, inl, inr}
-use Rattle.std.specs.Prelude.{count_by, find, ◌+◌, if◌then◌else◌}
+-- What a shadow has in which the checker finds no problem: no id twice, and boxes.
+use Rattle.std.proofs.Common.{◌≡◌, ℕ, Bool, true, false, not, ◌||◌, cond, ℤ, List, [], ◌++◌, Option, Some, None, Contains, arith, refl, sym, subst, inl, inr}
 use Rattle.std.specs.List.{enumerate_from}
-use Rattle.std.specs.Option.{option_map, option_map_or}
+use Rattle.std.specs.Option.{option_map_or}
 use Rattle.std.specs.Ordering.{int_eq}
 use Rattle.std.proofs.lemmas.Bool.{cases_lt, eqb-true, true≢false}
 use Rattle.std.proofs.lemmas.Bool.Decides.{Decides-int_eq}
-use Rattle.std.proofs.lemmas.List.Elements.{All-contains_itself, All-weaker}
-use Rattle.indexmap.specs.Layout.{hash_map}
-use Rattle.rt_box.specs.declared.interval.Interval.{Interval}
 use Rattle.rt_check.specs.declared.node.NodeRow.{NodeRow}
 use Rattle.rt_check.specs.declared.node.RawCell.{RawCell}
 use Rattle.rt_check.specs.declared.node.RowEntry.{RowEntry}
@@ -16,38 +12,12 @@ use Rattle.rt_check.specs.declared.problem.Problem.{Problem}
 use Rattle.rt_check.specs.declared.problem.Condition.TheVariants.{HasPlace, NamesChild, IsOrdered, HoldsChild, FitsChild, IsFilled, HasEntry, HasCell}
 use Rattle.rt_check.specs.Shadow.{ShadowLists}
 use Rattle.rt_check.specs.Conditions.{is_leaf, names_child, is_ordered, holds_child, fits_child, is_filled, has_place, has_entry, has_cell, entry_of, leaf_cells, times_named, root_problems, node_problems, cell_problems, row_problems, IsSound}
-use Rattle.rt_tree_node.proofs.Counts.{count-cons}
 use Rattle.rt_tree_walk.proofs.Reaching.{counted-contained}
-use Rattle.rt_tree_walk.specs.declared.searching.Row.{Row}
-use Rattle.rt_tree.specs.Lists.{IsInShape}
-use Rattle.rt_tree.specs.Rows.{rows_of, box_of, GainsRow}
 use Rattle.rt_tree.proofs.Members.{contains-none}
-use Rattle.rt_table_store.proofs.Counted.{entries-counted as counted}
 use Rattle.rt_table_store.proofs.Soundness.{append_first, append_rest, none_fails, counted_in, flat_from, found_in, cell_passes}
-use Rattle.capi.specs.Loading.{AreUnique, AreOrdered}
+use Rattle.capi.specs.Loading.{AreUnique}
 
 module _ {D : ℕ} where
-  pub entries-counted : (s : ShadowLists D) → IsInShape s → length s.rows ≡ count_by (λ r. true) (rows_of s)
-  entries-counted s shape = counted s shape (hash_map {S = Unit {0}} [] tt 0)
-
-  empty-count : (rows : List (Row D)) → count_by (λ r. true) rows ≡ 0 → rows ≡ []
-  empty-count [] none = refl
-  empty-count (r ∷ rows) none = absurd (omega (arith, none, count-cons (λ r. true) r rows))
-
-  pub rows_none : (s : ShadowLists D) → IsInShape s → length s.rows ≡ 0 → rows_of s ≡ []
-  rows_none s shape none = empty-count (rows_of s) (omega (arith, none, entries-counted s shape))
-
-  box-none : (s : ShadowLists D) (id : ℤ) → rows_of s ≡ [] → box_of s id ≡ None
-  box-none s id none = ap (λ (rows : List (Row D)). option_map (λ (r : Row D). r.rect) (find (λ (r : Row D). int_eq id r.id) rows)) none
-
-  -- a row that comes into a tree without rows comes into each other such tree
-  pub first_gained : (s before new : ShadowLists D) (id : ℤ) (rect : List Interval) → rows_of s ≡ [] → rows_of before ≡ [] → GainsRow before new id rect → GainsRow s new id rect
-  first_gained s before new id rect none none_before gains = record {
-    rows = λ test. gains.rows test ∙ ap (λ (rows : List (Row D)). count_by test rows + (if test record { id = id; rect = rect } then 1 else 0)) (none_before ∙ sym none);
-    here = gains.here;
-    others = λ other differs. gains.others other differs ∙ box-none before other none_before ∙ sym (box-none s other none);
-  }
-
   -- the cell is one of a leaf
   of_leaf : (n : NodeRow D) (c : RawCell D) (b : Bool) → Contains (cond b n.cells []) c → (b ≡ true) × Contains n.cells c
   of_leaf n c true h = (refl, h)
@@ -57,7 +27,7 @@ module _ {D : ℕ} where
     abbrev first_problems : List Problem
     first_problems = root_problems s ++ node_problems HasPlace (has_place s) s.nodes ++ cell_problems NamesChild (λ n c. is_leaf n || names_child s n c) s.nodes
 
-    abbrev ordering_problems : List Problem
+    abbrev pub ordering_problems : List Problem
     ordering_problems = cell_problems {D = D} IsOrdered (λ n c. is_ordered c) s.nodes
 
     abbrev entry_problems : List Problem
@@ -81,7 +51,7 @@ module _ {D : ℕ} where
     cells_have_entries : entry_problems ≡ []
     cells_have_entries = append_rest (first_problems ++ ordering_problems ++ holding ++ fitting ++ filling) entry_problems before_entries
 
-    cells_are_ordered : ordering_problems ≡ []
+    pub cells_are_ordered : ordering_problems ≡ []
     cells_are_ordered =
         append_rest first_problems ordering_problems
         (append_first (first_problems ++ ordering_problems) holding
@@ -128,8 +98,3 @@ module _ {D : ℕ} where
           omega (arith, one)
       | inr none ↦ omega (arith, none)
     ]
-
-    pub ordered-from-sound : AreOrdered (leaf_cells s.nodes)
-    ordered-from-sound = All-weaker (Contains (leaf_cells s.nodes)) (λ (c : RawCell D). is_ordered c ≡ true)
-        (λ c here. let n = node_of_cell c here in cell_passes IsOrdered (λ n c. is_ordered c) s.nodes n.0 c cells_are_ordered n.1 n.3)
-        (leaf_cells s.nodes) (All-contains_itself (leaf_cells s.nodes))

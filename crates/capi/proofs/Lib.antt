@@ -1,4 +1,3 @@
-pub mod Cells
 pub mod Dumped
 pub mod Entries
 pub mod Loaded

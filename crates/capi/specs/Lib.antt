@@ -1,5 +1,6 @@
 pub mod Answers
 pub mod Buffers
+pub mod Bytes
 pub mod Calls
 pub mod Codes
 pub mod Insertion

@@ -1,19 +1,19 @@
 -- How a dump is loaded, step by step. No contract of an exported call cites this module.
-use Rattle.std.specs.Prelude.{◌≡◌, ℕ, ◌≤◌, ◌<◌, ℤ, List, length, Bool, true, All, count_by, Result, Ok, Err}
+use Rattle.std.specs.Prelude.{◌≡◌, ℕ, ◌≤◌, ◌<◌, ℤ, List, length, Result, Ok, Err}
 use Rattle.rt_check.specs.declared.node.RawCell.{RawCell}
 use Rattle.rt_check.specs.Shadow.{ShadowLists}
-use Rattle.rt_check.specs.Conditions.{IsSound, is_ordered, times_named}
+use Rattle.rt_check.specs.Conditions.{IsSound, times_named}
 use Rattle.rt_check_dump.specs.declared.dump.AnyShadow.{AnyShadow}
 use Rattle.rt_check_dump.specs.Faults.{IsTextOf, IsDump}
 use Rattle.rt_handle.specs.declared.object.HeldTree.{HeldTree}
 use Rattle.rt_handle.specs.declared.object.Object.{Object}
-use Rattle.rt_tree.specs.Lists.{TreeLists, empty_lists}
-use Rattle.rt_tree.specs.Rows.{row_in, rows_of}
+use Rattle.rt_tree.specs.Rows.{rows_of}
+use Rattle.rt_tree_restore.specs.declared.fault.RestoreFault.{RestoreFault}
+use Rattle.rt_tree_restore.specs.declared.fault.RestoreFault.TheVariants.{NoBox, TooMany, Repeated, Memory}
 use Rattle.rt_tree_node.specs.Whole.{most_rows_of_a_tree}
-use Rattle.rt_tree_walk.specs.declared.searching.Row.{Row}
 use Rattle.capi.specs.declared.code.Code.{Code}
 use Rattle.capi.specs.declared.code.Code.TheVariants.{BadDump, TreeFull, OutOfMemory}
-use Rattle.capi.specs.Trees.{InsertsInTurn, HasRowsOf, IsAnySound, IsTreeOf, row_count, IsOfDump, LoadsNone}
+use Rattle.capi.specs.Trees.{HasRowsOf, IsAnySound, IsTreeOf, row_count, IsOfDump, LoadsNone}
 
 -- the text is the dump of this shadow, and of no other; or of none
 abbrev pub ReadsText : List ℕ → Result AnyShadow Code → Type 0
@@ -22,26 +22,17 @@ ReadsText text (Err BadDump) = ¬ IsDump text
 ReadsText text (Err OutOfMemory) = Unit {0}
 ReadsText text (Err code) = ⊥
 
+-- why a shadow makes no tree, as a code
+abbrev pub code_of_fault : RestoreFault → Code
+code_of_fault NoBox = BadDump
+code_of_fault Repeated = BadDump
+code_of_fault TooMany = TreeFull
+code_of_fault Memory = OutOfMemory
+
 module _ {D : ℕ} where
   -- no number is that of two cells
   abbrev pub AreUnique : List (RawCell D) → Type 0
   AreUnique cells = (number : ℤ) → times_named number cells ≤ 1
-
-  abbrev pub AreOrdered : List (RawCell D) → Type 0
-  AreOrdered cells = All (λ c. is_ordered c ≡ true) cells
-
-  -- the tree's rows are those of the cells: as many of either pass any test
-  abbrev pub HasCells : List (RawCell D) → ShadowLists D → Type 0
-  HasCells cells tree = (test : Row D → Bool) → count_by test (rows_of tree) ≡ count_by (λ c. test (row_in c)) cells
-
-  -- a tree of such rows, inserted in this order, whose nodes have that many cells at most; or there are too many, or no
-  -- memory is left
-  abbrev pub GivesTree : ℕ → List (RawCell D) → Result (TreeLists D) Code → Type 0
-  GivesTree capacity cells (Ok tree) =
-      HasCells cells tree.lists × (tree.lists.capacity ≡ capacity) × InsertsInTurn (empty_lists capacity) cells tree.lists
-  GivesTree capacity cells (Err TreeFull) = most_rows_of_a_tree < length cells
-  GivesTree capacity cells (Err OutOfMemory) = Unit {0}
-  GivesTree capacity cells (Err code) = ⊥
 
   -- a shadow in which the checker finds no problem is loaded, if it has no more rows than a tree may have
   abbrev pub Loads : ShadowLists D → Result (HeldTree D) Code → Type 0

@@ -1,14 +1,11 @@
 -- What a call does to a tree, by its code (own).
-use Rattle.std.specs.Prelude.{◌≡◌, ◌≢◌, ℕ, ◌*◌, ◌<◌, ◌≤◌, Bool, ℤ, ◌≤ℤ◌, List, [], ◌∷◌, ◌++◌, length, take, drop, count_by, Option, Result, Ok, Err, Some, None, IsSome}
+use Rattle.std.specs.Prelude.{◌≡◌, ◌≢◌, ℕ, ◌*◌, ◌<◌, ◌≤◌, Bool, ℤ, ◌≤ℤ◌, List, [], length, take, drop, count_by, Option, Result, Ok, Err, Some, None, IsSome}
 use Rattle.std.specs.List.{AllZip}
-use Rattle.std.specs.List.Sorted.{IsPermutation, IsSortedByKey}
-use Rattle.std.specs.Ordering.{int_cmp}
 use Rattle.rt_box.specs.declared.interval.Interval.{Interval}
 use Rattle.rt_box.specs.Capacity.{IsCapacity}
 use Rattle.rt_box.specs.Rect.{los, his}
-use Rattle.rt_check.specs.declared.node.RawCell.{RawCell}
 use Rattle.rt_check.specs.Shadow.{ShadowLists}
-use Rattle.rt_check.specs.Conditions.{IsSound, leaf_cells}
+use Rattle.rt_check.specs.Conditions.{IsSound}
 use Rattle.rt_check_dump.specs.declared.dump.AnyShadow.{AnyShadow}
 use Rattle.rt_check_dump.specs.declared.dump.AnyShadow.TheVariants.{One, Two, Three}
 use Rattle.rt_check_dump.specs.Dump.{shadow_text}
@@ -17,8 +14,9 @@ use Rattle.rt_handle.specs.declared.object.HeldTree.{HeldTree}
 use Rattle.rt_handle.specs.declared.object.Object.{Object}
 use Rattle.rt_handle.specs.declared.object.Object.TheVariants.{Line, Plane, Space}
 use Rattle.rt_tree.specs.Lists.{TreeLists, empty_lists}
-use Rattle.rt_tree.specs.Rows.{box_in, box_of, rows_of, GainsRow, LosesRow}
+use Rattle.rt_tree.specs.Rows.{box_of, rows_of, GainsRow, LosesRow}
 use Rattle.rt_tree.specs.Changes.{IsInsertion, IsRemoval, IsReplacement}
+use Rattle.rt_tree.specs.Restoring.{IsRestoredOf}
 use Rattle.rt_tree_node.specs.Whole.{most_rows_of_a_tree}
 use Rattle.rt_tree_node.specs.declared.arena.Work.{Work}
 use Rattle.rt_tree_nearest.specs.Nearest.{nearest_rows}
@@ -59,22 +57,13 @@ module _ {D : ℕ} where
   Makes capacity (Ok kept) = IsNew capacity kept
   Makes capacity (Err code) = MakesNone capacity code
 
-  -- the rows of the cells are inserted into the first tree one after another
-  pub data InsertsInTurn (first : ShadowLists D) : List (RawCell D) → ShadowLists D → Type 0 where
-    none : InsertsInTurn first [] first
-    more : {cells : List (RawCell D)} {old new : ShadowLists D} (cell : RawCell D) (work : Work) → InsertsInTurn first cells old →
-        IsInsertion old new cell.number (box_in cell) work → InsertsInTurn first (cells ++ cell ∷ []) new
-
-  -- The tree has exactly the rows of the shadow, ids and boxes: as many of either pass any test. They are inserted into a
-  -- tree without rows and of the shadow's capacity, in ascending order of ids.
+  -- The tree has exactly the rows of the shadow, ids and boxes: as many of either pass any test. It is the shadow, node by node,
+  -- or it is packed of these rows.
   pub record HasRowsOf (s : ShadowLists D) (kept : HeldTree D) : Type 0 where
     pub rows : (test : Row D → Bool) → count_by test (rows_of kept.tree.lists) ≡ count_by test (rows_of s)
+    pub restored : IsRestoredOf kept.tree.lists s
     pub most_cells : kept.tree.lists.capacity ≡ s.capacity
     pub capacity : kept.capacity ≡ s.capacity
-    pub cells : List (RawCell D)
-    pub same : IsPermutation (leaf_cells s.nodes) cells
-    pub sorted : IsSortedByKey (λ c. c.number) int_cmp cells
-    pub turns : InsertsInTurn (empty_lists s.capacity) cells kept.tree.lists
 
 -- the number of axes
 abbrev pub TellsAxes : ℕ → ℕ → Code → Type 0

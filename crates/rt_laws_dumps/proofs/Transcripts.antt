@@ -1,5 +1,5 @@
 -- A script's transcript is determined, piece by piece.
-use Rattle.std.proofs.Common.{◌≡◌, ℕ, ◌+◌, arith, Bool, true, false, List, [], ◌∷◌, Result, Ok, Err, sym, ap, ◌∙◌, subst}
+use Rattle.std.proofs.Common.{◌≡◌, ◌∙◌, inl, inr, ℕ, ◌+◌, ◌≤◌, Bool, true, false, List, [], ◌∷◌, Result, Ok, Err, length, arith, refl, sym, ap, subst}
 use Rattle.std.specs.Prelude.{◌&&◌}
 use Rattle.std.specs.Bool.{MatchBool}
 use Rattle.std.specs.List.{concat}
@@ -7,15 +7,16 @@ use Rattle.std.specs.Result.{is_err}
 use Rattle.rt_bytes.specs.declared.outcome.Status.{Status}
 use Rattle.rt_bytes.specs.declared.outcome.Status.TheVariants.{Refused}
 use Rattle.rt_sql_cut.specs.Piece.{PieceText}
+use Rattle.rt_sql_cut.specs.Pieces.{EndedPieces}
 use Rattle.rt_sql_cut.proofs.CutterLaws.{cut_one_way}
+use Rattle.rt_sql_cut.proofs.CutterRuns.{first_of, first_gap, first_whole, first_last}
 use Rattle.rt_sql.proofs.Parses.{one_answer}
 use Rattle.rt_sql_request.specs.declared.request.Stmt.{Stmt}
 use Rattle.rt_sql_statement.specs.declared.refusal.Refusal.{Refusal}
 use Rattle.rt_session.specs.Session.{State, Outcome}
 use Rattle.rt_shell.specs.declared.engine.Options.{Options}
 use Rattle.rt_shell.specs.Transcript.{Marks, Progress, start, AnswersParsed, MayGive, after, part_of, Prints}
-use Rattle.rt_laws.proofs.TranscriptLemmas.{ended_one_way, remarked_as_far}
-use Rattle.rt_laws_dumps.specs.Laws.{TranscriptIsOne, TextIsOne, TranscriptSoFarIsOne}
+use Rattle.rt_laws_dumps.specs.Laws.{TranscriptIsDetermined, TextIsOne, TranscriptSoFarIsDetermined}
 use Rattle.rt_laws_dumps.proofs.Statements.{statements_one}
 
 parsed_one : (s : State) (parsed : Result Stmt Refusal) (o a : Outcome) → AnswersParsed s parsed o → AnswersParsed s parsed a → o ≡ a
@@ -47,7 +48,7 @@ prints_one options marks p (piece ∷ pieces) one other first second (o, gives, 
       rest.1,
     )
 
-pub transcript_one : TranscriptIsOne
+pub transcript_one : TranscriptIsDetermined
 transcript_one options marks script one other first second (pieces, cut, prints) (others, parted, printed) =
     let same : others ≡ pieces = cut_one_way script others pieces parted cut in
     prints_one options marks (start options) pieces one other first second prints
@@ -58,7 +59,49 @@ text_one options marks script one other first second (parts, transcript, is) (ot
     let same = transcript_one options marks script parts others first second transcript transcribed in
     (is ∙ ap concat same.0 ∙ sym are, same.1)
 
-pub so_far_one : TranscriptSoFarIsOne
+-- ---- a script that may go on
+
+-- which pieces have ended in a text is determined
+ended_one_way : (x : List ℕ) (ps qs : List PieceText) → EndedPieces x ps → EndedPieces x qs → ps ≡ qs
+ended_one_way x [] [] h k = refl
+ended_one_way x [] (q ∷ qs) (inl gap) k =
+    let a = first_gap x gap in
+    let b = ap first_of k.2 ∙ first_whole k.0 k.1 q k.3 in cc
+ended_one_way x [] (q ∷ qs) (inr last) k =
+    let a = first_last x last.0 last.1 in
+    let b = ap first_of k.2 ∙ first_whole k.0 k.1 q k.3 in cc
+ended_one_way x (p ∷ ps) [] h (inl gap) =
+    let a = first_gap x gap in
+    let b = ap first_of h.2 ∙ first_whole h.0 h.1 p h.3 in cc
+ended_one_way x (p ∷ ps) [] h (inr last) =
+    let a = first_last x last.0 last.1 in
+    let b = ap first_of h.2 ∙ first_whole h.0 h.1 p h.3 in cc
+ended_one_way x (p ∷ ps) (q ∷ qs) h k =
+    let a = ap first_of h.2 ∙ first_whole h.0 h.1 p h.3 in
+    let b = ap first_of k.2 ∙ first_whole k.0 k.1 q k.3 in
+    let same_piece : p ≡ q = cc in
+    let same_rest : h.1 ≡ k.1 = cc in
+    let same_pieces = ended_one_way h.1 ps qs h.4 (subst (λ l. EndedPieces l qs) (sym same_rest) k.4) in cc
+
+-- only the marks of pieces that print matter
+remarked_as_far : (options : Options) (marks others : Marks) (p : Progress) (pieces : List PieceText) (parts : List (List ℕ)) (status : Status)
+    → ((n : ℕ) → n ≤ p.pieces + length parts → marks n ≡ others n) → Prints options marks p pieces parts status → Prints options others p pieces parts status
+remarked_as_far options marks others p [] parts status agree prints = prints
+remarked_as_far options marks others p (piece ∷ pieces) parts status agree (outcome, gives, later, lines, more) =
+    let counted : length parts ≡ length later + 1 = rw lines (omega arith) in (
+      outcome,
+      rw (agree (p.pieces + 1) (omega arith)) at gives,
+      later,
+      lines,
+      elim (options.bail && is_err outcome) as
+          (λ b. MatchBool b ((later ≡ []) × (status ≡ Refused)) (Prints options marks (after p outcome) pieces later status)
+          → MatchBool b ((later ≡ []) × (status ≡ Refused)) (Prints options others (after p outcome) pieces later status)) [
+            | true ↦ λ ends. ends
+            | false ↦ λ goes. remarked_as_far options marks others (after p outcome) pieces later status (λ n le. agree n (omega arith)) goes
+          ] more,
+    )
+
+pub so_far_one : TranscriptSoFarIsDetermined
 so_far_one options marks others read one other (pieces, ended, first, prints) (parts, parted, second, printed) agree =
     let same : parts ≡ pieces = ended_one_way read parts pieces parted ended in
     (prints_one options others (start options) pieces one other first second

@@ -23,8 +23,8 @@ StatementsHaveOneAnswer = (old : State) (statement : Stmt) (one other : Outcome)
 
 -- the options, the pieces that memory refuses and the script determine each byte that is printed, piece by piece, and the
 -- status in which the run ends
-abbrev pub TranscriptIsOne : Type 0
-TranscriptIsOne = (options : Options) (marks : Marks) (script : List ℕ) (one other : List (List ℕ)) (first second : Status) →
+abbrev pub TranscriptIsDetermined : Type 0
+TranscriptIsDetermined = (options : Options) (marks : Marks) (script : List ℕ) (one other : List (List ℕ)) (first second : Status) →
     IsTranscriptByPieces options marks script one first → IsTranscriptByPieces options marks script other second →
     (one ≡ other) × (first ≡ second)
 
@@ -35,7 +35,7 @@ TextIsOne = (options : Options) (marks : Marks) (script one other : List ℕ) (f
     (one ≡ other) × (first ≡ second)
 
 -- Whoever reads or is fed the same bytes, in whatever parts, prints the same, as far as memory refuses the same pieces.
-abbrev pub TranscriptSoFarIsOne : Type 0
-TranscriptSoFarIsOne = (options : Options) (marks others : Marks) (read : List ℕ) (one other : List (List ℕ)) →
+abbrev pub TranscriptSoFarIsDetermined : Type 0
+TranscriptSoFarIsDetermined = (options : Options) (marks others : Marks) (read : List ℕ) (one other : List (List ℕ)) →
     IsTranscriptSoFarByPieces options marks read one → IsTranscriptSoFarByPieces options others read other →
     ((n : ℕ) → n ≤ length one → marks n ≡ others n) → one ≡ other

@@ -20,7 +20,7 @@ use Rattle.rt_tree_obeys.specs.View.{tree_in}
 use Rattle.rt_tree_obeys.specs.Laws.{marked_in}
 use Rattle.rt_tree_obeys.proofs.Settled.{insertion as obeys}
 use Rattle.rt_tree_obeys.proofs.Seen.{nodes_seen}
-use Rattle.rt_tree_one.specs.Laws.{Shows, waiting_row, InsertionFollowsRules, InsertionHasOneAnswer}
+use Rattle.rt_tree_one.specs.Laws.{Shows, waiting_row, InsertionFollowsRules, InsertionIsDetermined}
 use Rattle.rt_tree_one.proofs.Entries.{determined}
 
 pub shows : {D : ℕ} (t : Arena D) (s : ShadowLists D) → IsWhole t → t.pending.items ≡ [] → outside t ≡ s → Shows s (tree_in t)
@@ -95,7 +95,7 @@ same_work one other p s r =
     work_of : ℕ → ℕ → ℕ → Work
     work_of placements splits reinsertions = record { placements = placements; splits = splits; reinsertions = reinsertions }
 
-pub one_answer : InsertionHasOneAnswer
+pub one_answer : InsertionIsDetermined
 one_answer axes old one other id rect first second shape shape_too step step_too =
     let K = old.capacity in
     let a = follows axes old one id rect first step in

@@ -8,7 +8,7 @@ use Rattle.rt_tree_rules.proofs.Uniqueness.{removal}
 use Rattle.rt_tree_rules.proofs.Faithful.{same_nodes}
 use Rattle.rt_tree_obeys.specs.View.{tree_in}
 use Rattle.rt_tree_obeys.proofs.Removed.{removal as obeys}
-use Rattle.rt_tree_one.specs.Laws.{Shows, RemovalFollowsRules, RemovalHasOneAnswer, ReplacementHasOneAnswer}
+use Rattle.rt_tree_one.specs.Laws.{Shows, RemovalFollowsRules, RemovalIsDetermined, ReplacementIsDetermined}
 use Rattle.rt_tree_one.proofs.Inserted.{shows, same_lists, one_answer as insertion_answer}
 
 pub follows : RemovalFollowsRules
@@ -26,7 +26,7 @@ follows axes old new id rect step =
       root = sym (ap (λ (x : ShadowLists axes). x.root) steps.shown_after) ∙ ap (λ (x : ShadowLists axes). x.root) steps.shown_before;
     }
 
-pub one_answer : RemovalHasOneAnswer
+pub one_answer : RemovalIsDetermined
 one_answer axes old one other id rect said shape shape_too step step_too =
     let a = follows axes old one id rect step in
     let b = follows axes old other id said step_too in
@@ -36,7 +36,7 @@ one_answer axes old one other id rect said shape shape_too step step_too =
     same_lists one other b.after shape shape_too (a.capacity ∙ sym b.capacity) (a.root ∙ sym b.root)
     (subst (Shows one) same a.shows_after) b.shows_after
 
-pub replacement_answer : ReplacementHasOneAnswer
+pub replacement_answer : ReplacementIsDetermined
 replacement_answer axes old one other id rect shape shape_too step step_too =
     let between = one_answer axes old step.between step_too.between id step.was step_too.was step.shape step_too.shape step.removal step_too.removal in
     (insertion_answer axes step_too.between one other id rect step.work step_too.work shape shape_too

@@ -57,8 +57,8 @@ RowsAreDetermined = (axes : ℕ) (one other : ShadowLists axes) →
     one.nodes ≡ other.nodes → one.rows ≡ other.rows
 
 -- a row that comes into a tree leads to one tree, by one amount of work
-abbrev pub InsertionHasOneAnswer : Type 0
-InsertionHasOneAnswer = (axes : ℕ) (old one other : ShadowLists axes) (id : ℤ) (rect : List Interval) (first second : Work) →
+abbrev pub InsertionIsDetermined : Type 0
+InsertionIsDetermined = (axes : ℕ) (old one other : ShadowLists axes) (id : ℤ) (rect : List Interval) (first second : Work) →
     IsInShape one → IsInShape other → IsInsertion old one id rect first → IsInsertion old other id rect second →
     (one ≡ other) × (first ≡ second)
 
@@ -67,11 +67,11 @@ RemovalFollowsRules = (axes : ℕ) (old new : ShadowLists axes) (id : ℤ) (rect
     IsRemoval old new id rect → FollowsRemoval old new id
 
 -- a row that goes leads to one tree, whichever box it is said to have had
-abbrev pub RemovalHasOneAnswer : Type 0
-RemovalHasOneAnswer = (axes : ℕ) (old one other : ShadowLists axes) (id : ℤ) (rect said : List Interval) →
+abbrev pub RemovalIsDetermined : Type 0
+RemovalIsDetermined = (axes : ℕ) (old one other : ShadowLists axes) (id : ℤ) (rect said : List Interval) →
     IsInShape one → IsInShape other → IsRemoval old one id rect → IsRemoval old other id said → one ≡ other
 
 -- a row that gets another box leads to one tree
-abbrev pub ReplacementHasOneAnswer : Type 0
-ReplacementHasOneAnswer = (axes : ℕ) (old one other : ShadowLists axes) (id : ℤ) (rect : List Interval) →
+abbrev pub ReplacementIsDetermined : Type 0
+ReplacementIsDetermined = (axes : ℕ) (old one other : ShadowLists axes) (id : ℤ) (rect : List Interval) →
     IsInShape one → IsInShape other → IsReplacement old one id rect → IsReplacement old other id rect → one ≡ other

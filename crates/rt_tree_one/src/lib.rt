@@ -6,7 +6,7 @@
 //! Definitions: `specs/Laws.antt`.
 #![tactic(auto)]
 
-ghost use Rattle.rt_tree_one.specs.Laws.{InsertionFollowsRules, RowsAreDetermined, InsertionHasOneAnswer, RemovalFollowsRules, RemovalHasOneAnswer, ReplacementHasOneAnswer};
+ghost use Rattle.rt_tree_one.specs.Laws.{InsertionFollowsRules, RowsAreDetermined, InsertionIsDetermined, RemovalFollowsRules, RemovalIsDetermined, ReplacementIsDetermined};
 
 /// The nodes of sound lists determine their row entries.
 pub fn rows_are_determined()
@@ -19,8 +19,8 @@ pub fn insertion_follows_rules()
 {}
 
 /// A row that comes into a tree leads to one tree, by one amount of work.
-pub fn insertion_has_one_answer()
-    ensures { InsertionHasOneAnswer }
+pub fn insertion_is_determined()
+    ensures { InsertionIsDetermined }
 {}
 
 /// A removal, as it is seen from outside, is one by the rules.
@@ -29,11 +29,11 @@ pub fn removal_follows_rules()
 {}
 
 /// A row that goes leads to one tree.
-pub fn removal_has_one_answer()
-    ensures { RemovalHasOneAnswer }
+pub fn removal_is_determined()
+    ensures { RemovalIsDetermined }
 {}
 
 /// A row that gets another box leads to one tree.
-pub fn replacement_has_one_answer()
-    ensures { ReplacementHasOneAnswer }
+pub fn replacement_is_determined()
+    ensures { ReplacementIsDetermined }
 {}

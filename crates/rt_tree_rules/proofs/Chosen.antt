@@ -45,7 +45,7 @@ less_false (x ∷ xs) (y ∷ ys) (inr h) =
     rw (not_less, same, rest)
 
 module _ {X : Type 0} where
-  abbrev Each : (X → Type 0) → List X → Type 0
+  abbrev pub Each : (X → Type 0) → List X → Type 0
   Each P [] = Unit {0}
   Each P (x ∷ xs) = P x × Each P xs
 
@@ -53,7 +53,7 @@ module _ {X : Type 0} where
   Has best [] = ⊥
   Has best (x ∷ xs) = (x ≡ best) ⊎ Has best xs
 
-  each_append : (P : X → Type 0) (xs ys : List X) → Each P xs → Each P ys → Each P (xs ++ ys)
+  pub each_append : (P : X → Type 0) (xs ys : List X) → Each P xs → Each P ys → Each P (xs ++ ys)
   each_append P [] ys h k = k
   each_append P (x ∷ xs) ys h k = (h.0, each_append P xs ys h.1 k)
 
@@ -95,7 +95,7 @@ module _ {X : Type 0} where
       least_found key best (cond (is_less (key x) (key acc)) x acc) xs
       (either key best acc x (is_less (key x) (key acc)) worse less) each has
 
-each_range : (P : ℕ → Type 0) (low n : ℕ) → ((k : ℕ) → low ≤ k → k < low + n → P k) → Each P (range_with_len low n)
+pub each_range : (P : ℕ → Type 0) (low n : ℕ) → ((k : ℕ) → low ≤ k → k < low + n → P k) → Each P (range_with_len low n)
 each_range P low zero h = tt
 each_range P low (suc n) h = (h low (omega arith) (omega arith), each_range P (low + 1) n (λ k a b. h k (omega arith) (omega arith)))
 
@@ -122,7 +122,7 @@ least_range key high best h =
 pub child : BestChildIsTaken
 child above_leaves boxes new best h = least_range (child_key above_leaves boxes new) (length boxes) best h
 
-each_map : {X Y : Type 0} (P : Y → Type 0) (f : X → Y) (xs : List X) → Each (λ x. P (f x)) xs → Each P (map f xs)
+pub each_map : {X Y : Type 0} (P : Y → Type 0) (f : X → Y) (xs : List X) → Each (λ x. P (f x)) xs → Each P (map f xs)
 each_map P f [] h = tt
 each_map P f (x ∷ xs) h = (h.0, each_map P f xs h.1)
 

@@ -1,3 +1,5 @@
 pub mod Uniqueness
 pub mod Faithful
 pub mod Chosen
+pub mod Picks
+pub mod Existence

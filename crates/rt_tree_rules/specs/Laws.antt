@@ -1,6 +1,7 @@
--- A tree is determined by what is done to it, and by what the checker sees of it (own).
+-- There is one tree that is made by what is done to a tree, and no two look the same to the checker (own).
 use Rattle.std.specs.Prelude.{◌≡◌, ℕ, ℤ, Bool, List}
 use Rattle.rt_box.specs.declared.interval.Interval.{Interval}
+use Rattle.rt_box.specs.Capacity.{IsCapacity}
 use Rattle.rt_tree_choice.specs.declared.split.Cut.{Cut}
 use Rattle.rt_tree_subtree.specs.Subtree.{IsBestChild}
 use Rattle.rt_tree_choice.specs.Split.{IsBestCut}
@@ -8,6 +9,7 @@ use Rattle.rt_tree_rules.specs.Choices.{best_child, best_cut}
 use Rattle.rt_tree_rules.specs.Nested.{Row, Tree, Waiting}
 use Rattle.rt_tree_rules.specs.Placing.{Work, Settles, IsInsertion}
 use Rattle.rt_tree_rules.specs.Removing.{IsRemoval, IsReplacement}
+use Rattle.rt_tree_rules.specs.Filled.{IsFilledTree}
 use Rattle.rt_tree_rules.specs.Shadow.{shadow_of}
 
 -- a cell that is inserted, with all that is inserted again because of it, leads to one tree by one amount of work
@@ -28,6 +30,16 @@ abbrev pub ReplacementIsUnique : Type 0
 ReplacementIsUnique = (axes capacity : ℕ) (old one other : Tree) (row : Row) (first second : Work) →
     IsReplacement axes capacity old row one first → IsReplacement axes capacity old row other second →
     (one ≡ other) × (first ≡ second)
+
+-- a row comes into each tree whose nodes are filled, and they are filled afterwards
+abbrev pub InsertionExists : Type 0
+InsertionExists = (axes capacity : ℕ) (old : Tree) (row : Row) → IsCapacity capacity → IsFilledTree capacity old →
+    (new : Tree) × (work : Work) × IsInsertion axes capacity old row new work × IsFilledTree capacity new
+
+-- likewise a row goes, if it was there
+abbrev pub RemovalExists : Type 0
+RemovalExists = (axes capacity : ℕ) (old : Tree) (id : ℤ) → IsCapacity capacity → IsFilledTree capacity old →
+    (new : Tree) × IsRemoval axes capacity old id new × IsFilledTree capacity new
 
 -- no two trees look the same to the checker
 abbrev pub ShadowsAreFaithful : Type 0

@@ -2,6 +2,7 @@ pub mod Nested
 pub mod Choices
 pub mod Placing
 pub mod Removing
+pub mod Filled
 pub mod Shadow
 pub mod Examples
 pub mod Laws

@@ -2,15 +2,15 @@
 //! name no arena and no key, and each is a function that can be computed, from ChooseSubtree to CondenseTree.
 //!
 //! By these rules an insertion leads to one tree and one amount of work, and so does a replacement; a removal leads to one
-//! tree. No two trees look the same to the checker. Each function does nothing: its contract is the law. That the code
-//! follows these rules stands in `rt_tree_obeys`.
+//! tree. There always is one, if nodes are filled, and it is filled too. No two trees look the same to the checker. Each
+//! function does nothing: its contract is the law. That the code follows these rules stands in `rt_tree_obeys`.
 //!
-//! Definitions: `specs/Nested.antt` (trees), `Choices.antt`, `Placing.antt` and `Removing.antt` (the rules), `Shadow.antt`
-//! (what the checker sees), `Laws.antt`. `Examples.antt` holds the rules against worked trees. The keys of the choices are
+//! Definitions: `specs/Nested.antt` (trees), `Choices.antt`, `Placing.antt` and `Removing.antt` (the rules), `Filled.antt`,
+//! `Shadow.antt` (what the checker sees), `Laws.antt`. `Examples.antt` holds the rules against worked trees. The keys of the choices are
 //! those of `rt_tree_choice`.
 #![tactic(auto)]
 
-ghost use Rattle.rt_tree_rules.specs.Laws.{SettlingIsUnique, InsertionIsUnique, RemovalIsUnique, ReplacementIsUnique, ShadowsAreFaithful, BestChildIsTaken, BestCutIsTaken};
+ghost use Rattle.rt_tree_rules.specs.Laws.{SettlingIsUnique, InsertionIsUnique, RemovalIsUnique, ReplacementIsUnique, InsertionExists, RemovalExists, ShadowsAreFaithful, BestChildIsTaken, BestCutIsTaken};
 
 /// A cell that is inserted, with all that is inserted again because of it, leads to one tree by one amount of work.
 pub fn settling_is_unique()
@@ -30,6 +30,16 @@ pub fn removal_is_unique()
 /// A row that gets another box leads to one tree, by one amount of work.
 pub fn replacement_is_unique()
     ensures { ReplacementIsUnique }
+{}
+
+/// The cells that an insertion inserts, and inserts again, come to an end: each filled tree takes each row.
+pub fn insertion_exists()
+    ensures { InsertionExists }
+{}
+
+/// So does what a removal inserts again.
+pub fn removal_exists()
+    ensures { RemovalExists }
 {}
 
 /// No two trees look the same to the checker.

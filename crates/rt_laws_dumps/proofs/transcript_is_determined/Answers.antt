@@ -1,5 +1,5 @@
 use Rattle.rt_laws_dumps.proofs.Transcripts.{transcript_one}
-use Rattle.rt_laws_dumps.proofs.transcript_is_one.Goals as goal
+use Rattle.rt_laws_dumps.proofs.transcript_is_determined.Goals as goal
 
 pub returns : goal.returns
 returns c = transcript_one

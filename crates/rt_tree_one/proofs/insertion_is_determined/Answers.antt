@@ -1,5 +1,5 @@
 use Rattle.rt_tree_one.proofs.Inserted.{one_answer}
-use Rattle.rt_tree_one.proofs.insertion_has_one_answer.Goals as goal
+use Rattle.rt_tree_one.proofs.insertion_is_determined.Goals as goal
 
 pub returns : goal.returns
 returns c = one_answer

@@ -1,5 +1,5 @@
 use Rattle.rt_tree_one.proofs.Removed.{replacement_answer}
-use Rattle.rt_tree_one.proofs.replacement_has_one_answer.Goals as goal
+use Rattle.rt_tree_one.proofs.replacement_is_determined.Goals as goal
 
 pub returns : goal.returns
 returns c = replacement_answer
