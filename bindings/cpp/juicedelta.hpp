@@ -325,7 +325,7 @@ public:
         detail::check_at(code, at);
         return tree;
     }
-    // The rows of a dump, which `dump` or a script's `.nodes` wrote.
+    // The tree of a dump, which `dump` or a script's `.nodes` wrote; if its nodes stand in another order, its rows, packed.
     static Tree from_dump(std::string_view text)
     {
         Tree tree(Closed{});

@@ -117,7 +117,7 @@ class RTree(ManyRows):
 
     @classmethod
     def from_dump(cls, text: str) -> RTree:
-        """The rows of a dump, which `dump`, or `.nodes` in a script, wrote."""
+        """The tree of a dump, which `dump`, or `.nodes` in a script, wrote; if its nodes stand in another order, its rows, packed."""
         tree, axes, data = cls.__new__(cls), re.match("rtree ([123]) ", text), text.encode()
         form = Form(int(axes.group(1)) if axes else 2)
         tree._start(form.axes, form, tree_open_dump, data, len(data))

@@ -122,7 +122,8 @@ where
         Ok(opened.map(Self)?)
     }
 
-    /// The rows of a dump, which `dump` or a script's `.nodes` wrote (`BadDump`, `TreeFull`).
+    /// The tree of a dump, which `dump` or a script's `.nodes` wrote; if its nodes stand in another order, its rows, packed
+    /// (`BadDump`, `TreeFull`).
     ///
     /// ```
     /// # use juicedelta::{Rect, Row, Tree};
