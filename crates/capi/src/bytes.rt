@@ -86,7 +86,8 @@ pub extern "C" fn juicedelta_tree_open_bytes(
     first_key: u64,
     second_key: u64,
 ) -> i32
-    ensures { Opens handle.old.held handle.new.held (IsTree axes (λ D. IsOfBytes bytes.now)) (OpensNoBytes axes) result }
+    ensures { Opens handle.old.held handle.new.held (IsTree axes (λ D. IsOfBytes bytes.now))
+        (OpensNoBytes axes) result }
 {
     if let Some(object) = handle.take(alloc) {
         handle.put(object);

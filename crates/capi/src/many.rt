@@ -44,7 +44,8 @@ fn windows_from<const D: usize>(
     requires some { 1 ≤ D }
     requires few { D ≤ 3 }
     requires matched { length numbers.now ≡ count * (2 * D) }
-    ensures { IfOk result (λ windows. AllZip (AdmitsPiece D relation) (pieces (2 * D) count numbers.now) windows.items) }
+    ensures { IfOk result (λ windows.
+        AllZip (AdmitsPiece D relation) (pieces (2 * D) count numbers.now) windows.items) }
 {
     let mut windows = Vec::with_capacity(alloc, count)?;
     for place in 0..count {

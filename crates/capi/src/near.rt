@@ -30,7 +30,8 @@ fn within_point<const D: usize>(
     requires some { 1 ≤ D }
     requires few { D ≤ 3 }
     requires matched { length boxes.old ≡ length ids.old * (2 * D) }
-    ensures found { FindsWithin point.now distance ids.old ids.new boxes.old boxes.new total.old total.new tree.now result }
+    ensures found { FindsWithin point.now distance ids.old ids.new boxes.old boxes.new total.old total.new
+        tree.now result }
     ensures kept { result ≢ Done → (ids.new ≡ ids.old) × (boxes.new ≡ boxes.old) × (total.new ≡ total.old) }
 {
     match tree.within(alloc, point, distance, ids.len()) {
@@ -78,7 +79,8 @@ fn nearest_to_box<const D: usize>(
     requires some { 1 ≤ D }
     requires few { D ≤ 3 }
     requires matched { length boxes.old ≡ length ids.old * (2 * D) }
-    ensures found { FindsNearTo min.now max.now ids.old ids.new boxes.old boxes.new total.old total.new tree.now result }
+    ensures found { FindsNearTo min.now max.now ids.old ids.new boxes.old boxes.new total.old total.new
+        tree.now result }
     ensures kept { result ≢ Done → (ids.new ≡ ids.old) × (boxes.new ≡ boxes.old) × (total.new ≡ total.old) }
 {
     let Some(rect) = Rect::new(*min, *max) else {
@@ -101,7 +103,8 @@ fn nearest_to<const D: usize>(
 ) -> Code
     requires some { 1 ≤ D }
     requires few { D ≤ 3 }
-    ensures found { FindsRowsNearTo numbers.now ids.old ids.new boxes.old boxes.new total.old total.new tree.now result }
+    ensures found { FindsRowsNearTo numbers.now ids.old ids.new boxes.old boxes.new total.old total.new
+        tree.now result }
     ensures kept { result ≢ Done → (ids.new ≡ ids.old) × (boxes.new ≡ boxes.old) × (total.new ≡ total.old) }
 {
     let Some((min, max)) = ends(numbers) else {

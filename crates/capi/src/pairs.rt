@@ -139,7 +139,8 @@ fn join_held(
     right: &mut [i64],
     total: &mut u64,
 ) -> Code
-    ensures joined { OfTrees (option_map (λ object. object.now) one.entry) (option_map (λ object. object.now) other.entry)
+    ensures joined { OfTrees (option_map (λ object. object.now) one.entry)
+        (option_map (λ object. object.now) other.entry)
         (λ D. Joins left.old left.new right.old right.new total.old total.new) (number_of result) }
     ensures kept { result ≢ Done → result ≢ BufferTooSmall →
         (left.new ≡ left.old) × (right.new ≡ right.old) × (total.new ≡ total.old) }

@@ -46,7 +46,8 @@ fn push_cells<const D: usize>(
 ) -> Result<(), AllocError>
     requires known { All (λ c. 0 < node.now.level → key_of c < length numbers.now) node.now.cells }
     requires small { All (λ n. n < 2 ^ 63) numbers.now }
-    ensures { OnOk result (bytes.new.items ≡ bytes.old.items ++ flat_map cell_bytes (map (cell_seen (noted numbers.now) node.now.level) node.now.cells)) }
+    ensures { OnOk result (bytes.new.items ≡ bytes.old.items ++
+        flat_map cell_bytes (map (cell_seen (noted numbers.now) node.now.level) node.now.cells)) }
 {
     for at in 0..node.len() {
         push_cell(bytes, &cell_row(&node.cell(at), node.level(), numbers))?;
@@ -63,7 +64,8 @@ fn push_node<const D: usize>(
 ) -> Result<(), AllocError>
     requires known { AreKnown (length numbers.now) key node.now }
     requires small { All (λ n. n < 2 ^ 63) numbers.now }
-    ensures { OnOk result (bytes.new.items ≡ bytes.old.items ++ node_bytes (node_row (noted numbers.now) key (Some node.now))) }
+    ensures { OnOk result (bytes.new.items ≡ bytes.old.items ++
+        node_bytes (node_row (noted numbers.now) key (Some node.now))) }
 {
     bytes.extend_from_slice(&[node.level(), node.len() as u8])?;
     push_cells(bytes, node, numbers)
@@ -79,7 +81,8 @@ fn push_nodes<const D: usize>(
     requires few { D ≤ 3 }
     requires known { All (λ key. IsSomeAnd (get tree.now.nodes key) (AreKnown (length numbers.now) key)) order.now }
     requires small { All (λ n. n < 2 ^ 63) numbers.now }
-    ensures { OnOk result (bytes.new.items ≡ bytes.old.items ++ flat_map node_bytes (map (noted_node numbers.now tree.now.nodes) order.now)) }
+    ensures { OnOk result (bytes.new.items ≡ bytes.old.items ++
+        flat_map node_bytes (map (noted_node numbers.now tree.now.nodes) order.now)) }
 {
     for key in order {
         push_node(bytes, node_at(&tree.nodes, *key), *key, numbers)?;
