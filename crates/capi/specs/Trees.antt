@@ -16,7 +16,7 @@ use Rattle.rt_handle.specs.declared.object.Object.TheVariants.{Line, Plane, Spac
 use Rattle.rt_tree.specs.Lists.{TreeLists, empty_lists}
 use Rattle.rt_tree.specs.Rows.{box_of, rows_of, GainsRow, LosesRow}
 use Rattle.rt_tree.specs.Changes.{IsInsertion, IsRemoval, IsReplacement}
-use Rattle.rt_tree.specs.Restoring.{IsRestoredOf}
+use Rattle.rt_map.specs.Restoring.{IsRestoredOf}
 use Rattle.rt_tree_node.specs.Whole.{most_rows_of_a_tree}
 use Rattle.rt_tree_node.specs.declared.arena.Work.{Work}
 use Rattle.rt_tree_nearest.specs.Nearest.{nearest_rows}

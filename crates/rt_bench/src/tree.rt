@@ -7,6 +7,7 @@ ghost use Rattle.std.specs.Prelude.{◌≡◌, ◌≤◌, ℤ, None};
 ghost use Rattle.rt_tree.specs.Rows.{box_of};
 
 use rt_box::{Capacity, Operator, Rect, Window};
+use rt_map::nearest;
 use rt_tree::{MOST_ROWS_OF_A_TREE, Row, Tree};
 use rt_tree_node::Node;
 use std::alloc::{AllocError, Global};
@@ -263,7 +264,7 @@ fn answer<const D: usize>(
         }
         Question::Count => tree.count(alloc, &window_of(shape, row, grow)),
         Question::NearestTen => match rect_of(shape, row, grow) {
-            Some(rect) => Ok(tree.nearest(alloc, &rect.lo(), 10)?.len()),
+            Some(rect) => Ok(nearest(alloc, tree, &rect.lo(), 10)?.len()),
             None => Ok(0),
         },
     }

@@ -17,8 +17,7 @@ pub mod Leads
 pub mod Exact
 pub mod Low
 pub mod Nearby
-pub mod FromRows
 pub mod Around
 pub mod Once
 pub mod Boxed
-pub mod FromShadow
+pub mod BareKept

@@ -1,14 +1,11 @@
 pub mod Lists
 pub mod Rows
 pub mod Boxes
+pub mod Bare
+pub mod Kept
 pub mod TreeInside
 pub mod Search
 pub mod Way
 pub mod Changes
-pub mod Packing
-pub mod PackingInside
-pub mod Join
 pub mod Bounds
 pub mod BoundsInside
-pub mod Restoring
-pub mod RestoringInside

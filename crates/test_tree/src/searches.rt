@@ -4,6 +4,7 @@
 
 use crate::rows::insert;
 use rt_box::{Capacity, Operator, Rect, Window};
+use rt_map::nearest;
 use rt_tree::Tree;
 use std::alloc::Global;
 use std::hash::RandomState;
@@ -76,7 +77,7 @@ fn expect_nearest(
     k: usize,
 ) -> Result<(), Fail> {
     let wanted = plainly_nearest(rt.alloc(), point, k)?;
-    let rows = tree.nearest(rt.alloc(), point, k)?;
+    let rows = nearest(rt.alloc(), tree, point, k)?;
     assert!(rt; rows.len() == wanted.len());
     for (row, (away, id)) in rows.iter().zip(wanted.iter()) {
         assert!(rt; row.id == *id);
