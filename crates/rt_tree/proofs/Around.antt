@@ -19,8 +19,7 @@ use Rattle.rt_tree_walk.specs.Search.{row_of}
 use Rattle.rt_tree_walk.proofs.Listed.{levels-below}
 use Rattle.rt_tree_walk.proofs.Progress.{IsSettled}
 use Rattle.rt_tree_walk.specs.Rows.{rows_in}
-use Rattle.rt_tree_walk.proofs.Below.{rows_under, rows-leaf, child-hull, held-below}
-use Rattle.rt_tree_join.proofs.Below.{rows-none, rows-inner}
+use Rattle.rt_tree_walk.proofs.Below.{rows_under, rows-leaf, rows-none, rows-inner, child-hull, held-below}
 use Rattle.rt_tree.specs.Bounds.{HoldsRows, IsLeastAround}
 use Rattle.rt_tree.specs.BoundsInside.{IsRootBox}
 

@@ -202,8 +202,8 @@ impl<const D: usize> Tree<D> {
 
     /// A tree of these nodes, for the crates that make trees.
     pub fn from_arena(arena: Arena<D>) -> Tree<D>
-        requires kept { IsKeptWith arena 0 }
-        ensures { result ≡ record { lists = outside arena; spare = 0; ids = keys arena.leaves } }
+        requires kept { IsKeptWith arena.entry 0 }
+        ensures { result ≡ record { lists = outside arena.entry; spare = 0; ids = keys arena.entry.leaves } }
     {
         Tree { arena, spare: 0 }
     }
