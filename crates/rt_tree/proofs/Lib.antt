@@ -22,3 +22,4 @@ pub mod Around
 pub mod Once
 pub mod Boxed
 pub mod FromShadow
+pub mod Everything

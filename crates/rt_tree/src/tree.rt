@@ -22,7 +22,7 @@ ghost use Rattle.rt_tree_pack.specs.Packing.{IsFaultOf};
 ghost use Rattle.rt_tree_walk.specs.Search.{StaysInFront};
 ghost use Rattle.rt_tree_nearest.specs.Nearest.{nearest_rows, rows_within, nearest_rows_to};
 
-use crate::bounds::root_box;
+use crate::bounds::{admits_root, root_box};
 use crate::bytes::bytes_arena;
 use crate::packing::{bare_arena, pack_rows};
 use crate::restoring::shadow_arena;
@@ -425,7 +425,8 @@ impl<const D: usize> Tree<D> {
         search_into(alloc, &self.arena, window, rows)
     }
 
-    /// Counts the rows whose boxes the window admits: as many as `search` would find, without a list of them.
+    /// Counts the rows whose boxes the window admits: as many as `search` would find, without a list of them. If all of them
+    /// lie inside the window, it looks at the root alone.
     ///
     /// # Errors
     ///
@@ -433,6 +434,9 @@ impl<const D: usize> Tree<D> {
     pub fn count(&self, alloc: Global, window: &Window<D>) -> Result<usize, AllocError>
         ensures { IfOk result (λ count. CountsIn self.now.lists window.now count) }
     {
+        if admits_root(&self.arena, window) {
+            return Ok(self.arena.leaves.len());
+        }
         count(alloc, &self.arena, window)
     }
 
