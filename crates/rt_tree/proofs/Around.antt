@@ -75,7 +75,7 @@ module _ {D : ℕ} (t : Arena D) (s : IsSettled t) where
   high : level_at t.nodes t.root ≡ Some t.level
   high = s.whole.linked.root_level
 
-  root-least : 1 ≤ length (cells_at t.nodes t.root) → IsLeastAround (rows_in t) (hull_at t.nodes t.root)
+  pub root-least : 1 ≤ length (cells_at t.nodes t.root) → IsLeastAround (rows_in t) (hull_at t.nodes t.root)
   root-least some = record {
     some = λ none.
         let nothing : HoldsRows [] (rows_in t) = subst (HoldsRows []) (sym none) (All-nil (λ (r : Row D). Holds [] r.rect)) in

@@ -21,3 +21,4 @@ pub mod Around
 pub mod Once
 pub mod Boxed
 pub mod BareKept
+pub mod Everything

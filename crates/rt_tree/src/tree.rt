@@ -19,7 +19,7 @@ ghost use Rattle.rt_tree_outside.specs.Outside.{outside};
 ghost use Rattle.rt_tree.specs.Kept.{IsKeptWith};
 ghost use Rattle.rt_tree_walk.specs.Search.{StaysInFront};
 
-use crate::bounds::root_box;
+use crate::bounds::{admits_root, root_box};
 use crate::rowless::bare_arena;
 use rt_box::{Capacity, Rect, Window};
 use rt_check::Shadow;
@@ -358,7 +358,8 @@ impl<const D: usize> Tree<D> {
         search_into(alloc, &self.arena, window, rows)
     }
 
-    /// Counts the rows whose boxes the window admits: as many as `search` would find, without a list of them.
+    /// Counts the rows whose boxes the window admits: as many as `search` would find, without a list of them. If all of them
+    /// lie inside the window, it looks at the root alone.
     ///
     /// # Errors
     ///
@@ -366,6 +367,9 @@ impl<const D: usize> Tree<D> {
     pub fn count(&self, alloc: Global, window: &Window<D>) -> Result<usize, AllocError>
         ensures { IfOk result (λ count. CountsIn self.now.lists window.now count) }
     {
+        if admits_root(&self.arena, window) {
+            return Ok(self.arena.leaves.len());
+        }
         count(alloc, &self.arena, window)
     }
 
