@@ -5,6 +5,8 @@ pub mod TreeInside
 pub mod Search
 pub mod Way
 pub mod Changes
+pub mod Moving
+pub mod Replacing
 pub mod Packing
 pub mod PackingInside
 pub mod Join
