@@ -15,6 +15,7 @@ pub mod Along
 pub mod Entries
 pub mod Leads
 pub mod Exact
+pub mod Ruled
 pub mod Low
 pub mod Nearby
 pub mod Around

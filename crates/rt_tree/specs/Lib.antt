@@ -7,5 +7,7 @@ pub mod TreeInside
 pub mod Search
 pub mod Way
 pub mod Changes
+pub mod Moving
+pub mod Replacing
 pub mod Bounds
 pub mod BoundsInside

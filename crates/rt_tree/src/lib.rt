@@ -4,9 +4,9 @@
 //! `Tree` is seen as lists, the way `rt_check` takes a tree from outside: its nodes in preorder, numbered from 1, with
 //! their cells, and an entry for each row.
 //!
-//! - `insert` and `remove` take no memory and don't fail: `reserve` made the room. Each other row stays, and if no node gets
-//!   overfull or underfull, no other row moves. Each step is named: where best children lead each cell that is placed, which
-//!   cells an overfull node gives up, and by which cut one is split. `take` removes a row that may be missing.
+//! - `insert` and `remove` take no memory and don't fail: `reserve` made the room. They make of the nested tree that the nodes
+//!   show what the rules make of it (`rt_tree_rules`). Each other row stays, and if no node gets overfull or underfull, no other
+//!   row moves. `take` removes a row that may be missing.
 //! - `replace` gives a row another box, by a removal and an insertion that look its id up once. If the row has the box
 //!   already, the tree stays.
 //! - `is_in_shape`, `has_boxes` and `is_small` hold of each tree, whatever was done to it: the checker finds no problem,
@@ -17,9 +17,10 @@
 //!
 //! - `arena` and `from_arena` are for the crates that read and make whole trees, as `rt_map` does.
 //!
-//! Stands on `rt_tree_node`, `rt_tree_walk`, `rt_tree_outside`, `rt_tree_place` and `rt_tree_remove`, and on `rt_check` for the
-//! tree from outside. Definitions: `specs/Lists.antt` (a tree from outside), `Rows.antt`, `Boxes.antt`, `Bounds.antt`,
-//! `Changes.antt` (insertion, removal and replacement), `Search.antt`, `Way.antt`, `Kept.antt` (what holds of its nodes).
+//! Stands on `rt_tree_node`, `rt_tree_walk`, `rt_tree_outside`, `rt_tree_place`, `rt_tree_remove` and `rt_tree_obeys`, and on
+//! `rt_check` for the tree from outside. Definitions: `specs/Lists.antt` (a tree from outside), `Rows.antt`, `Boxes.antt`,
+//! `Bounds.antt`, `Changes.antt` (insertion and removal), `Moving.antt` (which rows move), `Replacing.antt`, `Search.antt`,
+//! `Way.antt`, `Kept.antt` (what holds of its nodes).
 #![tactic(auto)]
 
 mod bounds;

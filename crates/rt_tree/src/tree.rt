@@ -11,7 +11,9 @@ ghost use Rattle.rt_tree_node.specs.Whole.{most_rows_of_a_tree};
 ghost use Rattle.rt_tree.specs.Lists.{root_level, most_nodes, least_rows, empty_lists, IsInShape};
 ghost use Rattle.rt_tree.specs.Rows.{box_of, rows_of, GainsRow, LosesRow};
 ghost use Rattle.rt_tree.specs.Boxes.{HasBoxes};
-ghost use Rattle.rt_tree.specs.Changes.{IsInsertion, IsRemoval, ReplacesOther};
+ghost use Rattle.rt_tree.specs.Changes.{IsInsertion, IsRemoval};
+ghost use Rattle.rt_tree.specs.Moving.{TakesRow, DropsRow};
+ghost use Rattle.rt_tree.specs.Replacing.{ReplacesOther};
 ghost use Rattle.rt_tree.specs.Search.{FindsIn, FindsInAfter, CountsIn};
 ghost use Rattle.rt_tree.specs.Bounds.{IsLeastAround};
 ghost use Rattle.indexmap.specs.IndexMap.{keys};
@@ -409,6 +411,7 @@ impl<const D: usize> Tree<D> {
         requires spare { 1 ≤ self.old.spare }
         ensures rows { GainsRow self.old.lists self.new.lists id.now rect.now }
         ensures insertion { IsInsertion self.old.lists self.new.lists id.now rect.now result }
+        ensures takes { TakesRow self.old.lists self.new.lists id.now rect.now result }
         ensures spare { self.new.spare + 1 ≡ self.old.spare }
         ensures capacity { self.new.lists.capacity ≡ self.old.lists.capacity }
     {
@@ -423,6 +426,7 @@ impl<const D: usize> Tree<D> {
         ensures same { IfNone result (self.new ≡ self.old) }
         ensures rows { IfSome result (LosesRow self.old.lists self.new.lists id.now) }
         ensures removal { IfSome result (IsRemoval self.old.lists self.new.lists id.now) }
+        ensures drops { IfSome result (DropsRow self.old.lists self.new.lists id.now) }
         ensures spare { self.new.spare ≡ self.old.spare }
         ensures capacity { self.new.lists.capacity ≡ self.old.lists.capacity }
     {
@@ -438,6 +442,7 @@ impl<const D: usize> Tree<D> {
         requires { IsSome (box_of self.old.lists id.now) }
         ensures rows { LosesRow self.old.lists self.new.lists id.now result }
         ensures removal { IsRemoval self.old.lists self.new.lists id.now result }
+        ensures drops { DropsRow self.old.lists self.new.lists id.now result }
         ensures spare { self.new.spare ≡ self.old.spare }
         ensures capacity { self.new.lists.capacity ≡ self.old.lists.capacity }
     {
