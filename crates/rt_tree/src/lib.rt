@@ -12,9 +12,9 @@
 //! - `is_in_shape`, `has_boxes` and `is_small` hold of each tree, whatever was done to it: the checker finds no problem,
 //!   each cell has a box, and there are few nodes and few levels.
 //! - `search` lists the rows that a window admits, and counts the nodes that it went into; `search_into` appends them to a
-//!   list of the caller's, and `count` says how many they are.
+//!   list of the caller's, who also keeps the list of the nodes reached: if both have room, it can't fail. `count` says how
+//!   many rows there are.
 //! - `bounds` is the least box around all rows. `ids` tells the ids in an order that stays while the tree does.
-//!
 //! - `arena` and `from_arena` are for the crates that read and make whole trees, as `rt_map` does.
 //!
 //! Stands on `rt_tree_node`, `rt_tree_walk`, `rt_tree_outside`, `rt_tree_place`, `rt_tree_remove` and `rt_tree_obeys`, and on
@@ -29,5 +29,5 @@ mod tree;
 
 pub use rowless::bare_arena;
 pub use rt_tree_node::Work;
-pub use rt_tree_walk::{Found, Row};
+pub use rt_tree_walk::{Found, Reached, Row};
 pub use tree::{MOST_ROWS_OF_A_TREE, Tree, nodes_for};
