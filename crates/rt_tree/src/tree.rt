@@ -3,7 +3,7 @@
 //! Rows come and go without taking memory: `reserve` makes room for the nodes of any tree with that many rows. Between two
 //! calls no cell is pending and no node is out of shape (`IsKept` in `specs/TreeInside.antt`).
 
-ghost use Rattle.std.specs.Prelude.{◌≡◌, ◌≢◌, ◌×◌, ◌<◌, ◌≤◌, ◌+◌, ◌-◌, ◌*◌, ◌/◌, ◌^◌, ◌↔◌, ℤ, [], max, length, is_some, vec_capacity, Some, None, IsSome, IfSome, IsNone, IfNone, IsOk, IfOk, IfErr, OnOk, OnErr};
+ghost use Rattle.std.specs.Prelude.{◌≡◌, ◌≢◌, ◌<◌, ◌≤◌, ◌+◌, ◌-◌, ◌*◌, ◌/◌, ◌^◌, ◌↔◌, ℤ, [], max, length, is_some, vec_capacity, Some, None, IsSome, IfSome, IsNone, IfNone, IsOk, IfOk, IfErr, OnOk, OnErr};
 ghost use Rattle.std.specs.List.{list_any, count_by};
 ghost use Rattle.std.specs.Ordering.{int_eq};
 ghost use Rattle.rt_box.specs.Capacity.{least_fill};
@@ -204,7 +204,7 @@ impl<const D: usize> Tree<D> {
 
     /// A tree of these nodes, for the crates that make trees.
     pub fn from_arena(arena: Arena<D>) -> Tree<D>
-        requires kept { IsKeptWith arena.entry 0 }
+        requires kept { IsKeptWith arena 0 }
         ensures { result ≡ record { lists = outside arena.entry; spare = 0; ids = keys arena.entry.leaves } }
     {
         Tree { arena, spare: 0 }

@@ -4,7 +4,7 @@ use Rattle.rt_tree_walk.specs.Search.{FindsAfter}
 use Rattle.rt_tree.specs.Lists.{TreeLists}
 use Rattle.rt_tree.specs.Search.{FindsIn, FindsInAfter, CountsIn}
 use Rattle.rt_tree.proofs.Kept.{settled}
-use Rattle.rt_tree.proofs.Reached.{finds-in, counts-back}
+use Rattle.rt_tree.proofs.Finds.{finds-in, counts-back}
 use Rattle.rt_tree.proofs.Shape.{nodes-long}
 use Rattle.rt_tree.proofs.tree.Tree.search_into.Goals as goal
 
