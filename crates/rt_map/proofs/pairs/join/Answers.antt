@@ -13,10 +13,10 @@ use Rattle.rt_map.proofs.pairs.join.Goals as goal
 
 pub returns : goal.returns
 returns g c =
-    let t = c.arena-arg1.result.now in
-    let u = c.arena-arg2.result.now in
-    let own = listed t c.args.tree.now.spare c.args.tree.now.lists c.arena-arg1.ensures.kept c.arena-arg1.ensures.lists in
-    let others = listed u c.args.other.now.spare c.args.other.now.lists c.arena-arg2.ensures.kept c.arena-arg2.ensures.lists in
+    let t = c.arena.result.now in
+    let u = c.arena-2.result.now in
+    let own = listed t c.args.tree.now.spare c.args.tree.now.lists c.arena.ensures.kept c.arena.ensures.lists in
+    let others = listed u c.args.other.now.spare c.args.other.now.lists c.arena-2.ensures.kept c.arena-2.ensures.lists in
     IfOk-weaker c.join.result (λ pairs. Joins t u pairs.items) (λ pairs. JoinsIn c.args.tree.now.lists c.args.other.now.lists pairs.items)
     (λ pairs h. record {
       each = λ test.
