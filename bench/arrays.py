@@ -1,8 +1,9 @@
 """Many rows and many windows from Python: arrays.py WHO ROWS WINDOWS, where WHO is juicedelta, shapely or rtree.
 
 Prints a line of nanoseconds of the processor and a checksum for each kind of call: `load`, a row, makes a tree of arrays of ids and
-boxes, or of what the library takes in their place; `windows`, a window, finds the ids of the rows that each window touches in one call,
-if there is such a call; `calls` does so in a call each. What is only another form of the input is made before the time is taken.
+boxes, or of what the library takes in their place; `many`, a window, finds the ids of the rows that each window touches in one call,
+if there is such a call; `calls` does so in a call each; `threads` in a call of each of four threads, in time by the clock. What is only
+another form of the input is made before the time is taken.
 """
 
 import array
@@ -10,6 +11,7 @@ import random
 import sys
 import time
 import warnings
+from concurrent.futures import ThreadPoolExecutor
 
 SPAN = 1_000_000
 
@@ -28,8 +30,16 @@ class Juicedelta:
     def calls(self, tree):
         return [id for box in self.each for id in tree.intersection(box)]
 
+    def threads(self, tree):
+        size = -(-len(self.each) // 4) * 4
+        parts = [self.windows[begin : begin + size] for begin in range(0, len(self.windows), size)]
+        with ThreadPoolExecutor(4) as pool:
+            return sum((found.ids for found in pool.map(tree.intersection_many, parts)), array.array("q"))
+
 
 class Shapely:
+    threads = None
+
     def __init__(self, rows, windows):
         import shapely
         from shapely.strtree import STRtree
@@ -56,7 +66,7 @@ class Shapely:
 
 
 class Rtree:
-    many = None  # The version of Debian 12 has no such call.
+    many = threads = None  # The version of Debian 12 has no such call.
 
     def __init__(self, rows, windows):
         from rtree.index import Index
@@ -99,14 +109,15 @@ def main():
     )
 
     def timed(name, call, count, *words):
-        begun = time.process_time_ns()
+        clock = time.perf_counter_ns if name == "threads" else time.process_time_ns
+        begun = clock()
         answer = call(*words)
-        taken = time.process_time_ns() - begun
+        taken = clock() - begun
         print(name, taken // count, sum(answer) if name != "load" else rows, flush=True)
         return answer
 
     tree = timed("load", library.load, rows)
-    for name in ("many", "calls"):
+    for name in ("many", "calls", "threads"):
         if getattr(library, name):
             timed(name, getattr(library, name), windows, tree)
 

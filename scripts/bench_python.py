@@ -67,7 +67,7 @@ def main():
     best = measure(commands)
     print(f"\nPython, {ROWS} rows and {WINDOWS} windows of about ten: nanoseconds a row or a window")
     print(f"{'':16}" + "".join(f"{name:>14}" for name in commands))
-    for call in ("load", "many", "calls"):
+    for call in ("load", "many", "calls", "threads"):
         print(f"{call:16}" + "".join(f"{best.get((name, call), '-'):>14}" for name in commands))
     print()
     for bound in BOUNDS:
