@@ -589,7 +589,7 @@ impl<'a, const D: usize> IntoIterator for &'a Tree<D> {
 }
 
 /// The numbers of a box: each minimum, and then each maximum.
-fn numbers<const D: usize>(rect: &Rect<D>) -> *const i32 {
+pub(crate) fn numbers<const D: usize>(rect: &Rect<D>) -> *const i32 {
     ptr::from_ref(rect).cast()
 }
 
