@@ -2,9 +2,13 @@
 
 from __future__ import annotations
 
+import array
+import ctypes
 import threading
-from typing import List, Literal, NamedTuple, Optional, SupportsIndex, Tuple
+from functools import partial
+from typing import Any, Callable, List, Literal, NamedTuple, Optional, SupportsIndex, Tuple
 
+from ._buffers import at, zeros
 from ._calls import (
     Call,
     live_changes,
@@ -39,6 +43,23 @@ class WindowChange(NamedTuple):
     kind: Kind
 
 
+# Sooner than the class, which is a function of Python's.
+_change: Callable[..., Any] = partial(tuple.__new__, WindowChange)
+
+
+class _Told:
+    """Memory for so many changes, and for how many there are."""
+
+    __slots__ = ("room", "windows", "ids", "kinds", "count", "to", "there")
+
+    def __init__(self, room: int) -> None:
+        self.room, self.count = room, ctypes.c_uint64()
+        self.windows, self.ids, self.kinds = zeros("q", room), zeros("q", room), array.array("B", bytes(room))
+        length, self.to = ctypes.c_size_t(room), ctypes.byref(self.count)
+        lists = [ctypes.c_void_p(at(it)) for it in (self.windows, self.ids, self.kinds)]
+        self.there = (lists[0], length, lists[1], length, lists[2], length, self.to)
+
+
 class Live(Reads):
     """Rows, and windows over them, each an id and a box of `dimension` axes. A window sees the rows that touch it.
 
@@ -65,6 +86,7 @@ class Live(Reads):
 
     _turn: threading.RLock
     _is_edited: bool
+    _told: _Told
 
     def __init__(
         self, dimension: SupportsIndex = 2, capacity: SupportsIndex = 51, *, grid: Optional[Grid] = None,
@@ -72,7 +94,7 @@ class Live(Reads):
     ) -> None:
         form = form_of(dimension, grid, interleaved)
         if self._at is None:
-            self._turn, self._is_edited = threading.RLock(), False
+            self._turn, self._is_edited, self._told = threading.RLock(), False, _Told(FEW)
         self._start(form.axes, form, live_open, capacity_of(capacity))
 
     def insert(self, id: SupportsIndex, coordinates: Coordinates) -> List[WindowChange]:
@@ -107,7 +129,7 @@ class Live(Reads):
     def changes(self) -> List[WindowChange]:
         """What the last edit told."""
         with self._turn:
-            return self._told(FEW)
+            return self._read(self._told)
 
     def rows(self, window: SupportsIndex) -> List[int]:
         """The ids of the rows that a window sees, rising. A window that is missing is an error."""
@@ -139,28 +161,21 @@ class Live(Reads):
                 raise RuntimeError("an edit is interrupted by another one of its thread")
             self._is_edited = True
             try:
-                memory = taken(FEW)
-                code = self._guard.write(call, self._at, *words, memory.total)
-                count = memory.cells[memory.length]
-                given_back(memory)
-                accept(code)
-                return self._told(count) if count else []
+                told = self._told
+                accept(self._guard.write(call, self._at, *words, told.to))
+                return self._read(told) if told.count.value else []
             finally:
                 self._is_edited = False
 
-    def _told(self, count: int) -> List[WindowChange]:
-        """What the last edit told, which is some `count` changes."""
-        code = BUFFER_TOO_SMALL
+    def _read(self, told: _Told) -> List[WindowChange]:
+        """What the last edit told, by way of such memory, or of more."""
+        code = live_changes(self._at, *told.there)
         while code == BUFFER_TOO_SMALL:
-            # A word for the window, one for the id, and one for the kind, which needs less.
-            memory = taken(3 * count)
-            room = memory.length // 3
-            ids, kinds = memory.front + 8 * room, memory.front + 16 * room
-            code = live_changes(self._at, memory.at, room, ids, room, kinds, room, memory.total)
-            count = memory.cells[memory.length]
+            told = _Told(told.count.value)
+            code = live_changes(self._at, *told.there)
         accept(code)
-        cells = memory.cells
-        numbers = cells[2 * room : 2 * room + (count + 7) // 8].tobytes()[:count]
-        changes = map(WindowChange, cells[:count], cells[room : room + count], map(_KINDS.__getitem__, numbers))
-        given_back(memory)
-        return list(changes)
+        if told.room <= MOST_KEPT:
+            self._told = told
+        count = told.count.value
+        kinds = map(_KINDS.__getitem__, told.kinds[:count])
+        return list(map(_change, zip(told.windows[:count], told.ids[:count], kinds)))
