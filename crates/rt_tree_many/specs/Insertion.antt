@@ -5,7 +5,7 @@ use Rattle.std.specs.Ordering.{int_eq}
 use Rattle.rt_check.specs.Shadow.{ShadowLists}
 use Rattle.rt_tree.specs.Changes.{IsInsertion}
 use Rattle.rt_tree.specs.Moving.{TakesRow}
-use Rattle.rt_tree.specs.Packing.{ids}
+use Rattle.rt_map.specs.Packing.{ids}
 use Rattle.rt_tree.specs.Rows.{rows_of, box_of}
 use Rattle.rt_tree_node.specs.Whole.{most_rows_of_a_tree}
 use Rattle.rt_tree_node.specs.declared.arena.Work.{Work}
