@@ -78,7 +78,8 @@ fn search<const D: usize>(
         LIKELY_ROWS
     };
     let mut rows = Vec::with_capacity(alloc, room)?;
-    let visited = tree.search_into(alloc, window, &mut rows)?;
+    let mut reached = Vec::new(alloc);
+    let visited = tree.search_into(window, &mut rows, &mut reached)?;
     Ok(Found { rows, visited })
 }
 

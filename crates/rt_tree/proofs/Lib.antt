@@ -4,7 +4,7 @@ pub mod Kept
 pub mod Rows
 pub mod Reading
 pub mod Boxes
-pub mod Reached
+pub mod Finds
 pub mod Fresh
 pub mod Lookup
 pub mod Located

@@ -16,7 +16,8 @@
 //! - `is_in_shape`, `has_boxes` and `is_small` hold of each tree, whatever was done to it: the checker finds no problem,
 //!   each cell has a box, and there are few nodes and few levels.
 //! - `search` lists the rows that a window admits, and counts the nodes that it went into; `search_into` appends them to a
-//!   list of the caller's, and `count` says how many they are.
+//!   list of the caller's, who also keeps the list of the nodes reached: if both have room, it can't fail. `count` says how
+//!   many rows there are.
 //! - `nearest` lists the rows whose boxes are nearest to a point, `within` those of them within a distance, and
 //!   `nearest_to` the rows nearest to a box.
 //! - `join` lists the pairs of rows, one of each of two trees, whose boxes touch, and `join_self` those of one tree.
@@ -41,5 +42,5 @@ pub use rt_tree_join::Pair;
 pub use rt_tree_node::Work;
 pub use rt_tree_pack::PackFault;
 pub use rt_tree_restore::RestoreFault;
-pub use rt_tree_walk::{Found, Row};
+pub use rt_tree_walk::{Found, Reached, Row};
 pub use tree::{MOST_ROWS_OF_A_TREE, Tree};

@@ -3,7 +3,7 @@
 //! Rows come and go without taking memory: `reserve` makes room for the nodes of any tree with that many rows. Between two
 //! calls no cell is pending and no node is out of shape (`IsKept` in `specs/TreeInside.antt`).
 
-ghost use Rattle.std.specs.Prelude.{◌≡◌, ◌≢◌, ◌<◌, ◌≤◌, ◌+◌, ◌-◌, ◌*◌, ◌/◌, ◌^◌, ◌↔◌, ℤ, [], max, length, is_some, Some, None, IsSome, IfSome, IsNone, IfNone, IfOk, IfErr, OnOk, OnErr};
+ghost use Rattle.std.specs.Prelude.{◌≡◌, ◌≢◌, ◌<◌, ◌≤◌, ◌+◌, ◌-◌, ◌*◌, ◌/◌, ◌^◌, ◌↔◌, ℤ, [], max, length, is_some, vec_capacity, Some, None, IsSome, IfSome, IsNone, IfNone, IsOk, IfOk, IfErr, OnOk, OnErr};
 ghost use Rattle.std.specs.List.{list_any, count_by};
 ghost use Rattle.std.specs.Ordering.{int_eq};
 ghost use Rattle.rt_box.specs.Capacity.{least_fill};
@@ -14,7 +14,7 @@ ghost use Rattle.rt_tree.specs.Boxes.{HasBoxes};
 ghost use Rattle.rt_tree.specs.Changes.{IsInsertion, IsRemoval, ReplacesOther};
 ghost use Rattle.rt_tree.specs.Packing.{ids, IsPackedOf};
 ghost use Rattle.rt_tree.specs.Restoring.{IsRestoredOf, IsRestoreFaultOf};
-ghost use Rattle.rt_tree.specs.Search.{FindsIn, FindsInAfter, CountsIn};
+ghost use Rattle.rt_tree.specs.Search.{FindsIn, FindsInAfter, CountsIn, HasRoomToFindIn};
 ghost use Rattle.rt_tree.specs.Join.{JoinsIn, JoinsItselfIn};
 ghost use Rattle.rt_tree.specs.Bounds.{IsLeastAround};
 ghost use Rattle.rt_tree_bytes.specs.TreeBytes.{tree_bytes};
@@ -37,7 +37,7 @@ use rt_tree_pack::PackFault;
 use rt_tree_place::{insert_row, levels_are_few, nodes_are_few};
 use rt_tree_remove::{find_row, remove_found, replace_found};
 use rt_tree_restore::RestoreFault;
-use rt_tree_walk::{Found, Row, count, search, search_into};
+use rt_tree_walk::{Found, Reached, Row, count, search, search_into};
 use slab::Slab;
 use std::alloc::{AllocError, Global};
 use std::hash::RandomState;
@@ -280,6 +280,13 @@ impl<const D: usize> Tree<D> {
         self.arena.leaves.len()
     }
 
+    /// The greatest number of cells in a node.
+    pub fn capacity(&self) -> Capacity
+        ensures { result ≡ self.now.lists.capacity }
+    {
+        self.arena.capacity
+    }
+
     /// How many more rows `insert` takes without asking for memory.
     pub fn spare(&self) -> usize
         ensures { result ≡ self.now.spare }
@@ -406,23 +413,27 @@ impl<const D: usize> Tree<D> {
         search(alloc, &self.arena, window)
     }
 
-    /// Appends the rows whose boxes the window admits, and returns the number of nodes that the search went into. A list
-    /// that is kept between searches asks for memory only a few times.
+    /// Appends the rows whose boxes the window admits, and returns the number of nodes that the search went into. What
+    /// `reached` held is dropped. Both lists keep their memory, so searches that share them ask for some only a few times.
     ///
     /// # Errors
     ///
-    /// `AllocError` if no memory is left for the rows found, or for the list of the nodes reached: 16 bytes a node. Some of
-    /// the rows that were found may then stand in the list.
+    /// `AllocError` if no memory is left for the rows found, or for the nodes reached: 16 bytes a node. Some of the rows that
+    /// were found may then stand in the list. If `rows` has room for the rows found, and `reached` for the nodes of the tree,
+    /// the search doesn't fail.
     pub fn search_into(
         &self,
-        alloc: Global,
         window: &Window<D>,
         rows: &mut Vec<Row<D>>,
+        reached: &mut Vec<Reached>,
     ) -> Result<u64, AllocError>
         ensures ok { IfOk result (λ nodes. FindsInAfter self.now.lists window.now rows.old.items rows.new.items nodes) }
         ensures err { OnErr result (StaysInFront rows.old.items rows.new.items) }
+        ensures succeeds { HasRoomToFindIn self.now.lists window.now rows.old reached.old → IsOk result }
+        ensures rows_capacity { vec_capacity rows.old ≤ vec_capacity rows.new }
+        ensures nodes_capacity { vec_capacity reached.old ≤ vec_capacity reached.new }
     {
-        search_into(alloc, &self.arena, window, rows)
+        search_into(&self.arena, window, rows, reached)
     }
 
     /// Counts the rows whose boxes the window admits: as many as `search` would find, without a list of them.
@@ -524,6 +535,7 @@ impl<const D: usize> Tree<D> {
     /// `AllocError` if no memory is left, or if more rows than 2^42 are asked for, which no machine holds; the tree is then
     /// as before.
     pub fn reserve(&mut self, more: usize) -> Result<(), AllocError>
+        ensures same { more ≤ self.old.spare → (self.new ≡ self.old) × IsOk result }
         ensures room { OnOk result (more ≤ self.new.spare) }
         ensures keeps { self.old.spare ≤ self.new.spare }
         ensures most { self.new.spare ≤ max self.old.spare (max more (length self.old.lists.rows)) }

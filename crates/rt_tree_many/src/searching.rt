@@ -23,10 +23,10 @@ pub fn search_many<const D: usize>(
     ensures { IfOk result (λ found. FindsMany tree.now.lists windows.now found.ids.items found.starts.items) }
 {
     let mut found = FoundMany::with_room(alloc, windows.len())?;
-    let mut rows = Vec::new(alloc);
+    let (mut rows, mut reached) = (Vec::new(alloc), Vec::new(alloc));
     for window in windows {
         rows.clear();
-        let _ = tree.search_into(alloc, window, &mut rows)?;
+        let _ = tree.search_into(window, &mut rows, &mut reached)?;
         found.add(&rows)?;
     }
     Ok(found)

@@ -4,7 +4,7 @@ use Rattle.rt_tree_walk.specs.Search.{Counts}
 use Rattle.rt_tree.specs.Lists.{TreeLists}
 use Rattle.rt_tree.specs.Search.{CountsIn}
 use Rattle.rt_tree.proofs.Kept.{settled}
-use Rattle.rt_tree.proofs.Reached.{counts-in}
+use Rattle.rt_tree.proofs.Finds.{counts-in}
 use Rattle.rt_tree.proofs.tree.Tree.count.Goals as goal
 
 pub returns : goal.returns

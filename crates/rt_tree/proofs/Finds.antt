@@ -95,5 +95,8 @@ module _ {D : ℕ} (t : Arena D) (s : IsSettled t) (window : List Interval) wher
     counted = f.counted ∙ sym (length-map f.nodes (number t));
   }
 
+  pub counts-back : (count : ℕ) → CountsIn (outside t) window count → Counts t window count
+  counts-back count f = record { rows = f.rows; admitted = f.admitted; each = λ test asks. f.each test asks ∙ rows-counted t s test; counted = f.counted }
+
   pub counts-in : (count : ℕ) → Counts t window count → CountsIn (outside t) window count
   counts-in count f = record { rows = f.rows; admitted = f.admitted; each = λ test asks. f.each test asks ∙ sym (rows-counted t s test); counted = f.counted }
