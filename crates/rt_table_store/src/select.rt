@@ -11,7 +11,7 @@ ghost use Rattle.rt_tree.specs.Search.{FindsIn};
 ghost use Rattle.rt_table_row.specs.Rows.{TableRow};
 ghost use Rattle.rt_table_row.specs.Filters.{admits};
 ghost use Rattle.rt_table_row.specs.Windows.{IsWindowAt};
-ghost use Rattle.rt_table_store.specs.Trees.{Visits};
+ghost use Rattle.rt_table_store.specs.Visiting.{Visits};
 ghost use Rattle.rt_table_store.specs.Picking.{Stands, ArePicked, passing_rows, picked_rows, picked_ids, HasFreeWindow, VisitsBy, VisitsFreely};
 ghost use Rattle.rt_table_store.specs.declared.select.Nodes.TheVariants.{Counted};
 

@@ -15,10 +15,11 @@ pub mod Along
 pub mod Entries
 pub mod Leads
 pub mod Exact
+pub mod Ruled
 pub mod Low
 pub mod Nearby
-pub mod FromRows
 pub mod Around
 pub mod Once
 pub mod Boxed
-pub mod FromShadow
+pub mod BareKept
+pub mod Everything

@@ -7,6 +7,7 @@ ghost use Rattle.rt_tree_many.specs.Parts.{FindsMany, FindsNearest};
 
 use crate::parts::FoundMany;
 use rt_box::Window;
+use rt_map::nearest;
 use rt_tree::Tree;
 use std::alloc::{AllocError, Global};
 
@@ -67,7 +68,7 @@ pub fn nearest_many<const D: usize>(
 {
     let mut found = FoundMany::with_room(alloc, points.len())?;
     for point in points {
-        let rows = tree.nearest(alloc, point, k)?;
+        let rows = nearest(alloc, tree, point, k)?;
         found.add(&rows)?;
     }
     Ok(found)

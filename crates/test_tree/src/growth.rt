@@ -3,6 +3,7 @@
 
 use crate::rows::{insert_reserved, remove};
 use rt_box::{Capacity, Rect, Window};
+use rt_map::nearest;
 use rt_tree::Tree;
 use std::hash::RandomState;
 use std::process::Abort;
@@ -35,7 +36,7 @@ fn find(rt: &(impl Abort + AllocGlobal), tree: &Tree<2>) {
         assert!(rt; rows.len() >= before, "{turn}");
         assert!(rt; !is_found || rows.len() == before.wrapping_add(tree.len()));
     }
-    if let Ok(nearest) = tree.nearest(rt.alloc(), &[37, 53], 1) {
+    if let Ok(nearest) = nearest(rt.alloc(), &tree, &[37, 53], 1) {
         // Row 1 begins there.
         let id = nearest.first().map(|row| row.id);
         assert!(rt; id == tree.contains(&1).then_some(1));
