@@ -18,11 +18,7 @@ use Rattle.rt_tree.specs.Rows.{box_of, rows_of, GainsRow, LosesRow}
 use Rattle.rt_tree.specs.Changes.{IsInsertion, IsRemoval}
 use Rattle.rt_tree.specs.Moving.{TakesRow, DropsRow}
 use Rattle.rt_tree.specs.Replacing.{IsReplacement}
-<<<<<<< HEAD
-use Rattle.rt_tree.specs.Restoring.{IsRestoredOf}
-=======
 use Rattle.rt_map.specs.Restoring.{IsRestoredOf}
->>>>>>> 70aac6b676dd9d69acde80abf8fa2511f657b3c4
 use Rattle.rt_tree_node.specs.Whole.{most_rows_of_a_tree}
 use Rattle.rt_tree_node.specs.declared.arena.Work.{Work}
 use Rattle.rt_tree_nearest.specs.Nearest.{nearest_rows}

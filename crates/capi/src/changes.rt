@@ -145,12 +145,7 @@ fn seen<const D: usize>(live: &Live<D>, window: i64, ids: &mut [i64], total: &mu
 }
 
 /// The same of any number of axes.
-fn seen_in(
-    live: &AnyLive,
-    window: i64,
-    ids: &mut [i64],
-    total: &mut u64,
-) -> Code
+fn seen_in(live: &AnyLive, window: i64, ids: &mut [i64], total: &mut u64) -> Code
     ensures told { OfAxes live.now (λ D. TellsSeen window ids.old ids.new total.new) result }
     ensures kept { result ≢ Done → result ≢ BufferTooSmall → (ids.new ≡ ids.old) × (total.new ≡ total.old) }
 {

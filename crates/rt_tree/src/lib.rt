@@ -4,13 +4,6 @@
 //! `Tree` is seen as lists, the way `rt_check` takes a tree from outside: its nodes in preorder, numbered from 1, with
 //! their cells, and an entry for each row.
 //!
-<<<<<<< HEAD
-//! - `from_rows` makes a tree of a list of rows, packed all at once.
-//! - `from_shadow` makes a tree of a shadow: that very tree if its nodes stand in preorder, which is tested and not proved, or
-//!   else one of its rows.
-//! - `to_bytes` writes the tree in a compact form, and `from_bytes` makes a tree with given bytes.
-=======
->>>>>>> 70aac6b676dd9d69acde80abf8fa2511f657b3c4
 //! - `insert` and `remove` take no memory and don't fail: `reserve` made the room. They make of the nested tree that the nodes
 //!   show what the rules make of it (`rt_tree_rules`). Each other row stays, and if no node gets overfull or underfull, no other
 //!   row moves. `take` removes a row that may be missing.
@@ -24,20 +17,10 @@
 //! - `bounds` is the least box around all rows. `ids` tells the ids in an order that stays while the tree does.
 //! - `arena` and `from_arena` are for the crates that read and make whole trees, as `rt_map` does.
 //!
-<<<<<<< HEAD
-//! Stands on `rt_tree_node`, `rt_tree_walk`, `rt_tree_outside`, `rt_tree_nearest`, `rt_tree_join`, `rt_tree_place`,
-//! `rt_tree_remove`, `rt_tree_obeys`, `rt_tree_pack`, `rt_tree_restore` and `rt_tree_bytes`, and on `rt_check` for the tree from
-//! outside.
-//! Definitions: `specs/Lists.antt` (a tree from outside), `Rows.antt`, `Boxes.antt`, `Bounds.antt`, `Changes.antt` (insertion
-//! and removal), `Moving.antt` (which rows move), `Replacing.antt`, `Search.antt`, `Join.antt`, `Way.antt`, `Packing.antt` (a
-//! tree of a list of rows), `Restoring.antt` (a tree of a shadow), `specs/Nearest.antt` of `rt_tree_nearest`, and
-//! `specs/TreeBytes.antt` of `rt_tree_bytes`.
-=======
 //! Stands on `rt_tree_node`, `rt_tree_walk`, `rt_tree_outside`, `rt_tree_place`, `rt_tree_remove` and `rt_tree_obeys`, and on
 //! `rt_check` for the tree from outside. Definitions: `specs/Lists.antt` (a tree from outside), `Rows.antt`, `Boxes.antt`,
 //! `Bounds.antt`, `Changes.antt` (insertion and removal), `Moving.antt` (which rows move), `Replacing.antt`, `Search.antt`,
 //! `Way.antt`, `Kept.antt` (what holds of its nodes).
->>>>>>> 70aac6b676dd9d69acde80abf8fa2511f657b3c4
 #![tactic(auto)]
 
 mod bounds;

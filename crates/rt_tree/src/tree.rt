@@ -14,14 +14,7 @@ ghost use Rattle.rt_tree.specs.Boxes.{HasBoxes};
 ghost use Rattle.rt_tree.specs.Changes.{IsInsertion, IsRemoval};
 ghost use Rattle.rt_tree.specs.Moving.{TakesRow, DropsRow};
 ghost use Rattle.rt_tree.specs.Replacing.{ReplacesOther};
-<<<<<<< HEAD
-ghost use Rattle.rt_tree.specs.Packing.{ids, IsPackedOf};
-ghost use Rattle.rt_tree.specs.Restoring.{IsRestoredOf, IsRestoreFaultOf};
-ghost use Rattle.rt_tree.specs.Search.{FindsIn, FindsInAfter, CountsIn};
-ghost use Rattle.rt_tree.specs.Join.{JoinsIn, JoinsItselfIn};
-=======
 ghost use Rattle.rt_tree.specs.Search.{FindsIn, FindsInAfter, CountsIn, HasRoomToFindIn};
->>>>>>> 70aac6b676dd9d69acde80abf8fa2511f657b3c4
 ghost use Rattle.rt_tree.specs.Bounds.{IsLeastAround};
 ghost use Rattle.indexmap.specs.IndexMap.{keys};
 ghost use Rattle.rt_tree_outside.specs.Outside.{outside};
