@@ -11,6 +11,7 @@ use crate::buffer::copy_to;
 use crate::code::Code;
 use crate::handle::fill;
 use crate::keys::Keys;
+use crate::lending::{AnyTree, tree_in};
 use rt_box::Capacity;
 use rt_handle::{Handle, HeldTree, Object, Pass, Words};
 use rt_map::{BytesFault, from_bytes, to_bytes};
@@ -119,12 +120,11 @@ pub extern "C" fn juicedelta_tree_to_bytes(
     ensures pass { IsSame pass result.pass }
 {
     let lease = pass.open();
-    let code = match lease.peek(handle) {
-        None => Code::Closed,
-        Some(Object::Line(kept)) => write_bytes(alloc, &kept.tree, bytes, total),
-        Some(Object::Plane(kept)) => write_bytes(alloc, &kept.tree, bytes, total),
-        Some(Object::Space(kept)) => write_bytes(alloc, &kept.tree, bytes, total),
-        Some(Object::Script(_)) => Code::OtherKind,
+    let code = match tree_in(lease.peek(handle)) {
+        Ok(AnyTree::Line(lent)) => write_bytes(alloc, lent.tree, bytes, total),
+        Ok(AnyTree::Plane(lent)) => write_bytes(alloc, lent.tree, bytes, total),
+        Ok(AnyTree::Space(lent)) => write_bytes(alloc, lent.tree, bytes, total),
+        Err(code) => code,
     };
     hand_back(code, lease)
 }

@@ -58,7 +58,7 @@ fn pack_ordered<const D: usize>(
 }
 
 /// The capacity with that number of cells, if there is one.
-fn capacity_of(capacity: u32) -> Option<Capacity>
+pub fn capacity_of(capacity: u32) -> Option<Capacity>
     ensures { MatchOption result (¬ IsCapacity capacity) (λ made. made ≡ capacity) }
 {
     let Ok(greatest) = u8::try_from(capacity) else {

@@ -10,6 +10,7 @@ ghost use Rattle.capi.specs.declared.code.Code.TheVariants.{Done, BufferTooSmall
 
 use crate::answer::{Answer, PairAnswer, hand_back, hand_back_both};
 use crate::code::Code;
+use crate::lending::{AnyTree, tree_in};
 use rt_handle::{Object, Pass, Words};
 use rt_map::{Pair, join, join_self};
 use rt_tree::Tree;
@@ -100,33 +101,18 @@ fn join_objects(
     ensures kept { result ≢ Done → result ≢ BufferTooSmall →
         (left.new ≡ left.old) × (right.new ≡ right.old) × (total.new ≡ total.old) }
 {
-    match (one, other) {
-        (Object::Line(one), Object::Line(other)) => join(
-            alloc,
-            &one.tree,
-            &other.tree,
-            left,
-            right,
-            total,
-        ),
-        (Object::Plane(one), Object::Plane(other)) => join(
-            alloc,
-            &one.tree,
-            &other.tree,
-            left,
-            right,
-            total,
-        ),
-        (Object::Space(one), Object::Space(other)) => join(
-            alloc,
-            &one.tree,
-            &other.tree,
-            left,
-            right,
-            total,
-        ),
-        (Object::Script(_), _) => Code::OtherKind,
-        (_, Object::Script(_)) => Code::OtherKind,
+    match (tree_in(Some(one)), tree_in(Some(other))) {
+        (Err(code), _) => code,
+        (_, Err(code)) => code,
+        (Ok(AnyTree::Line(one)), Ok(AnyTree::Line(other))) => {
+            join(alloc, one.tree, other.tree, left, right, total)
+        }
+        (Ok(AnyTree::Plane(one)), Ok(AnyTree::Plane(other))) => {
+            join(alloc, one.tree, other.tree, left, right, total)
+        }
+        (Ok(AnyTree::Space(one)), Ok(AnyTree::Space(other))) => {
+            join(alloc, one.tree, other.tree, left, right, total)
+        }
         _ => Code::BadAxes,
     }
 }
@@ -207,12 +193,11 @@ pub extern "C" fn juicedelta_tree_join_self(
     ensures pass { IsSame pass result.pass }
 {
     let lease = pass.open();
-    let code = match lease.peek(handle) {
-        None => Code::Closed,
-        Some(Object::Line(kept)) => join_self(alloc, &kept.tree, left, right, total),
-        Some(Object::Plane(kept)) => join_self(alloc, &kept.tree, left, right, total),
-        Some(Object::Space(kept)) => join_self(alloc, &kept.tree, left, right, total),
-        Some(Object::Script(_)) => Code::OtherKind,
+    let code = match tree_in(lease.peek(handle)) {
+        Ok(AnyTree::Line(lent)) => join_self(alloc, lent.tree, left, right, total),
+        Ok(AnyTree::Plane(lent)) => join_self(alloc, lent.tree, left, right, total),
+        Ok(AnyTree::Space(lent)) => join_self(alloc, lent.tree, left, right, total),
+        Err(code) => code,
     };
     hand_back(code, lease)
 }
