@@ -9,9 +9,9 @@ ghost use Rattle.capi.specs.declared.code.Code.TheVariants.{Done, BufferTooSmall
 use crate::answer::{Answer, hand_back};
 use crate::buffer::copy_to;
 use crate::code::Code;
-use crate::lending::{AnyTree, tree_in};
 use crate::handle::fill;
 use crate::keys::Keys;
+use crate::lending::{AnyTree, tree_in};
 use rt_box::Capacity;
 use rt_handle::{Handle, HeldTree, Object, Pass, Words};
 use rt_map::{BytesFault, from_bytes, to_bytes};

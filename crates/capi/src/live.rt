@@ -19,11 +19,7 @@ use std::alloc::Global;
 use std::hash::RandomState;
 
 /// Rows and windows, none so far.
-fn new_live<const D: usize>(
-    alloc: Global,
-    capacity: u32,
-    keys: &Keys,
-) -> Result<HeldLive<D>, Code>
+fn new_live<const D: usize>(alloc: Global, capacity: u32, keys: &Keys) -> Result<HeldLive<D>, Code>
     requires some { 1 ≤ D }
     requires few { D ≤ 3 }
     ensures { MakesNew capacity result }
@@ -113,12 +109,7 @@ fn insert_between<const D: usize>(
 }
 
 /// Inserts a row with the box of these numbers.
-fn insert<const D: usize>(
-    live: &mut Live<D>,
-    id: i64,
-    numbers: &[i32],
-    changes: &mut u64,
-) -> Code
+fn insert<const D: usize>(live: &mut Live<D>, id: i64, numbers: &[i32], changes: &mut u64) -> Code
     requires some { 1 ≤ D }
     requires few { D ≤ 3 }
     ensures edited { WithBox numbers.now (RowComes id changes.new) live.old live.new result }
@@ -189,12 +180,7 @@ fn replace_between<const D: usize>(
 }
 
 /// Gives a row another box with the box of these numbers.
-fn replace<const D: usize>(
-    live: &mut Live<D>,
-    id: i64,
-    numbers: &[i32],
-    changes: &mut u64,
-) -> Code
+fn replace<const D: usize>(live: &mut Live<D>, id: i64, numbers: &[i32], changes: &mut u64) -> Code
     requires some { 1 ≤ D }
     requires few { D ≤ 3 }
     ensures edited { WithBox numbers.now (RowMoves id changes.new) live.old live.new result }

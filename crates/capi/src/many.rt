@@ -186,7 +186,9 @@ fn search_each_in(
         (starts.new ≡ starts.old) × (ids.new ≡ ids.old) × (total.new ≡ total.old) }
 {
     match tree_in(held) {
-        Ok(AnyTree::Line(lent)) => search_each(alloc, lent.tree, relation, windows, starts, ids, total),
+        Ok(AnyTree::Line(lent)) => search_each(
+            alloc, lent.tree, relation, windows, starts, ids, total,
+        ),
         Ok(AnyTree::Plane(lent)) => search_each(
             alloc, lent.tree, relation, windows, starts, ids, total,
         ),
@@ -359,7 +361,15 @@ pub extern "C" fn juicedelta_tree_search_many(
     ensures pass { IsSame pass result.pass }
 {
     let lease = pass.open();
-    let code = search_each_in(alloc, lease.peek(handle), relation, windows, starts, ids, total);
+    let code = search_each_in(
+        alloc,
+        lease.peek(handle),
+        relation,
+        windows,
+        starts,
+        ids,
+        total,
+    );
     hand_back(code, lease)
 }
 

@@ -2,9 +2,8 @@
 
 ghost use Rattle.std.specs.Prelude.{◌≡◌, ◌+◌, ◌<◌, ◌≤◌, ◌++◌, Some, length, vec_capacity, IsOk, OnOk, OnErr};
 ghost use Rattle.std.specs.List.{filter};
-ghost use Rattle.rt_tree.specs.Rows.{rows_of};
 ghost use Rattle.rt_live.specs.Finding.{is_apart, rows_around, AppendsNew};
-ghost use Rattle.rt_live.specs.Room.{around, HasRoomToAppend, HasRoomAround, Grows};
+ghost use Rattle.rt_live.specs.Room.{HasRoomToAppend, HasRoomAround, Grows};
 
 use crate::touching::{is_touched, touching};
 use rt_box::Rect;

@@ -7,8 +7,7 @@ ghost use Rattle.std.specs.Prelude.{◌≡◌, ◌≢◌, ◌≤◌, ◌<◌, No
 ghost use Rattle.rt_tree_node.specs.Whole.{most_rows_of_a_tree};
 ghost use Rattle.rt_live.specs.Rows.{AreRising, rows_by_id, box_at};
 ghost use Rattle.rt_live.specs.Live.{empty, with_row, with_window, seen};
-ghost use Rattle.rt_live.specs.LiveInside.{nodes_ahead};
-ghost use Rattle.rt_live.specs.Room.{around, KeepsRoom};
+ghost use Rattle.rt_live.specs.Room.{around, HasRoom};
 ghost use Rattle.rt_live.specs.declared.fault.Fault.TheVariants.{Taken, Missing, WindowTaken, NoWindow, Memory};
 ghost use Rattle.rt_live.specs.Faults.{IsFaultOfInsertion, IsFaultOfEdit, IsFaultOfWatch, IsFaultOfWindow};
 
@@ -72,15 +71,14 @@ fn empty_scratch<const D: usize>(alloc: Global) -> Scratch<D> {
     }
 }
 
-/// The most nodes that the tree has while its rows fit into the room that there is.
-fn nodes_ahead<const D: usize>(tree: &Tree<D>) -> Result<usize, AllocError>
-    ensures { IfOk result (λ nodes. nodes ≡ nodes_ahead tree.now) }
+/// How many nodes a search of the tree is to have room for: those that there are, and those that more rows may need.
+fn nodes_of<const D: usize>(tree: &Tree<D>) -> usize
+    ensures { length tree.now.lists.nodes ≤ result }
 {
     let capacity = tree.capacity();
     capacity.facts();
-    let rows = tree.len().checked_add(tree.spare()).ok_or(AllocError)?;
-    let nodes = rows / (capacity.least() - 1);
-    nodes.checked_add(1).ok_or(AllocError)
+    let rows = tree.len().saturating_add(tree.spare());
+    tree.node_count().max(rows / (capacity.least() - 1))
 }
 
 /// The ids of rows.
@@ -170,8 +168,8 @@ impl<const D: usize> Live<D> {
     }
 
     /// Makes room for so many more rows and windows, and for edits that look at no more than so many windows, or rows: those
-    /// around the old box and the new one. While room lasts, such an edit can't fail for want of memory. An insertion or a new
-    /// box uses up the room of one row, a new window or another box of a window that of one window.
+    /// around the old box and the new one. The next edit that keeps to that can't fail for want of memory. Each row and
+    /// window that gets a box uses up the room of one.
     ///
     /// # Errors
     ///
@@ -181,6 +179,7 @@ impl<const D: usize> Live<D> {
         ensures rows { OnOk result (rows ≤ self.new.row_room) }
         ensures windows { OnOk result (windows ≤ self.new.window_room) }
         ensures changes { OnOk result (changes ≤ self.new.change_room) }
+        ensures room { OnOk result (HasRoom self.new rows windows changes) }
     {
         self.rows.reserve(rows)?;
         self.windows.reserve(windows)?;
@@ -188,7 +187,7 @@ impl<const D: usize> Live<D> {
         self.changes.reserve(changes)?;
         self.scratch.found.reserve(changes)?;
         self.scratch.last.reserve(changes)?;
-        let nodes = nodes_ahead(&self.rows)?.max(nodes_ahead(&self.windows)?);
+        let nodes = nodes_of(&self.rows).max(nodes_of(&self.windows));
         self.scratch.reached.reserve(nodes)?;
         Ok(())
     }
@@ -205,9 +204,7 @@ impl<const D: usize> Live<D> {
         ensures ok { OnOk result (self.new.lists ≡ with_row self.old.lists id.now is.now) }
         ensures err { OnErr result (self.new.lists ≡ self.old.lists) }
         ensures succeeds { (IsSome is.now → 1 ≤ self.old.row_room) →
-            around was.now is.now self.old.lists.windows ≤ self.old.change_room → IsOk result }
-        ensures room { (IsSome is.now → 1 ≤ self.old.row_room) → KeepsRoom self.old self.new 1 0 }
-        ensures less_room { is.now ≡ None → KeepsRoom self.old self.new 0 0 }
+            HasRoom self.old 0 0 (around was.now is.now self.old.lists.windows) → IsOk result }
     {
         if does_stay(was, is) {
             self.changes.clear();
@@ -241,9 +238,7 @@ impl<const D: usize> Live<D> {
         ensures ok { OnOk result (self.new.lists ≡ with_window self.old.lists window.now is.now) }
         ensures err { OnErr result (self.new.lists ≡ self.old.lists) }
         ensures succeeds { (IsSome is.now → 1 ≤ self.old.window_room) →
-            around was.now is.now self.old.lists.rows ≤ self.old.change_room → IsOk result }
-        ensures room { (IsSome is.now → 1 ≤ self.old.window_room) → KeepsRoom self.old self.new 0 1 }
-        ensures less_room { is.now ≡ None → KeepsRoom self.old self.new 0 0 }
+            HasRoom self.old 0 0 (around was.now is.now self.old.lists.rows) → IsOk result }
     {
         if does_stay(was, is) {
             self.changes.clear();
@@ -276,9 +271,8 @@ impl<const D: usize> Live<D> {
         ensures err { OnErr result (self.new.lists ≡ self.old.lists) }
         ensures taken { IsSome (box_at self.old.lists.rows id.now) → result ≡ Err Taken }
         ensures fault { IfErr result (IsFaultOfInsertion self.old.lists.rows id.now) }
-        ensures fits { 1 ≤ self.old.row_room →
-            around None (Some rect.now) self.old.lists.windows ≤ self.old.change_room → result ≢ Err Memory }
-        ensures room { 1 ≤ self.old.row_room → KeepsRoom self.old self.new 1 0 }
+        ensures fits { HasRoom self.old 1 0
+            (around None (Some rect.now) self.old.lists.windows) → result ≢ Err Memory }
     {
         self.rows.is_in_shape();
         if self.rows.contains(id) {
@@ -301,9 +295,8 @@ impl<const D: usize> Live<D> {
         ensures err { OnErr result (self.new.lists ≡ self.old.lists) }
         ensures missing { box_at self.old.lists.rows id.now ≡ None → result ≡ Err Missing }
         ensures fault { IfErr result (IsFaultOfEdit self.old.lists.rows id.now) }
-        ensures fits { around (box_at self.old.lists.rows id.now) None self.old.lists.windows ≤ self.old.change_room →
-            result ≢ Err Memory }
-        ensures room { KeepsRoom self.old self.new 0 0 }
+        ensures fits { HasRoom self.old 0 0
+            (around (box_at self.old.lists.rows id.now) None self.old.lists.windows) → result ≢ Err Memory }
     {
         let was = self.rows.get(id);
         if was.is_none() {
@@ -324,9 +317,8 @@ impl<const D: usize> Live<D> {
         ensures err { OnErr result (self.new.lists ≡ self.old.lists) }
         ensures missing { box_at self.old.lists.rows id.now ≡ None → result ≡ Err Missing }
         ensures fault { IfErr result (IsFaultOfEdit self.old.lists.rows id.now) }
-        ensures fits { 1 ≤ self.old.row_room →
-            around (box_at self.old.lists.rows id.now) (Some rect.now) self.old.lists.windows ≤ self.old.change_room → result ≢ Err Memory }
-        ensures room { 1 ≤ self.old.row_room → KeepsRoom self.old self.new 1 0 }
+        ensures fits { HasRoom self.old 1 0
+            (around (box_at self.old.lists.rows id.now) (Some rect.now) self.old.lists.windows) → result ≢ Err Memory }
     {
         let was = self.rows.get(id);
         if was.is_none() {
@@ -347,9 +339,8 @@ impl<const D: usize> Live<D> {
         ensures err { OnErr result (self.new.lists ≡ self.old.lists) }
         ensures taken { IsSome (box_at self.old.lists.windows window.now) → result ≡ Err WindowTaken }
         ensures fault { IfErr result (IsFaultOfWatch self.old.lists.windows window.now) }
-        ensures fits { 1 ≤ self.old.window_room →
-            around None (Some rect.now) self.old.lists.rows ≤ self.old.change_room → result ≢ Err Memory }
-        ensures room { 1 ≤ self.old.window_room → KeepsRoom self.old self.new 0 1 }
+        ensures fits { HasRoom self.old 0 1
+            (around None (Some rect.now) self.old.lists.rows) → result ≢ Err Memory }
     {
         self.windows.is_in_shape();
         if self.windows.contains(window) {
@@ -372,9 +363,8 @@ impl<const D: usize> Live<D> {
         ensures err { OnErr result (self.new.lists ≡ self.old.lists) }
         ensures no_window { box_at self.old.lists.windows window.now ≡ None → result ≡ Err NoWindow }
         ensures fault { IfErr result (IsFaultOfWindow self.old.lists.windows window.now) }
-        ensures fits { around (box_at self.old.lists.windows window.now) None self.old.lists.rows ≤ self.old.change_room →
-            result ≢ Err Memory }
-        ensures room { KeepsRoom self.old self.new 0 0 }
+        ensures fits { HasRoom self.old 0 0
+            (around (box_at self.old.lists.windows window.now) None self.old.lists.rows) → result ≢ Err Memory }
     {
         let was = self.windows.get(window);
         if was.is_none() {
@@ -394,9 +384,8 @@ impl<const D: usize> Live<D> {
         ensures err { OnErr result (self.new.lists ≡ self.old.lists) }
         ensures no_window { box_at self.old.lists.windows window.now ≡ None → result ≡ Err NoWindow }
         ensures fault { IfErr result (IsFaultOfWindow self.old.lists.windows window.now) }
-        ensures fits { 1 ≤ self.old.window_room →
-            around (box_at self.old.lists.windows window.now) (Some rect.now) self.old.lists.rows ≤ self.old.change_room → result ≢ Err Memory }
-        ensures room { 1 ≤ self.old.window_room → KeepsRoom self.old self.new 0 1 }
+        ensures fits { HasRoom self.old 0 1
+            (around (box_at self.old.lists.windows window.now) (Some rect.now) self.old.lists.rows) → result ≢ Err Memory }
     {
         let was = self.windows.get(window);
         if was.is_none() {

@@ -1,7 +1,6 @@
 //! What an edit tells, listed before anything changes.
 
 ghost use Rattle.std.specs.Prelude.{◌≡◌, ◌+◌, ◌<◌, ◌≤◌, ◌++◌, false, length, vec_capacity, IsOk, OnOk, OnErr};
-ghost use Rattle.rt_tree.specs.Rows.{rows_of};
 ghost use Rattle.rt_live.specs.Rows.{rows_by_id};
 ghost use Rattle.rt_live.specs.Changes.{stays, told_each, row_changes, window_changes};
 ghost use Rattle.rt_live.specs.Room.{around, HasRoomAround, Grows};
@@ -67,7 +66,7 @@ pub(crate) fn plan_row<const D: usize>(
     requires moves { stays was.now is.now ≡ false }
     ensures told { OnOk result (changes.new.items ≡ row_changes (rows_by_id windows.now.lists) id.now was.now is.now) }
     ensures succeeds { HasRoomAround windows.now.lists was.now is.now scratch.old →
-        around was.now is.now (rows_of windows.now.lists) ≤ vec_capacity changes.old → IsOk result }
+        around was.now is.now (rows_by_id windows.now.lists) ≤ vec_capacity changes.old → IsOk result }
     ensures grows { Grows scratch.old scratch.new }
     ensures capacity { vec_capacity changes.old ≤ vec_capacity changes.new }
 {
@@ -88,7 +87,7 @@ pub(crate) fn plan_window<const D: usize>(
     requires { D ≤ 3 }
     ensures told { OnOk result (changes.new.items ≡ window_changes (rows_by_id rows.now.lists) window.now was.now is.now) }
     ensures succeeds { HasRoomAround rows.now.lists was.now is.now scratch.old →
-        around was.now is.now (rows_of rows.now.lists) ≤ vec_capacity changes.old → IsOk result }
+        around was.now is.now (rows_by_id rows.now.lists) ≤ vec_capacity changes.old → IsOk result }
     ensures grows { Grows scratch.old scratch.new }
     ensures capacity { vec_capacity changes.old ≤ vec_capacity changes.new }
 {
