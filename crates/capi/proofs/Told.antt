@@ -1,13 +1,14 @@
 -- What a call told of the object of a handle, said of the handle.
 use Rattle.std.proofs.Common.{◌≡◌, ℕ, ℤ, sym, subst}
-use Rattle.std.specs.Prelude.{Option, Result}
+use Rattle.std.specs.Prelude.{Option}
+use Rattle.rt_live.specs.Live.{LiveLists}
 use Rattle.rt_tree.specs.Lists.{TreeLists}
 use Rattle.rt_handle.specs.declared.object.Object.{Object}
-use Rattle.capi.specs.Calls.{Lends, OfLent, OfTree}
+use Rattle.capi.specs.Calls.{OfTree}
 use Rattle.capi.specs.Codes.{number_of}
+use Rattle.capi.specs.Live.{OfLive}
 use Rattle.capi.specs.Pairs.{OfTrees}
 use Rattle.capi.specs.declared.code.Code.{Code}
-use Rattle.capi.specs.declared.lending.AnyTree.{AnyTree}
 
 pub told_of : (says : (D : ℕ) → TreeLists D → Code → Type 0) (seen held : Option Object) (code : Code) (number : ℤ) → seen ≡ held →
     number ≡ number_of code → OfTree seen says (number_of code) → OfTree held says number
@@ -18,7 +19,6 @@ pub told_of_both : (says : (D : ℕ) → TreeLists D → TreeLists D → Code �
 told_of_both says one one_held other other_held code number is other_is same told =
     subst (λ h. OfTrees h other_held says number) is (subst (λ h. OfTrees one h says number) other_is (subst (λ n. OfTrees one other says n) (sym same) told))
 
--- what it told of the tree that the handle lends
-pub told_of_lent : (says : (D : ℕ) → TreeLists D → Code → Type 0) (seen held : Option Object) (lent : Result AnyTree Code) (number : ℤ) → seen ≡ held →
-    Lends seen lent → OfLent lent says number → OfTree held says number
-told_of_lent says seen held lent number is lends told = (lent, subst (λ h. Lends h lent) is lends, told)
+pub told_of_live : (says : (D : ℕ) → LiveLists D → Code → Type 0) (seen held : Option Object) (code : Code) (number : ℤ) → seen ≡ held →
+    number ≡ number_of code → OfLive seen says (number_of code) → OfLive held says number
+told_of_live says seen held code number is same told = subst (λ h. OfLive h says number) is (subst (λ n. OfLive seen says n) (sym same) told)

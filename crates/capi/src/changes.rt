@@ -1,9 +1,10 @@
 //! What is read of live windows: the changes of the last edit, the rows that a window sees, and the windows.
 
-ghost use Rattle.std.specs.Prelude.{◌≡◌, ◌≢◌, ◌≤◌, pos, length};
+ghost use Rattle.std.specs.Prelude.{◌≡◌, ◌≢◌, ◌≤◌, pos, length, option_map};
 ghost use Rattle.rt_handle.specs.Passes.{IsOf, IsSame};
 ghost use Rattle.capi.specs.Buffers.{Copies};
-ghost use Rattle.capi.specs.Live.{OfAxes, OfLive, number_of_kind, windows_of, changed_ids, kinds_of, GivesChanges};
+ghost use Rattle.capi.specs.Codes.{number_of};
+ghost use Rattle.capi.specs.Live.{OfLive, number_of_kind, windows_of, changed_ids, kinds_of, GivesChanges};
 ghost use Rattle.capi.specs.Live.{TellsChanges, TellsSeen, TellsWindows};
 ghost use Rattle.capi.specs.declared.code.Code.TheVariants.{Done, BufferTooSmall};
 
@@ -83,23 +84,26 @@ fn changes<const D: usize>(
     give_changes(live.changes(), windows, ids, kinds, total)
 }
 
-/// The same of any number of axes.
+/// The same of what a handle holds.
 fn changes_in(
-    live: &AnyLive,
+    held: Option<&Object>,
     windows: &mut [i64],
     ids: &mut [i64],
     kinds: &mut [u8],
     total: &mut u64,
 ) -> Code
-    ensures told { OfAxes live.now (λ D. TellsChanges windows.old windows.new
-        ids.old ids.new kinds.old kinds.new total.new) result }
+    ensures told { OfLive (option_map (λ object. object.now) held.entry)
+        (λ D. TellsChanges windows.old windows.new
+        ids.old ids.new kinds.old kinds.new total.new) (number_of result) }
     ensures kept { result ≢ Done → result ≢ BufferTooSmall →
         (windows.new ≡ windows.old) × (ids.new ≡ ids.old) × (kinds.new ≡ kinds.old) × (total.new ≡ total.old) }
 {
-    match live {
-        AnyLive::Line(held) => changes(&held.live, windows, ids, kinds, total),
-        AnyLive::Plane(held) => changes(&held.live, windows, ids, kinds, total),
-        AnyLive::Space(held) => changes(&held.live, windows, ids, kinds, total),
+    match held {
+        None => Code::Closed,
+        Some(Object::Live(AnyLive::Line(held))) => changes(&held.live, windows, ids, kinds, total),
+        Some(Object::Live(AnyLive::Plane(held))) => changes(&held.live, windows, ids, kinds, total),
+        Some(Object::Live(AnyLive::Space(held))) => changes(&held.live, windows, ids, kinds, total),
+        Some(_) => Code::OtherKind,
     }
 }
 
@@ -121,11 +125,7 @@ pub extern "C" fn juicedelta_live_changes(
     ensures pass { IsSame pass result.pass }
 {
     let lease = pass.open();
-    let code = match lease.peek(handle) {
-        None => Code::Closed,
-        Some(Object::Live(live)) => changes_in(live, windows, ids, kinds, total),
-        Some(_) => Code::OtherKind,
-    };
+    let code = changes_in(lease.peek(handle), windows, ids, kinds, total);
     hand_back(code, lease)
 }
 
@@ -144,15 +144,23 @@ fn seen<const D: usize>(live: &Live<D>, window: i64, ids: &mut [i64], total: &mu
     }
 }
 
-/// The same of any number of axes.
-fn seen_in(live: &AnyLive, window: i64, ids: &mut [i64], total: &mut u64) -> Code
-    ensures told { OfAxes live.now (λ D. TellsSeen window ids.old ids.new total.new) result }
+/// The same of what a handle holds.
+fn seen_in(
+    held: Option<&Object>,
+    window: i64,
+    ids: &mut [i64],
+    total: &mut u64,
+) -> Code
+    ensures told { OfLive (option_map (λ object. object.now) held.entry)
+        (λ D. TellsSeen window ids.old ids.new total.new) (number_of result) }
     ensures kept { result ≢ Done → result ≢ BufferTooSmall → (ids.new ≡ ids.old) × (total.new ≡ total.old) }
 {
-    match live {
-        AnyLive::Line(held) => seen(&held.live, window, ids, total),
-        AnyLive::Plane(held) => seen(&held.live, window, ids, total),
-        AnyLive::Space(held) => seen(&held.live, window, ids, total),
+    match held {
+        None => Code::Closed,
+        Some(Object::Live(AnyLive::Line(held))) => seen(&held.live, window, ids, total),
+        Some(Object::Live(AnyLive::Plane(held))) => seen(&held.live, window, ids, total),
+        Some(Object::Live(AnyLive::Space(held))) => seen(&held.live, window, ids, total),
+        Some(_) => Code::OtherKind,
     }
 }
 
@@ -171,11 +179,7 @@ pub extern "C" fn juicedelta_live_rows(
     ensures pass { IsSame pass result.pass }
 {
     let lease = pass.open();
-    let code = match lease.peek(handle) {
-        None => Code::Closed,
-        Some(Object::Live(live)) => seen_in(live, window, ids, total),
-        Some(_) => Code::OtherKind,
-    };
+    let code = seen_in(lease.peek(handle), window, ids, total);
     hand_back(code, lease)
 }
 
@@ -197,21 +201,24 @@ fn windows<const D: usize>(
     rows(tree, from, ids, boxes, total)
 }
 
-/// The same of any number of axes.
+/// The same of what a handle holds.
 fn windows_in(
-    live: &AnyLive,
+    held: Option<&Object>,
     from: u64,
     ids: &mut [i64],
     boxes: &mut [i32],
     total: &mut u64,
 ) -> Code
-    ensures told { OfAxes live.now (λ D. TellsWindows from ids.old ids.new boxes.old boxes.new total.new) result }
+    ensures told { OfLive (option_map (λ object. object.now) held.entry)
+        (λ D. TellsWindows from ids.old ids.new boxes.old boxes.new total.new) (number_of result) }
     ensures kept { result ≢ Done → (ids.new ≡ ids.old) × (boxes.new ≡ boxes.old) × (total.new ≡ total.old) }
 {
-    match live {
-        AnyLive::Line(held) => windows(&held.live, from, ids, boxes, total),
-        AnyLive::Plane(held) => windows(&held.live, from, ids, boxes, total),
-        AnyLive::Space(held) => windows(&held.live, from, ids, boxes, total),
+    match held {
+        None => Code::Closed,
+        Some(Object::Live(AnyLive::Line(held))) => windows(&held.live, from, ids, boxes, total),
+        Some(Object::Live(AnyLive::Plane(held))) => windows(&held.live, from, ids, boxes, total),
+        Some(Object::Live(AnyLive::Space(held))) => windows(&held.live, from, ids, boxes, total),
+        Some(_) => Code::OtherKind,
     }
 }
 
@@ -231,10 +238,6 @@ pub extern "C" fn juicedelta_live_windows(
     ensures pass { IsSame pass result.pass }
 {
     let lease = pass.open();
-    let code = match lease.peek(handle) {
-        None => Code::Closed,
-        Some(Object::Live(live)) => windows_in(live, from, ids, boxes, total),
-        Some(_) => Code::OtherKind,
-    };
+    let code = windows_in(lease.peek(handle), from, ids, boxes, total);
     hand_back(code, lease)
 }

@@ -12,7 +12,7 @@ use crate::answer::{Answer, PairAnswer, hand_back, hand_back_both};
 use crate::code::Code;
 use crate::lending::{AnyTree, tree_in};
 use rt_handle::{Object, Pass, Words};
-use rt_map::{Pair, join, join_self};
+use rt_map::Pair;
 use rt_tree::Tree;
 use std::alloc::Global;
 
@@ -60,7 +60,7 @@ fn join<const D: usize>(
     if right.len() != left.len() {
         return Code::BadLength;
     }
-    match join(alloc, one, other) {
+    match rt_map::join(alloc, one, other) {
         Ok(pairs) => give_pairs(&pairs, left, right, total),
         Err(_) => Code::OutOfMemory,
     }
@@ -81,7 +81,7 @@ fn join_self<const D: usize>(
     if right.len() != left.len() {
         return Code::BadLength;
     }
-    match join_self(alloc, tree) {
+    match rt_map::join_self(alloc, tree) {
         Ok(pairs) => give_pairs(&pairs, left, right, total),
         Err(_) => Code::OutOfMemory,
     }
@@ -175,6 +175,27 @@ pub extern "C" fn juicedelta_tree_join(
     hand_back_both(code, one_lease, other_lease)
 }
 
+/// The same of the tree that a handle lends.
+fn join_self_in(
+    alloc: Global,
+    held: Option<&Object>,
+    left: &mut [i64],
+    right: &mut [i64],
+    total: &mut u64,
+) -> Code
+    ensures told { OfTree (option_map (λ object. object.now) held.entry)
+        (λ D. JoinsItself left.old left.new right.old right.new total.old total.new) (number_of result) }
+    ensures kept { result ≢ Done → result ≢ BufferTooSmall →
+        (left.new ≡ left.old) × (right.new ≡ right.old) × (total.new ≡ total.old) }
+{
+    match tree_in(held) {
+        Ok(AnyTree::Line(lent)) => join_self(alloc, lent.tree, left, right, total),
+        Ok(AnyTree::Plane(lent)) => join_self(alloc, lent.tree, left, right, total),
+        Ok(AnyTree::Space(lent)) => join_self(alloc, lent.tree, left, right, total),
+        Err(code) => code,
+    }
+}
+
 /// The pairs of different rows of a tree whose boxes touch.
 #[unsafe(no_mangle)]
 pub extern "C" fn juicedelta_tree_join_self(
@@ -193,11 +214,6 @@ pub extern "C" fn juicedelta_tree_join_self(
     ensures pass { IsSame pass result.pass }
 {
     let lease = pass.open();
-    let code = match tree_in(lease.peek(handle)) {
-        Ok(AnyTree::Line(lent)) => join_self(alloc, lent.tree, left, right, total),
-        Ok(AnyTree::Plane(lent)) => join_self(alloc, lent.tree, left, right, total),
-        Ok(AnyTree::Space(lent)) => join_self(alloc, lent.tree, left, right, total),
-        Err(code) => code,
-    };
+    let code = join_self_in(alloc, lease.peek(handle), left, right, total);
     hand_back(code, lease)
 }
