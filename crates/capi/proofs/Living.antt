@@ -23,20 +23,25 @@ pub is_there : {X Y E : Type 0} (here : Option X) (y : Y) (missing : E) → (her
 is_there {X} {Y} {E} None y missing refused = absurd (subst (λ (r : Result Y E). IsDone r) (refused refl) tt)
 is_there (Some x) y missing refused = refl
 
-module _ {D : ℕ} (there : List (Row D)) (id : ℤ) (with_box : Option (List Interval) → LiveLists D) (changes : ℕ) (old new : LiveState D) (code : Code) where
-  pub came : (min max : List ℤ) (rect : List Interval) → los rect ≡ min → his rect ≡ max → box_at there id ≡ None → new.lists ≡ with_box (Some rect) →
-      changes ≡ length new.lists.changes → code ≡ Done → Comes there id with_box changes min max old new code
+-- The id that an answer speaks of is the one that was given.
+module _ {D : ℕ} (there : List (Row D)) (given id : ℤ) (same : given ≡ id) (with_box : ℤ → Option (List Interval) → LiveLists D) (changes : ℕ) (old new : LiveState D) (code : Code) where
+  pub came : (min max : List ℤ) (rect : List Interval) → los rect ≡ min → his rect ≡ max → box_at there given ≡ None → new.lists ≡ with_box given (Some rect) →
+      changes ≡ length new.lists.changes → code ≡ Done → Comes there id (with_box id) changes min max old new code
   came min max rect lo hi free made told done =
-      subst (λ k. Comes there id with_box changes min max old new k) (sym done)
-      (rect, lo, hi, free, made, told ∙ ap (λ (l : LiveLists D). length l.changes) made)
+      subst (λ i. Comes there i (with_box i) changes min max old new code) same
+      (subst (λ k. Comes there given (with_box given) changes min max old new k) (sym done)
+      (rect, lo, hi, free, (made, told ∙ ap (λ (l : LiveLists D). length l.changes) made)))
 
-  pub replaced : (min max : List ℤ) (rect : List Interval) → los rect ≡ min → his rect ≡ max → IsSome (box_at there id) → new.lists ≡ with_box (Some rect) →
-      changes ≡ length new.lists.changes → code ≡ Done → Replaces there id with_box changes min max old new code
+  pub replaced : (min max : List ℤ) (rect : List Interval) → los rect ≡ min → his rect ≡ max → IsSome (box_at there given) → new.lists ≡ with_box given (Some rect) →
+      changes ≡ length new.lists.changes → code ≡ Done → Replaces there id (with_box id) changes min max old new code
   replaced min max rect lo hi here made told done =
-      subst (λ k. Replaces there id with_box changes min max old new k) (sym done)
-      (rect, lo, hi, here, made, told ∙ ap (λ (l : LiveLists D). length l.changes) made)
+      subst (λ i. Replaces there i (with_box i) changes min max old new code) same
+      (subst (λ k. Replaces there given (with_box given) changes min max old new k) (sym done)
+      (rect, lo, hi, here, (made, told ∙ ap (λ (l : LiveLists D). length l.changes) made)))
 
-  pub left : IsSome (box_at there id) → new.lists ≡ with_box None → changes ≡ length new.lists.changes → code ≡ Done →
-      Leaves there id with_box changes old new code
+  pub left : IsSome (box_at there given) → new.lists ≡ with_box given None → changes ≡ length new.lists.changes → code ≡ Done →
+      Leaves there id (with_box id) changes old new code
   left here made told done =
-      subst (λ k. Leaves there id with_box changes old new k) (sym done) (here, made, told ∙ ap (λ (l : LiveLists D). length l.changes) made)
+      subst (λ i. Leaves there i (with_box i) changes old new code) same
+      (subst (λ k. Leaves there given (with_box given) changes old new k) (sym done)
+      (here, (made, told ∙ ap (λ (l : LiveLists D). length l.changes) made)))

@@ -22,3 +22,8 @@ told_of_both says one one_held other other_held code number is other_is same tol
 pub told_of_live : (says : (D : ℕ) → LiveLists D → Code → Type 0) (seen held : Option Object) (code : Code) (number : ℤ) → seen ≡ held →
     number ≡ number_of code → OfLive seen says (number_of code) → OfLive held says number
 told_of_live says seen held code number is same told = subst (λ h. OfLive h says number) is (subst (λ n. OfLive seen says n) (sym same) told)
+
+pub told_of_live_by_id : (says : ℤ → (D : ℕ) → LiveLists D → Code → Type 0) (given id : ℤ) (seen held : Option Object) (code : Code) (number : ℤ) →
+    given ≡ id → seen ≡ held → number ≡ number_of code → OfLive seen (says given) (number_of code) → OfLive held (says id) number
+told_of_live_by_id says given id seen held code number one is same told =
+    subst (λ i. OfLive held (says i) number) one (told_of_live (says given) seen held code number is same told)

@@ -11,4 +11,4 @@ returns-in-Ok c =
     let closed : c.args.handle.now.held ≡ None = search rules in
     let made : IsAxes c.args.axes × IsCapacity c.args.capacity × IsLive (IsNewLive c.args.axes) c.in-Ok.object = c.in-Ok.ensures in
     opened (IsLive (IsNewLive c.args.axes)) (MakesNoTree c.args.axes c.args.capacity) _ _ c.in-Ok.object _ _
-    closed c.fill.ensures made.1.1 (made.0, made.1.0) (to_z-of_z fits ∙ c.number-in-Ok.ensures)
+    closed c.fill.ensures made.2 (made.0, made.1) (to_z-of_z fits ∙ c.number-in-Ok.ensures)
