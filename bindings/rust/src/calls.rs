@@ -2,7 +2,8 @@
 //!
 //! A pointer leads to as many items as the length says that follows it or, in what finds rows, `ids_length`.
 
-use std::hash::{BuildHasher, RandomState};
+use std::collections::hash_map::RandomState;
+use std::hash::{BuildHasher, Hasher};
 use std::{ffi::c_void, ptr::NonNull};
 
 use crate::{check, Error};
@@ -26,8 +27,10 @@ unsafe impl Sync for Handle {}
 impl Handle {
     /// What a call opens with two random words, for the hashes of ids.
     pub fn opened(open: impl FnOnce(&mut Self, u64, u64) -> i32) -> Result<Self, Error> {
-        let (mut new, random) = (Self::default(), RandomState::new());
-        check(open(&mut new, random.hash_one(1), random.hash_one(2))).map(|()| new)
+        // Each state has keys of its own, so what it makes of nothing is random.
+        let word = || RandomState::new().build_hasher().finish();
+        let mut new = Self::default();
+        check(open(&mut new, word(), word())).map(|()| new)
     }
 }
 

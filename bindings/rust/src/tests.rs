@@ -25,6 +25,14 @@ thread_local! {
     static COUNTS: Cell<Counts> = const { Cell::new(Counts { allocations: 0, refused: 0, held: 0, most_held: 0 }) };
 }
 
+fn counts() -> Counts {
+    COUNTS.with(Cell::get)
+}
+
+fn set_counts(counts: Counts) {
+    COUNTS.with(|it| it.set(counts));
+}
+
 struct Counted;
 
 #[global_allocator]
@@ -33,12 +41,12 @@ static COUNTED: Counted = Counted;
 // SAFETY: the system's, except what is refused.
 unsafe impl GlobalAlloc for Counted {
     unsafe fn alloc(&self, layout: Layout) -> *mut u8 {
-        let mut counts = COUNTS.get();
+        let mut counts = counts();
         counts.allocations += 1;
         let is_refused = counts.allocations == counts.refused;
         counts.held += if is_refused { 0 } else { layout.size() as isize };
         counts.most_held = counts.most_held.max(counts.held);
-        COUNTS.set(counts);
+        set_counts(counts);
         if is_refused {
             std::ptr::null_mut()
         } else {
@@ -47,16 +55,16 @@ unsafe impl GlobalAlloc for Counted {
     }
 
     unsafe fn dealloc(&self, memory: *mut u8, layout: Layout) {
-        let counts = COUNTS.get();
-        COUNTS.set(Counts { held: counts.held - layout.size() as isize, ..counts });
+        let counts = counts();
+        set_counts(Counts { held: counts.held - layout.size() as isize, ..counts });
         System.dealloc(memory, layout);
     }
 }
 
 /// Refuses the thread's nth allocation from now on.
 fn refuse(nth: usize) {
-    let counts = COUNTS.get();
-    COUNTS.set(Counts { refused: counts.allocations + nth, ..counts });
+    let counts = counts();
+    set_counts(Counts { refused: counts.allocations + nth, ..counts });
 }
 
 fn cube<const D: usize>(min: i32, max: i32) -> Rect<D> {
@@ -558,13 +566,13 @@ fn results() -> Result<(), Error> {
     let tree = line(10_000)?;
     assert!(finds(&tree, 6000)?);
     for rows in [0, 1, 20, 65, 1044, 6000] {
-        let before = COUNTS.get();
+        let before = counts();
         assert!(finds(&tree, rows)?);
-        assert_eq!(COUNTS.get().allocations - before.allocations, usize::from(rows > 0));
+        assert_eq!(counts().allocations - before.allocations, usize::from(rows > 0));
         let found = tree.search_rows(&cube(0, rows - 1))?;
         assert!(found.len() == rows as usize && found.iter().all(|row| row.rect == cube(row.id as i32, row.id as i32)));
         drop(found);
-        assert_eq!(COUNTS.get().held, before.held);
+        assert_eq!(counts().held, before.held);
     }
     Ok(())
 }
@@ -603,12 +611,12 @@ fn output() -> Result<(), Error> {
 fn many() -> Result<(), Error> {
     let tree = line(1 << 20)?;
     assert_eq!((tree.len(), tree.count(&cube(7, 1006))?), (1 << 20, 1000));
-    let before = COUNTS.get().held;
-    COUNTS.set(Counts { most_held: before, ..COUNTS.get() });
+    let before = counts().held;
+    set_counts(Counts { most_held: before, ..counts() });
     for rows in [131_072, 1 << 20] {
         assert_eq!(tree.search(&cube(0, rows - 1))?.len(), rows as usize);
     }
-    assert!(COUNTS.get().most_held - before <= 9 << 20 && COUNTS.get().held - before <= 1 << 20);
+    assert!(counts().most_held - before <= 9 << 20 && counts().held - before <= 1 << 20);
     Ok(())
 }
 

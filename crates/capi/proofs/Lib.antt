@@ -1,5 +1,6 @@
 pub mod Dumped
 pub mod Entries
+pub mod Living
 pub mod Loaded
 mod OnTrees
 pub mod Picking

@@ -4,6 +4,7 @@ pub mod Bytes
 pub mod Calls
 pub mod Codes
 pub mod Insertion
+pub mod Live
 pub mod Loading
 pub mod Many
 pub mod Near

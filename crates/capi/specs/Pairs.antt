@@ -1,15 +1,16 @@
 -- What a call tells of the pairs of rows whose boxes touch (own).
-use Rattle.std.specs.Prelude.{◌≡◌, ℕ, ℤ, List, length, map, Option, Some, None}
-use Rattle.rt_tree.specs.Join.{JoinsIn, JoinsItselfIn}
+use Rattle.std.specs.Prelude.{◌≡◌, ℕ, ℤ, List, length, map, Option, Some, None, Result, Ok, Err}
+use Rattle.rt_map.specs.Join.{JoinsIn, JoinsItselfIn}
 use Rattle.rt_tree.specs.Lists.{TreeLists}
 use Rattle.rt_tree_join.specs.declared.joining.Pair.{Pair}
 use Rattle.rt_handle.specs.declared.object.Object.{Object}
-use Rattle.rt_handle.specs.declared.object.Object.TheVariants.{Script as AScript, Line, Plane, Space}
 use Rattle.capi.specs.Buffers.{Copies, Sized}
-use Rattle.capi.specs.Calls.{Answers}
+use Rattle.capi.specs.Calls.{Answers, Lends}
 use Rattle.capi.specs.Codes.{number_of}
+use Rattle.capi.specs.declared.lending.AnyTree.{AnyTree}
+use Rattle.capi.specs.declared.lending.AnyTree.TheVariants.{Line as LentLine, Plane as LentPlane, Space as LentSpace}
 use Rattle.capi.specs.declared.code.Code.{Code}
-use Rattle.capi.specs.declared.code.Code.TheVariants.{Closed, OtherKind, OutOfMemory, BadLength, BadAxes}
+use Rattle.capi.specs.declared.code.Code.TheVariants.{Closed, OutOfMemory, BadLength, BadAxes}
 
 abbrev pub left_ids : List Pair → List ℤ
 left_ids pairs = map (λ p. p.left) pairs
@@ -23,15 +24,19 @@ abbrev pub GivesPairs : List Pair → List ℤ → List ℤ → List ℤ → Lis
 GivesPairs pairs left new_left right new_right total code =
     (total ≡ length pairs) × Copies (left_ids pairs) left new_left code × Copies (right_ids pairs) right new_right code
 
--- Of two objects the call says that one is no tree, or else that the trees have different numbers of axes; of two trees with as
--- many axes it says this.
+-- Of what was found in two handles the call says that one has no tree, or else that the trees have different numbers of axes; of two
+-- trees with as many axes it says this.
+abbrev pub OfLentBoth : Result AnyTree Code → Result AnyTree Code → ((D : ℕ) → TreeLists D → TreeLists D → Code → Type 0) → ℤ → Type 0
+OfLentBoth (Err code) other says number = number ≡ number_of code
+OfLentBoth (Ok one) (Err code) says number = number ≡ number_of code
+OfLentBoth (Ok (LentLine one)) (Ok (LentLine other)) says number = Answers number (says 1 one.tree.now other.tree.now)
+OfLentBoth (Ok (LentPlane one)) (Ok (LentPlane other)) says number = Answers number (says 2 one.tree.now other.tree.now)
+OfLentBoth (Ok (LentSpace one)) (Ok (LentSpace other)) says number = Answers number (says 3 one.tree.now other.tree.now)
+OfLentBoth (Ok one) (Ok other) says number = number ≡ number_of BadAxes
+
 abbrev pub OfObjects : Object → Object → ((D : ℕ) → TreeLists D → TreeLists D → Code → Type 0) → ℤ → Type 0
-OfObjects (AScript script) other says number = number ≡ number_of OtherKind
-OfObjects one (AScript script) says number = number ≡ number_of OtherKind
-OfObjects (Line one) (Line other) says number = Answers number (says 1 one.tree other.tree)
-OfObjects (Plane one) (Plane other) says number = Answers number (says 2 one.tree other.tree)
-OfObjects (Space one) (Space other) says number = Answers number (says 3 one.tree other.tree)
-OfObjects one other says number = number ≡ number_of BadAxes
+OfObjects one other says number = (left : Result AnyTree Code) × (right : Result AnyTree Code) ×
+    Lends (Some one) left × Lends (Some other) right × OfLentBoth left right says number
 
 -- of two handles the call says that one is closed, or else this of their objects
 abbrev pub OfTrees : Option Object → Option Object → ((D : ℕ) → TreeLists D → TreeLists D → Code → Type 0) → ℤ → Type 0

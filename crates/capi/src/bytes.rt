@@ -11,9 +11,11 @@ use crate::buffer::copy_to;
 use crate::code::Code;
 use crate::handle::fill;
 use crate::keys::Keys;
+use crate::lending::{AnyTree, tree_in};
 use rt_box::Capacity;
 use rt_handle::{Handle, HeldTree, Object, Pass, Words};
-use rt_tree::{BytesFault, Tree};
+use rt_map::{BytesFault, from_bytes, to_bytes};
+use rt_tree::Tree;
 use std::alloc::Global;
 use std::hash::RandomState;
 
@@ -29,7 +31,7 @@ fn write_bytes<const D: usize>(
 ) -> Code
     ensures { WritesBytes buffer.old buffer.new total.old total.new tree.now result }
 {
-    let Ok(bytes) = tree.to_bytes(alloc) else {
+    let Ok(bytes) = to_bytes(alloc, tree) else {
         return Code::OutOfMemory;
     };
     *total = bytes.len() as u64;
@@ -45,7 +47,7 @@ fn read_bytes<const D: usize>(alloc: Global, keys: &Keys, bytes: &[u8]) -> Resul
     let Ok(keys) = RandomState::new(keys) else {
         return Err(Code::OutOfMemory);
     };
-    let tree = match Tree::from_bytes(alloc, keys, bytes) {
+    let tree = match from_bytes(alloc, keys, bytes) {
         Ok(tree) => tree,
         Err(BytesFault::Bad) => return Err(Code::BadBytes),
         Err(BytesFault::TooMany) => return Err(Code::TreeFull),
@@ -118,12 +120,11 @@ pub extern "C" fn juicedelta_tree_to_bytes(
     ensures pass { IsSame pass result.pass }
 {
     let lease = pass.open();
-    let code = match lease.peek(handle) {
-        None => Code::Closed,
-        Some(Object::Line(kept)) => write_bytes(alloc, &kept.tree, bytes, total),
-        Some(Object::Plane(kept)) => write_bytes(alloc, &kept.tree, bytes, total),
-        Some(Object::Space(kept)) => write_bytes(alloc, &kept.tree, bytes, total),
-        Some(Object::Script(_)) => Code::OtherKind,
+    let code = match tree_in(lease.peek(handle)) {
+        Ok(AnyTree::Line(lent)) => write_bytes(alloc, lent.tree, bytes, total),
+        Ok(AnyTree::Plane(lent)) => write_bytes(alloc, lent.tree, bytes, total),
+        Ok(AnyTree::Space(lent)) => write_bytes(alloc, lent.tree, bytes, total),
+        Err(code) => code,
     };
     hand_back(code, lease)
 }

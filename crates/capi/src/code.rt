@@ -18,15 +18,15 @@ pub enum Code {
     BadCapacity,
     /// On some axis the least number is above the greatest.
     BadBox,
-    /// The tree already has a row with that id.
+    /// A row, or a window, already has that id.
     IdTaken,
-    /// The tree has no row with that id.
+    /// No row, or no window, has that id.
     IdMissing,
     /// The result is longer than the buffer.
     BufferTooSmall,
     /// No memory is left.
     OutOfMemory,
-    /// The tree has as many rows as a tree may have.
+    /// There are as many rows, or windows, as a tree may have.
     TreeFull,
     /// The script was finished before.
     Ended,

@@ -84,7 +84,7 @@ fn insert_rows_into(
         Object::Line(kept) => insert_all(alloc, kept, ids, boxes, at),
         Object::Plane(kept) => insert_all(alloc, kept, ids, boxes, at),
         Object::Space(kept) => insert_all(alloc, kept, ids, boxes, at),
-        Object::Script(_) => Code::OtherKind,
+        _ => Code::OtherKind,
     }
 }
 

@@ -1,6 +1,6 @@
 //! Many windows or points in a call.
 
-ghost use Rattle.std.specs.Prelude.{◌≡◌, ◌≢◌, ◌+◌, ◌*◌, ◌≤◌, ◌↔◌, Some, pos, length, IsTrue, IfOk};
+ghost use Rattle.std.specs.Prelude.{◌≡◌, ◌≢◌, ◌+◌, ◌*◌, ◌≤◌, ◌↔◌, pos, length, option_map, IsTrue, IfOk};
 ghost use Rattle.std.specs.List.{AllZip};
 ghost use Rattle.rt_handle.specs.Passes.{IsOf, IsSame};
 ghost use Rattle.capi.specs.Buffers.{Copies};
@@ -13,6 +13,7 @@ ghost use Rattle.capi.specs.declared.code.Code.TheVariants.{Done, BufferTooSmall
 
 use crate::answer::{Answer, hand_back};
 use crate::code::Code;
+use crate::lending::{AnyTree, tree_in};
 use crate::numbers::ends;
 use crate::relation::Relation;
 use crate::window::related_window;
@@ -171,27 +172,30 @@ fn search_each<const D: usize>(
 /// The same in the tree that the object is.
 fn search_each_in(
     alloc: Global,
-    object: &Object,
+    held: Option<&Object>,
     relation: u32,
     windows: &[i32],
     starts: &mut [u64],
     ids: &mut [i64],
     total: &mut u64,
 ) -> Code
-    ensures told { OfTree (Some object.now) (λ D. OfWindows relation (length starts.old) windows.now
+    ensures told { OfTree (option_map (λ object. object.now) held.entry)
+        (λ D. OfWindows relation (length starts.old) windows.now
         (SearchesEach starts.old starts.new ids.old ids.new total.old total.new)) (number_of result) }
     ensures kept { result ≢ Done → result ≢ BufferTooSmall →
         (starts.new ≡ starts.old) × (ids.new ≡ ids.old) × (total.new ≡ total.old) }
 {
-    match object {
-        Object::Line(kept) => search_each(alloc, &kept.tree, relation, windows, starts, ids, total),
-        Object::Plane(kept) => search_each(
-            alloc, &kept.tree, relation, windows, starts, ids, total,
+    match tree_in(held) {
+        Ok(AnyTree::Line(lent)) => search_each(
+            alloc, lent.tree, relation, windows, starts, ids, total,
         ),
-        Object::Space(kept) => search_each(
-            alloc, &kept.tree, relation, windows, starts, ids, total,
+        Ok(AnyTree::Plane(lent)) => search_each(
+            alloc, lent.tree, relation, windows, starts, ids, total,
         ),
-        Object::Script(_) => Code::OtherKind,
+        Ok(AnyTree::Space(lent)) => search_each(
+            alloc, lent.tree, relation, windows, starts, ids, total,
+        ),
+        Err(code) => code,
     }
 }
 
@@ -248,20 +252,20 @@ fn count_each<const D: usize>(
 /// The same in the tree that the object is.
 fn count_each_in(
     alloc: Global,
-    object: &Object,
+    held: Option<&Object>,
     relation: u32,
     windows: &[i32],
     counts: &mut [u64],
 ) -> Code
-    ensures told { OfTree (Some object.now) (λ D. OfWindows relation (length counts.old) windows.now
-        (CountsEach counts.old counts.new)) (number_of result) }
+    ensures told { OfTree (option_map (λ object. object.now) held.entry)
+        (λ D. OfWindows relation (length counts.old) windows.now (CountsEach counts.old counts.new)) (number_of result) }
     ensures kept { result ≢ Done → counts.new ≡ counts.old }
 {
-    match object {
-        Object::Line(kept) => count_each(alloc, &kept.tree, relation, windows, counts),
-        Object::Plane(kept) => count_each(alloc, &kept.tree, relation, windows, counts),
-        Object::Space(kept) => count_each(alloc, &kept.tree, relation, windows, counts),
-        Object::Script(_) => Code::OtherKind,
+    match tree_in(held) {
+        Ok(AnyTree::Line(lent)) => count_each(alloc, lent.tree, relation, windows, counts),
+        Ok(AnyTree::Plane(lent)) => count_each(alloc, lent.tree, relation, windows, counts),
+        Ok(AnyTree::Space(lent)) => count_each(alloc, lent.tree, relation, windows, counts),
+        Err(code) => code,
     }
 }
 
@@ -317,23 +321,23 @@ fn nearest_each<const D: usize>(
 /// The same in the tree that the object is.
 fn nearest_each_in(
     alloc: Global,
-    object: &Object,
+    held: Option<&Object>,
     points: &[i32],
     k: u64,
     starts: &mut [u64],
     ids: &mut [i64],
     total: &mut u64,
 ) -> Code
-    ensures told { OfTree (Some object.now) (λ D. FindsNearestMany k
-        starts.old starts.new ids.old ids.new total.old total.new points.now) (number_of result) }
+    ensures told { OfTree (option_map (λ object. object.now) held.entry)
+        (λ D. FindsNearestMany k starts.old starts.new ids.old ids.new total.old total.new points.now) (number_of result) }
     ensures kept { result ≢ Done → result ≢ BufferTooSmall →
         (starts.new ≡ starts.old) × (ids.new ≡ ids.old) × (total.new ≡ total.old) }
 {
-    match object {
-        Object::Line(kept) => nearest_each(alloc, &kept.tree, points, k, starts, ids, total),
-        Object::Plane(kept) => nearest_each(alloc, &kept.tree, points, k, starts, ids, total),
-        Object::Space(kept) => nearest_each(alloc, &kept.tree, points, k, starts, ids, total),
-        Object::Script(_) => Code::OtherKind,
+    match tree_in(held) {
+        Ok(AnyTree::Line(lent)) => nearest_each(alloc, lent.tree, points, k, starts, ids, total),
+        Ok(AnyTree::Plane(lent)) => nearest_each(alloc, lent.tree, points, k, starts, ids, total),
+        Ok(AnyTree::Space(lent)) => nearest_each(alloc, lent.tree, points, k, starts, ids, total),
+        Err(code) => code,
     }
 }
 
@@ -357,10 +361,15 @@ pub extern "C" fn juicedelta_tree_search_many(
     ensures pass { IsSame pass result.pass }
 {
     let lease = pass.open();
-    let Some(object) = lease.peek(handle) else {
-        return hand_back(Code::Closed, lease);
-    };
-    let code = search_each_in(alloc, object, relation, windows, starts, ids, total);
+    let code = search_each_in(
+        alloc,
+        lease.peek(handle),
+        relation,
+        windows,
+        starts,
+        ids,
+        total,
+    );
     hand_back(code, lease)
 }
 
@@ -381,10 +390,7 @@ pub extern "C" fn juicedelta_tree_count_many(
     ensures pass { IsSame pass result.pass }
 {
     let lease = pass.open();
-    let Some(object) = lease.peek(handle) else {
-        return hand_back(Code::Closed, lease);
-    };
-    let code = count_each_in(alloc, object, relation, windows, counts);
+    let code = count_each_in(alloc, lease.peek(handle), relation, windows, counts);
     hand_back(code, lease)
 }
 
@@ -408,9 +414,6 @@ pub extern "C" fn juicedelta_tree_nearest_many(
     ensures pass { IsSame pass result.pass }
 {
     let lease = pass.open();
-    let Some(object) = lease.peek(handle) else {
-        return hand_back(Code::Closed, lease);
-    };
-    let code = nearest_each_in(alloc, object, points, k, starts, ids, total);
+    let code = nearest_each_in(alloc, lease.peek(handle), points, k, starts, ids, total);
     hand_back(code, lease)
 }

@@ -1,6 +1,6 @@
 //! The rows near a point or a box.
 
-ghost use Rattle.std.specs.Prelude.{◌≡◌, ◌≢◌, ◌*◌, ◌≤◌, Some, pos, length};
+ghost use Rattle.std.specs.Prelude.{◌≡◌, ◌≢◌, ◌*◌, ◌≤◌, pos, length, option_map};
 ghost use Rattle.rt_handle.specs.Passes.{IsOf, IsSame};
 ghost use Rattle.capi.specs.Calls.{OfTree};
 ghost use Rattle.capi.specs.Codes.{number_of};
@@ -9,6 +9,7 @@ ghost use Rattle.capi.specs.declared.code.Code.TheVariants.{Done};
 
 use crate::answer::{Answer, hand_back};
 use crate::code::Code;
+use crate::lending::{AnyTree, tree_in};
 use crate::numbers::{are_matched, ends};
 use crate::query::give_rows;
 use rt_box::Rect;
@@ -34,7 +35,7 @@ fn within_point<const D: usize>(
         tree.now result }
     ensures kept { result ≢ Done → (ids.new ≡ ids.old) × (boxes.new ≡ boxes.old) × (total.new ≡ total.old) }
 {
-    match tree.within(alloc, point, distance, ids.len()) {
+    match rt_map::within(alloc, tree, point, distance, ids.len()) {
         Ok(rows) => give_rows(&rows, ids, boxes, total),
         Err(_) => Code::OutOfMemory,
     }
@@ -86,7 +87,7 @@ fn nearest_to_box<const D: usize>(
     let Some(rect) = Rect::new(*min, *max) else {
         return Code::BadBox;
     };
-    match tree.nearest_to(alloc, &rect, ids.len()) {
+    match rt_map::nearest_to(alloc, tree, &rect, ids.len()) {
         Ok(rows) => give_rows(&rows, ids, boxes, total),
         Err(_) => Code::OutOfMemory,
     }
@@ -119,21 +120,21 @@ fn nearest_to<const D: usize>(
 /// Searches for the rows nearest to a box in the tree that the object is.
 fn nearest_to_in(
     alloc: Global,
-    object: &Object,
+    held: Option<&Object>,
     numbers: &[i32],
     ids: &mut [i64],
     boxes: &mut [i32],
     total: &mut u64,
 ) -> Code
-    ensures found { OfTree (Some object.now)
+    ensures found { OfTree (option_map (λ object. object.now) held.entry)
         (λ D. FindsRowsNearTo numbers.now ids.old ids.new boxes.old boxes.new total.old total.new) (number_of result) }
     ensures kept { result ≢ Done → (ids.new ≡ ids.old) × (boxes.new ≡ boxes.old) × (total.new ≡ total.old) }
 {
-    match object {
-        Object::Line(kept) => nearest_to(alloc, &kept.tree, numbers, ids, boxes, total),
-        Object::Plane(kept) => nearest_to(alloc, &kept.tree, numbers, ids, boxes, total),
-        Object::Space(kept) => nearest_to(alloc, &kept.tree, numbers, ids, boxes, total),
-        Object::Script(_) => Code::OtherKind,
+    match tree_in(held) {
+        Ok(AnyTree::Line(lent)) => nearest_to(alloc, lent.tree, numbers, ids, boxes, total),
+        Ok(AnyTree::Plane(lent)) => nearest_to(alloc, lent.tree, numbers, ids, boxes, total),
+        Ok(AnyTree::Space(lent)) => nearest_to(alloc, lent.tree, numbers, ids, boxes, total),
+        Err(code) => code,
     }
 }
 
@@ -156,12 +157,11 @@ pub extern "C" fn juicedelta_tree_within(
     ensures pass { IsSame pass result.pass }
 {
     let lease = pass.open();
-    let code = match lease.peek(handle) {
-        None => Code::Closed,
-        Some(Object::Line(kept)) => within(alloc, &kept.tree, point, distance, ids, boxes, total),
-        Some(Object::Plane(kept)) => within(alloc, &kept.tree, point, distance, ids, boxes, total),
-        Some(Object::Space(kept)) => within(alloc, &kept.tree, point, distance, ids, boxes, total),
-        Some(Object::Script(_)) => Code::OtherKind,
+    let code = match tree_in(lease.peek(handle)) {
+        Ok(AnyTree::Line(lent)) => within(alloc, lent.tree, point, distance, ids, boxes, total),
+        Ok(AnyTree::Plane(lent)) => within(alloc, lent.tree, point, distance, ids, boxes, total),
+        Ok(AnyTree::Space(lent)) => within(alloc, lent.tree, point, distance, ids, boxes, total),
+        Err(code) => code,
     };
     hand_back(code, lease)
 }
@@ -184,9 +184,6 @@ pub extern "C" fn juicedelta_tree_nearest_to(
     ensures pass { IsSame pass result.pass }
 {
     let lease = pass.open();
-    let Some(object) = lease.peek(handle) else {
-        return hand_back(Code::Closed, lease);
-    };
-    let code = nearest_to_in(alloc, object, numbers, ids, boxes, total);
+    let code = nearest_to_in(alloc, lease.peek(handle), numbers, ids, boxes, total);
     hand_back(code, lease)
 }

@@ -10,8 +10,10 @@ ghost use Rattle.capi.specs.declared.code.Code.TheVariants.{Done, BufferTooSmall
 
 use crate::answer::{Answer, PairAnswer, hand_back, hand_back_both};
 use crate::code::Code;
+use crate::lending::{AnyTree, tree_in};
 use rt_handle::{Object, Pass, Words};
-use rt_tree::{Pair, Tree};
+use rt_map::Pair;
+use rt_tree::Tree;
 use std::alloc::Global;
 
 /// Writes the ids of the pairs to the start of two buffers.
@@ -58,7 +60,7 @@ fn join<const D: usize>(
     if right.len() != left.len() {
         return Code::BadLength;
     }
-    match one.join(alloc, other) {
+    match rt_map::join(alloc, one, other) {
         Ok(pairs) => give_pairs(&pairs, left, right, total),
         Err(_) => Code::OutOfMemory,
     }
@@ -79,7 +81,7 @@ fn join_self<const D: usize>(
     if right.len() != left.len() {
         return Code::BadLength;
     }
-    match tree.join_self(alloc) {
+    match rt_map::join_self(alloc, tree) {
         Ok(pairs) => give_pairs(&pairs, left, right, total),
         Err(_) => Code::OutOfMemory,
     }
@@ -99,33 +101,18 @@ fn join_objects(
     ensures kept { result ≢ Done → result ≢ BufferTooSmall →
         (left.new ≡ left.old) × (right.new ≡ right.old) × (total.new ≡ total.old) }
 {
-    match (one, other) {
-        (Object::Line(one), Object::Line(other)) => join(
-            alloc,
-            &one.tree,
-            &other.tree,
-            left,
-            right,
-            total,
-        ),
-        (Object::Plane(one), Object::Plane(other)) => join(
-            alloc,
-            &one.tree,
-            &other.tree,
-            left,
-            right,
-            total,
-        ),
-        (Object::Space(one), Object::Space(other)) => join(
-            alloc,
-            &one.tree,
-            &other.tree,
-            left,
-            right,
-            total,
-        ),
-        (Object::Script(_), _) => Code::OtherKind,
-        (_, Object::Script(_)) => Code::OtherKind,
+    match (tree_in(Some(one)), tree_in(Some(other))) {
+        (Err(code), _) => code,
+        (_, Err(code)) => code,
+        (Ok(AnyTree::Line(one)), Ok(AnyTree::Line(other))) => {
+            join(alloc, one.tree, other.tree, left, right, total)
+        }
+        (Ok(AnyTree::Plane(one)), Ok(AnyTree::Plane(other))) => {
+            join(alloc, one.tree, other.tree, left, right, total)
+        }
+        (Ok(AnyTree::Space(one)), Ok(AnyTree::Space(other))) => {
+            join(alloc, one.tree, other.tree, left, right, total)
+        }
         _ => Code::BadAxes,
     }
 }
@@ -188,6 +175,27 @@ pub extern "C" fn juicedelta_tree_join(
     hand_back_both(code, one_lease, other_lease)
 }
 
+/// The same of the tree that a handle lends.
+fn join_self_in(
+    alloc: Global,
+    held: Option<&Object>,
+    left: &mut [i64],
+    right: &mut [i64],
+    total: &mut u64,
+) -> Code
+    ensures told { OfTree (option_map (λ object. object.now) held.entry)
+        (λ D. JoinsItself left.old left.new right.old right.new total.old total.new) (number_of result) }
+    ensures kept { result ≢ Done → result ≢ BufferTooSmall →
+        (left.new ≡ left.old) × (right.new ≡ right.old) × (total.new ≡ total.old) }
+{
+    match tree_in(held) {
+        Ok(AnyTree::Line(lent)) => join_self(alloc, lent.tree, left, right, total),
+        Ok(AnyTree::Plane(lent)) => join_self(alloc, lent.tree, left, right, total),
+        Ok(AnyTree::Space(lent)) => join_self(alloc, lent.tree, left, right, total),
+        Err(code) => code,
+    }
+}
+
 /// The pairs of different rows of a tree whose boxes touch.
 #[unsafe(no_mangle)]
 pub extern "C" fn juicedelta_tree_join_self(
@@ -206,12 +214,6 @@ pub extern "C" fn juicedelta_tree_join_self(
     ensures pass { IsSame pass result.pass }
 {
     let lease = pass.open();
-    let code = match lease.peek(handle) {
-        None => Code::Closed,
-        Some(Object::Line(kept)) => join_self(alloc, &kept.tree, left, right, total),
-        Some(Object::Plane(kept)) => join_self(alloc, &kept.tree, left, right, total),
-        Some(Object::Space(kept)) => join_self(alloc, &kept.tree, left, right, total),
-        Some(Object::Script(_)) => Code::OtherKind,
-    };
+    let code = join_self_in(alloc, lease.peek(handle), left, right, total);
     hand_back(code, lease)
 }

@@ -11,8 +11,9 @@ ghost use Rattle.capi.specs.declared.code.Code.TheVariants.{Done};
 
 use crate::answer::{Answer, hand_back};
 use crate::code::Code;
+use crate::lending::{AnyTree, tree_in};
 use crate::numbers::{are_matched, write_box};
-use rt_handle::{Object, Pass, Words};
+use rt_handle::{Pass, Words};
 use rt_tree::Tree;
 
 /// The items from the place on, `most` of them or as many as there are.
@@ -77,7 +78,7 @@ fn copy_boxes<const D: usize>(tree: &Tree<D>, from: u64, most: usize, boxes: &mu
 }
 
 /// Writes the rows from the place on.
-fn rows<const D: usize>(
+pub fn rows<const D: usize>(
     tree: &Tree<D>,
     from: u64,
     ids: &mut [i64],
@@ -131,12 +132,11 @@ pub extern "C" fn juicedelta_tree_ids(
     ensures pass { IsSame pass result.pass }
 {
     let lease = pass.open();
-    let code = match lease.peek(handle) {
-        None => Code::Closed,
-        Some(Object::Line(kept)) => ids(&kept.tree, from, numbers, total),
-        Some(Object::Plane(kept)) => ids(&kept.tree, from, numbers, total),
-        Some(Object::Space(kept)) => ids(&kept.tree, from, numbers, total),
-        Some(Object::Script(_)) => Code::OtherKind,
+    let code = match tree_in(lease.peek(handle)) {
+        Ok(AnyTree::Line(lent)) => ids(lent.tree, from, numbers, total),
+        Ok(AnyTree::Plane(lent)) => ids(lent.tree, from, numbers, total),
+        Ok(AnyTree::Space(lent)) => ids(lent.tree, from, numbers, total),
+        Err(code) => code,
     };
     hand_back(code, lease)
 }
@@ -158,12 +158,11 @@ pub extern "C" fn juicedelta_tree_rows(
     ensures pass { IsSame pass result.pass }
 {
     let lease = pass.open();
-    let code = match lease.peek(handle) {
-        None => Code::Closed,
-        Some(Object::Line(kept)) => rows(&kept.tree, from, ids, boxes, total),
-        Some(Object::Plane(kept)) => rows(&kept.tree, from, ids, boxes, total),
-        Some(Object::Space(kept)) => rows(&kept.tree, from, ids, boxes, total),
-        Some(Object::Script(_)) => Code::OtherKind,
+    let code = match tree_in(lease.peek(handle)) {
+        Ok(AnyTree::Line(lent)) => rows(lent.tree, from, ids, boxes, total),
+        Ok(AnyTree::Plane(lent)) => rows(lent.tree, from, ids, boxes, total),
+        Ok(AnyTree::Space(lent)) => rows(lent.tree, from, ids, boxes, total),
+        Err(code) => code,
     };
     hand_back(code, lease)
 }
@@ -177,12 +176,11 @@ pub extern "C" fn juicedelta_tree_bounds(handle: &Words, pass: Pass, numbers: &m
     ensures pass { IsSame pass result.pass }
 {
     let lease = pass.open();
-    let code = match lease.peek(handle) {
-        None => Code::Closed,
-        Some(Object::Line(kept)) => bounds(&kept.tree, numbers),
-        Some(Object::Plane(kept)) => bounds(&kept.tree, numbers),
-        Some(Object::Space(kept)) => bounds(&kept.tree, numbers),
-        Some(Object::Script(_)) => Code::OtherKind,
+    let code = match tree_in(lease.peek(handle)) {
+        Ok(AnyTree::Line(lent)) => bounds(lent.tree, numbers),
+        Ok(AnyTree::Plane(lent)) => bounds(lent.tree, numbers),
+        Ok(AnyTree::Space(lent)) => bounds(lent.tree, numbers),
+        Err(code) => code,
     };
     hand_back(code, lease)
 }

@@ -260,7 +260,7 @@ fn nearest_to<const D: usize>(
     ensures found { FindsNearest point.now ids.old ids.new boxes.old boxes.new total.old total.new tree.now result }
     ensures kept { result ≢ Done → (ids.new ≡ ids.old) × (boxes.new ≡ boxes.old) × (total.new ≡ total.old) }
 {
-    match tree.nearest(alloc, point, ids.len()) {
+    match rt_map::nearest(alloc, tree, point, ids.len()) {
         Ok(rows) => give_rows(&rows, ids, boxes, total),
         Err(_) => Code::OutOfMemory,
     }

@@ -13,6 +13,7 @@ use crate::dump::{dump_line, dump_plane, dump_space};
 use crate::edit::{clear, insert, new_tree, remove, replace};
 use crate::handle::fill;
 use crate::keys::Keys;
+use crate::lending::{AnyTree, tree_in};
 use crate::load::load_dump;
 use crate::query::{count, get, len, nearest, search, search_rows, tell_axes};
 use rt_handle::{Handle, Object, Pass, Words};
@@ -91,7 +92,7 @@ fn insert_into(object: &mut Object, id: i64, numbers: &[i32]) -> Code
         Object::Line(kept) => insert(&mut kept.tree, id, numbers),
         Object::Plane(kept) => insert(&mut kept.tree, id, numbers),
         Object::Space(kept) => insert(&mut kept.tree, id, numbers),
-        Object::Script(_) => Code::OtherKind,
+        _ => Code::OtherKind,
     }
 }
 
@@ -121,7 +122,7 @@ fn replace_in(object: &mut Object, id: i64, numbers: &[i32]) -> Code
         Object::Line(kept) => replace(&mut kept.tree, id, numbers),
         Object::Plane(kept) => replace(&mut kept.tree, id, numbers),
         Object::Space(kept) => replace(&mut kept.tree, id, numbers),
-        Object::Script(_) => Code::OtherKind,
+        _ => Code::OtherKind,
     }
 }
 
@@ -150,7 +151,7 @@ fn remove_from(object: &mut Object, id: i64) -> Code
         Object::Line(kept) => remove(&mut kept.tree, id),
         Object::Plane(kept) => remove(&mut kept.tree, id),
         Object::Space(kept) => remove(&mut kept.tree, id),
-        Object::Script(_) => Code::OtherKind,
+        _ => Code::OtherKind,
     }
 }
 
@@ -179,7 +180,7 @@ pub extern "C" fn juicedelta_tree_clear(alloc: Global, handle: &mut Handle) -> i
         Object::Line(kept) => clear(alloc, kept),
         Object::Plane(kept) => clear(alloc, kept),
         Object::Space(kept) => clear(alloc, kept),
-        Object::Script(_) => Code::OtherKind,
+        _ => Code::OtherKind,
     };
     handle.put(object);
     code.number()
@@ -194,12 +195,11 @@ pub extern "C" fn juicedelta_tree_axes(handle: &Words, pass: Pass, axes: &mut u3
     ensures pass { IsSame pass result.pass }
 {
     let lease = pass.open();
-    let code = match lease.peek(handle) {
-        None => Code::Closed,
-        Some(Object::Line(kept)) => tell_axes(&kept.tree, axes),
-        Some(Object::Plane(kept)) => tell_axes(&kept.tree, axes),
-        Some(Object::Space(kept)) => tell_axes(&kept.tree, axes),
-        Some(Object::Script(_)) => Code::OtherKind,
+    let code = match tree_in(lease.peek(handle)) {
+        Ok(AnyTree::Line(lent)) => tell_axes(lent.tree, axes),
+        Ok(AnyTree::Plane(lent)) => tell_axes(lent.tree, axes),
+        Ok(AnyTree::Space(lent)) => tell_axes(lent.tree, axes),
+        Err(code) => code,
     };
     hand_back(code, lease)
 }
@@ -213,12 +213,11 @@ pub extern "C" fn juicedelta_tree_len(handle: &Words, pass: Pass, rows: &mut u64
     ensures pass { IsSame pass result.pass }
 {
     let lease = pass.open();
-    let code = match lease.peek(handle) {
-        None => Code::Closed,
-        Some(Object::Line(kept)) => len(&kept.tree, rows),
-        Some(Object::Plane(kept)) => len(&kept.tree, rows),
-        Some(Object::Space(kept)) => len(&kept.tree, rows),
-        Some(Object::Script(_)) => Code::OtherKind,
+    let code = match tree_in(lease.peek(handle)) {
+        Ok(AnyTree::Line(lent)) => len(lent.tree, rows),
+        Ok(AnyTree::Plane(lent)) => len(lent.tree, rows),
+        Ok(AnyTree::Space(lent)) => len(lent.tree, rows),
+        Err(code) => code,
     };
     hand_back(code, lease)
 }
@@ -237,12 +236,11 @@ pub extern "C" fn juicedelta_tree_get(
     ensures pass { IsSame pass result.pass }
 {
     let lease = pass.open();
-    let code = match lease.peek(handle) {
-        None => Code::Closed,
-        Some(Object::Line(kept)) => get(&kept.tree, id, numbers),
-        Some(Object::Plane(kept)) => get(&kept.tree, id, numbers),
-        Some(Object::Space(kept)) => get(&kept.tree, id, numbers),
-        Some(Object::Script(_)) => Code::OtherKind,
+    let code = match tree_in(lease.peek(handle)) {
+        Ok(AnyTree::Line(lent)) => get(lent.tree, id, numbers),
+        Ok(AnyTree::Plane(lent)) => get(lent.tree, id, numbers),
+        Ok(AnyTree::Space(lent)) => get(lent.tree, id, numbers),
+        Err(code) => code,
     };
     hand_back(code, lease)
 }
@@ -263,12 +261,11 @@ pub extern "C" fn juicedelta_tree_count(
     ensures pass { IsSame pass result.pass }
 {
     let lease = pass.open();
-    let code = match lease.peek(handle) {
-        None => Code::Closed,
-        Some(Object::Line(kept)) => count(alloc, &kept.tree, relation, window, total),
-        Some(Object::Plane(kept)) => count(alloc, &kept.tree, relation, window, total),
-        Some(Object::Space(kept)) => count(alloc, &kept.tree, relation, window, total),
-        Some(Object::Script(_)) => Code::OtherKind,
+    let code = match tree_in(lease.peek(handle)) {
+        Ok(AnyTree::Line(lent)) => count(alloc, lent.tree, relation, window, total),
+        Ok(AnyTree::Plane(lent)) => count(alloc, lent.tree, relation, window, total),
+        Ok(AnyTree::Space(lent)) => count(alloc, lent.tree, relation, window, total),
+        Err(code) => code,
     };
     hand_back(code, lease)
 }
@@ -291,12 +288,11 @@ pub extern "C" fn juicedelta_tree_search(
     ensures pass { IsSame pass result.pass }
 {
     let lease = pass.open();
-    let code = match lease.peek(handle) {
-        None => Code::Closed,
-        Some(Object::Line(kept)) => search(alloc, &kept.tree, relation, window, ids, total),
-        Some(Object::Plane(kept)) => search(alloc, &kept.tree, relation, window, ids, total),
-        Some(Object::Space(kept)) => search(alloc, &kept.tree, relation, window, ids, total),
-        Some(Object::Script(_)) => Code::OtherKind,
+    let code = match tree_in(lease.peek(handle)) {
+        Ok(AnyTree::Line(lent)) => search(alloc, lent.tree, relation, window, ids, total),
+        Ok(AnyTree::Plane(lent)) => search(alloc, lent.tree, relation, window, ids, total),
+        Ok(AnyTree::Space(lent)) => search(alloc, lent.tree, relation, window, ids, total),
+        Err(code) => code,
     };
     hand_back(code, lease)
 }
@@ -321,18 +317,17 @@ pub extern "C" fn juicedelta_tree_search_rows(
     ensures pass { IsSame pass result.pass }
 {
     let lease = pass.open();
-    let code = match lease.peek(handle) {
-        None => Code::Closed,
-        Some(Object::Line(kept)) => search_rows(
-            alloc, &kept.tree, relation, window, ids, boxes, total,
+    let code = match tree_in(lease.peek(handle)) {
+        Ok(AnyTree::Line(lent)) => search_rows(
+            alloc, lent.tree, relation, window, ids, boxes, total,
         ),
-        Some(Object::Plane(kept)) => search_rows(
-            alloc, &kept.tree, relation, window, ids, boxes, total,
+        Ok(AnyTree::Plane(lent)) => search_rows(
+            alloc, lent.tree, relation, window, ids, boxes, total,
         ),
-        Some(Object::Space(kept)) => search_rows(
-            alloc, &kept.tree, relation, window, ids, boxes, total,
+        Ok(AnyTree::Space(lent)) => search_rows(
+            alloc, lent.tree, relation, window, ids, boxes, total,
         ),
-        Some(Object::Script(_)) => Code::OtherKind,
+        Err(code) => code,
     };
     hand_back(code, lease)
 }
@@ -355,12 +350,11 @@ pub extern "C" fn juicedelta_tree_nearest(
     ensures pass { IsSame pass result.pass }
 {
     let lease = pass.open();
-    let code = match lease.peek(handle) {
-        None => Code::Closed,
-        Some(Object::Line(kept)) => nearest(alloc, &kept.tree, point, ids, boxes, total),
-        Some(Object::Plane(kept)) => nearest(alloc, &kept.tree, point, ids, boxes, total),
-        Some(Object::Space(kept)) => nearest(alloc, &kept.tree, point, ids, boxes, total),
-        Some(Object::Script(_)) => Code::OtherKind,
+    let code = match tree_in(lease.peek(handle)) {
+        Ok(AnyTree::Line(lent)) => nearest(alloc, lent.tree, point, ids, boxes, total),
+        Ok(AnyTree::Plane(lent)) => nearest(alloc, lent.tree, point, ids, boxes, total),
+        Ok(AnyTree::Space(lent)) => nearest(alloc, lent.tree, point, ids, boxes, total),
+        Err(code) => code,
     };
     hand_back(code, lease)
 }
@@ -380,12 +374,11 @@ pub extern "C" fn juicedelta_tree_dump(
     ensures pass { IsSame pass result.pass }
 {
     let lease = pass.open();
-    let code = match lease.peek(handle) {
-        None => Code::Closed,
-        Some(Object::Line(kept)) => dump_line(alloc, kept, text, total),
-        Some(Object::Plane(kept)) => dump_plane(alloc, kept, text, total),
-        Some(Object::Space(kept)) => dump_space(alloc, kept, text, total),
-        Some(Object::Script(_)) => Code::OtherKind,
+    let code = match tree_in(lease.peek(handle)) {
+        Ok(AnyTree::Line(lent)) => dump_line(alloc, &lent, text, total),
+        Ok(AnyTree::Plane(lent)) => dump_plane(alloc, &lent, text, total),
+        Ok(AnyTree::Space(lent)) => dump_space(alloc, &lent, text, total),
+        Err(code) => code,
     };
     hand_back(code, lease)
 }

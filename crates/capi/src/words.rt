@@ -20,7 +20,7 @@ impl Code {
             Code::BadCapacity => "the capacity is not from 5 to 51",
             Code::BadBox => "on some axis min is above max",
             Code::IdTaken => "the id is taken",
-            Code::IdMissing => "no row has that id",
+            Code::IdMissing => "no row or window has that id",
             Code::BufferTooSmall => "the result is longer than the buffer",
             Code::OutOfMemory => "no memory is left",
             Code::TreeFull => "the tree has as many rows as a tree may have",

@@ -2,6 +2,7 @@
 
 use rt_box::Capacity;
 use rt_bytes::Sink;
+use rt_live::Live;
 use rt_shell::Shell;
 use rt_tree::Tree;
 use std::hash::RandomState;
@@ -17,6 +18,8 @@ pub enum Object {
     Plane(HeldTree<2>),
     /// A tree of three axes.
     Space(HeldTree<3>),
+    /// Live windows.
+    Live(AnyLive),
 }
 
 /// A script shell, and what it printed that the caller has not dropped yet.
@@ -37,4 +40,24 @@ pub struct HeldTree<const D: usize> {
     pub keys: RandomState,
     /// The capacity of its nodes.
     pub capacity: Capacity,
+}
+
+/// Live windows of some number of axes.
+#[derive(Drop)]
+pub enum AnyLive {
+    /// Of one axis.
+    Line(HeldLive<1>),
+    /// Of two axes.
+    Plane(HeldLive<2>),
+    /// Of three axes.
+    Space(HeldLive<3>),
+}
+
+/// Live windows, and the keys of the hashes of their ids.
+#[derive(Drop)]
+pub struct HeldLive<const D: usize> {
+    /// The rows and the windows.
+    pub live: Live<D>,
+    /// The keys.
+    pub keys: RandomState,
 }

@@ -23,13 +23,14 @@ use Rattle.rt_tree_join.specs.Join.{touch, IsTouching}
 use Rattle.rt_tree.specs.Lists.{IsInShape}
 use Rattle.rt_tree.specs.Rows.{box_in, row_in, rows_of}
 use Rattle.rt_tree.specs.Boxes.{HasBoxes}
-use Rattle.rt_tree.specs.Search.{FindsIn, FindsInAfter}
+use Rattle.rt_tree.specs.Search.{FindsIn, FindsInAfter, CountsIn}
 use Rattle.rt_tree.proofs.Members.{contains-here, contains-later, contains-cases, contains-none, contains-mapped}
 use Rattle.rt_live.specs.Rows.{by_id}
 use Rattle.rt_live.specs.Changes.{same_box, touches}
 use Rattle.rt_live.specs.Finding.{is_apart, is_new, touches_either, Appends}
 use Rattle.rt_live.proofs.Sorted.{rises-filter}
 use Rattle.rt_live.proofs.Alike.{count_alike, count_kept, count_permuted, sorted_climbs, same_counts}
+use Rattle.rt_live.proofs.Counting.{filter-long, all-kept, absorbed}
 use Rattle.rt_live.proofs.ById.{id_of, rises-by_id}
 use Rattle.rt_live.proofs.Once.{by_id-counts}
 
@@ -115,7 +116,7 @@ count-none test [] = refl
 count-none test (x ∷ xs) = omega (arith, count-cons (λ y. false && test y) x xs, count-none test xs)
 
 -- what passes either of two tests that nothing passes both
-count-either : {X : Type 0} (f g h : X → Bool) (xs : List X) → ((x : X) → ◌≡◌ {A = ℕ} (cond (h x) 1 0) (cond (f x) 1 0 + cond (g x) 1 0)) →
+pub count-either : {X : Type 0} (f g h : X → Bool) (xs : List X) → ((x : X) → ◌≡◌ {A = ℕ} (cond (h x) 1 0) (cond (f x) 1 0 + cond (g x) 1 0)) →
     count_by h xs ≡ count_by f xs + count_by g xs
 count-either f g h [] split = refl
 count-either f g h (x ∷ xs) split = omega (arith, split x, count-cons f x xs, count-cons g x xs, count-cons h x xs, count-either f g h xs split)
@@ -175,6 +176,24 @@ module _ {D : ℕ} where
     only-admitted : (r : Row D) (rest : Bool) → (admits_row r && rest) ≡ true → Admits window r.rect
     unfolding admits_row
     only-admitted r rest e = (admits-decides window (coordinates r.rect)).0 (and_parts (admits_row r) rest e).0
+
+    admitted-row : (r : Row D) → Contains (rows_of s) r → touch rect r.rect ≡ true → Admits window r.rect
+    unfolding admits_row
+    admitted-row r there e = (admits-decides window (coordinates r.rect)).0 (touched r there ∙ e)
+
+    row-admitted : (r : Row D) → Contains (rows_of s) r → Admits window r.rect → touch rect r.rect ≡ true
+    unfolding admits_row
+    row-admitted r there h = sym (touched r there) ∙ (admits-decides window (coordinates r.rect)).1 h
+
+    -- as many rows as the window admits touch the box
+    pub counts-touching : CountsIn s window (count_by (λ (r : Row D). touch rect r.rect) (rows_of s))
+    counts-touching = record {
+      rows = filter (λ r. touch rect r.rect) (rows_of s);
+      admitted = all-kept (λ r. touch rect r.rect) (λ r. Admits window r.rect) (rows_of s) admitted-row;
+      each = λ test asks. count_kept (λ r. touch rect r.rect) test (rows_of s)
+          ∙ count_alike (λ r. touch rect r.rect && test r) test (rows_of s) (λ r there. absorbed (touch rect r.rect) (test r) (λ e. row-admitted r there (asks r e)));
+      counted = sym (filter-long (λ r. touch rect r.rect) (rows_of s));
+    }
 
     pub appended : (found old new : List (Row D)) (visited : ℕ) → FindsIn s window found visited → new ≡ old ++ filter (is_apart except) found →
         Appends (rows_of s) (is_new (Some rect) except) old new

@@ -1,10 +1,12 @@
 pub mod Order
 pub mod Sorted
 pub mod Alike
+pub mod Counting
 pub mod ById
 pub mod Once
 pub mod Found
 pub mod Kept
 pub mod Telling
 pub mod Views
+pub mod Room
 pub mod Following

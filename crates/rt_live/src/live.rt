@@ -3,11 +3,12 @@
 //! An edit first makes room, and finds what is to be told, in a list of its own. What it then commits takes no memory and
 //! can't fail. So an edit that is refused leaves all as it was.
 
-ghost use Rattle.std.specs.Prelude.{◌≡◌, ◌≤◌, ◌<◌, None, Some, Err, map, length, IsSome, IfOk, IfErr, OnOk, OnErr};
+ghost use Rattle.std.specs.Prelude.{◌≡◌, ◌≢◌, ◌≤◌, ◌<◌, None, Some, Err, map, length, IsSome, IsOk, IfOk, IfErr, OnOk, OnErr};
 ghost use Rattle.rt_tree_node.specs.Whole.{most_rows_of_a_tree};
 ghost use Rattle.rt_live.specs.Rows.{AreRising, rows_by_id, box_at};
 ghost use Rattle.rt_live.specs.Live.{empty, with_row, with_window, seen};
-ghost use Rattle.rt_live.specs.declared.fault.Fault.TheVariants.{Taken, Missing, WindowTaken, NoWindow};
+ghost use Rattle.rt_live.specs.Room.{around, HasRoom};
+ghost use Rattle.rt_live.specs.declared.fault.Fault.TheVariants.{Taken, Missing, WindowTaken, NoWindow, Memory};
 ghost use Rattle.rt_live.specs.Faults.{IsFaultOfInsertion, IsFaultOfEdit, IsFaultOfWatch, IsFaultOfWindow};
 
 use crate::change::Change;
@@ -65,8 +66,19 @@ impl<const D: usize> Model for Live<D> {
 fn empty_scratch<const D: usize>(alloc: Global) -> Scratch<D> {
     Scratch {
         found: Vec::new(alloc),
+        last: Vec::new(alloc),
         reached: Vec::new(alloc),
     }
+}
+
+/// How many nodes a search of the tree is to have room for: those that there are, and those that more rows may need.
+fn nodes_of<const D: usize>(tree: &Tree<D>) -> usize
+    ensures { length tree.now.lists.nodes ≤ result }
+{
+    let capacity = tree.capacity();
+    capacity.facts();
+    let rows = tree.len().saturating_add(tree.spare());
+    tree.node_count().max(rows / (capacity.least() - 1))
 }
 
 /// The ids of rows.
@@ -150,13 +162,14 @@ impl<const D: usize> Live<D> {
             return Err(Fault::NoWindow);
         }
         let mut scratch = empty_scratch(self.alloc);
-        find_either(self.alloc, &self.rows, &rect, &None, &mut scratch)?;
+        find_either(&self.rows, &rect, &None, &mut scratch)?;
         let ids = ids_of(self.alloc, scratch.found.as_slice())?;
         Ok(ids)
     }
 
-    /// Makes room for so many more rows and windows, and for edits that find and tell no more than so many changes. Such an
-    /// edit then asks for no memory but the list of the nodes that its searches reach: 16 bytes a node.
+    /// Makes room for so many more rows and windows, and for edits that look at no more than so many windows, or rows: those
+    /// around the old box and the new one. The next edit that keeps to that can't fail for want of memory. Each row and
+    /// window that gets a box uses up the room of one.
     ///
     /// # Errors
     ///
@@ -166,13 +179,16 @@ impl<const D: usize> Live<D> {
         ensures rows { OnOk result (rows ≤ self.new.row_room) }
         ensures windows { OnOk result (windows ≤ self.new.window_room) }
         ensures changes { OnOk result (changes ≤ self.new.change_room) }
+        ensures room { OnOk result (HasRoom self.new rows windows changes) }
     {
         self.rows.reserve(rows)?;
         self.windows.reserve(windows)?;
         self.planned.reserve(changes)?;
         self.changes.reserve(changes)?;
         self.scratch.found.reserve(changes)?;
-        self.scratch.reached.reserve(changes)?;
+        self.scratch.last.reserve(changes)?;
+        let nodes = nodes_of(&self.rows).max(nodes_of(&self.windows));
+        self.scratch.reached.reserve(nodes)?;
         Ok(())
     }
 
@@ -187,6 +203,8 @@ impl<const D: usize> Live<D> {
         requires few { was.now ≡ None → length self.old.lists.rows < most_rows_of_a_tree }
         ensures ok { OnOk result (self.new.lists ≡ with_row self.old.lists id.now is.now) }
         ensures err { OnErr result (self.new.lists ≡ self.old.lists) }
+        ensures succeeds { (IsSome is.now → 1 ≤ self.old.row_room) →
+            HasRoom self.old 0 0 (around was.now is.now self.old.lists.windows) → IsOk result }
     {
         if does_stay(was, is) {
             self.changes.clear();
@@ -196,7 +214,6 @@ impl<const D: usize> Live<D> {
         self.rows.is_in_shape();
         make_room(&mut self.rows, is)?;
         plan_row(
-            self.alloc,
             &self.windows,
             id,
             was,
@@ -220,6 +237,8 @@ impl<const D: usize> Live<D> {
         requires few { was.now ≡ None → length self.old.lists.windows < most_rows_of_a_tree }
         ensures ok { OnOk result (self.new.lists ≡ with_window self.old.lists window.now is.now) }
         ensures err { OnErr result (self.new.lists ≡ self.old.lists) }
+        ensures succeeds { (IsSome is.now → 1 ≤ self.old.window_room) →
+            HasRoom self.old 0 0 (around was.now is.now self.old.lists.rows) → IsOk result }
     {
         if does_stay(was, is) {
             self.changes.clear();
@@ -229,7 +248,6 @@ impl<const D: usize> Live<D> {
         self.windows.is_in_shape();
         make_room(&mut self.windows, is)?;
         plan_window(
-            self.alloc,
             &self.rows,
             window,
             was,
@@ -253,6 +271,8 @@ impl<const D: usize> Live<D> {
         ensures err { OnErr result (self.new.lists ≡ self.old.lists) }
         ensures taken { IsSome (box_at self.old.lists.rows id.now) → result ≡ Err Taken }
         ensures fault { IfErr result (IsFaultOfInsertion self.old.lists.rows id.now) }
+        ensures fits { HasRoom self.old 1 0
+            (around None (Some rect.now) self.old.lists.windows) → result ≢ Err Memory }
     {
         self.rows.is_in_shape();
         if self.rows.contains(id) {
@@ -275,6 +295,8 @@ impl<const D: usize> Live<D> {
         ensures err { OnErr result (self.new.lists ≡ self.old.lists) }
         ensures missing { box_at self.old.lists.rows id.now ≡ None → result ≡ Err Missing }
         ensures fault { IfErr result (IsFaultOfEdit self.old.lists.rows id.now) }
+        ensures fits { HasRoom self.old 0 0
+            (around (box_at self.old.lists.rows id.now) None self.old.lists.windows) → result ≢ Err Memory }
     {
         let was = self.rows.get(id);
         if was.is_none() {
@@ -295,6 +317,8 @@ impl<const D: usize> Live<D> {
         ensures err { OnErr result (self.new.lists ≡ self.old.lists) }
         ensures missing { box_at self.old.lists.rows id.now ≡ None → result ≡ Err Missing }
         ensures fault { IfErr result (IsFaultOfEdit self.old.lists.rows id.now) }
+        ensures fits { HasRoom self.old 1 0
+            (around (box_at self.old.lists.rows id.now) (Some rect.now) self.old.lists.windows) → result ≢ Err Memory }
     {
         let was = self.rows.get(id);
         if was.is_none() {
@@ -315,6 +339,8 @@ impl<const D: usize> Live<D> {
         ensures err { OnErr result (self.new.lists ≡ self.old.lists) }
         ensures taken { IsSome (box_at self.old.lists.windows window.now) → result ≡ Err WindowTaken }
         ensures fault { IfErr result (IsFaultOfWatch self.old.lists.windows window.now) }
+        ensures fits { HasRoom self.old 0 1
+            (around None (Some rect.now) self.old.lists.rows) → result ≢ Err Memory }
     {
         self.windows.is_in_shape();
         if self.windows.contains(window) {
@@ -337,6 +363,8 @@ impl<const D: usize> Live<D> {
         ensures err { OnErr result (self.new.lists ≡ self.old.lists) }
         ensures no_window { box_at self.old.lists.windows window.now ≡ None → result ≡ Err NoWindow }
         ensures fault { IfErr result (IsFaultOfWindow self.old.lists.windows window.now) }
+        ensures fits { HasRoom self.old 0 0
+            (around (box_at self.old.lists.windows window.now) None self.old.lists.rows) → result ≢ Err Memory }
     {
         let was = self.windows.get(window);
         if was.is_none() {
@@ -356,6 +384,8 @@ impl<const D: usize> Live<D> {
         ensures err { OnErr result (self.new.lists ≡ self.old.lists) }
         ensures no_window { box_at self.old.lists.windows window.now ≡ None → result ≡ Err NoWindow }
         ensures fault { IfErr result (IsFaultOfWindow self.old.lists.windows window.now) }
+        ensures fits { HasRoom self.old 0 1
+            (around (box_at self.old.lists.windows window.now) (Some rect.now) self.old.lists.rows) → result ≢ Err Memory }
     {
         let was = self.windows.get(window);
         if was.is_none() {

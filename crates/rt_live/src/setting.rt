@@ -1,6 +1,6 @@
 //! A box set in a tree: the room for it first, and then the step that can't fail.
 
-ghost use Rattle.std.specs.Prelude.{◌≡◌, ◌<◌, ◌≤◌, None, length, IsSome, OnOk};
+ghost use Rattle.std.specs.Prelude.{◌≡◌, ◌<◌, ◌≤◌, None, length, IsSome, IsOk, OnOk};
 ghost use Rattle.rt_tree_node.specs.Whole.{most_rows_of_a_tree};
 ghost use Rattle.rt_tree.specs.Rows.{box_of};
 ghost use Rattle.rt_live.specs.Rows.{rows_by_id, with_box};
@@ -16,6 +16,7 @@ pub(crate) fn make_room<const D: usize>(
 ) -> Result<(), AllocError>
     ensures lists { tree.new.lists ≡ tree.old.lists }
     ensures room { OnOk result (IsSome is.now → 1 ≤ tree.new.spare) }
+    ensures succeeds { (IsSome is.now → 1 ≤ tree.old.spare) → IsOk result }
 {
     if is.is_some() {
         tree.reserve(1)?;

@@ -7,4 +7,4 @@ pub returns-clause-told : goal.returns-clause-told
 returns-clause-told c =
     let call = c.count_each_in-code in
     told_of (λ D. OfWindows {D = D} c.args.relation (length c.args.counts.now) c.args.windows.now (CountsEach {D = D} c.args.counts.now call.new.counts))
-    _ _ _ _ (c.in-Some.ensures ∙ c.open-lease.ensures.1) c.hand_back-2.ensures.0 call.ensures.told
+    _ _ _ _ (c.peek.ensures ∙ c.open-lease.ensures.1) c.hand_back.ensures.0 call.ensures.told

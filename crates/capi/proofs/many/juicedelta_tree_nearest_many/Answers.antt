@@ -7,4 +7,4 @@ pub returns-clause-told : goal.returns-clause-told
 returns-clause-told c =
     let call = c.nearest_each_in-code in
     told_of (λ D. FindsNearestMany {D = D} c.args.k c.args.starts.now call.new.starts c.args.ids.now call.new.ids c.args.total.now call.new.total c.args.points.now)
-    _ _ _ _ (c.in-Some.ensures ∙ c.open-lease.ensures.1) c.hand_back-2.ensures.0 call.ensures.told
+    _ _ _ _ (c.peek.ensures ∙ c.open-lease.ensures.1) c.hand_back.ensures.0 call.ensures.told

@@ -5,8 +5,8 @@ use Rattle.rt_live.specs.Finding.{is_new, Appends}
 use Rattle.rt_live.proofs.Found.{appended-none}
 use Rattle.rt_live.proofs.finding.append_there.Goals as goal
 
-pub returns-in-None : goal.returns-in-None
-returns-in-None g c =
+pub returns-in-None-clause-rows : goal.returns-in-None-clause-rows
+returns-in-None-clause-rows g c =
     let rows = rows_of c.args.tree.now.lists in
     let found = c.args.scratch.now.found.items in
     subst (λ (o : Option (List Interval)). Appends rows (is_new o c.args.except.now) found found) (sym c.in-None.is) (appended-none rows found c.args.except.now)

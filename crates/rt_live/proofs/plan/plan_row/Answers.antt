@@ -6,10 +6,11 @@ use Rattle.rt_live.specs.Rows.{by_id}
 use Rattle.rt_live.specs.Changes.{told_each}
 use Rattle.rt_live.specs.declared.change.Change.{Change}
 use Rattle.rt_live.proofs.Telling.{told-found, row_changes-told}
+use Rattle.rt_live.proofs.Room.{err-not-ok, ok-without}
 use Rattle.rt_live.proofs.plan.plan_row.Goals as goal
 
-pub returns : goal.returns
-returns g c =
+pub returns-clause-told : goal.returns-clause-told
+returns-clause-told g c =
     let rows = by_id (rows_of c.args.windows.now.lists) in
     let id = c.args.id.now in
     let was = c.args.was.now in
@@ -18,7 +19,13 @@ returns g c =
     (λ (told : c.list_row.new.changes.items ≡ c.clear.new.self.items ++ told_each c.as_slice.result.now id was is).
     told
     ∙ ap (λ (changes : List Change). changes ++ told_each c.as_slice.result.now id was is) c.clear.ensures.items
-    ∙ ap (λ (found : List (Row g.row.D)). told_each found id was is) (c.as_slice.ensures.value ∙ c.in_ok-find_either.ensures)
+    ∙ ap (λ (found : List (Row g.row.D)). told_each found id was is) (c.as_slice.ensures.value ∙ c.in_ok-find_either.ensures.rows)
     ∙ told-found rows id was is
     ∙ sym (row_changes-told rows id was is c.requires.moves))
-    c.list_row.ensures
+    c.list_row.ensures.told
+
+pub returns-in_err-find_either-clause-succeeds : goal.returns-in_err-find_either-clause-succeeds
+returns-in_err-find_either-clause-succeeds g c = λ room fits. absurd (err-not-ok c.find_either.result _ c.in_err-find_either.was (c.find_either.ensures.succeeds room))
+
+pub returns-clause-succeeds : goal.returns-clause-succeeds
+returns-clause-succeeds g c = λ room fits. ?

@@ -6,10 +6,11 @@ use Rattle.rt_live.specs.Rows.{by_id}
 use Rattle.rt_live.specs.Changes.{window_changes}
 use Rattle.rt_live.specs.declared.change.Change.{Change}
 use Rattle.rt_live.proofs.Telling.{window-found}
+use Rattle.rt_live.proofs.Room.{err-not-ok, ok-without}
 use Rattle.rt_live.proofs.plan.plan_window.Goals as goal
 
-pub returns : goal.returns
-returns g c =
+pub returns-clause-told : goal.returns-clause-told
+returns-clause-told g c =
     let rows = by_id (rows_of c.args.rows.now.lists) in
     let id = c.args.window.now in
     let was = c.args.was.now in
@@ -18,6 +19,12 @@ returns g c =
     (λ (told : c.list_window.new.changes.items ≡ c.clear.new.self.items ++ window_changes c.as_slice.result.now id was is).
     told
     ∙ ap (λ (changes : List Change). changes ++ window_changes c.as_slice.result.now id was is) c.clear.ensures.items
-    ∙ ap (λ (found : List (Row g.row.D)). window_changes found id was is) (c.as_slice.ensures.value ∙ c.in_ok-find_either.ensures)
+    ∙ ap (λ (found : List (Row g.row.D)). window_changes found id was is) (c.as_slice.ensures.value ∙ c.in_ok-find_either.ensures.rows)
     ∙ window-found rows id was is)
-    c.list_window.ensures
+    c.list_window.ensures.told
+
+pub returns-in_err-find_either-clause-succeeds : goal.returns-in_err-find_either-clause-succeeds
+returns-in_err-find_either-clause-succeeds g c = λ room fits. absurd (err-not-ok c.find_either.result _ c.in_err-find_either.was (c.find_either.ensures.succeeds room))
+
+pub returns-clause-succeeds : goal.returns-clause-succeeds
+returns-clause-succeeds g c = λ room fits. ?

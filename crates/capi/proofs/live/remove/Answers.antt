@@ -1,0 +1,13 @@
+use Rattle.std.proofs.Common.{IsSome}
+use Rattle.rt_live.specs.Live.{with_row}
+use Rattle.rt_live.specs.Rows.{box_at}
+use Rattle.rt_live.specs.declared.fault.Fault.TheVariants.{Missing}
+use Rattle.capi.proofs.Living.{is_there, left}
+use Rattle.capi.proofs.live.remove.Goals as goal
+
+pub returns-in-Ok-clause-edited : goal.returns-in-Ok-clause-edited
+returns-in-Ok-clause-edited g c =
+    let there = c.args.live.now.lists.rows in
+    let told : IsSome (box_at there c.args.id) = is_there _ c.in-Ok.field-0 Missing c.in-Ok.ensures.missing in
+    left there c.args.id (with_row c.args.live.now.lists c.args.id) c.tell.new.changes c.args.live.now c.remove.new.self c.tell.result
+    told c.in-Ok.ensures.ok c.tell.ensures.told c.tell.ensures.done
