@@ -588,7 +588,7 @@ impl<'a, const D: usize> IntoIterator for &'a Tree<D> {
 }
 
 /// The numbers of a box: each minimum, and then each maximum.
-fn numbers<const D: usize>(rect: &Rect<D>) -> *const i32 {
+pub(crate) fn numbers<const D: usize>(rect: &Rect<D>) -> *const i32 {
     let first: *const Rect<D> = rect;
     first.cast()
 }
