@@ -66,7 +66,7 @@ fuzz:
 bench: tools
 	@scripts/bench
 	@if [ -x bin/rtsh ]; then scripts/bench_scripts.py; else echo "scripts aren't timed: make builds bin/rtsh"; fi
-	@if [ -f lib/libjuicedelta.a ]; then scripts/bench_bindings.py && scripts/bench_map.py; else echo "calls aren't timed: make bindings builds the libraries"; fi
+	@if [ -f lib/libjuicedelta.a ]; then scripts/bench_bindings.py && scripts/bench_python.py && scripts/bench_map.py; else echo "calls aren't timed: make bindings builds the libraries"; fi
 
 tools:
 	@command -v rt > /dev/null || { echo "juicedelta: the command rt (the Rattle toolchain) is missing" >&2; exit 1; }

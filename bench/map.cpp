@@ -1,8 +1,10 @@
-// The work of a map program: rows loaded at once, windows, the nearest rows, moves, joins, many windows in a call, and trees that are
-// kept. map ROWS [all]: with `all`, also what needs a tree into which each row was inserted. Compiled with -DPEER_BOOST or
+// The work of a map program: rows loaded at once, windows, the nearest rows, moves, joins, many windows in a call, trees that are kept,
+// and moves that are told to the windows that see them. map ROWS [all]: with `all`, also what needs a tree into which each row was
+// inserted. Compiled with -DPEER_BOOST or
 // -DPEER_SPATIALINDEX it does the same with Boost.Geometry's rtree or libspatialindex. Prints a line of nanoseconds a call, or a row,
 // and a checksum for each kind of work; `bytes` are resident bytes a row.
 #include "draw.hpp"
+#include <algorithm>
 #include <cstdlib>
 #include <cstring>
 #include <malloc.h>
@@ -17,6 +19,20 @@ struct Rows {
     std::vector<int64_t> ids;
     std::vector<Box> boxes;
 };
+
+// What a window is told of a row that left it, came into it, or moved in it.
+struct Change {
+    int64_t window, id;
+    int kind;
+};
+
+static int64_t sum_of(const Change *changes, size_t count)
+{
+    int64_t sum = 0;
+    for (size_t at = 0; at < count; at++)
+        sum += 3 * changes[at].window + changes[at].id + changes[at].kind;
+    return sum;
+}
 
 // Resident memory in bytes, after what was freed is given back.
 static double resident()
@@ -63,6 +79,13 @@ public:
         tree.query(bgi::intersects(of(box)), boost::make_function_output_iterator(add));
         return sum;
     }
+    void find(const Box &box, std::vector<int64_t> &ids) const
+    {
+        ids.clear();
+        auto add = [&](const Row &row) { ids.push_back(row.second); };
+        tree.query(bgi::intersects(of(box)), boost::make_function_output_iterator(add));
+        std::sort(ids.begin(), ids.end());
+    }
     int64_t nearest(const int32_t *at, unsigned k) const
     {
         int64_t rows = 0;
@@ -73,6 +96,60 @@ public:
 };
 using Tree = TreeOf<51>;
 using Small = TreeOf<16>;
+
+// Rows and windows by hand: a tree of each, and their boxes by id.
+template <class Any> class LiveOf {
+    Any rows, windows;
+    std::vector<Box> boxes, views;
+    std::vector<int64_t> before, after;
+    std::vector<Change> changes;
+    // Lists what was found before and after, of one window or of one row.
+    template <class Make> int64_t told(bool tells_moves, Make make)
+    {
+        changes.clear();
+        for (auto old = before.begin(), now = after.begin(); old != before.end() || now != after.end();) {
+            if (now == after.end() || (old != before.end() && *old < *now))
+                changes.push_back(make(*old++, 0));
+            else if (old == before.end() || *now < *old)
+                changes.push_back(make(*now++, 1));
+            else {
+                if (tells_moves)
+                    changes.push_back(make(*old, 2));
+                old++, now++;
+            }
+        }
+        return sum_of(changes.data(), changes.size());
+    }
+
+public:
+    explicit LiveOf(const Rows &all) : boxes(all.ids.size() + 1)
+    {
+        for (size_t at = 0; at < all.ids.size(); at++)
+            rows.insert(all.ids[at], boxes[size_t(all.ids[at])] = all.boxes[at]);
+    }
+    void watch(int64_t window, const Box &box)
+    {
+        views.resize(size_t(window) + 1);
+        windows.insert(window, views[size_t(window)] = box);
+    }
+    int64_t move(int64_t id, const Box &box)
+    {
+        Box &own = boxes[size_t(id)];
+        windows.find(own, before), windows.find(box, after);
+        rows.remove(id, own), rows.insert(id, own = box);
+        return told(true, [&](int64_t window, int kind) { return Change{window, id, kind}; });
+    }
+    int64_t shift(int64_t window, const Box &box)
+    {
+        Box &own = views[size_t(window)];
+        rows.find(own, before), rows.find(box, after);
+        windows.remove(window, own), windows.insert(window, own = box);
+        return told(false, [&](int64_t id, int kind) { return Change{window, id, kind}; });
+    }
+    int64_t search(const Box &box) const { return rows.search(box); }
+};
+using Live = LiveOf<Tree>;
+using SmallLive = LiveOf<Small>;
 #elif defined(PEER_SPATIALINDEX)
 #include <spatialindex/capi/sidx_api.h>
 
@@ -205,6 +282,64 @@ public:
         }
     }
 };
+
+class Live {
+    juicedelta_handle live = {};
+    std::vector<int64_t> windows, ids;
+    std::vector<uint8_t> kinds;
+    std::vector<Change> changes;
+    // Lists what an edit told.
+    int64_t told(int32_t code, uint64_t count)
+    {
+        must(code);
+        if (windows.size() < count)
+            windows.resize(count), ids.resize(count), kinds.resize(count);
+        if (count > 0)
+            must(juicedelta_live_changes(&live, windows.data(), windows.size(), ids.data(), ids.size(), kinds.data(), kinds.size(), &count));
+        changes.clear();
+        for (size_t at = 0; at < count; at++)
+            changes.push_back({windows[at], ids[at], kinds[at]});
+        return sum_of(changes.data(), changes.size());
+    }
+
+public:
+    explicit Live(const Rows &all)
+    {
+        uint64_t count = 0;
+        must(juicedelta_live_open(&live, 2, 51, 1, 2));
+        for (size_t at = 0; at < all.ids.size(); at++)
+            must(juicedelta_live_insert(&live, all.ids[at], of(all.boxes[at]), 4, &count));
+    }
+    Live(const Live &) = delete;
+    ~Live() { juicedelta_close(&live); }
+    void watch(int64_t window, const Box &box)
+    {
+        uint64_t count = 0;
+        must(juicedelta_live_watch(&live, window, of(box), 4, &count));
+    }
+    int64_t move(int64_t id, const Box &box)
+    {
+        uint64_t count = 0;
+        int32_t code = juicedelta_live_move(&live, id, of(box), 4, &count);
+        return told(code, count);
+    }
+    int64_t shift(int64_t window, const Box &box)
+    {
+        uint64_t count = 0;
+        int32_t code = juicedelta_live_shift(&live, window, of(box), 4, &count);
+        return told(code, count);
+    }
+    int64_t search(const Box &box) const
+    {
+        thread_local std::vector<int64_t> found(1 << 18);
+        uint64_t total = 0;
+        int64_t sum = 0;
+        must(juicedelta_tree_search(&live, JUICEDELTA_TOUCHES, of(box), 4, found.data(), found.size(), &total));
+        for (uint64_t at = 0; at < total; at++)
+            sum += found[at];
+        return sum;
+    }
+};
 #endif
 
 // Windows of ten rows and of a thousand.
@@ -271,6 +406,59 @@ static void insertions(const Rows &all)
 #else
     timed("move", some, [&](uint64_t at) { uint64_t row = at_row(at); return tree.move(all.ids[row], moved(row)), 0; });
 #endif
+}
+#endif
+
+#if !defined(PEER_SPATIALINDEX)
+// A screen that shows a hundred rows, a few steps on.
+static Box screen(uint64_t rows, uint64_t number, int32_t steps)
+{
+    Box box = box_of(number + (uint64_t(1) << 41), reach(rows, 100));
+    return box.min[0] += steps, box.max[0] += steps, box;
+}
+
+// The windows with these numbers are there too; then rows move and go back.
+template <class Any>
+static void moves_told(Any &live, const Rows &all, uint64_t first, uint64_t past, const char *move, const char *back)
+{
+    const uint64_t rows = all.ids.size(), some = rows / 10;
+    auto at_row = [&](uint64_t turn) { return turn * 7919 % rows; };
+    auto moved = [&](uint64_t row) { Box box = all.boxes[row]; return box.min[0] += 30, box.max[0] += 30, box; };
+    for (uint64_t window = first; window < past; window++)
+        live.watch(int64_t(window), screen(rows, window, 0));
+    timed(move, some, [&](uint64_t at) { uint64_t row = at_row(at); return live.move(all.ids[row], moved(row)); });
+    timed(back, some, [&](uint64_t at) { uint64_t row = at_row(at); return live.move(all.ids[row], all.boxes[row]); });
+}
+
+// So many windows pan, beside two searches for each.
+template <class Any> static void pans(Any &live, uint64_t rows, uint64_t windows)
+{
+    timed("two_searches", windows, [&](uint64_t at) { return live.search(screen(rows, at, 0)) + live.search(screen(rows, at, 200)); });
+    timed("shift", windows, [&](uint64_t at) { return live.shift(int64_t(at), screen(rows, at, 200)); });
+}
+
+// A window over everything, and then a thousand more over one place.
+template <class Any> static void crowds(const Rows &all)
+{
+    const uint64_t some = all.ids.size() / 100;
+    Any live(all);
+    live.watch(0, {{-2000000, -2000000}, {3000000, 3000000}});
+    auto stretched = [&](uint64_t row, int32_t by) { Box box = all.boxes[row]; return box.max[0] += by, box; };
+    timed("all_seen", some, [&](uint64_t at) { return live.move(all.ids[at], stretched(at, 30)); });
+    for (int32_t window = 1; window <= 1000; window++) {
+        Box box = all.boxes[0];
+        box.min[0] -= window, box.min[1] -= window, box.max[0] += window, box.max[1] += window;
+        live.watch(window, box);
+    }
+    timed("crowd", some, [&](uint64_t at) { return live.move(all.ids[0], stretched(0, int32_t(at % 2))); });
+}
+
+template <class Any> static void live_windows(const Rows &all)
+{
+    Any live(all);
+    moves_told(live, all, 0, 10000, "told_10000", "back_10000");
+    moves_told(live, all, 10000, 100000, "told_100000", "back_100000");
+    pans(live, all.ids.size(), 10000);
 }
 #endif
 
@@ -343,8 +531,11 @@ int main(int count, char **words)
     }
 #endif
     tree.reset();
-    if (has_all)
+    if (has_all) {
         insertions(all);
+        live_windows<Live>(all);
+        crowds<Live>(all);
+    }
 #else
     (void)has_all;
 #endif

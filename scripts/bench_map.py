@@ -1,10 +1,10 @@
 #!/usr/bin/env python3
 """bench_map.py [FOLDER]: prints how long the work of a map program takes, and how far each figure is from its bound.
 
-The work is that of bench/map.cpp: rows loaded at once, windows, nearest rows, moves, joins, many windows in a call, trees that are kept
-and threads. Boost's rtree and libspatialindex do what they can of it, if they are installed. The programs run by turns, and the least
-time counts. What they found is compared. ROWS gives the numbers of rows; above 1,000,000 no tree is made row by row. It needs g++ and
-the libraries of lib/, which make bindings builds, or of FOLDER.
+The work is that of bench/map.cpp: rows loaded at once, windows, nearest rows, moves, joins, many windows in a call, trees that are kept,
+threads, and moves that are told to the windows that see them. Boost's rtree and libspatialindex do what they can of it, if they are
+installed. The programs run by turns, and the least time counts. What they found is compared. ROWS gives the numbers of rows; above
+1,000,000 no tree is made row by row. It needs g++ and the libraries of lib/, which make bindings builds, or of FOLDER.
 """
 
 import os
@@ -50,6 +50,12 @@ BOUNDS = [
     Bound("join, over Boost's search for each row", 0.4, lambda own, boost: own["join"] / boost["asked"]),
     Bound("many windows in a call, over calls", 0.9, lambda own, boost: own["many"] / own["calls"]),
     Bound("four threads' time for a window, over one's", 1 / 3.2, lambda own, boost: own["four_threads"] / own["one_thread"]),
+    Bound("move told to 10,000 windows, over Boost's", 0.35, lambda own, boost: own["told_10000"] / boost["told_10000"]),
+    Bound("the same, ns above a plain move", 1500, lambda own, boost: own["told_10000"] - own["move"]),
+    Bound("move told to 100,000 windows, over Boost's", 0.4, lambda own, boost: own["told_100000"] / boost["told_100000"]),
+    Bound("move that all of 1,000 windows see, the same", 1, lambda own, boost: own["crowd"] / boost["crowd"]),
+    Bound("move that one window over all sees, the same", 1, lambda own, boost: own["all_seen"] / boost["all_seen"]),
+    Bound("window that pans, over two searches", 1, lambda own, boost: own["shift"] / own["two_searches"]),
 ]
 
 

@@ -1,9 +1,9 @@
 /*
- * What libFuzzer makes up, tried on the C calls. The first byte of an input chooses: a tree of one, two or three axes
- * makes the calls that the other bytes say beside a plain list (pair.h); or they are a script, which prints the same in
- * one piece and byte by byte.
+ * What libFuzzer makes up, tried on the C calls. The first byte of an input chooses: a tree or live windows of one, two or
+ * three axes make the calls that the other bytes say beside plain lists (pair.h, pair_live.h); or they are a script, which
+ * prints the same in one piece and byte by byte.
  */
-#include "pair.h"
+#include "pair_live.h"
 
 static void arm(long allocation) { (void)allocation; }
 static int disarm(void) { return 0; }
@@ -14,6 +14,17 @@ static void calls(source *from, uint32_t axes)
     pair_open(&pair, axes, 5 + below(from, 47));
     while (from->length > 0)
         pair_step(from, &pair);
+    pair_same(&pair);
+    pair_close(&pair);
+}
+
+static void live_calls(source *from, uint32_t axes)
+{
+    pair pair;
+    live_open(&pair, axes, 5 + below(from, 47));
+    uint32_t windows = 1 + below(from, IDS);
+    while (from->length > 0)
+        live_step(from, &pair, windows);
     pair_same(&pair);
     pair_close(&pair);
 }
@@ -50,9 +61,11 @@ int LLVMFuzzerTestOneInput(const uint8_t *bytes, size_t length)
     /* A source without bytes is a generator. */
     static const uint8_t none = 0;
     source from = {length > 1 ? bytes + 1 : &none, length > 1 ? length - 1 : 0, 0};
-    uint32_t axes = length > 0 ? bytes[0] % 4 : 0;
-    if (axes > 0)
-        calls(&from, axes);
+    uint32_t kind = length > 0 ? bytes[0] % 7 : 0;
+    if (kind > 3)
+        live_calls(&from, kind - 3);
+    else if (kind > 0)
+        calls(&from, kind);
     else
         script(from.bytes, from.length);
     return 0;

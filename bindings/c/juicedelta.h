@@ -1,10 +1,11 @@
 /*
  * juicedelta.h: the calls for C99 and C++ of Juicedelta, which keeps rows, each an id and a box of whole numbers, in
- * R*-trees of one, two or three axes, and runs scripts over tables of them. Link with libjuicedelta.a.
+ * R*-trees of one, two or three axes, tells windows over them what edits change, and runs scripts over tables of them. Link
+ * with libjuicedelta.a.
  *
- * Handles. A juicedelta_handle holds one object, a tree or a script shell, or nothing: then it is closed, as {0} is. The
- * caller owns the handle, and the library owns what it holds, until juicedelta_close. Never change a handle, and never use
- * two copies of one.
+ * Handles. A juicedelta_handle holds one object, a tree, live windows or a script shell, or nothing: then it is closed, as
+ * {0} is. The caller owns the handle, and the library owns what it holds, until juicedelta_close. Never change a handle, and
+ * never use two copies of one.
  *
  *     juicedelta_handle tree = {0};
  *     if (juicedelta_tree_open(&tree, 2, 51, keys[0], keys[1]) == JUICEDELTA_OK) ...
@@ -46,7 +47,7 @@ typedef enum juicedelta_code {
     JUICEDELTA_BAD_CAPACITY = 4,     /* the capacity is not from 5 to 51 */
     JUICEDELTA_BAD_BOX = 5,          /* on some axis min is above max */
     JUICEDELTA_ID_TAKEN = 6,         /* the id is taken */
-    JUICEDELTA_ID_MISSING = 7,       /* no row has that id */
+    JUICEDELTA_ID_MISSING = 7,       /* no row or window has that id */
     JUICEDELTA_BUFFER_TOO_SMALL = 8, /* the result is longer than the buffer */
     JUICEDELTA_OUT_OF_MEMORY = 9,    /* no memory is left */
     JUICEDELTA_TREE_FULL = 10,       /* the tree has as many rows as a tree may have */
@@ -66,6 +67,13 @@ typedef enum juicedelta_relation {
     JUICEDELTA_WITHIN = 1,  /* each point of the row's box lies in the window */
     JUICEDELTA_HOLDS = 2    /* each point of the window lies in the row's box */
 } juicedelta_relation;
+
+/* What a window is told of a row. */
+typedef enum juicedelta_change {
+    JUICEDELTA_LEFT = 0, /* it left the window */
+    JUICEDELTA_CAME = 1, /* it came into the window */
+    JUICEDELTA_MOVED = 2 /* it has another box, and is in the window as before */
+} juicedelta_change;
 
 typedef struct juicedelta_handle {
     void *object;
@@ -92,7 +100,8 @@ int32_t juicedelta_words(int32_t code, uint8_t *text, size_t length, uint64_t *t
 /* Frees what the handle holds; the handle is closed then, and can be opened again. CLOSED. */
 int32_t juicedelta_close(juicedelta_handle *handle);
 
-/* ---- Trees. All calls but those that open answer CLOSED first, and then OTHER_KIND if the handle holds no tree. ---- */
+/* ---- Trees. All calls but those that open answer CLOSED first, and then OTHER_KIND if the handle holds no tree. Those that
+ * read (a const handle) answer of the rows of live windows too. ---- */
 
 /* Opens a tree without rows. Its nodes have at most `capacity` cells, from 5 to 51; 51 is SQLite's.
  * ALREADY_OPEN, BAD_AXES, BAD_CAPACITY, OUT_OF_MEMORY. */
@@ -192,6 +201,51 @@ int32_t juicedelta_tree_join_self(const juicedelta_handle *handle, int64_t *left
 int32_t juicedelta_tree_to_bytes(const juicedelta_handle *handle, uint8_t *bytes, size_t length, uint64_t *total);
 /* Writes the dump, as `.nodes` prints it, with no zero byte behind it, and its length. OUT_OF_MEMORY, BUFFER_TOO_SMALL. */
 int32_t juicedelta_tree_dump(const juicedelta_handle *handle, uint8_t *text, size_t length, uint64_t *total);
+
+/* ---- Live windows: rows, and windows over them, each an id and a box. Each edit tells the windows what it changed in the
+ * rows that they see, those that touch them. All calls but that which opens answer CLOSED first, then OTHER_KIND if the handle
+ * holds no live windows. The calls of trees that read answer of the rows of live windows too. ---- */
+
+/* Opens rows and windows, none so far. The capacity is that of the nodes of their trees. ALREADY_OPEN, BAD_AXES, BAD_CAPACITY,
+ * OUT_OF_MEMORY. */
+int32_t juicedelta_live_open(juicedelta_handle *handle, uint32_t axes, uint32_t capacity, uint64_t first_key,
+                             uint64_t second_key);
+
+/* Edits. Each tells how many changes it made; juicedelta_live_changes writes them until the next edit. An edit that answers
+ * another code than OK leaves the changes of the last one. */
+
+/* Inserts a row: it comes into the windows that it touches. BAD_LENGTH, BAD_BOX, ID_TAKEN, TREE_FULL, OUT_OF_MEMORY. */
+int32_t juicedelta_live_insert(juicedelta_handle *handle, int64_t id, const int32_t *box, size_t length, uint64_t *changes);
+/* Gives a row another box: it leaves windows, comes into them, or moves in them. If the box is the same, that makes no change.
+ * BAD_LENGTH, BAD_BOX, ID_MISSING, OUT_OF_MEMORY. */
+int32_t juicedelta_live_move(juicedelta_handle *handle, int64_t id, const int32_t *box, size_t length, uint64_t *changes);
+/* Removes a row: it leaves the windows that saw it. ID_MISSING, OUT_OF_MEMORY. */
+int32_t juicedelta_live_remove(juicedelta_handle *handle, int64_t id, uint64_t *changes);
+/* Opens a window: the rows that touch it come into it. BAD_LENGTH, BAD_BOX, ID_TAKEN, TREE_FULL, OUT_OF_MEMORY. */
+int32_t juicedelta_live_watch(juicedelta_handle *handle, int64_t window, const int32_t *box, size_t length,
+                              uint64_t *changes);
+/* Gives a window another box: rows leave it and come into it. A row that it sees before and after makes no change.
+ * BAD_LENGTH, BAD_BOX, ID_MISSING, OUT_OF_MEMORY. */
+int32_t juicedelta_live_shift(juicedelta_handle *handle, int64_t window, const int32_t *box, size_t length,
+                              uint64_t *changes);
+/* Takes a window out: the rows that it saw leave it. ID_MISSING, OUT_OF_MEMORY. */
+int32_t juicedelta_live_unwatch(juicedelta_handle *handle, int64_t window, uint64_t *changes);
+/* Makes room for so many more rows and windows, and for edits that make so many changes: edits that stay within it need no
+ * more memory. OUT_OF_MEMORY. */
+int32_t juicedelta_live_reserve(juicedelta_handle *handle, uint64_t rows, uint64_t windows, uint64_t changes);
+
+/* Writes the changes of the last edit, by rising window and then by rising id: of each the window, the row and what it did, a
+ * juicedelta_change, to one place of three lists of one length; and tells how many there are. BAD_LENGTH, BUFFER_TOO_SMALL. */
+int32_t juicedelta_live_changes(const juicedelta_handle *handle, int64_t *windows, size_t windows_length, int64_t *ids,
+                                size_t ids_length, uint8_t *kinds, size_t kinds_length, uint64_t *total);
+/* Writes the ids of the rows that a window sees, rising, and tells how many there are. ID_MISSING, OUT_OF_MEMORY,
+ * BUFFER_TOO_SMALL. */
+int32_t juicedelta_live_rows(const juicedelta_handle *handle, int64_t window, int64_t *ids, size_t ids_length,
+                             uint64_t *total);
+/* As juicedelta_tree_rows, of the windows: writes the ids and the boxes of those from place `from` on, as many as there are or
+ * the lists have room for, and tells how many windows there are. BAD_LENGTH. */
+int32_t juicedelta_live_windows(const juicedelta_handle *handle, uint64_t from, int64_t *ids, size_t ids_length,
+                                int32_t *boxes, size_t boxes_length, uint64_t *total);
 
 /* ---- Script shells. All calls but that which opens answer CLOSED first, then OTHER_KIND if the handle holds no shell. ----
  * A shell is fed a script in parts of any size, and keeps what `rtsh run` prints as its output, until the caller drops it.

@@ -1,6 +1,6 @@
 /*
- * A tree and its oracle, a plain list, side by side: each step makes a call of both, and ends the program if their
- * answers differ. The oracle's calls are those of plain.c under the names plain_.. The including file has `arm` and
+ * A tree or live windows and the oracle, plain lists, side by side: each step makes a call of both, and ends the program if
+ * their answers differ. The oracle's calls are those of plain.c under the names plain_.. The including file has `arm` and
  * `disarm`: from arm(N) to disarm() the Nth allocation is refused, and disarm() answers whether one was. With an `arm`
  * that does nothing each call is made once.
  */
@@ -117,6 +117,18 @@ PLAIN(tree_nearest_to);
 PLAIN(tree_within);
 PLAIN(tree_join);
 PLAIN(tree_join_self);
+PLAIN(tree_dump);
+PLAIN(live_open);
+PLAIN(live_insert);
+PLAIN(live_move);
+PLAIN(live_remove);
+PLAIN(live_watch);
+PLAIN(live_shift);
+PLAIN(live_unwatch);
+PLAIN(live_reserve);
+PLAIN(live_changes);
+PLAIN(live_rows);
+PLAIN(live_windows);
 
 typedef struct pair {
     uint32_t axes;
@@ -175,7 +187,33 @@ static int are_same(const pair *pair, const rows *left, const rows *right, size_
     return memcmp(sorted[0], sorted[1], length * sizeof sorted[0][0]) == 0;
 }
 
-/* Tree and list have the same rows, and as many axes. */
+/* Changes, as a call writes them. */
+typedef struct changes {
+    uint64_t total;
+    int64_t windows[BUFFER], ids[BUFFER];
+    uint8_t kinds[BUFFER];
+} changes;
+
+/* Both have the same windows, and told them the same last; or both hold a tree. */
+static void live_same(const pair *pair)
+{
+    static changes told, wanted_told;
+    static rows windows, wanted;
+    size_t width = 2 * pair->axes;
+    memset(&told, 0x5a, sizeof told), memset(&wanted_told, 0x5a, sizeof wanted_told);
+    clear_rows(&windows), clear_rows(&wanted);
+    int32_t code = juicedelta_live_changes(&pair->tree, told.windows, BUFFER, told.ids, BUFFER, told.kinds, BUFFER, &told.total);
+    CHECK(code == plain_live_changes(&pair->list, wanted_told.windows, BUFFER, wanted_told.ids, BUFFER, wanted_told.kinds, BUFFER,
+        &wanted_told.total));
+    CHECK(code == JUICEDELTA_OK || code == JUICEDELTA_OTHER_KIND);
+    CHECK(memcmp(&told, &wanted_told, sizeof told) == 0);
+    CHECK(code == juicedelta_live_windows(&pair->tree, 0, windows.ids, BUFFER, windows.boxes, width * BUFFER, &windows.total));
+    CHECK(code == plain_live_windows(&pair->list, 0, wanted.ids, BUFFER, wanted.boxes, width * BUFFER, &wanted.total));
+    size_t written = code == JUICEDELTA_OK ? wanted.total : 0;
+    CHECK(windows.total == wanted.total && are_untouched(pair, &windows, written) && are_same(pair, &windows, &wanted, written));
+}
+
+/* Tree and list have the same rows, as many axes, and the same windows. */
 static void pair_same(const pair *pair)
 {
     static rows rows, wanted;
@@ -191,21 +229,29 @@ static void pair_same(const pair *pair)
     CHECK(are_same(pair, &rows, &wanted, length));
     CHECK(juicedelta_tree_axes(&pair->tree, &axes) == JUICEDELTA_OK && axes == pair->axes);
     CHECK(plain_tree_axes(&pair->list, &list_axes) == JUICEDELTA_OK && list_axes == axes);
+    live_same(pair);
 }
 
-static void pair_open(pair *pair, uint32_t axes, uint32_t capacity)
+/* Opens a tree or live windows, by such calls. */
+static void pair_open_by(pair *pair, uint32_t axes, uint32_t capacity, __typeof__(juicedelta_tree_open) *own,
+                         __typeof__(juicedelta_tree_open) *plain)
 {
     int32_t code;
     memset(pair, 0, sizeof *pair);
     pair->axes = axes;
     for (long turn = 1;; turn++) {
         arm(turn);
-        code = juicedelta_tree_open(&pair->tree, axes, capacity, 3, 4);
+        code = own(&pair->tree, axes, capacity, 3, 4);
         if (!disarm() || code != JUICEDELTA_OUT_OF_MEMORY)
             break;
         CHECK(juicedelta_close(&pair->tree) == JUICEDELTA_CLOSED);
     }
-    CHECK(code == JUICEDELTA_OK && plain_tree_open(&pair->list, axes, capacity, 3, 4) == JUICEDELTA_OK);
+    CHECK(code == JUICEDELTA_OK && plain(&pair->list, axes, capacity, 3, 4) == JUICEDELTA_OK);
+}
+
+static void pair_open(pair *pair, uint32_t axes, uint32_t capacity)
+{
+    pair_open_by(pair, axes, capacity, juicedelta_tree_open, plain_tree_open);
 }
 
 static void pair_close(pair *pair)
@@ -545,16 +591,21 @@ static void pair_insert(source *from, pair *pair, int64_t id)
     CHECK(code == plain_tree_insert(&pair->list, id, box, length));
 }
 
-/* A row moves to a near place, to any, or to its own. */
-static void pair_move(source *from, pair *pair, int64_t id)
+/* A near place of a row, any, or its own. */
+static void a_place(source *from, const pair *pair, int64_t id, int32_t *box)
 {
-    int32_t box[ROOM], code;
-    size_t length = a_length(from, 2 * pair->axes);
     a_box(from, pair, 60, 60, box);
     if (below(from, 4) == 0)
         plain_tree_get(&pair->list, id, box, 2 * pair->axes);
     if (below(from, 2) == 0 && box[pair->axes] < INT32_MAX)
         box[pair->axes]++;
+}
+
+static void pair_move(source *from, pair *pair, int64_t id)
+{
+    int32_t box[ROOM], code;
+    size_t length = a_length(from, 2 * pair->axes);
+    a_place(from, pair, id, box);
     TRY(code, juicedelta_tree_move(&pair->tree, id, box, length), 1);
     CHECK(code == plain_tree_move(&pair->list, id, box, length));
 }

@@ -5,10 +5,12 @@
  *
  *   test calls CALLS    what each call answers; CALLS random calls on each number of axes, at capacities 5 and 51, beside
  *                       the oracle; handles opened and closed a thousand times
- *   test refused CALLS  random calls beside the oracle, with each allocation refused in turn, and a script
+ *   test live EDITS     EDITS random edits of live windows on each number of axes, few windows and many, at capacities 5 and
+ *                       51, and reads between them, beside the oracle
+ *   test refused CALLS  random calls and edits beside the oracle, with each allocation refused in turn, and a script
  *   test rows ROWS      ROWS rows are inserted and removed
  */
-#include "pair.h"
+#include "pair_live.h"
 
 /* ---- Memory ------------------------------------------------------------------------------------------------------ */
 
@@ -184,20 +186,17 @@ typedef struct outputs {
 /* A box with min above max on each axis. */
 static const int32_t upside[ROOM] = {8, 7, 6, 5, 4, 3, 2, 1};
 
-/* Each call on a tree answers this code, whatever else is wrong with it, and writes nothing. */
-static void refuse_all(juicedelta_handle *handle, int32_t code)
+/* Each call that reads a tree answers this code, whatever else is wrong with it, and writes nothing. */
+static void refuse_reads(const juicedelta_handle *handle, int32_t code)
 {
     outputs to;
     memset(&to, 0x5a, sizeof to);
     for (size_t length = 0; length <= ROOM; length++) {
-        CHECK(juicedelta_tree_insert(handle, 1, upside, length) == code);
-        CHECK(juicedelta_tree_move(handle, 1, upside, length) == code);
         CHECK(juicedelta_tree_get(handle, 1, to.boxes, length) == code);
         CHECK(juicedelta_tree_count(handle, 3, upside, length, &to.total) == code);
         CHECK(juicedelta_tree_search(handle, 3, upside, length, to.ids, 2, &to.total) == code);
         CHECK(juicedelta_tree_search_rows(handle, 3, upside, length, to.ids, 2, to.boxes, length, &to.total) == code);
         CHECK(juicedelta_tree_nearest(handle, upside, length, to.ids, 2, to.boxes, length, &to.total) == code);
-        CHECK(juicedelta_tree_insert_rows(handle, to.ids, 2, upside, length, &to.total) == code);
         CHECK(juicedelta_tree_bounds(handle, to.boxes, length) == code);
         CHECK(juicedelta_tree_rows(handle, 0, to.ids, 2, to.boxes, length, &to.total) == code);
         CHECK(juicedelta_tree_within(handle, upside, length, 9, to.ids, 2, to.boxes, length, &to.total) == code);
@@ -209,13 +208,54 @@ static void refuse_all(juicedelta_handle *handle, int32_t code)
     CHECK(juicedelta_tree_ids(handle, 0, to.ids, 2, &to.total) == code);
     CHECK(juicedelta_tree_join(handle, handle, to.ids, 2, to.others, 1, &to.total) == code);
     CHECK(juicedelta_tree_join_self(handle, to.ids, 2, to.others, 1, &to.total) == code);
-    CHECK(juicedelta_tree_remove(handle, 1) == code);
-    CHECK(juicedelta_tree_clear(handle) == code);
     CHECK(juicedelta_tree_axes(handle, &to.axes) == code);
     CHECK(juicedelta_tree_len(handle, &to.total) == code);
     CHECK(juicedelta_tree_dump(handle, to.text, 4, &to.total) == code);
     CHECK(juicedelta_tree_to_bytes(handle, to.text, 4, &to.total) == code);
     CHECK(is_untouched(&to, 0, sizeof to));
+}
+
+/* And each call that changes a tree. */
+static void refuse_writes(juicedelta_handle *handle, int32_t code)
+{
+    outputs to;
+    memset(&to, 0x5a, sizeof to);
+    for (size_t length = 0; length <= ROOM; length++) {
+        CHECK(juicedelta_tree_insert(handle, 1, upside, length) == code);
+        CHECK(juicedelta_tree_move(handle, 1, upside, length) == code);
+        CHECK(juicedelta_tree_insert_rows(handle, to.ids, 2, upside, length, &to.total) == code);
+    }
+    CHECK(juicedelta_tree_remove(handle, 1) == code);
+    CHECK(juicedelta_tree_clear(handle) == code);
+    CHECK(is_untouched(&to, 0, sizeof to));
+}
+
+/* And each call of live windows. */
+static void refuse_live(juicedelta_handle *handle, int32_t code)
+{
+    outputs to;
+    memset(&to, 0x5a, sizeof to);
+    for (size_t length = 0; length <= ROOM; length++) {
+        CHECK(juicedelta_live_insert(handle, 1, upside, length, &to.total) == code);
+        CHECK(juicedelta_live_move(handle, 1, upside, length, &to.total) == code);
+        CHECK(juicedelta_live_watch(handle, 1, upside, length, &to.total) == code);
+        CHECK(juicedelta_live_shift(handle, 1, upside, length, &to.total) == code);
+        CHECK(juicedelta_live_windows(handle, 0, to.ids, 2, to.boxes, length, &to.total) == code);
+    }
+    CHECK(juicedelta_live_remove(handle, 1, &to.total) == code);
+    CHECK(juicedelta_live_unwatch(handle, 1, &to.total) == code);
+    CHECK(juicedelta_live_reserve(handle, UINT64_MAX, UINT64_MAX, UINT64_MAX) == code);
+    CHECK(juicedelta_live_changes(handle, to.ids, 2, to.others, 1, to.text, 0, &to.total) == code);
+    CHECK(juicedelta_live_rows(handle, 1, to.ids, 2, &to.total) == code);
+    CHECK(is_untouched(&to, 0, sizeof to));
+}
+
+/* And each call of both. */
+static void refuse_all(juicedelta_handle *handle, int32_t code)
+{
+    refuse_reads(handle, code);
+    refuse_writes(handle, code);
+    refuse_live(handle, code);
 }
 
 /* A tree of so many axes refuses each wrong length of a box and of a point, before it looks at the box or the id. */
@@ -325,10 +365,12 @@ static void open_codes(void)
         CHECK(juicedelta_tree_open_dump(&tree, axes[at], text, 16, 1, 2) == JUICEDELTA_BAD_AXES);
         CHECK(juicedelta_tree_open_bytes(&tree, axes[at], text, 16, 1, 2) == JUICEDELTA_BAD_AXES);
         CHECK(juicedelta_tree_open_rows(&tree, axes[at], 52, ids, 2, upside, 3, 1, 2, &place) == JUICEDELTA_BAD_AXES);
+        CHECK(juicedelta_live_open(&tree, axes[at], 52, 1, 2) == JUICEDELTA_BAD_AXES);
     }
     for (size_t at = 0; at < sizeof capacities / sizeof *capacities; at++) {
         CHECK(juicedelta_tree_open(&tree, 2, capacities[at], 1, 2) == JUICEDELTA_BAD_CAPACITY);
         CHECK(juicedelta_tree_open_rows(&tree, 2, capacities[at], ids, 2, upside, 3, 1, 2, &place) == JUICEDELTA_BAD_CAPACITY);
+        CHECK(juicedelta_live_open(&tree, 2, capacities[at], 1, 2) == JUICEDELTA_BAD_CAPACITY);
     }
     for (size_t length = 0; length < 8; length++)
         CHECK(juicedelta_tree_open_rows(&tree, 2, 5, ids, 2, upside, length, 1, 2, &place) == JUICEDELTA_BAD_LENGTH);
@@ -361,6 +403,8 @@ static void tree_codes(uint32_t axes)
     CHECK(juicedelta_tree_open_dump(&tree, 4, to.text, 0, 1, 2) == JUICEDELTA_ALREADY_OPEN);
     CHECK(juicedelta_tree_open_bytes(&tree, 4, to.text, 0, 1, 2) == JUICEDELTA_ALREADY_OPEN);
     CHECK(juicedelta_tree_open_rows(&tree, 4, 52, to.ids, 2, upside, 3, 1, 2, &to.total) == JUICEDELTA_ALREADY_OPEN);
+    CHECK(juicedelta_live_open(&tree, 4, 52, 1, 2) == JUICEDELTA_ALREADY_OPEN);
+    refuse_live(&tree, JUICEDELTA_OTHER_KIND);
     CHECK(juicedelta_tree_bounds(&tree, to.boxes, width) == JUICEDELTA_EMPTY);
     CHECK(juicedelta_tree_insert(&tree, INT64_MIN, box, width) == JUICEDELTA_OK);
     CHECK(juicedelta_tree_insert(&tree, INT64_MIN, box, width) == JUICEDELTA_ID_TAKEN);
@@ -396,6 +440,158 @@ static void tree_codes(uint32_t axes)
     CHECK(juicedelta_close(&tree) == JUICEDELTA_OK);
     refuse_all(&tree, JUICEDELTA_CLOSED);
 }
+
+/* ---- Live windows ------------------------------------------------------------------------------------------------ */
+
+/* Live windows of so many axes refuse each wrong length of a box, before they look at the box or the id, and of lists. */
+static void refuse_live_lengths(juicedelta_handle *live, size_t axes)
+{
+    outputs to;
+    memset(&to, 0x5a, sizeof to);
+    for (size_t length = 0; length <= ROOM; length++) {
+        if (length == 2 * axes)
+            continue;
+        CHECK(juicedelta_live_insert(live, 7, upside, length, &to.total) == JUICEDELTA_BAD_LENGTH);
+        CHECK(juicedelta_live_move(live, 5, upside, length, &to.total) == JUICEDELTA_BAD_LENGTH);
+        CHECK(juicedelta_live_watch(live, 9, upside, length, &to.total) == JUICEDELTA_BAD_LENGTH);
+        CHECK(juicedelta_live_shift(live, 5, upside, length, &to.total) == JUICEDELTA_BAD_LENGTH);
+        CHECK(juicedelta_live_windows(live, 0, to.ids, 1, to.boxes, length, &to.total) == JUICEDELTA_BAD_LENGTH);
+    }
+    CHECK(juicedelta_live_changes(live, to.ids, 1, to.others, 0, to.text, 0, &to.total) == JUICEDELTA_BAD_LENGTH);
+    CHECK(juicedelta_live_changes(live, to.ids, 0, to.others, 1, to.text, 0, &to.total) == JUICEDELTA_BAD_LENGTH);
+    CHECK(juicedelta_live_changes(live, to.ids, 0, to.others, 0, to.text, 1, &to.total) == JUICEDELTA_BAD_LENGTH);
+    CHECK(juicedelta_live_changes(live, to.ids, 1, to.others, 1, to.text, 2, &to.total) == JUICEDELTA_BAD_LENGTH);
+    CHECK(is_untouched(&to, 0, sizeof to));
+}
+
+/* Each code of live windows but TREE_FULL. Row 7 and window 9 have all there is. */
+static void live_codes(uint32_t axes)
+{
+    juicedelta_handle live = {0}, shell = {0};
+    size_t width = 2 * axes;
+    int32_t box[BOX];
+    outputs to;
+    for (uint32_t axis = 0; axis < axes; axis++)
+        box[axis] = INT32_MIN, box[axes + axis] = INT32_MAX;
+    CHECK(juicedelta_live_open(&live, axes, 51, 1, 2) == JUICEDELTA_OK);
+    CHECK(juicedelta_live_open(&live, 4, 52, 1, 2) == JUICEDELTA_ALREADY_OPEN);
+    CHECK(juicedelta_tree_open(&live, 4, 52, 1, 2) == JUICEDELTA_ALREADY_OPEN);
+    CHECK(juicedelta_script_open(&live, 52, 1, 2) == JUICEDELTA_ALREADY_OPEN);
+    CHECK(juicedelta_script_open(&shell, 51, 1, 2) == JUICEDELTA_OK);
+    CHECK(juicedelta_live_open(&shell, axes, 51, 1, 2) == JUICEDELTA_ALREADY_OPEN);
+    CHECK(juicedelta_script_exec(&live, to.text, 0) == JUICEDELTA_OTHER_KIND);
+    CHECK(juicedelta_close(&shell) == JUICEDELTA_OK);
+    refuse_writes(&live, JUICEDELTA_OTHER_KIND);
+    CHECK(juicedelta_live_insert(&live, 7, box, width, &to.total) == JUICEDELTA_OK && to.total == 0);
+    CHECK(juicedelta_live_watch(&live, 9, box, width, &to.total) == JUICEDELTA_OK && to.total == 1);
+    memset(&to, 0x5a, sizeof to);
+    refuse_live_lengths(&live, axes);
+    CHECK(juicedelta_live_insert(&live, 7, upside, width, &to.total) == JUICEDELTA_BAD_BOX);
+    CHECK(juicedelta_live_insert(&live, 7, box, width, &to.total) == JUICEDELTA_ID_TAKEN);
+    CHECK(juicedelta_live_move(&live, 9, upside, width, &to.total) == JUICEDELTA_BAD_BOX);
+    CHECK(juicedelta_live_move(&live, 9, box, width, &to.total) == JUICEDELTA_ID_MISSING);
+    CHECK(juicedelta_live_remove(&live, 9, &to.total) == JUICEDELTA_ID_MISSING);
+    CHECK(juicedelta_live_watch(&live, 9, upside, width, &to.total) == JUICEDELTA_BAD_BOX);
+    CHECK(juicedelta_live_watch(&live, 9, box, width, &to.total) == JUICEDELTA_ID_TAKEN);
+    CHECK(juicedelta_live_shift(&live, 7, upside, width, &to.total) == JUICEDELTA_BAD_BOX);
+    CHECK(juicedelta_live_shift(&live, 7, box, width, &to.total) == JUICEDELTA_ID_MISSING);
+    CHECK(juicedelta_live_unwatch(&live, 7, &to.total) == JUICEDELTA_ID_MISSING);
+    CHECK(juicedelta_live_rows(&live, 7, to.ids, 2, &to.total) == JUICEDELTA_ID_MISSING);
+    CHECK(is_untouched(&to, 0, sizeof to));
+    CHECK(juicedelta_live_rows(&live, 9, to.ids, 0, &to.total) == JUICEDELTA_BUFFER_TOO_SMALL && to.total == 1);
+    to.total = 77;
+    CHECK(juicedelta_live_changes(&live, to.ids, 0, to.others, 0, to.text, 0, &to.total) == JUICEDELTA_BUFFER_TOO_SMALL);
+    CHECK(to.total == 1 && is_untouched(&to, sizeof to.total, sizeof to));
+    CHECK(juicedelta_live_changes(&live, to.ids, 2, to.others, 2, to.text, 2, &to.total) == JUICEDELTA_OK && to.total == 1);
+    CHECK(to.ids[0] == 9 && to.others[0] == 7 && to.text[0] == JUICEDELTA_CAME && to.text[1] == 0x5a);
+    CHECK(juicedelta_close(&live) == JUICEDELTA_OK);
+    refuse_all(&live, JUICEDELTA_CLOSED);
+}
+
+/* The last edit told so many changes, and these, as `3-7` for `row 7 left window 3`, `+` came and `=` moved. */
+static void told(const juicedelta_handle *live, uint64_t count, const char *wanted)
+{
+    int64_t windows[8], ids[8];
+    uint8_t kinds[8];
+    char text[100] = "";
+    uint64_t total = 77;
+    CHECK(juicedelta_live_changes(live, windows, 8, ids, 8, kinds, 8, &total) == JUICEDELTA_OK && total == count);
+    for (size_t at = 0, end = 0; at < total; at++)
+        end += (size_t)sprintf(text + end, " %d%c%d", (int)windows[at], "-+="[kinds[at]], (int)ids[at]);
+    CHECK(strcmp(text, wanted) == 0);
+}
+
+/* What edits tell, counted by hand: windows 1 from 0 to 9, 2 from 10 to 19 and -3 from 5 to 14. */
+static void live_by_hand(void)
+{
+    static const int32_t views[][2] = {{0, 9}, {10, 19}, {5, 14}, {9, 10}, {4, 9}, {4, 12}, {20, 30}, {12, 14}};
+    juicedelta_handle live = {0};
+    uint64_t count = 77;
+#define TOLD(call, words)                                                                                              \
+    do {                                                                                                               \
+        CHECK((call) == JUICEDELTA_OK);                                                                                \
+        told(&live, count, words);                                                                                     \
+    } while (0)
+    CHECK(juicedelta_live_open(&live, 1, 5, 1, 2) == JUICEDELTA_OK);
+    TOLD(juicedelta_live_watch(&live, 1, views[0], 2, &count), "");
+    TOLD(juicedelta_live_watch(&live, 2, views[1], 2, &count), "");
+    TOLD(juicedelta_live_watch(&live, -3, views[2], 2, &count), "");
+    /* A row on an edge is seen. */
+    TOLD(juicedelta_live_insert(&live, 7, views[3], 2, &count), " -3+7 1+7 2+7");
+    TOLD(juicedelta_live_insert(&live, -8, views[4], 2, &count), " -3+-8 1+-8");
+    TOLD(juicedelta_live_move(&live, 7, views[4], 2, &count), " -3=7 1=7 2-7");
+    TOLD(juicedelta_live_move(&live, 7, views[4], 2, &count), "");
+    TOLD(juicedelta_live_move(&live, 7, views[6], 2, &count), " -3-7 1-7");
+    CHECK(juicedelta_live_move(&live, 9, views[4], 2, &count) == JUICEDELTA_ID_MISSING);
+    told(&live, 2, " -3-7 1-7");
+    TOLD(juicedelta_live_move(&live, 7, views[5], 2, &count), " -3+7 1+7 2+7");
+    TOLD(juicedelta_live_shift(&live, 2, views[0], 2, &count), " 2+-8");
+    TOLD(juicedelta_live_shift(&live, 2, views[0], 2, &count), "");
+    TOLD(juicedelta_live_shift(&live, 2, views[7], 2, &count), " 2--8");
+    TOLD(juicedelta_live_shift(&live, 2, views[6], 2, &count), " 2-7");
+    TOLD(juicedelta_live_shift(&live, 2, views[2], 2, &count), " 2+-8 2+7");
+    TOLD(juicedelta_live_remove(&live, 7, &count), " -3-7 1-7 2-7");
+    TOLD(juicedelta_live_unwatch(&live, -3, &count), " -3--8");
+    TOLD(juicedelta_live_insert(&live, 7, views[2], 2, &count), " 1+7 2+7");
+    TOLD(juicedelta_live_watch(&live, 4, views[0], 2, &count), " 4+-8 4+7");
+#undef TOLD
+    CHECK(juicedelta_close(&live) == JUICEDELTA_OK);
+}
+
+/* Edits that stay within what was reserved ask for no memory. */
+static void reserved(uint32_t axes)
+{
+    enum { WINDOWS = 20, MOVES = 2000 };
+    source from = {NULL, 0, 88172645463325252u};
+    pair pair;
+    int32_t box[ROOM];
+    uint64_t count;
+    live_open(&pair, axes, 5);
+    CHECK(juicedelta_live_reserve(&pair.tree, IDS, WINDOWS, IDS) == JUICEDELTA_OK);
+    arm(1);
+    for (int64_t id = 0; id < IDS; id++) {
+        a_box(&from, &pair, 60, UINT32_MAX, box);
+        CHECK(juicedelta_live_insert(&pair.tree, id, box, 2 * axes, &count) == JUICEDELTA_OK);
+    }
+    for (int64_t window = 0; window < WINDOWS; window++) {
+        a_box(&from, &pair, 1000, UINT32_MAX, box);
+        CHECK(juicedelta_live_watch(&pair.tree, window, box, 2 * axes, &count) == JUICEDELTA_OK);
+    }
+    for (int move = 0; move < MOVES; move++) {
+        int64_t id = below(&from, IDS), window = below(&from, WINDOWS);
+        a_box(&from, &pair, 1000, UINT32_MAX, box);
+        CHECK(juicedelta_live_shift(&pair.tree, window, box, 2 * axes, &count) == JUICEDELTA_OK);
+        CHECK(juicedelta_live_move(&pair.tree, id, box, 2 * axes, &count) == JUICEDELTA_OK);
+        CHECK(juicedelta_live_remove(&pair.tree, id, &count) == JUICEDELTA_OK);
+        CHECK(juicedelta_live_insert(&pair.tree, id, box, 2 * axes, &count) == JUICEDELTA_OK);
+        CHECK(juicedelta_live_unwatch(&pair.tree, window, &count) == JUICEDELTA_OK);
+        CHECK(juicedelta_live_watch(&pair.tree, window, box, 2 * axes, &count) == JUICEDELTA_OK);
+    }
+    CHECK(!disarm());
+    pair_close(&pair);
+}
+
+/* ---- Dumps and bytes --------------------------------------------------------------------------------------------- */
 
 /* A dump whose leaves stand before the root, as no tree writes them, and the dump of its rows packed. */
 static void other_order(void)
@@ -495,15 +691,20 @@ static void again(int times)
     static const char script[] = "CREATE VIRTUAL TABLE t USING rtree_i32(id, a, b);";
     static const int32_t box[] = {0, 0, 1, 1};
     for (int turn = 0; turn < times; turn++) {
-        juicedelta_handle tree = {0}, shell = {0};
-        uint64_t keys[2];
+        juicedelta_handle tree = {0}, live = {0}, shell = {0};
+        uint64_t keys[2], count;
         CHECK(juicedelta_random_keys(keys) == 0);
         CHECK(juicedelta_tree_open(&tree, 2, 5, keys[0], keys[1]) == JUICEDELTA_OK);
+        CHECK(juicedelta_live_open(&live, 2, 5, keys[0], keys[1]) == JUICEDELTA_OK);
         CHECK(juicedelta_script_open(&shell, 5, keys[0], keys[1]) == JUICEDELTA_OK);
-        for (int id = 0; id < 12; id++)
+        for (int id = 0; id < 12; id++) {
             CHECK(juicedelta_tree_insert(&tree, id, box, 4) == JUICEDELTA_OK);
+            CHECK(juicedelta_live_insert(&live, id, box, 4, &count) == JUICEDELTA_OK && count == (uint64_t)id);
+            CHECK(juicedelta_live_watch(&live, id, box, 4, &count) == JUICEDELTA_OK && count == (uint64_t)id + 1);
+        }
         CHECK(juicedelta_script_exec(&shell, (const uint8_t *)script, sizeof script - 1) == JUICEDELTA_OK);
         CHECK(juicedelta_close(&shell) == JUICEDELTA_OK);
+        CHECK(juicedelta_close(&live) == JUICEDELTA_OK);
         CHECK(juicedelta_close(&tree) == JUICEDELTA_OK);
     }
 }
@@ -529,6 +730,22 @@ static void all_random(int calls)
         random_calls(axes, 5, calls);
         random_calls(axes, 51, calls);
     }
+}
+
+/* So many random edits on each number of axes, and reads between them: few windows and many, at two capacities. */
+static void all_live(long edits)
+{
+    static const uint32_t windows[] = {3, 40, IDS};
+    for (uint32_t axes = 1; axes <= 3; axes++)
+        for (uint32_t run = 0; run < 6; run++) {
+            source from = {NULL, 0, 88172645463325252u + run};
+            pair pair;
+            live_open(&pair, axes, run % 2 == 0 ? 5 : 51);
+            for (long edit = edits * run / 6; edit < edits * (run + 1) / 6;)
+                edit += live_step(&from, &pair, windows[run / 2]);
+            pair_same(&pair);
+            pair_close(&pair);
+        }
 }
 
 /* A script in which the nth allocation is refused, for each n: the answers are OK, or OUT_OF_MEMORY from some call on. */
@@ -618,18 +835,25 @@ int main(int count, char **words)
         bytes_by_hand();
         for (uint32_t axes = 1; axes <= 3; axes++) {
             tree_codes(axes);
+            live_codes(axes);
             relations(axes);
         }
+        live_by_hand();
         all_random(number);
         again(1000);
+    } else if (strcmp(part, "live") == 0) {
+        all_live(number);
     } else if (strcmp(part, "refused") == 0) {
         refuses = 1;
         all_random(number);
+        all_live(number);
+        for (uint32_t axes = 1; axes <= 3; axes++)
+            reserved(axes);
         refused_script();
     } else if (strcmp(part, "rows") == 0) {
         many(number);
     } else {
-        fputs("test calls CALLS, test refused CALLS or test rows ROWS\n", stderr);
+        fputs("test calls CALLS, test live EDITS, test refused CALLS or test rows ROWS\n", stderr);
         return 2;
     }
     CHECK(blocks == before);

@@ -1,7 +1,7 @@
 /*
- * Four threads read one tree and one shell side by side, each into its own buffers, and each answer is compared with that
- * of one thread alone. Between two rounds a single thread writes: starting and joining the threads orders that. Meanwhile
- * each thread fills a tree of its own too.
+ * Four threads read one tree, live windows and one shell side by side, each into its own buffers, and each answer is compared
+ * with that of one thread alone. Between two rounds a single thread writes: starting and joining the threads orders that.
+ * Meanwhile each thread fills a tree of its own too.
  *
  *   threads ROUNDS QUESTIONS    on each number of axes
  */
@@ -21,7 +21,7 @@
         }                                                                                                              \
     } while (0)
 
-enum { THREADS = 4, ROWS = 400, BOX = 6, BYTES = 100000 };
+enum { THREADS = 4, ROWS = 400, WINDOWS = 30, BOX = 6, BYTES = 100000 };
 
 /* A number from 0 to n - 1 that looks random (xorshift). */
 static int32_t below(uint64_t *state, uint32_t n)
@@ -109,15 +109,33 @@ static void answer(const juicedelta_handle *tree, uint32_t axes, uint64_t questi
     }
 }
 
+/* Answers a question of live windows: what each call that reads says, of their rows too. */
+static void answer_live(const juicedelta_handle *live, uint32_t axes, uint64_t question, buffers *to)
+{
+    int64_t windows[ROWS];
+    uint8_t kinds[ROWS];
+    uint64_t total = 0;
+    answer(live, axes, question, to);
+    int32_t code = juicedelta_live_rows(live, (int64_t)(question % WINDOWS), to->ids, ROWS, &total);
+    CHECK(code == JUICEDELTA_OK || code == JUICEDELTA_ID_MISSING);
+    append(to, to->ids, total * sizeof *to->ids);
+    CHECK(juicedelta_live_changes(live, windows, ROWS, to->ids, ROWS, kinds, ROWS, &total) == JUICEDELTA_OK);
+    append(to, windows, total * sizeof *windows);
+    append(to, to->ids, total * sizeof *to->ids);
+    append(to, kinds, total);
+    CHECK(juicedelta_live_windows(live, 0, to->ids, ROWS, to->boxes, 2 * axes * ROWS, &total) == JUICEDELTA_OK);
+    append_rows(to, axes, total, 0);
+}
+
 /* What the threads share: they only read it. */
 typedef struct task {
-    juicedelta_handle tree, shell;
+    juicedelta_handle tree, live, shell;
     uint32_t axes;
     uint64_t questions;
     struct bytes {
         size_t length;
         uint8_t *bytes;
-    } *wanted, output;
+    } *wanted, *wanted_live, output;
     pthread_barrier_t *start;
 } task;
 
@@ -173,6 +191,8 @@ static void *read_all(void *one)
         uint64_t question = (((reader *)one)->first + at) % task->questions;
         answer(&task->tree, task->axes, question, to);
         check(to, &task->wanted[question]);
+        answer_live(&task->live, task->axes, question, to);
+        check(to, &task->wanted_live[question]);
         read_output(&task->shell, to);
         check(to, &task->output);
     }
@@ -186,12 +206,35 @@ static void *read_all(void *one)
     return NULL;
 }
 
+/* A row or a window of live windows comes, moves or goes. */
+static void edit_live(task *task, uint64_t *state)
+{
+    int64_t id = below(state, ROWS), window = below(state, WINDOWS);
+    size_t width = 2 * task->axes;
+    int32_t box[BOX];
+    uint64_t count;
+    a_box(state, task->axes, 300, box);
+    if (below(state, 4) == 0 && juicedelta_live_watch(&task->live, window, box, width, &count) == JUICEDELTA_ID_TAKEN) {
+        if (below(state, 4) == 0)
+            CHECK(juicedelta_live_unwatch(&task->live, window, &count) == JUICEDELTA_OK);
+        else
+            CHECK(juicedelta_live_shift(&task->live, window, box, width, &count) == JUICEDELTA_OK);
+    }
+    if (juicedelta_live_insert(&task->live, id, box, width, &count) != JUICEDELTA_ID_TAKEN)
+        return;
+    if (below(state, 3) == 0)
+        CHECK(juicedelta_live_remove(&task->live, id, &count) == JUICEDELTA_OK);
+    else
+        CHECK(juicedelta_live_move(&task->live, id, box, width, &count) == JUICEDELTA_OK);
+}
+
 /* The calls that write: rows come, move and go, and a statement is fed. */
 static void write_some(task *task, uint64_t *state)
 {
     for (int turn = 0; turn < 200; turn++) {
         int64_t id = below(state, ROWS);
         int32_t box[BOX];
+        edit_live(task, state);
         a_box(state, task->axes, 100, box);
         if (juicedelta_tree_insert(&task->tree, id, box, 2 * task->axes) != JUICEDELTA_ID_TAKEN)
             continue;
@@ -209,6 +252,8 @@ static void read_alone(task *task, buffers *to)
     for (uint64_t question = 0; question < task->questions; question++) {
         answer(&task->tree, task->axes, question, to);
         task->wanted[question] = copy_of(to->bytes, to->length);
+        answer_live(&task->live, task->axes, question, to);
+        task->wanted_live[question] = copy_of(to->bytes, to->length);
     }
     read_output(&task->shell, to);
     task->output = copy_of(to->bytes, to->length);
@@ -217,7 +262,7 @@ static void read_alone(task *task, buffers *to)
 static void forget(task *task)
 {
     for (uint64_t question = 0; question < task->questions; question++)
-        free(task->wanted[question].bytes);
+        free(task->wanted[question].bytes), free(task->wanted_live[question].bytes);
     free(task->output.bytes);
 }
 
@@ -235,14 +280,17 @@ static void read_beside(task *task)
 
 static void rounds(uint32_t axes, uint64_t times, uint64_t questions)
 {
-    task task = {{NULL, 0}, {NULL, 0}, axes, questions, calloc(questions, sizeof *task.wanted), {0, NULL}, NULL};
+    task task = {.axes = axes, .questions = questions};
     buffers *to = malloc(sizeof *to);
     uint64_t state = 88172645463325252u;
     pthread_barrier_t start;
-    CHECK(task.wanted != NULL && to != NULL);
+    task.wanted = calloc(questions, sizeof *task.wanted);
+    task.wanted_live = calloc(questions, sizeof *task.wanted_live);
+    CHECK(task.wanted != NULL && task.wanted_live != NULL && to != NULL);
     CHECK(pthread_barrier_init(&start, NULL, THREADS) == 0);
     task.start = &start;
     CHECK(juicedelta_tree_open(&task.tree, axes, 5, 1, 2) == JUICEDELTA_OK);
+    CHECK(juicedelta_live_open(&task.live, axes, 5, 1, 2) == JUICEDELTA_OK);
     CHECK(juicedelta_script_open(&task.shell, 5, 1, 2) == JUICEDELTA_OK);
     for (uint64_t round = 0; round < times; round++) {
         write_some(&task, &state);
@@ -250,9 +298,10 @@ static void rounds(uint32_t axes, uint64_t times, uint64_t questions)
         read_beside(&task);
         forget(&task);
     }
-    CHECK(juicedelta_close(&task.tree) == JUICEDELTA_OK && juicedelta_close(&task.shell) == JUICEDELTA_OK);
+    CHECK(juicedelta_close(&task.tree) == JUICEDELTA_OK && juicedelta_close(&task.live) == JUICEDELTA_OK);
+    CHECK(juicedelta_close(&task.shell) == JUICEDELTA_OK);
     CHECK(pthread_barrier_destroy(&start) == 0);
-    free(task.wanted);
+    free(task.wanted), free(task.wanted_live);
     free(to);
 }
 

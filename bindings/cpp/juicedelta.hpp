@@ -1,10 +1,10 @@
-// juicedelta.hpp: trees of boxes and script shells for C++17, over the calls of juicedelta.h.
+// juicedelta.hpp: trees of boxes, live windows and script shells for C++17, over the calls of juicedelta.h.
 //
 //     juicedelta::Tree<2> shops;
 //     shops.insert(1, {{10, 5}, {14, 9}});
 //     for (std::int64_t id : shops.search({{0, 0}, {20, 8}})) ...
 //
-// A tree or a shell owns what it holds. It can be moved, not copied; what was moved from is closed. Methods that are const
+// A tree, live windows or a shell own what they hold. They can be moved, not copied; what was moved from is closed. Methods that are const
 // may be called by several threads at once; any other method may overlap no call on the same object, which the program sees
 // to. A call that is refused throws an Error with its code, and changes nothing but where juicedelta.h says so. Boxes hold
 // both ends. A list of rows is any range of them; a list of boxes or points is a vector, an array or a span.
@@ -91,6 +91,18 @@ struct Many {
     std::vector<std::uint64_t> starts; // One more than there are places: the last is where all end.
     std::size_t size() const noexcept { return starts.empty() ? 0 : starts.size() - 1; }
     Ids operator[](std::size_t place) const { return {ids.data() + starts[place], ids.data() + starts[place + 1]}; }
+};
+
+// What a window is told of a row: it left the window, it came into it, or it got another box and is in it as before.
+enum class Kind : std::uint8_t { left = JUICEDELTA_LEFT, came = JUICEDELTA_CAME, moved = JUICEDELTA_MOVED };
+struct Change {
+    std::int64_t window, id;
+    Kind kind;
+    friend bool operator==(const Change &one, const Change &other)
+    {
+        return one.window == other.window && one.id == other.id && one.kind == other.kind;
+    }
+    friend bool operator!=(const Change &one, const Change &other) { return !(one == other); }
 };
 
 // Which rows a window finds: those with a box that has a point in common with it, lies within it, or holds it.
@@ -196,33 +208,63 @@ template <class Search> std::vector<std::int64_t> found_ids(Search search)
     return ids;
 }
 
-// The rows that a search writes, as a list of ids and one of boxes, to such memory.
-template <int D, class Search> std::vector<Row<D>> found_rows(Search search)
+// The items that a call writes as lists, one behind another, to such memory: each takes `Bytes` of them all. The call gets the
+// front of the lists and the number of items that they have room for. `read` makes the items of them.
+template <std::size_t Bytes, class Call, class Read> auto found(Call call, Read read)
 {
     std::vector<std::byte> bytes = Kept::take(), more, *used = &bytes;
     for (;;) {
-        const std::size_t room = used->size() / sizeof(Row<D>);
-        auto ids = reinterpret_cast<std::int64_t *>(used->data());
-        auto boxes = reinterpret_cast<std::int32_t *>(ids + room);
+        const std::size_t room = used->size() / Bytes;
+        auto front = reinterpret_cast<std::int64_t *>(used->data());
         std::uint64_t total = 0;
-        std::int32_t code = search(ids, room, boxes, 2 * D * room, &total);
+        std::int32_t code = call(front, room, &total);
         check(code, JUICEDELTA_BUFFER_TOO_SMALL);
         if (code == JUICEDELTA_BUFFER_TOO_SMALL) {
             used = &more;
-            more.resize(static_cast<std::size_t>(total) * sizeof(Row<D>));
+            more.resize(static_cast<std::size_t>(total) * Bytes);
             continue;
         }
-        std::vector<Row<D>> rows(static_cast<std::size_t>(total));
+        auto items = read(front, room, static_cast<std::size_t>(total));
+        if (used == &more)
+            Kept::widen(bytes, more.size());
+        Kept::put(std::move(bytes));
+        return items;
+    }
+}
+
+// The rows that a search writes, as a list of ids and one of boxes.
+template <int D, class Search> std::vector<Row<D>> found_rows(Search search)
+{
+    auto boxes_of = [](std::int64_t *ids, std::size_t room) { return reinterpret_cast<std::int32_t *>(ids + room); };
+    auto call = [&](std::int64_t *ids, std::size_t room, std::uint64_t *total) {
+        return search(ids, room, boxes_of(ids, room), 2 * D * room, total);
+    };
+    return found<sizeof(Row<D>)>(call, [&](std::int64_t *ids, std::size_t room, std::size_t total) {
+        const std::int32_t *boxes = boxes_of(ids, room);
+        std::vector<Row<D>> rows(total);
         for (auto &row : rows) {
             row.id = *ids++;
             std::memcpy(&row.box, boxes, sizeof row.box);
             boxes += 2 * D;
         }
-        if (used == &more)
-            Kept::widen(bytes, more.size());
-        Kept::put(std::move(bytes));
         return rows;
-    }
+    });
+}
+
+// The changes that a call writes, as a list of windows, one of ids and one of kinds.
+template <class Call> std::vector<Change> found_changes(Call call)
+{
+    auto kinds_of = [](std::int64_t *windows, std::size_t room) { return reinterpret_cast<std::uint8_t *>(windows + 2 * room); };
+    auto lists = [&](std::int64_t *windows, std::size_t room, std::uint64_t *total) {
+        return call(windows, room, windows + room, room, kinds_of(windows, room), room, total);
+    };
+    return found<2 * sizeof(std::int64_t) + 1>(lists, [&](std::int64_t *windows, std::size_t room, std::size_t total) {
+        const std::uint8_t *kinds = kinds_of(windows, room);
+        std::vector<Change> changes(total);
+        for (std::size_t at = 0; at < total; at++)
+            changes[at] = {windows[at], windows[room + at], static_cast<Kind>(kinds[at])};
+        return changes;
+    });
 }
 
 // Rows as the calls take them: a list of ids, and one of boxes. No pointer is null.
@@ -299,61 +341,12 @@ private:
 };
 } // namespace detail
 
-// A map from ids to boxes of D axes, 1 to 3, that is searched by boxes.
-template <int D> class Tree : public detail::Owner {
+// Rows that are searched by boxes: those of a tree, or of live windows.
+template <int D> class Searchable : public detail::Owner {
     static_assert(D >= 1 && D <= 3, "a tree has one, two or three axes");
 public:
     using Id = std::int64_t;
     using Pairs = std::vector<std::pair<Id, Id>>;
-    // No rows, in nodes of at most `capacity` cells.
-    explicit Tree(std::uint32_t capacity = 51) { detail::open(juicedelta_tree_open, handle(), D, capacity); }
-    // These rows, packed all at once: much sooner made and searched than by many insertions.
-    template <class Rows> static Tree from_rows(const Rows &rows, std::uint32_t capacity = 51)
-    {
-        return from_rows(std::begin(rows), std::end(rows), capacity);
-    }
-    template <class Iterator> static Tree from_rows(Iterator first, Iterator last, std::uint32_t capacity = 51)
-    {
-        Tree tree(Closed{});
-        const detail::Lists<D> lists(first, last);
-        const detail::Keys keys;
-        std::uint64_t at = 0;
-        auto open = [&](auto... rows) {
-            return juicedelta_tree_open_rows(tree.handle(), D, capacity, rows..., keys.first, keys.second, &at);
-        };
-        const std::int32_t code = open(lists.ids.data(), lists.ids.size(), lists.numbers(), lists.length());
-        detail::check_at(code, at);
-        return tree;
-    }
-    // The tree of a dump, which `dump` or a script's `.nodes` wrote; if its nodes stand in another order, its rows, packed.
-    static Tree from_dump(std::string_view text)
-    {
-        Tree tree(Closed{});
-        detail::open(juicedelta_tree_open_dump, tree.handle(), D, detail::bytes_of(text), text.size());
-        return tree;
-    }
-    // The tree that `to_bytes` wrote.
-    static Tree from_bytes(std::string_view bytes)
-    {
-        Tree tree(Closed{});
-        detail::open(juicedelta_tree_open_bytes, tree.handle(), D, detail::bytes_of(bytes), bytes.size());
-        return tree;
-    }
-    void insert(Id id, const Box<D> &box) { detail::check(juicedelta_tree_insert(handle(), id, numbers(box), 2 * D)); }
-    // All of these rows or, if one is refused, none.
-    template <class Rows> void insert_rows(const Rows &rows) { insert_rows(std::begin(rows), std::end(rows)); }
-    template <class Iterator> void insert_rows(Iterator first, Iterator last)
-    {
-        const detail::Lists<D> lists(first, last);
-        std::uint64_t at = 0;
-        const std::int32_t code = juicedelta_tree_insert_rows(handle(), lists.ids.data(), lists.ids.size(), lists.numbers(),
-                                                              lists.length(), &at);
-        detail::check_at(code, at);
-    }
-    void remove(Id id) { detail::check(juicedelta_tree_remove(handle(), id)); }
-    // Gives the row with that id this box.
-    void move(Id id, const Box<D> &box) { detail::check(juicedelta_tree_move(handle(), id, numbers(box), 2 * D)); }
-    void clear() { detail::check(juicedelta_tree_clear(handle())); }
     std::optional<Box<D>> get(Id id) const
     {
         return box_or_none(JUICEDELTA_ID_MISSING, [&](auto... box) { return juicedelta_tree_get(handle(), id, box...); });
@@ -456,7 +449,7 @@ public:
         });
     }
     // Each pair of rows, one of this tree and one of the other, whose boxes touch, once, in no stated order.
-    Pairs join(const Tree &other) const
+    Pairs join(const Searchable &other) const
     {
         return detail::found_pairs(size(), [&](auto... to) { return juicedelta_tree_join(handle(), other.handle(), to...); });
     }
@@ -468,13 +461,16 @@ public:
     std::string dump() const { return text_of(juicedelta_tree_dump); }
     // The tree in a compact form, of which `from_bytes` makes the same tree. It is no text.
     std::string to_bytes() const { return text_of(juicedelta_tree_to_bytes); }
-private:
-    struct Closed {};
-    explicit Tree(Closed) {}
+protected:
+    Searchable() = default;
+    Searchable(Searchable &&) = default;
+    Searchable &operator=(Searchable &&) = default;
+    ~Searchable() = default;
     // The calls take a box as its minima, and behind them its maxima, which it is.
     static_assert(std::is_standard_layout_v<Box<D>> && sizeof(Box<D>) == 2 * D * sizeof(std::int32_t));
     static_assert(sizeof(Point<D>) == D * sizeof(std::int32_t));
     static const std::int32_t *numbers(const Box<D> &box) noexcept { return reinterpret_cast<const std::int32_t *>(&box); }
+private:
     // The box that a call writes, or none if it answers that code.
     template <class Call> static std::optional<Box<D>> box_or_none(std::int32_t none, Call call)
     {
@@ -511,7 +507,7 @@ private:
     }
 };
 
-template <int D> class Tree<D>::Rows {
+template <int D> class Searchable<D>::Rows {
 public:
     class iterator {
     public:
@@ -538,7 +534,7 @@ public:
     private:
         friend class Rows;
         iterator() = default;
-        explicit iterator(const Tree &tree) : tree_(&tree) { read(); }
+        explicit iterator(const Searchable &tree) : tree_(&tree) { read(); }
         void read()
         {
             const std::size_t left = tree_->size() - static_cast<std::size_t>(place_);
@@ -548,7 +544,7 @@ public:
             place_ += part_.size();
             at_ = 0;
         }
-        const Tree *tree_ = nullptr;
+        const Searchable *tree_ = nullptr;
         std::vector<Row<D>> part_;
         std::uint64_t place_ = 0;
         std::size_t at_ = 0;
@@ -556,9 +552,122 @@ public:
     iterator begin() const { return iterator(*tree_); }
     iterator end() const { return iterator(); }
 private:
-    friend class Tree;
-    explicit Rows(const Tree &tree) : tree_(&tree) {}
-    const Tree *tree_;
+    friend class Searchable;
+    explicit Rows(const Searchable &tree) : tree_(&tree) {}
+    const Searchable *tree_;
+};
+
+// A map from ids to boxes of D axes, 1 to 3, that is searched by boxes.
+template <int D> class Tree : public Searchable<D> {
+    using Searchable<D>::numbers;
+public:
+    using typename Searchable<D>::Id;
+    using Searchable<D>::handle;
+    // No rows, in nodes of at most `capacity` cells.
+    explicit Tree(std::uint32_t capacity = 51) { detail::open(juicedelta_tree_open, handle(), D, capacity); }
+    // These rows, packed all at once: much sooner made and searched than by many insertions.
+    template <class Rows> static Tree from_rows(const Rows &rows, std::uint32_t capacity = 51)
+    {
+        return from_rows(std::begin(rows), std::end(rows), capacity);
+    }
+    template <class Iterator> static Tree from_rows(Iterator first, Iterator last, std::uint32_t capacity = 51)
+    {
+        Tree tree(Closed{});
+        const detail::Lists<D> lists(first, last);
+        const detail::Keys keys;
+        std::uint64_t at = 0;
+        auto open = [&](auto... rows) {
+            return juicedelta_tree_open_rows(tree.handle(), D, capacity, rows..., keys.first, keys.second, &at);
+        };
+        const std::int32_t code = open(lists.ids.data(), lists.ids.size(), lists.numbers(), lists.length());
+        detail::check_at(code, at);
+        return tree;
+    }
+    // The tree of a dump, which `dump` or a script's `.nodes` wrote; if its nodes stand in another order, its rows, packed.
+    static Tree from_dump(std::string_view text)
+    {
+        Tree tree(Closed{});
+        detail::open(juicedelta_tree_open_dump, tree.handle(), D, detail::bytes_of(text), text.size());
+        return tree;
+    }
+    // The tree that `to_bytes` wrote.
+    static Tree from_bytes(std::string_view bytes)
+    {
+        Tree tree(Closed{});
+        detail::open(juicedelta_tree_open_bytes, tree.handle(), D, detail::bytes_of(bytes), bytes.size());
+        return tree;
+    }
+    void insert(Id id, const Box<D> &box) { detail::check(juicedelta_tree_insert(handle(), id, numbers(box), 2 * D)); }
+    // All of these rows or, if one is refused, none.
+    template <class Rows> void insert_rows(const Rows &rows) { insert_rows(std::begin(rows), std::end(rows)); }
+    template <class Iterator> void insert_rows(Iterator first, Iterator last)
+    {
+        const detail::Lists<D> lists(first, last);
+        std::uint64_t at = 0;
+        const std::int32_t code = juicedelta_tree_insert_rows(handle(), lists.ids.data(), lists.ids.size(), lists.numbers(),
+                                                              lists.length(), &at);
+        detail::check_at(code, at);
+    }
+    void remove(Id id) { detail::check(juicedelta_tree_remove(handle(), id)); }
+    // Gives the row with that id this box.
+    void move(Id id, const Box<D> &box) { detail::check(juicedelta_tree_move(handle(), id, numbers(box), 2 * D)); }
+    void clear() { detail::check(juicedelta_tree_clear(handle())); }
+private:
+    struct Closed {};
+    explicit Tree(Closed) {}
+};
+
+// Rows, and windows over them, each an id and a box. A window sees the rows that touch it. Each edit answers what it told the
+// windows, by rising window and then by rising id: a copy that drops what left and adds what came is what the window sees.
+// An edit that throws an Error changed nothing. If `std::bad_alloc` is thrown, its list alone found no memory: `changes` tells it.
+template <int D> class Live : public Searchable<D> {
+    using Searchable<D>::numbers;
+public:
+    using typename Searchable<D>::Id;
+    using Searchable<D>::handle;
+    using Searchable<D>::rows;
+    // No rows and no windows, in nodes of at most `capacity` cells.
+    explicit Live(std::uint32_t capacity = 51) { detail::open(juicedelta_live_open, handle(), D, capacity); }
+    std::vector<Change> insert(Id id, const Box<D> &box) { return edited(juicedelta_live_insert, id, numbers(box), 2 * D); }
+    // Gives the row with that id this box. The same box tells nothing.
+    std::vector<Change> move(Id id, const Box<D> &box) { return edited(juicedelta_live_move, id, numbers(box), 2 * D); }
+    std::vector<Change> remove(Id id) { return edited(juicedelta_live_remove, id); }
+    // A new window, which is told of each row that it sees.
+    std::vector<Change> watch(Id window, const Box<D> &box) { return edited(juicedelta_live_watch, window, numbers(box), 2 * D); }
+    // Gives the window this box, as a screen that pans or zooms.
+    std::vector<Change> shift(Id window, const Box<D> &box) { return edited(juicedelta_live_shift, window, numbers(box), 2 * D); }
+    // Takes the window out. It is told that each row left.
+    std::vector<Change> unwatch(Id window) { return edited(juicedelta_live_unwatch, window); }
+    // Makes room for so many more rows and windows, and for edits that tell so many changes.
+    void reserve(std::uint64_t rows, std::uint64_t windows, std::uint64_t changes)
+    {
+        detail::check(juicedelta_live_reserve(handle(), rows, windows, changes));
+    }
+    // What the last edit told.
+    std::vector<Change> changes() const
+    {
+        return detail::found_changes([&](auto... to) { return juicedelta_live_changes(handle(), to...); });
+    }
+    // The ids of the rows that the window sees, rising.
+    std::vector<Id> rows(Id window) const
+    {
+        return detail::found_ids([&](auto... to) { return juicedelta_live_rows(handle(), window, to...); });
+    }
+    // The windows, in no stated order.
+    std::vector<Row<D>> windows() const
+    {
+        return detail::found_rows<D>([&](auto ids, std::size_t room, auto boxes, std::size_t length, std::uint64_t *total) {
+            const std::int32_t code = juicedelta_live_windows(handle(), 0, ids, room, boxes, length, total);
+            return code == JUICEDELTA_OK && *total > room ? std::int32_t{JUICEDELTA_BUFFER_TOO_SMALL} : code;
+        });
+    }
+private:
+    template <class Call, class... Words> std::vector<Change> edited(Call call, Words... words)
+    {
+        std::uint64_t count = 0;
+        detail::check(call(handle(), words..., &count));
+        return count == 0 ? std::vector<Change>() : changes();
+    }
 };
 
 // Boxes and points of floats, and a grid that makes whole numbers of them, and floats again, as juicedelta_grid.h says.

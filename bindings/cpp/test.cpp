@@ -7,6 +7,7 @@
 #include <cstdlib>
 #include <limits>
 #include <malloc.h>
+#include <map>
 #include <new>
 #include <numeric>
 #include <set>
@@ -22,6 +23,9 @@
         }                                                                                                              \
     } while (0)
 
+using juicedelta::Change;
+using juicedelta::Kind;
+using juicedelta::Live;
 using juicedelta::Relation;
 using juicedelta::Shell;
 using juicedelta::Tree;
@@ -228,6 +232,98 @@ template <int D> static void many_rows()
     CHECK(same.size() == 1500 && same.dump() == tree.dump() && *same.get(77) == rows[77].box);
 }
 
+// Rows and windows as maps, and what an edit tells by the definition: which pairs of a window and a row that touch it came and left,
+// and which stayed though the row has another box.
+template <int D> struct Plain {
+    using Boxes = std::map<std::int64_t, juicedelta::Box<D>>;
+    Boxes rows, windows;
+    std::set<std::pair<std::int64_t, std::int64_t>> pairs() const
+    {
+        std::set<std::pair<std::int64_t, std::int64_t>> found;
+        for (auto &[window, view] : windows)
+            for (auto &[id, box] : rows)
+                if (touch(view, box))
+                    found.insert({window, id});
+        return found;
+    }
+    template <class Edit> std::vector<Change> edited(Edit edit)
+    {
+        const auto before = pairs();
+        const Boxes old = rows;
+        edit();
+        const auto after = pairs();
+        auto all = before;
+        all.insert(after.begin(), after.end());
+        std::vector<Change> changes;
+        for (auto &[window, id] : all)
+            if (!after.count({window, id}))
+                changes.push_back({window, id, Kind::left});
+            else if (!before.count({window, id}))
+                changes.push_back({window, id, Kind::came});
+            else if (old.at(id) != rows.at(id))
+                changes.push_back({window, id, Kind::moved});
+        return changes;
+    }
+};
+
+// A copy of what each window sees, which follows the changes alone.
+using Copies = std::map<std::int64_t, std::set<std::int64_t>>;
+static void follow(Copies &copies, const std::vector<Change> &changes)
+{
+    for (auto &change : changes)
+        if (change.kind == Kind::left)
+            CHECK(copies[change.window].erase(change.id) == 1);
+        else if (change.kind == Kind::came)
+            CHECK(copies[change.window].insert(change.id).second);
+        else
+            CHECK(copies[change.window].count(change.id) == 1);
+}
+
+// Random edits of live windows beside maps, and reads of their rows.
+template <int D> static void live()
+{
+    static_assert(!std::is_copy_constructible_v<Live<D>> && !std::is_copy_assignable_v<Live<D>>);
+    static_assert(std::is_nothrow_move_constructible_v<Live<D>> && std::is_nothrow_move_assignable_v<Live<D>>);
+    Live<D> live(5);
+    Plain<D> plain;
+    Copies copies;
+    unsigned state = 1;
+    auto below = [&](unsigned n) { return int((state = state * 1664525 + 1013904223) >> 8) % int(n); };
+    auto told = [&](std::vector<Change> own, std::vector<Change> wanted) {
+        follow(copies, own);
+        CHECK(own == wanted && live.changes() == own);
+    };
+    live.reserve(40, 12, 100);
+    for (int turn = 0; turn < 3000; turn++) {
+        const int id = below(40), window = below(12) - 6, at = below(100), kind = below(8);
+        const auto box = cube<D>(at, at + below(10)), view = cube<D>(at, at + below(60));
+        if (kind < 3 && plain.rows.count(id))
+            told(live.move(id, box), plain.edited([&] { plain.rows[id] = box; }));
+        else if (kind < 3)
+            told(live.insert(id, box), plain.edited([&] { plain.rows[id] = box; }));
+        else if (kind == 3 && plain.rows.count(id))
+            told(live.remove(id), plain.edited([&] { plain.rows.erase(id); }));
+        else if (kind < 7 && plain.windows.count(window))
+            told(live.shift(window, view), plain.edited([&] { plain.windows[window] = view; }));
+        else if (kind < 7)
+            told(live.watch(window, view), plain.edited([&] { plain.windows[window] = view; }));
+        else if (plain.windows.count(window))
+            told(live.unwatch(window), plain.edited([&] { plain.windows.erase(window); }));
+    }
+    for (auto &[window, view] : plain.windows)
+        CHECK(live.rows(window) == Ids(copies[window].begin(), copies[window].end()) && sorted(live.search(view)) == live.rows(window));
+    for (auto &[id, box] : plain.rows)
+        CHECK(*live.get(id) == box);
+    std::map<std::int64_t, juicedelta::Box<D>> windows;
+    for (auto &window : live.windows())
+        windows[window.id] = window.box;
+    CHECK(windows == plain.windows && live.size() == plain.rows.size() && !live.empty() && !live.get(99));
+    CHECK(live.count(*live.bounds()) == live.size() && live.nearest({cube<D>(50, 50).min}, live.size()) == live.within({cube<D>(50, 50).min}, 200));
+    Live<D> moved = std::move(live);
+    CHECK(moved.size() == plain.rows.size() && live.handle()->object == nullptr && live.handle()->count == 0);
+    CHECK(refused([&] { live.changes(); }) == JUICEDELTA_CLOSED);
+}
+
 // The least box of whole numbers, by the definition.
 static void grids()
 {
@@ -321,6 +417,52 @@ static void codes()
     CHECK(refused([&] { tree.join(moved); }) == JUICEDELTA_CLOSED && refused([&] { moved.join(tree); }) == JUICEDELTA_CLOSED);
     CHECK(juicedelta::version() == JUICEDELTA_VERSION_NUMBER);
     CHECK(moved.size() == 1);
+}
+
+// And those of live windows.
+static void live_codes()
+{
+    using juicedelta::detail::check;
+    Live<2> closed, live = std::move(closed);
+    Tree<2> tree;
+    const juicedelta::Box<2> box = {{0, 0}, {1, 1}}, bad = {{0, 2}, {1, 1}};
+    std::int64_t ids[2];
+    std::uint8_t kinds[2];
+    std::uint64_t total;
+    CHECK(live.insert(1, box).empty() && live.watch(5, box) == (std::vector<Change>{{5, 1, Kind::came}}));
+    CHECK(refused([&] { closed.insert(1, box); }) == JUICEDELTA_CLOSED && refused([&] { closed.rows(5); }) == JUICEDELTA_CLOSED);
+    CHECK(refused([&] { closed.windows(); }) == JUICEDELTA_CLOSED && refused([&] { closed.reserve(1, 1, 1); }) == JUICEDELTA_CLOSED);
+    CHECK(refused([&] { check(juicedelta_live_remove(tree.handle(), 1, &total)); }) == JUICEDELTA_OTHER_KIND);
+    CHECK(refused([&] { check(juicedelta_tree_remove(live.handle(), 1)); }) == JUICEDELTA_OTHER_KIND);
+    CHECK(refused([&] { check(juicedelta_live_open(live.handle(), 2, 51, 1, 2)); }) == JUICEDELTA_ALREADY_OPEN);
+    CHECK(refused([&] { check(juicedelta_live_open(closed.handle(), 4, 51, 1, 2)); }) == JUICEDELTA_BAD_AXES);
+    CHECK(refused([] { Live<2> live(4); }) == JUICEDELTA_BAD_CAPACITY);
+    for (auto call : {&Live<2>::insert, &Live<2>::move, &Live<2>::watch, &Live<2>::shift})
+        CHECK(refused([&] { (live.*call)(1, bad); }) == JUICEDELTA_BAD_BOX);
+    CHECK(refused([&] { live.insert(1, box); }) == JUICEDELTA_ID_TAKEN && refused([&] { live.watch(5, box); }) == JUICEDELTA_ID_TAKEN);
+    CHECK(refused([&] { live.move(5, box); }) == JUICEDELTA_ID_MISSING && refused([&] { live.shift(1, box); }) == JUICEDELTA_ID_MISSING);
+    CHECK(refused([&] { live.remove(5); }) == JUICEDELTA_ID_MISSING && refused([&] { live.unwatch(1); }) == JUICEDELTA_ID_MISSING);
+    CHECK(refused([&] { live.rows(1); }) == JUICEDELTA_ID_MISSING && refused([&] { live.reserve(UINT64_MAX, 0, 0); }) == JUICEDELTA_OUT_OF_MEMORY);
+    auto changes = [&](std::size_t room) { check(juicedelta_live_changes(live.handle(), ids, room, ids, 0, kinds, 0, &total)); };
+    CHECK(refused([&] { changes(0); }) == JUICEDELTA_BUFFER_TOO_SMALL && refused([&] { changes(1); }) == JUICEDELTA_BAD_LENGTH);
+    CHECK(live.changes() == (std::vector<Change>{{5, 1, Kind::came}}) && live.rows(5) == Ids{1});
+}
+
+// The list of an edit's changes finds no memory: the edit stands, and `changes` tells them.
+static void untold()
+{
+    Live<1> live;
+    for (int id = 0; id < 100; id++)
+        live.insert(id, {{id}, {id}});
+    bool is_refused = false;
+    refused_allocation = 1;
+    try {
+        live.watch(1, {{0}, {99}});
+    } catch (const std::bad_alloc &) {
+        is_refused = true;
+    }
+    refused_allocation = 0;
+    CHECK(is_refused && live.changes().size() == 100 && live.rows(1).size() == 100);
 }
 
 // A tree of `rows` rows in a line, and whether a search finds those from `first` to `last`.
@@ -427,18 +569,23 @@ static void many()
     CHECK(tree.size() == 1048576 && tree.count({{7}, {1006}}) == 1000);
 }
 
-// Four threads read one tree side by side: each finds what one alone finds.
+// Four threads read one tree and live windows side by side: each finds what one alone finds.
 static void readers()
 {
     const Tree<1> tree = line(3000);
+    Live<1> edited;
+    edited.insert(7, {{7}, {9}}), edited.watch(1, {{0}, {8}}), edited.move(7, {{8}, {9}});
+    const Live<1> &live = edited;
     std::vector<std::thread> threads;
     for (int thread = 0; thread < 4; thread++)
-        threads.emplace_back([&tree, thread] {
+        threads.emplace_back([&tree, &live, thread] {
             for (int turn = 0; turn < 200; turn++) {
                 int first = (thread * 700 + turn * 13) % 2000, last = first + turn * 5 % 1000;
                 CHECK(finds(tree, first, last) && finds_rows(tree, first, last));
                 CHECK(tree.get(first)->min[0] == first && tree.size() == 3000 && tree.nearest({{last}})[0].id == last);
                 CHECK(tree.count({{first}, {last}}, Relation::holds) == (first == last));
+                CHECK(live.rows(1) == Ids{7} && live.changes() == (std::vector<Change>{{1, 7, Kind::moved}}) && live.windows()[0].id == 1);
+                CHECK(live.search({{9}, {9}}) == Ids{7} && live.join(tree).size() == 2);
             }
         });
     for (auto &thread : threads)
@@ -478,8 +625,13 @@ int main(int count, char **)
         many_rows<1>();
         many_rows<2>();
         many_rows<3>();
+        live<1>();
+        live<2>();
+        live<3>();
         grids();
         codes();
+        live_codes();
+        untold();
         results();
         refusals(2, [](const Tree<1> &tree) { tree.search({{0}, {999}}); });
         refusals(3, [](const Tree<1> &tree) { tree.search_rows({{0}, {999}}); });

@@ -20,7 +20,8 @@ from concurrent.futures import ProcessPoolExecutor
 sys.path.insert(0, os.path.dirname(os.path.abspath(__file__)))
 import juicedelta  # noqa: E402
 from juicedelta import (  # noqa: E402
-    BadValue, Change, Item, JuicedeltaError, MissingId, NoMemory, RTree, Shell, StatementRefused, _calls, _many, _owner, _trees,
+    BadValue, Change, Grid, Item, JuicedeltaError, Live, MissingId, NoMemory, RTree, Shell, StatementRefused, WindowChange, _calls, _live,
+    _many, _owner, _reads, _trees,
 )
 
 
@@ -116,6 +117,130 @@ def test_random(dimension, capacity, turns):
     assert len(tree) == 0 and 3 not in tree and list(tree.nearest(low)) == []
 
 
+def pairs(rows, windows):
+    """Each window with each row that touches it."""
+    return {(window, id) for window, view in windows.items() for id in related(rows, "touches", view)}
+
+
+def told(before, rows, windows):
+    """What an edit tells, by the definition: which pairs came and left, and which stayed though the row has another box."""
+    old, new = pairs(*before), pairs(rows, windows)
+    kinds = {pair: "left" if pair not in new else "came" if pair not in old else "moved" for pair in old | new}
+    return [WindowChange(*pair, kinds[pair]) for pair in sorted(kinds) if kinds[pair] != "moved" or before[0].get(pair[1]) != rows[pair[1]]]
+
+
+def follow(copies, changes):
+    """A copy of what each window sees follows the changes alone."""
+    for window, id, kind in changes:
+        assert (id in copies.setdefault(window, set())) == (kind != "came")
+        copies[window] ^= {id} if kind != "moved" else set()
+
+
+def test_live(dimension, capacity, turns):
+    """Random edits beside dicts, and reads of the rows."""
+    live, rows, windows, copies = Live(dimension, capacity), {}, {}, {}
+    live.reserve(40, 12, changes=100)
+    for turn in range(turns):
+        id, window, before = random.randrange(-20, 20), random.randrange(12), (dict(rows), dict(windows))
+        low = [random.randrange(300) for _ in range(dimension)]
+        box, view = tuple(low + [n + random.randrange(80) for n in low]), tuple(low + [n + random.randrange(250) for n in low])
+        kind, call = random.randrange(8), None
+        if kind < 3:
+            box, call = random.choice([box, rows.get(id, box)]), live.move if id in rows else live.insert
+            changes, rows[id] = call(id, box), box
+        elif kind == 3 and id in rows:
+            changes, call = live.delete(id), rows.pop(id)
+        elif kind == 7 and window in windows:
+            changes, call = live.unwatch(window), windows.pop(window)
+        elif kind in (4, 5, 6):
+            call = live.shift if window in windows else live.watch
+            changes, windows[window] = call(window, view), view
+        if call is not None:
+            assert changes == told(before, rows, windows) == live.changes()
+            follow(copies, changes)
+        if turn % 50 == 0:
+            assert all(sorted(copies.get(it, ())) == live.rows(it) == sorted(live.intersection(windows[it])) for it in windows)
+            assert {it.id: it.bbox for it in live.windows()} == windows and sorted(live) == sorted(rows) and len(live) == len(rows)
+            assert list(live.nearest(low, 5)) == by_distance(rows, low)[:5] and live.count(view) == len(related(rows, "touches", view))
+            assert all(live.box(it) == rows[it] and it in live for it in rows) and 99 not in live and live.bounds == RTree.from_dump(live.dump()).bounds
+            assert [list(it) for it in live.join(RTree.from_bytes(live.to_bytes(), dimension))] == [list(it) for it in live.join(live)]
+
+
+def test_live_codes():
+    """Each code once; the package has no way to 2, 3, 8, 14 and 15, so they are tried below it."""
+    live, closed, tree, box, bad, total = Live(), Live(), RTree(), (0, 0, 1, 1), (0, 2, 1, 1), ctypes.c_uint64()
+    to, packed, none = ctypes.byref(total), live._form.packed(box), array.array("q", [0]).buffer_info()[0]
+    assert live.insert(1, box) == [] and live.watch(5, box) == [(5, 1, "came")] == [WindowChange(5, 1, "came")]
+    closed.close()
+    for call in (closed.insert, closed.move, closed.watch, closed.shift):
+        assert refused(call, 1, box) == 1
+    for call in (closed.delete, closed.unwatch, closed.rows, lambda _: closed.windows(), lambda _: closed.changes(), lambda _: closed.reserve()):
+        assert refused(call, 1) == 1
+    assert _calls.live_remove(tree._at, 1, to) == _calls.tree_remove(live._at, 1) == _calls.tree_insert(live._at, 1, packed, 4) == 2
+    assert _calls.live_open(live._at, 2, 51, 1, 2) == 3 and _calls.live_open(ctypes.byref(_calls.Handle()), 4, 51, 1, 2) == 15
+    assert refused(Live, 2, 52) == 4 and [refused(it, 1, bad) for it in (live.insert, live.move, live.watch, live.shift)] == [5] * 4
+    assert refused(live.insert, 1, box) == refused(live.watch, 5, box) == 6
+    assert refused(live.move, 5, box) == refused(live.shift, 1, box) == refused(live.delete, 5) == 7
+    assert refused(live.unwatch, 1) == refused(live.rows, 1) == 7
+    raised(KeyError, "no row or window has that id", live.rows, 1)
+    assert _calls.live_changes(live._at, none, 0, none, 0, none, 0, to) == 8 and total.value == 1
+    assert refused(live.reserve, 2**70) == refused(live.reserve, 0, 2**64 - 1) == refused(live.reserve, 0, 0, 2**64 - 1) == 9
+    assert _calls.live_changes(live._at, none, 1, none, 0, none, 0, to) == _calls.live_insert(live._at, 2, packed, 2, to) == 14
+    for wrong in (1.5, "1", None, 2**63):
+        for call in (live.delete, live.unwatch, live.rows):
+            raised(ValueError, "ids are whole numbers", call, wrong)
+        raised(ValueError, "ids are whole numbers", live.watch, wrong, box)
+    raised(ValueError, "whole numbers of 32 bits", live.shift, 5, (0, 0, 1))
+    raised(ValueError, "rows is a whole number", live.reserve, 1.5)
+    raised(TypeError, "Live objects can't be copied or pickled", copy.copy, live)
+    assert live.changes() == [(5, 1, "came")] and live.rows(5) == [1] and repr(live) == "<Live of 2 axes with 1 rows>"
+    live.__init__(1)
+    assert len(live) == 0 and live.windows() == [] and live.watch(1, (0, 9)) == []
+    degrees = Live(1, grid=Grid(10), interleaved=False)
+    assert degrees.watch(1, (0.25, 1)) == [] and degrees.insert(7, (1, 2)) == [(1, 7, "came")] and degrees.windows() == [(1, (0.2, 1.0))]
+
+
+def test_live_threads():
+    """Threads edit by turns: each is answered what its own edit told. Others read meanwhile, and an edit within an edit is an error."""
+    live, is_over, turns = Live(1, 8), threading.Event(), 800
+
+    def edits(thread):
+        # Each has a window and rows of its own, where no other has any.
+        rolls, place, copy = random.Random(thread), 10000 * thread, set()
+        live.watch(thread, (place, place + 500))
+        for turn in range(turns):
+            id, at = 100 * thread + rolls.randrange(40), place + rolls.randrange(1000)
+            changes = live.move(id, (at, at)) if id in live else live.insert(id, (at, at))
+            is_in = at <= place + 500
+            assert changes in ([(thread, id, kind)] for kind in ("moved", "came", "left")) if changes else not is_in or id in copy
+            copy = copy | {id} if is_in else copy - {id}
+        assert live.rows(thread) == sorted(copy)
+
+    def reads():
+        while not is_over.is_set():
+            seen = {it.id: it.bbox for it in live.windows()}
+            for window in seen:
+                assert all(it // 100 == window for it in live.rows(window)) and len(live.changes()) <= 40
+            assert live.count((0, 10**6)) <= len(live) <= 120
+
+    interval = sys.getswitchinterval()
+    sys.setswitchinterval(1e-5)
+    readers = started(reads, reads)
+    joined(*started(*[lambda it=it: edits(it) for it in (1, 2, 3)]))
+    is_over.set()
+    joined(*readers)
+    sys.setswitchinterval(interval)
+
+    def interrupted(*words):
+        assert live.rows(2) == sorted(live.rows(2))
+        live.delete(100)
+
+    call, _live.live_changes = _live.live_changes, interrupted
+    raised(RuntimeError, "is interrupted by another", live.unwatch, 1)
+    _live.live_changes = call
+    assert 1 not in {it.id for it in live.windows()} and live.changes()[0][::2] == (1, "left") and live.watch(1, (10000, 10500)) != []
+
+
 def test_codes():
     """Each code, but 11 and 9; the package has no way to 2, 3, 8, 12, 14, 15 and 16, so they are tried below it."""
     tree, closed, shell, total = RTree(), RTree(), Shell(), ctypes.c_uint64()
@@ -130,8 +255,8 @@ def test_codes():
     assert _calls.tree_open(tree._at, 2, 51, 1, 2) == 3
     assert refused(tree.insert, 2, (0, 2, 1, 1)) == refused(tree.move, 1, (0, 2, 1, 1)) == 5
     assert refused(tree.insert, 1, (0, 0, 1, 1)) == 6
-    raised(KeyError, "no row has that id", tree.delete, 2)
-    raised(KeyError, "no row has that id", tree.object, 2)
+    raised(KeyError, "no row or window has that id", tree.delete, 2)
+    raised(KeyError, "no row or window has that id", tree.object, 2)
     raised(ValueError, "the id is taken", tree.insert, 1, (0, 0, 1, 1))
     assert issubclass(MissingId, KeyError) and issubclass(NoMemory, MemoryError) and issubclass(BadValue, ValueError)
     assert refused(tree.delete, 2) == refused(tree.delete, 2, (0, 0, 1, 1)) == refused(tree.move, 2, (0, 0, 1, 1)) == 7
@@ -229,14 +354,14 @@ def test_owners():
         answers.append(close(at))
         return answers[-1]
 
-    _owner.close = _trees.close = closes
+    _owner.close = _reads.close = closes
     tree.__init__(3)
     shell.__init__()
     assert answers == [0, 0] and len(tree) == 0 and refused(tree.insert, 1, (0, 0, 0, 1, 1, 1)) == 0
     assert shell.execute("SELECT * FROM t; SELECT") == ["refused 1 5: no such table"]
     shell.__init__()
     assert shell.rows("") == []
-    _owner.close = _trees.close = close
+    _owner.close = _reads.close = close
 
 
 def fails(code):
@@ -250,7 +375,7 @@ def test_errors():
 
     def is_whole(error):
         if isinstance(error, MissingId):
-            return (error.code, error.at, str(error)) == (7, None, "no row has that id")
+            return (error.code, error.at, str(error)) == (7, None, "no row or window has that id")
         if isinstance(error, BadValue):
             return (error.code, error.at, str(error)) == (6, 3, "the id is taken, at place 3")
         return (error.statement, error.number, error.words, str(error)) == (2, 8, "no such column", "no such column")
@@ -305,19 +430,33 @@ def test_order():
         "tree_insert_rows": lambda tree: tree.insert_many([2], [box]), "tree_remove": lambda tree: tree.delete(1),
         "tree_clear": lambda tree: tree.clear(),
     }
-    calls = {name: getattr(_calls, name) for name in (*reads, *writes)}
+    live_reads = {"live_rows": lambda live: live.rows(1), "live_windows": lambda live: live.windows()}
+    live_writes = {
+        "live_insert": lambda live: live.insert(2, box), "live_move": lambda live: live.move(1, (0, 0, 2, 2)),
+        "live_remove": lambda live: live.delete(1), "live_watch": lambda live: live.watch(2, box),
+        "live_shift": lambda live: live.shift(1, (0, 0, 2, 2)), "live_unwatch": lambda live: live.unwatch(2),
+        "live_reserve": lambda live: live.reserve(), "close": lambda live: live.close(),
+    }
+    calls = {name: getattr(_calls, name) for name in (*reads, *writes, *live_reads, *live_writes)}
 
     def put(name, call):
-        for module in (_trees, _many):
+        for module in (_trees, _many, _reads, _live):
             if hasattr(module, name):
                 setattr(module, name, call)
 
-    for name in reads:
+    def made(kind):
+        tree = kind()
+        tree.insert(1, box)
+        if kind is Live:
+            tree.watch(1, box)
+        return tree
+
+    for name in (*reads, *live_reads):
         assert not calls[name]._flags_ & ctypes._FUNCFLAG_PYTHONAPI
 
-    def pair(read, write):
-        tree, inside, go, said = RTree(), threading.Barrier(3), threading.Event(), []
-        tree.insert(1, box)
+    def pair(read, write, kind=RTree):
+        reading, writing = {**reads, **live_reads}[read], {**writes, **live_writes}[write]
+        tree, inside, go, said = made(kind), threading.Barrier(3), threading.Event(), []
 
         def reads_slowly(*words):
             inside.wait(60)
@@ -330,15 +469,15 @@ def test_order():
             return calls[write](*words)
 
         put(read, reads_slowly)
-        readers = started(lambda: reads[read](tree), lambda: reads[read](tree))
+        readers = started(lambda: reading(tree), lambda: reading(tree))
         inside.wait(60)
         put(read, calls[read])
         put(write, writes_now)
-        writer = started(lambda: writes[write](tree))
+        writer = started(lambda: refused(writing, tree))
         for _ in range(5000):
             if not tree._guard.writes:
                 time.sleep(0.001)
-        late = started(lambda: said.append(refused(reads[read], tree)))
+        late = started(lambda: said.append(refused(reading, tree)))
         time.sleep(0.02)
         assert said == []
         go.set()
@@ -352,13 +491,17 @@ def test_order():
         pair(read, "tree_insert")
     for write in writes:
         pair("tree_search", write)
-    tree = RTree()
-    tree.insert(1, box)
-    for name, call in {**reads, **writes}.items():
+    for write in live_writes:
+        pair("live_rows", write, Live)
+    for read in ("live_windows", "tree_search"):
+        pair(read, "live_move", Live)
+    tree, live = made(RTree), made(Live)
+    for name, call in {**reads, **writes, **live_reads, **live_writes}.items():
         if name != "close":
             put(name, lambda *words: 1 // 0)
-            raised(ZeroDivisionError, "", call, tree)
+            raised(ZeroDivisionError, "", call, live if name.startswith("live") else tree)
             put(name, calls[name])
+            assert len(live.move(1, (0, 0, 2, 2)) + live.move(1, box)) == 2
             joined(*started(lambda: tree.move(1, (0, 0, 2, 2)), lambda: tree.move(1, box)))
             assert len(tree) == 1 and list(tree.intersection((2, 2, 2, 2))) in ([], [1])
 
@@ -623,7 +766,8 @@ def main(words):
     for dimension in (1, 2, 3):
         for capacity in (5, 51):
             test_random(dimension, capacity, 3000)
-    for test in (test_codes, test_numbers, test_options, test_order, test_threads, test_signals):
+            test_live(dimension, capacity, 1000)
+    for test in (test_codes, test_live_codes, test_numbers, test_options, test_order, test_threads, test_live_threads, test_signals):
         test()
     assert Item(1, (0, 1)) == (1, (0, 1))
     if words == ["trees"]:
@@ -632,7 +776,7 @@ def main(words):
         test()
     for test in (test_many_rows, test_random_changes, test_version, test_million):
         test()
-    if doctest.testmod(juicedelta) != (0, 23):
+    if doctest.testmod(juicedelta) != (0, 30):
         raise SystemExit("a doctest fails, or isn't found")
 
 

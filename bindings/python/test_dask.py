@@ -1,14 +1,25 @@
-"""Tests of juicedelta.dask on a cluster of this machine, beside one tree, and beside plain lists where the tree isn't the rule."""
+"""Tests of juicedelta.dask on a cluster of this machine, beside one tree, and beside plain lists where the tree isn't the rule.
+
+JUICEDELTA_ROWS gives the number of rows that are joined while a worker is killed.
+"""
 
 import array
+import os
 import random
+import signal
+import time
+from concurrent.futures import ThreadPoolExecutor
 
+import dask
 from distributed import Client, LocalCluster
 from test import by_distance, raised  # This also finds the package beside it.
 from test_rows import parts, random_rows
 
 from juicedelta import JuicedeltaError, RTree
 from juicedelta.dask import Plane
+
+ROWS = int(os.environ.get("JUICEDELTA_ROWS", "200000"))
+SPAN = 1_000_000
 
 
 class Reader:
@@ -21,6 +32,20 @@ class Reader:
         if self.rows is None:
             raise OSError("no such file")
         return list(self.rows), list(self.rows.values())
+
+
+class Drawn:
+    """A partition that a worker draws: the rows with these ids. Of ROWS such rows each touches one other, more or less."""
+
+    def __init__(self, ids):
+        self.ids = ids
+
+    def __call__(self):
+        draw, side, boxes = random.Random(self.ids.start).random, SPAN / ROWS**0.5, array.array("i")
+        for _ in self.ids:
+            x, y = int(draw() * SPAN), int(draw() * SPAN)
+            boxes.extend((x, y, x + int(draw() * side), y + int(draw() * side)))
+        return array.array("q", self.ids), boxes
 
 
 def parts_of(plain, parts):
@@ -77,10 +102,59 @@ def test_errors(client):
     raised(ValueError, "two numbers of axes", plane.join, Plane.from_partitions(client, [], 1, 1))
 
 
+def killed_meanwhile(client, call, task):
+    """What the call answers, while a worker is killed that has to do with such a task of it."""
+    with ThreadPoolExecutor(1) as pool:
+        for _ in range(20):
+            (worker, process), *_ = client.run(os.getpid).items()
+            answer = pool.submit(call)
+            while not answer.done():
+                if any(task in key for key in client.processing().get(worker, ())):
+                    os.kill(process, signal.SIGKILL)
+                    return answer.result()
+    raise AssertionError("each call ended before the worker was killed")
+
+
+def test_many_rows(client):
+    """Many rows beside one tree; a worker that is killed in the middle of a join; a bad partition and an id that comes twice."""
+    ids = range(-ROWS // 2, ROWS // 2)
+    partitions = [Drawn(ids[len(ids) * k // 8 : len(ids) * (k + 1) // 8]) for k in range(8)]
+    numbers, boxes = array.array("q"), array.array("i")
+    for part in partitions:
+        numbers, boxes = numbers + part()[0], boxes + part()[1]
+    begun = time.monotonic()
+    tree = RTree.from_rows(numbers, boxes)
+    packed = time.monotonic()
+    plane = Plane.from_partitions(client, [*partitions, ([], [])], 32)
+    spread = time.monotonic()
+    assert len(plane) == len(tree) == len(ids) and plane.bounds == tree.bounds and len(plane._tiles) > 16
+    windows = [(x, y, x + SPAN // 50, y + SPAN // 90) for x, y in zip(range(0, SPAN, SPAN // 40), range(SPAN, 0, -SPAN // 40))]
+    found = parts(plane.intersection_many(windows))
+    assert list(map(sorted, found)) == list(map(sorted, parts(tree.intersection_many(windows)))) and sum(map(len, found)) > 0
+    for window in windows[::8]:
+        assert list(plane.nearest(window[:2], 20)) == list(tree.nearest(window[:2], 20)) and plane.count(window) == tree.count(window)
+    asked = time.monotonic()
+    pairs = sorted(zip(*tree.join()))
+    assert sorted(zip(*plane.join())) == pairs and len(pairs) > ROWS // 4
+    joined = time.monotonic()
+    assert sorted(zip(*killed_meanwhile(client, plane.join, "_join"))) == pairs
+    again = time.monotonic()
+    assert [plane.count(it) for it in windows] == list(tree.count_many(windows)) and plane.bounds == tree.bounds
+    twice = [*partitions, ([ids[-1]], [(-SPAN, -SPAN, -SPAN, -SPAN)])]
+    assert raised(JuicedeltaError, "the id is taken", Plane.from_partitions, client, twice, 32).code == 6
+    raised(ValueError, "partition 8 can't be read: no such file", Plane.from_partitions, client, [*partitions, Reader(None)])
+    print(
+        f"{len(ids)} rows and {len(pairs)} pairs: one tree {packed - begun:.1f} s, {len(plane._tiles)} tiles {spread - packed:.1f} s, "
+        f"windows {asked - spread:.1f} s, joins {joined - asked:.1f} s, a join that loses a worker {again - joined:.1f} s"
+    )
+
+
 if __name__ == "__main__":
     random.seed(2)
-    with LocalCluster(n_workers=2, threads_per_worker=1, dashboard_address=None, silence_logs=50) as cluster, Client(cluster) as client:
+    dask.config.set({"distributed.comm.timeouts.connect": "10s"})  # So long workers look for a lost one.
+    with LocalCluster(n_workers=4, threads_per_worker=1, dashboard_address=None, silence_logs=50) as cluster, Client(cluster) as client:
         for dimension, tiles in ((1, 1), (2, 16), (3, 5)):
             test_plane(client, dimension, tiles)
         test_errors(client)
+        test_many_rows(client)
     print("bindings/python: passed on a cluster")

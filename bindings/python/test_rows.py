@@ -3,11 +3,15 @@
 import array
 import copy
 import ctypes
+import doctest
+import importlib
 import math
 import pickle
 import random
+import re
 import sys
 from fractions import Fraction
+from pathlib import Path
 
 from test import RELATIONS, Whole, by_distance, joined, raised, refused, related, started  # This also finds the package.
 
@@ -232,10 +236,25 @@ def test_joins():
     sys.setswitchinterval(interval)
 
 
+def test_page():
+    """The package's page has examples that hold, and names each call of rtree's Index and shapely's STRtree, as far as these are
+    installed."""
+    page = Path(__file__).parent / "README.md"
+    failed, tried = doctest.testfile(str(page), module_relative=False)
+    assert failed == 0 < tried
+    words = set(re.findall(r"\w+", page.read_text()))
+    for module, name in (("rtree.index", "Index"), ("shapely.strtree", "STRtree")):
+        try:
+            calls = dir(getattr(importlib.import_module(module), name))
+        except ImportError:
+            continue
+        assert not [it for it in calls if not it.startswith("_") and not {it, re.sub("^[gs]et_", "", it)} & words]
+
+
 if __name__ == "__main__":
     random.seed(1)
     for dimension in (1, 2, 3):
         test_many(dimension)
-    for test in (test_buffers, test_grid, test_objects, test_joins):
+    for test in (test_buffers, test_grid, test_objects, test_joins, test_page):
         test()
     print("bindings/python: passed with many rows")

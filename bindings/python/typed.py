@@ -13,6 +13,8 @@ from juicedelta import (
     Grid,
     Item,
     JuicedeltaError,
+    Kind,
+    Live,
     Many,
     MissingId,
     NoMemory,
@@ -22,6 +24,7 @@ from juicedelta import (
     Shell,
     StatementRefused,
     Value,
+    WindowChange,
 )
 from juicedelta.dask import Plane
 
@@ -95,6 +98,23 @@ def many_rows() -> None:
     print(columns.boxes, it, box, left, list(near), list(rows), text)
 
 
+def windows() -> None:
+    live = Live(dimension=2, capacity=51)
+    live.reserve(10, windows=10, changes=Id())
+    told: List[WindowChange] = live.insert(1, (0, 0, 1, 1)) + live.watch(Id(), [0, 0, 9, 9]) + live.move(1, (5, 5, 6, 6))
+    told += live.shift(3, (0, 0, 5, 5)) + live.changes() + live.delete(1)
+    for window, id, kind in told:
+        number: int = window + id
+        word: Kind = kind
+    seen: List[int] = live.rows(3) + list(live) + [number, live.count((0, 0, 9, 9)), len(live), told[0].window]
+    views: List[Item] = live.windows()
+    near: Iterator[Item] = live.nearest((0, 0), objects=True)
+    pairs: Pairs = live.join(RTree())
+    with Live(grid=Grid(10), interleaved=False) as floats:
+        told = floats.watch(1, (0, 1.5, 0, 2.5)) + floats.unwatch(1)
+    print(word, seen, list(near), pairs, told, 1 in live, live.bounds)
+
+
 def floats() -> None:
     grid = Grid(10_000_000, (0, 0))
     whole: Tuple[int, ...] = grid.box((0, 0.5, 1, 1)) + grid.point((0.5, 0))
@@ -148,6 +168,8 @@ def wrong(tree: RTree, shell: Shell) -> None:
     tree.count((0, 0, 1, 1), "inside")  # type: ignore[arg-type]
     tree.search((0, 0, 1, 1))  # type: ignore[attr-defined]
     next(tree.intersection((0, 0, 1, 1))).bbox  # type: ignore[attr-defined]
+    Live().watch(1, "0011")  # type: ignore[arg-type]
+    Live().move(1, (0, 0, 1, 1))[0].kind == "gone"  # type: ignore[comparison-overlap]
     next(tree.nearest((0, 0), objects=True)) + 1  # type: ignore[operator]
     shell.rows(b"SELECT * FROM t;")  # type: ignore[arg-type]
 
@@ -155,6 +177,7 @@ def wrong(tree: RTree, shell: Shell) -> None:
 if __name__ == "__main__":
     trees(True)
     many_rows()
+    windows()
     floats()
     shells()
     print(errors(JuicedeltaError(7), StatementRefused(1, 5, "no such table")))

@@ -1,6 +1,6 @@
 """The calls of the library.
 
-Those that write hold the interpreter's lock. Those that read a tree let go of it, so that threads can read side by side.
+Those that write hold the interpreter's lock. Those that read rows let go of it, so that threads can read side by side.
 """
 
 from __future__ import annotations
@@ -87,6 +87,19 @@ tree_count_many = _reads("tree_count_many", _NUMBER, *_LIST, *_WRITTEN)
 tree_nearest_many = _reads("tree_nearest_many", *_LIST, _WORD, *_WRITTEN, *_WRITTEN, _POINTER)
 tree_dump = _reads("tree_dump", *_WRITTEN, _POINTER)
 tree_to_bytes = _reads("tree_to_bytes", *_WRITTEN, _POINTER)
+
+live_open = _writes("live_open", _NUMBER, _NUMBER, _WORD, _WORD)
+live_insert = _writes("live_insert", _ID, *_GIVEN, _POINTER)
+live_move = _writes("live_move", _ID, *_GIVEN, _POINTER)
+live_remove = _writes("live_remove", _ID, _POINTER)
+live_watch = _writes("live_watch", _ID, *_GIVEN, _POINTER)
+live_shift = _writes("live_shift", _ID, *_GIVEN, _POINTER)
+live_unwatch = _writes("live_unwatch", _ID, _POINTER)
+live_reserve = _writes("live_reserve", _WORD, _WORD, _WORD)
+# It follows each edit, and is short.
+live_changes = _writes("live_changes", *_WRITTEN, *_WRITTEN, *_WRITTEN, _POINTER)
+live_rows = _reads("live_rows", _ID, *_WRITTEN, _POINTER)
+live_windows = _reads("live_windows", _WORD, *_WRITTEN, *_WRITTEN, _POINTER)
 
 script_open = _writes("script_open", _NUMBER, _WORD, _WORD)
 script_exec = _writes("script_exec", *_GIVEN)

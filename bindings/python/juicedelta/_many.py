@@ -74,8 +74,8 @@ def relation_of(name: str) -> ctypes.c_uint32:
     return number
 
 
-class ManyRows(Owner):
-    """A tree by its calls for many rows.
+class ManyReads(Owner):
+    """Rows by the calls that read many of them, or for many windows.
 
     A list of ids or of boxes is a buffer of whole numbers, such as NumPy's arrays and `array.array`, or an iterable. A
     buffer of boxes has a box a line, or one box after another. The results are of `array.array`: NumPy's `asarray` makes
@@ -94,75 +94,25 @@ class ManyRows(Owner):
         self._hold(opening, dimension, *words, place=place)
         self.dimension, self._form, self._objects = dimension, form, {}
 
-    @classmethod
-    def from_rows(
-        cls: type[M], ids: Any, boxes: Any, dimension: SupportsIndex = 2, capacity: SupportsIndex = 51, *,
-        objects: Optional[Iterable[Any]] = None, grid: Optional[Grid] = None, interleaved: bool = True
-    ) -> M:
-        """A tree of many rows, packed all at once: much sooner made and searched than by many insertions."""
-        form = form_of(dimension, grid, interleaved)
-        return cls._packed(form, capacity, array_of(ids, "q", "ids"), form.list_of_boxes(boxes), objects)
-
-    @classmethod
-    def _packed(
-        cls: type[M], form: Form, capacity: SupportsIndex, ids: array.array[int], boxes: array.array[int],
-        objects: Optional[Iterable[Any]]
-    ) -> M:
-        tree, place, by_ids = cls.__new__(cls), ctypes.c_uint64(), _by_ids(ids, objects)
-        tree._start(form.axes, form, tree_open_rows, capacity_of(capacity), *_list(ids), *_list(boxes), place=place)
-        tree._objects.update(by_ids)
-        return tree
-
-    @classmethod
-    def from_items(cls: type[M], items: Iterable[Tuple[Any, ...]], *options: SupportsIndex, **others: Any) -> M:
-        """A packed tree of a stream of `(id, box)` or `(id, box, object)`. The options are those of `from_rows`."""
-        ids: List[Any] = []
-        boxes: List[Any] = []
-        objects: List[Any] = []
-        for id, box, *more in items:
-            ids.append(id)
-            boxes.append(tuple(box))
-            objects.append(more[0] if more else None)
-        return cls.from_rows(ids, boxes, *options, objects=objects, **others)
-
-    def insert_many(self, ids: Any, boxes: Any, objects: Optional[Iterable[Any]] = None) -> None:
-        """Inserts all rows, or none: the error of a row that is refused tells its place."""
-        form, place = self._form, ctypes.c_uint64()
-        rows, numbers = array_of(ids, "q", "ids"), form.list_of_boxes(boxes)
-        pairs = _by_ids(rows, objects)
-        code = self._guard.write(tree_insert_rows, self._at, *_list(rows), *_list(numbers), ctypes.byref(place))
-        if code:
-            raise error_at(code, place)
-        self._objects.update(pairs)
-
     def columns(self) -> Columns:
         """All rows, in an order of the tree's own."""
-        ids, boxes = self._all()
+        ids, boxes = self._all(tree_rows, len(self))
         return Columns(ids, self._form.columns(boxes))
 
-    def _all(self) -> Tuple[array.array[int], array.array[int]]:
-        room, total = -1, len(self)
+    def _all(self, call: Call, room: int) -> Tuple[array.array[int], array.array[int]]:
+        """All rows that the call writes. It is called again if there is no room for them all."""
+        total = room + 1
         while total > room:
-            room = total
-            ids, boxes, total = self._part(0, room)
+            ids, boxes, total = self._part(call, 0, room)
+            room = max(room, total)
         return ids, boxes
 
-    def rows(self, part: SupportsIndex = 4096) -> Iterator[Item]:
-        """All rows, read `part` at a time. The tree stays as it is meanwhile."""
-        place, room, form = 0, max(whole(part, "part"), 1), self._form
-        while True:
-            ids, boxes, total = self._part(place, room)
-            yield from self._items(ids, form.boxes(boxes))
-            place += len(ids)
-            if place >= total or not ids:
-                return
-
-    def _part(self, place: int, room: int) -> Tuple[array.array[int], array.array[int], int]:
-        """Rows from that place on, as many as there is room for, and how many the tree has."""
+    def _part(self, call: Call, place: int, room: int) -> Tuple[array.array[int], array.array[int], int]:
+        """Rows from that place on, as many as there is room for, and how many there are."""
         width, total = self._form.width, ctypes.c_uint64()
         ids, boxes = zeros("q", room), zeros("i", width * room)
         there = (at(ids), room, at(boxes), width * room, ctypes.byref(total))
-        accept(self._guard.read(tree_rows, self._at, place, *there))
+        accept(self._guard.read(call, self._at, place, *there))
         rows = min(room, max(total.value - place, 0))
         del ids[rows:], boxes[width * rows :]
         return ids, boxes, total.value
@@ -217,7 +167,7 @@ class ManyRows(Owner):
         accept(self._guard.read(tree_count_many, self._at, number, *_list(windows), at(counts), len(counts)))
         return counts
 
-    def join(self, other: Optional[ManyRows] = None) -> Pairs:
+    def join(self, other: Optional[ManyReads] = None) -> Pairs:
         """Each pair of rows, one of this tree and one of the other, whose boxes touch, once, in no stated order.
 
         Without another tree: each pair of two rows of this one, the lower id on the left.
@@ -248,6 +198,66 @@ class ManyRows(Owner):
             room = total.value
         accept(code)
         return text.raw[:room]
+
+    def __len__(self) -> int:
+        rows = ctypes.c_uint64()
+        accept(self._guard.read(tree_len, self._at, ctypes.byref(rows)))
+        return rows.value
+
+
+class ManyRows(ManyReads):
+    """A tree by its calls for many rows."""
+
+    @classmethod
+    def from_rows(
+        cls: type[M], ids: Any, boxes: Any, dimension: SupportsIndex = 2, capacity: SupportsIndex = 51, *,
+        objects: Optional[Iterable[Any]] = None, grid: Optional[Grid] = None, interleaved: bool = True
+    ) -> M:
+        """A tree of many rows, packed all at once: much sooner made and searched than by many insertions."""
+        form = form_of(dimension, grid, interleaved)
+        return cls._packed(form, capacity, array_of(ids, "q", "ids"), form.list_of_boxes(boxes), objects)
+
+    @classmethod
+    def _packed(
+        cls: type[M], form: Form, capacity: SupportsIndex, ids: array.array[int], boxes: array.array[int],
+        objects: Optional[Iterable[Any]]
+    ) -> M:
+        tree, place, by_ids = cls.__new__(cls), ctypes.c_uint64(), _by_ids(ids, objects)
+        tree._start(form.axes, form, tree_open_rows, capacity_of(capacity), *_list(ids), *_list(boxes), place=place)
+        tree._objects.update(by_ids)
+        return tree
+
+    @classmethod
+    def from_items(cls: type[M], items: Iterable[Tuple[Any, ...]], *options: SupportsIndex, **others: Any) -> M:
+        """A packed tree of a stream of `(id, box)` or `(id, box, object)`. The options are those of `from_rows`."""
+        ids: List[Any] = []
+        boxes: List[Any] = []
+        objects: List[Any] = []
+        for id, box, *more in items:
+            ids.append(id)
+            boxes.append(tuple(box))
+            objects.append(more[0] if more else None)
+        return cls.from_rows(ids, boxes, *options, objects=objects, **others)
+
+    def insert_many(self, ids: Any, boxes: Any, objects: Optional[Iterable[Any]] = None) -> None:
+        """Inserts all rows, or none: the error of a row that is refused tells its place."""
+        form, place = self._form, ctypes.c_uint64()
+        rows, numbers = array_of(ids, "q", "ids"), form.list_of_boxes(boxes)
+        pairs = _by_ids(rows, objects)
+        code = self._guard.write(tree_insert_rows, self._at, *_list(rows), *_list(numbers), ctypes.byref(place))
+        if code:
+            raise error_at(code, place)
+        self._objects.update(pairs)
+
+    def rows(self, part: SupportsIndex = 4096) -> Iterator[Item]:
+        """All rows, read `part` at a time. The tree stays as it is meanwhile."""
+        place, room, form = 0, max(whole(part, "part"), 1), self._form
+        while True:
+            ids, boxes, total = self._part(tree_rows, place, room)
+            yield from self._items(ids, form.boxes(boxes))
+            place += len(ids)
+            if place >= total or not ids:
+                return
 
     @classmethod
     def from_bytes(
@@ -281,7 +291,7 @@ class ManyRows(Owner):
         The object of a row is a tuple with a value for each auxiliary column, or None. With a grid the table gets the
         whole numbers.
         """
-        ids, boxes = self._all()
+        ids, boxes = self._all(tree_rows, len(self))
         ends = [boxes[k :: 2 * self.dimension] for axis in range(self.dimension) for k in (axis, axis + self.dimension)]
         with all_or_nothing(connection):
             found = find(connection, table) or create(connection, table, self.dimension, auxiliary)
@@ -292,11 +302,6 @@ class ManyRows(Owner):
             if set(map(len, values)) - {len(none)}:
                 raise ValueError(f"an object isn't a tuple of {len(none)} values")
             replace_rows(connection, found, [ids, *ends, *(zip(*values) if values else [()] * len(none))])
-
-    def __len__(self) -> int:
-        rows = ctypes.c_uint64()
-        accept(self._guard.read(tree_len, self._at, ctypes.byref(rows)))
-        return rows.value
 
     def __reduce_ex__(self, protocol: SupportsIndex) -> Any:
         state = (type(self), self.to_bytes(), self.dimension, self._form.grid, self._form.interleaved, self._objects)

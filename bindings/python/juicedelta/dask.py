@@ -8,10 +8,12 @@ from __future__ import annotations
 import array
 import math
 from bisect import bisect_right
-from itertools import chain
+from collections import Counter
+from itertools import chain, count
+from operator import add
 from typing import Any, Dict, Iterable, Iterator, List, NamedTuple, Optional, Sequence, SupportsIndex, Tuple, Union
 
-from ._buffers import array_of
+from ._buffers import array_of, zeros
 from ._errors import ID_TAKEN, error_of
 from ._form import Form
 from ._many import Columns, Many, Pairs
@@ -24,7 +26,8 @@ _SAMPLE = 1000  # So many rows of each partition say where the tiles lie.
 class Plane:
     """Rows in tiles, which workers keep. Each row is in one tile; a call asks the tiles whose hulls can answer.
 
-    The answers are those of one tree of all rows. The rows stay as they are.
+    The answers are those of one tree of all rows. The rows stay as they are. Of a worker that is lost others make the tiles
+    again, from the partitions.
     """
 
     def __init__(self, client: Any, dimension: int, tiles: List[Any]) -> None:
@@ -50,14 +53,15 @@ class Plane:
         axes, form = int(dimension), Form(int(dimension))
         parts = [client.submit(_read, it, place, form.axes, pure=False) for place, it in enumerate(partitions)]
         sample = list(chain.from_iterable(client.gather(client.map(_sample, parts, axes=axes))))
-        cuts = _cuts(sample, max(int(tiles), 1), 0, axes)
+        numbers = count()
+        cuts = _cuts(sample, max(int(tiles), 1), 0, axes, numbers)
         buckets = max(len(parts), 1)
         by_id = [client.submit(_buckets, part, buckets, pure=False) for part in parts]
         twice = client.gather([client.submit(_twice, by_id, bucket, pure=False) for bucket in range(buckets)])
         if any(it is not None for it in twice):
             raise error_of(ID_TAKEN)
         split = [client.submit(_split, part, cuts, axes, pure=False) for part in parts]
-        packed = [client.submit(_pack, split, tile, axes, int(capacity), pure=False) for tile in range(_count(cuts))]
+        packed = [client.submit(_pack, split, tile, axes, int(capacity), pure=False) for tile in range(next(numbers))]
         return cls(client, axes, packed)
 
     def __len__(self) -> int:
@@ -160,35 +164,32 @@ def _squared(one: Sequence[int], other: Sequence[int]) -> int:
 
 
 class _Cuts(NamedTuple):
-    """Slabs of an axis: where they are cut, and how each is cut further."""
+    """Slabs of an axis: where they are cut, and what each is, cut along the next axis or a tile."""
 
     ends: List[int]
     slabs: List[Any]
 
 
-Cuts = Union[None, _Cuts]
+Cuts = Union[int, _Cuts]  # A tile is its number.
 
 
-def _cuts(centres: List[Box], tiles: int, axis: int, axes: int) -> Cuts:
+def _cuts(centres: List[Box], tiles: int, axis: int, axes: int, numbers: Iterator[int]) -> Cuts:
     """Sort-tile-recursive: slabs with equally many centres, each cut along the next axis."""
     if axis == axes or tiles <= 1:
-        return None
+        return next(numbers)
     slabs = tiles if axis + 1 == axes else math.ceil(tiles ** (1 / (axes - axis)))
     centres.sort(key=lambda it: it[axis])
     parts = [centres[len(centres) * k // slabs : len(centres) * (k + 1) // slabs] for k in range(slabs)]
     ends = [part[0][axis] for part in parts[1:] if part]
-    return _Cuts(ends, [_cuts(part, -(-tiles // slabs), axis + 1, axes) for part in parts[: len(ends) + 1]])
+    return _Cuts(ends, [_cuts(part, -(-tiles // slabs), axis + 1, axes, numbers) for part in parts[: len(ends) + 1]])
 
 
-def _count(cuts: Cuts) -> int:
-    return 1 if cuts is None else sum(map(_count, cuts.slabs))
-
-
-def _tile_of(centre: Sequence[int], cuts: Cuts, axis: int = 0) -> int:
-    if cuts is None:
-        return 0
-    slab = bisect_right(cuts.ends, centre[axis])
-    return sum(map(_count, cuts.slabs[:slab])) + _tile_of(centre, cuts.slabs[slab], axis + 1)
+def _tile_of(centre: Sequence[int], cuts: Cuts) -> int:
+    for place in centre:
+        if isinstance(cuts, int):
+            break
+        cuts = cuts.slabs[bisect_right(cuts.ends, place)]
+    return cuts  # type: ignore[return-value]
 
 
 # ---- What workers do -------------------------------------------------------------------------------------------------
@@ -205,15 +206,14 @@ def _read(partition: Any, place: int, axes: int) -> Columns:
         raise ValueError(f"partition {place} can't be read: {error}") from error
 
 
-def _centres(rows: Columns, axes: int) -> Iterator[Box]:
-    """Twice the middle of each box."""
-    lows, highs = [[rows.boxes[k + shift :: 2 * axes] for k in range(axes)] for shift in (0, axes)]
-    return zip(*[map(int.__add__, low, high) for low, high in zip(lows, highs)])
+def _centres(rows: Columns, axes: int, step: int = 1) -> Iterator[Box]:
+    """Twice the middle of each box, or of one in `step`."""
+    lows, highs = [[rows.boxes[k + shift :: 2 * axes * step] for k in range(axes)] for shift in (0, axes)]
+    return zip(*[map(add, low, high) for low, high in zip(lows, highs)])
 
 
 def _sample(rows: Columns, axes: int) -> List[Box]:
-    step = max(len(rows.ids) // _SAMPLE, 1)
-    return list(_centres(rows, axes))[::step]
+    return list(_centres(rows, axes, max(len(rows.ids) // _SAMPLE, 1)))
 
 
 def _buckets(rows: Columns, buckets: int) -> List[List[int]]:
@@ -235,13 +235,15 @@ def _twice(parts: List[List[List[int]]], bucket: int) -> Optional[int]:
 
 def _split(rows: Columns, cuts: Cuts, axes: int) -> Dict[int, Columns]:
     """The rows of each tile."""
-    width, found = 2 * axes, {}
-    for at, centre in enumerate(_centres(rows, axes)):
-        tile = _tile_of(centre, cuts)
-        if tile not in found:
-            found[tile] = Columns(array.array("q"), array.array("i"))
-        found[tile].ids.append(rows.ids[at])
-        found[tile].boxes.extend(rows.boxes[width * at : width * at + width])
+    width, boxes, found, end = 2 * axes, zeros("i", len(rows.boxes)), {}, 0
+    tiles = [_tile_of(centre, cuts) for centre in _centres(rows, axes)]
+    order = sorted(range(len(tiles)), key=tiles.__getitem__)
+    ids = array.array("q", map(rows.ids.__getitem__, order))
+    for k in range(width):
+        boxes[k::width] = array.array("i", map(rows.boxes[k::width].__getitem__, order))
+    for tile, its in sorted(Counter(tiles).items()):
+        begin, end = end, end + its
+        found[tile] = Columns(ids[begin:end], boxes[width * begin : width * end])
     return found
 
 

@@ -2,7 +2,8 @@
 //!
 //! A pointer leads to as many items as the length says that follows it or, in what finds rows, `ids_length`.
 
-use std::hash::{BuildHasher, RandomState};
+use std::collections::hash_map::RandomState;
+use std::hash::{BuildHasher, Hasher};
 use std::{ffi::c_void, ptr::NonNull};
 
 use crate::{check, Error};
@@ -26,8 +27,10 @@ unsafe impl Sync for Handle {}
 impl Handle {
     /// What a call opens with two random words, for the hashes of ids.
     pub fn opened(open: impl FnOnce(&mut Self, u64, u64) -> i32) -> Result<Self, Error> {
-        let (mut new, random) = (Self::default(), RandomState::new());
-        check(open(&mut new, random.hash_one(1), random.hash_one(2))).map(|()| new)
+        // Each state has keys of its own, so what it makes of nothing is random.
+        let word = || RandomState::new().build_hasher().finish();
+        let mut new = Self::default();
+        check(open(&mut new, word(), word())).map(|()| new)
     }
 }
 
@@ -210,6 +213,60 @@ extern "C" {
     ) -> i32;
     pub fn juicedelta_tree_to_bytes(handle: &Handle, bytes: *mut u8, length: usize, total: &mut u64) -> i32;
     pub fn juicedelta_tree_dump(handle: &Handle, text: *mut u8, length: usize, total: &mut u64) -> i32;
+
+    pub fn juicedelta_live_open(handle: &mut Handle, axes: u32, capacity: u32, first_key: u64, second_key: u64) -> i32;
+    pub fn juicedelta_live_insert(
+        handle: &mut Handle,
+        id: i64,
+        rect: *const i32,
+        length: usize,
+        changes: &mut u64,
+    ) -> i32;
+    pub fn juicedelta_live_move(
+        handle: &mut Handle,
+        id: i64,
+        rect: *const i32,
+        length: usize,
+        changes: &mut u64,
+    ) -> i32;
+    pub fn juicedelta_live_remove(handle: &mut Handle, id: i64, changes: &mut u64) -> i32;
+    pub fn juicedelta_live_watch(
+        handle: &mut Handle,
+        window: i64,
+        rect: *const i32,
+        length: usize,
+        changes: &mut u64,
+    ) -> i32;
+    pub fn juicedelta_live_shift(
+        handle: &mut Handle,
+        window: i64,
+        rect: *const i32,
+        length: usize,
+        changes: &mut u64,
+    ) -> i32;
+    pub fn juicedelta_live_unwatch(handle: &mut Handle, window: i64, changes: &mut u64) -> i32;
+    pub fn juicedelta_live_reserve(handle: &mut Handle, rows: u64, windows: u64, changes: u64) -> i32;
+    pub fn juicedelta_live_changes(
+        handle: &Handle,
+        windows: *mut i64,
+        windows_length: usize,
+        ids: *mut i64,
+        ids_length: usize,
+        kinds: *mut u8,
+        kinds_length: usize,
+        total: &mut u64,
+    ) -> i32;
+    pub fn juicedelta_live_rows(handle: &Handle, window: i64, ids: *mut i64, ids_length: usize, total: &mut u64)
+        -> i32;
+    pub fn juicedelta_live_windows(
+        handle: &Handle,
+        from: u64,
+        ids: *mut i64,
+        ids_length: usize,
+        rects: *mut i32,
+        rects_length: usize,
+        total: &mut u64,
+    ) -> i32;
 
     pub fn juicedelta_script_open(handle: &mut Handle, capacity: u32, first_key: u64, second_key: u64) -> i32;
     pub fn juicedelta_script_exec(handle: &mut Handle, bytes: *const u8, length: usize) -> i32;

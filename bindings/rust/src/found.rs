@@ -1,10 +1,10 @@
-//! The memory that searches write to, and the ids and rows in it.
+//! The memory that searches write to, and the ids, rows and changes in it.
 
 use std::cell::Cell;
 use std::mem::{size_of, take};
 use std::slice;
 
-use crate::{check, Error, Rect, Row};
+use crate::{check, Change, Error, Kind, Rect, Row};
 
 thread_local! {
     /// What a thread keeps. A search takes it out, since a program's own allocator may search too.
@@ -70,6 +70,15 @@ impl Found {
         }
     }
 
+    /// By a call that writes changes: it gets the windows, their room, the ids and the kinds.
+    pub fn changes_by(call: impl Fn(*mut i64, usize, *mut i64, *mut u8, &mut u64) -> i32) -> Result<Self, Error> {
+        // A word for the window, one for the id, and one for the kind, which needs less.
+        Self::by(3, |windows, room, ids, total| {
+            let ids: *mut i64 = ids.cast();
+            call(windows, room, ids, ids.wrapping_add(room).cast(), total)
+        })
+    }
+
     /// By a call that writes `room` rows of `width` words, or fewer.
     pub fn first(
         room: usize,
@@ -97,6 +106,25 @@ impl Found {
         let mut ids = room_for(self.total)?;
         ids.extend_from_slice(&self.words.0);
         Ok(ids)
+    }
+
+    /// The changes, if the call wrote changes.
+    pub fn changes(self) -> Result<Vec<Change>, Error> {
+        let (windows, total) = (self.words.0.as_ptr(), self.total);
+        let ids = windows.wrapping_add(self.room);
+        let kinds = ids.wrapping_add(self.room).cast::<u8>();
+        // SAFETY: the call wrote so many of each there.
+        let (windows, ids, kinds) = unsafe {
+            (
+                slice::from_raw_parts(windows, total),
+                slice::from_raw_parts(ids, total),
+                slice::from_raw_parts(kinds, total),
+            )
+        };
+        let mut changes = room_for(total)?;
+        let all = windows.iter().zip(ids).zip(kinds);
+        changes.extend(all.map(|((&window, &id), &kind)| Change { window, id, kind: Kind::of(kind) }));
+        Ok(changes)
     }
 
     /// The rows, if the call wrote boxes of D axes.

@@ -1,7 +1,8 @@
-//! R\*-trees of boxes of whole numbers, and scripts over tables of them, by the library of Juicedelta.
+//! R\*-trees of boxes of whole numbers, windows that are told what edits change in them, and scripts over tables of boxes, by
+//! the library of Juicedelta.
 //!
-//! A tree or a shell is freed when it is dropped. Both may go to another thread (`Send`), and what takes `&self` only
-//! reads, so that several threads may search one tree at once (`Sync`). A call that is refused answers an [`Error`] and
+//! A tree, live windows or a shell are freed when they are dropped. They may go to another thread (`Send`), and what takes
+//! `&self` only reads, so that several threads may search one tree at once (`Sync`). A call that is refused answers an [`Error`] and
 //! changes nothing, unless it says otherwise. A thread keeps the memory that its searches write to, 1 MiB at most; a
 //! search that needs more than is kept runs twice.
 #![warn(missing_docs)]
@@ -9,6 +10,7 @@
 mod calls;
 mod found;
 mod grid;
+mod live;
 mod many;
 mod rows;
 mod shell;
@@ -19,6 +21,7 @@ mod tree;
 use std::fmt;
 
 pub use grid::{Grid, OffGrid};
+pub use live::{Change, Kind, Live};
 pub use many::Many;
 pub use rows::{Iter, RowsError};
 pub use shell::Shell;
@@ -74,7 +77,7 @@ pub enum Relation {
 /// ```
 /// use juicedelta::{Error, Tree};
 /// let error = Tree::<2>::new()?.remove(7).unwrap_err();
-/// assert_eq!((error, error.to_string().as_str()), (Error::IdMissing, "no row has that id"));
+/// assert_eq!((error, error.to_string().as_str()), (Error::IdMissing, "no row or window has that id"));
 /// # Ok::<(), Error>(())
 /// ```
 #[repr(i32)]
@@ -93,7 +96,7 @@ pub enum Error {
     BadBox = 5,
     /// The id is taken.
     IdTaken = 6,
-    /// No row has that id.
+    /// No row or window has that id.
     IdMissing = 7,
     /// The result is longer than the buffer.
     BufferTooSmall = 8,

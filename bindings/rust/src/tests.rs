@@ -2,10 +2,15 @@
 
 use std::alloc::{GlobalAlloc, Layout, System};
 use std::cell::Cell;
+use std::collections::{BTreeMap, BTreeSet};
 use std::io::Write;
+use std::panic::{catch_unwind, AssertUnwindSafe};
 
 use crate::calls::{self, Handle};
-use crate::{check, version, Axes, Error, Grid, Iter, OffGrid, Rect, Relation, Row, RowsError, Shell, Supported, Tree};
+use crate::{
+    check, version, Axes, Change, Error, Grid, Iter, Kind, Live, OffGrid, Rect, Relation, Row, RowsError, Shell,
+    Supported, Tree,
+};
 
 /// What a thread allocated: how often, and how many bytes it holds, and held at most. Refuses the allocation at `refused`.
 #[derive(Clone, Copy)]
@@ -20,6 +25,14 @@ thread_local! {
     static COUNTS: Cell<Counts> = const { Cell::new(Counts { allocations: 0, refused: 0, held: 0, most_held: 0 }) };
 }
 
+fn counts() -> Counts {
+    COUNTS.with(Cell::get)
+}
+
+fn set_counts(counts: Counts) {
+    COUNTS.with(|it| it.set(counts));
+}
+
 struct Counted;
 
 #[global_allocator]
@@ -28,12 +41,12 @@ static COUNTED: Counted = Counted;
 // SAFETY: the system's, except what is refused.
 unsafe impl GlobalAlloc for Counted {
     unsafe fn alloc(&self, layout: Layout) -> *mut u8 {
-        let mut counts = COUNTS.get();
+        let mut counts = counts();
         counts.allocations += 1;
         let is_refused = counts.allocations == counts.refused;
         counts.held += if is_refused { 0 } else { layout.size() as isize };
         counts.most_held = counts.most_held.max(counts.held);
-        COUNTS.set(counts);
+        set_counts(counts);
         if is_refused {
             std::ptr::null_mut()
         } else {
@@ -42,16 +55,16 @@ unsafe impl GlobalAlloc for Counted {
     }
 
     unsafe fn dealloc(&self, memory: *mut u8, layout: Layout) {
-        let counts = COUNTS.get();
-        COUNTS.set(Counts { held: counts.held - layout.size() as isize, ..counts });
+        let counts = counts();
+        set_counts(Counts { held: counts.held - layout.size() as isize, ..counts });
         System.dealloc(memory, layout);
     }
 }
 
 /// Refuses the thread's nth allocation from now on.
 fn refuse(nth: usize) {
-    let counts = COUNTS.get();
-    COUNTS.set(Counts { refused: counts.allocations + nth, ..counts });
+    let counts = counts();
+    set_counts(Counts { refused: counts.allocations + nth, ..counts });
 }
 
 fn cube<const D: usize>(min: i32, max: i32) -> Rect<D> {
@@ -249,6 +262,141 @@ fn many_rows() -> Result<(), Error> {
     Ok(())
 }
 
+type Boxes<const D: usize> = BTreeMap<i64, Rect<D>>;
+
+/// Rows and windows as maps.
+#[derive(Clone, Default)]
+struct Plain<const D: usize> {
+    rows: Boxes<D>,
+    windows: Boxes<D>,
+}
+
+impl<const D: usize> Plain<D> {
+    /// Each window with each row that touches it.
+    fn pairs(&self) -> BTreeSet<(i64, i64)> {
+        let of = |(&window, view)| {
+            let seen = self.rows.iter().filter(move |(_, rect)| is_related(Relation::Touches, rect, view));
+            seen.map(move |(&id, _)| (window, id))
+        };
+        self.windows.iter().flat_map(of).collect()
+    }
+
+    /// What an edit tells, by the definition: which pairs came and left, and which stayed though the row has another box.
+    fn told(&self, old: &Self) -> Vec<Change> {
+        let (before, after) = (old.pairs(), self.pairs());
+        let kind_of = |&(window, id): &(i64, i64)| {
+            let kind = match (before.contains(&(window, id)), after.contains(&(window, id))) {
+                (true, false) => Kind::Left,
+                (false, true) => Kind::Came,
+                _ if old.rows.get(&id) == self.rows.get(&id) => return None,
+                _ => Kind::Moved,
+            };
+            Some(Change { window, id, kind })
+        };
+        before.union(&after).filter_map(kind_of).collect()
+    }
+}
+
+/// A copy of what each window sees follows the changes alone.
+fn follow(copies: &mut BTreeSet<(i64, i64)>, changes: &[Change]) {
+    for &Change { window, id, kind } in changes {
+        match kind {
+            Kind::Left => assert!(copies.remove(&(window, id))),
+            Kind::Came => assert!(copies.insert((window, id))),
+            Kind::Moved => assert!(copies.contains(&(window, id))),
+        }
+    }
+}
+
+/// Random edits beside maps, and reads of the rows.
+fn live_of<const D: usize>() -> Result<(), Error>
+where
+    Axes<D>: Supported,
+{
+    let (mut below, mut live, mut copies) = (numbers(), Live::<D>::with_capacity(5)?, BTreeSet::new());
+    let mut plain = Plain::default();
+    is_shared(&live);
+    live.reserve(40, 12, 100)?;
+    for _ in 0..3000 {
+        let (id, window, at, old) = (below(40).into(), i64::from(below(12)) - 6, below(100), plain.clone());
+        let (rect, view) = (cube(at, at + below(10)), cube(at, at + below(60)));
+        let (is_row, is_window) = (plain.rows.contains_key(&id), plain.windows.contains_key(&window));
+        let changes = match below(8) {
+            3 if is_row => plain.rows.remove(&id).map(|_| live.remove(id)),
+            7 if is_window => plain.windows.remove(&window).map(|_| live.unwatch(window)),
+            3 | 7 => None,
+            0..=2 => Some(if plain.rows.insert(id, rect).is_some() {
+                live.update(id, &rect)
+            } else {
+                live.insert(id, &rect)
+            }),
+            _ => Some(match plain.windows.insert(window, view) {
+                Some(_) => live.shift(window, &view),
+                None => live.watch(window, &view),
+            }),
+        };
+        if let Some(changes) = changes.transpose()? {
+            follow(&mut copies, &changes);
+            assert_eq!((&changes, &live.changes()?), (&plain.told(&old), &changes));
+        }
+    }
+    let tree = live.rows_tree();
+    for (&window, view) in &plain.windows {
+        let copy: Vec<i64> = copies.range((window, i64::MIN)..=(window, i64::MAX)).map(|&(_, id)| id).collect();
+        assert_eq!((live.rows(window)?, sorted(tree.search(view)?)), (copy.clone(), copy));
+    }
+    assert_eq!(live.windows()?.into_iter().map(|it| (it.id, it.rect)).collect::<Boxes<D>>(), plain.windows);
+    assert_eq!(tree.iter().map(|it| (it.id, it.rect)).collect::<Boxes<D>>(), plain.rows);
+    assert_eq!(tree.nearest(&[50; D], tree.len())?, tree.within(&[50; D], 200)?);
+    assert_eq!(format!("{live:?}"), format!("Live {{ axes: {D}, len: {}, .. }}", plain.rows.len()));
+    Ok(())
+}
+
+#[test]
+fn live() -> Result<(), Error> {
+    live_of::<1>()?;
+    live_of::<2>()?;
+    live_of::<3>()
+}
+
+#[test]
+fn live_codes() -> Result<(), Error> {
+    let (mut live, mut closed, rect, bad) =
+        (Live::<2>::default(), Live::<2>(Tree(Handle::default())), cube(0, 1), cube(1, 0));
+    assert_eq!((live.insert(1, &rect)?, live.watch(5, &rect)?.len()), (vec![], 1));
+    assert_eq!((closed.insert(1, &rect), closed.rows(5)), (Err(Error::Closed), Err(Error::Closed)));
+    assert_eq!((closed.windows(), closed.changes()), (Err(Error::Closed), Err(Error::Closed)));
+    assert_eq!(Live::<2>(Tree::new()?).unwatch(1), Err(Error::OtherKind));
+    let handle = &mut live.0 .0;
+    // SAFETY: the handle is open, and stays as it is.
+    unsafe {
+        assert_eq!(check(calls::juicedelta_tree_remove(handle, 1)), Err(Error::OtherKind));
+        assert_eq!(check(calls::juicedelta_live_open(handle, 2, 51, 1, 2)), Err(Error::AlreadyOpen));
+        assert_eq!(check(calls::juicedelta_live_open(&mut Handle::default(), 4, 51, 1, 2)), Err(Error::BadAxes));
+        let (mut ids, mut kinds) = ([0; 2], [0; 2]);
+        let mut changes = |room, kind_room| {
+            let (windows, ids) = (ids.as_mut_ptr(), ids.as_mut_ptr());
+            calls::juicedelta_live_changes(handle, windows, room, ids, room, kinds.as_mut_ptr(), kind_room, &mut 0)
+        };
+        assert_eq!((check(changes(0, 0)), check(changes(0, 1))), (Err(Error::BufferTooSmall), Err(Error::BadLength)));
+    }
+    assert_eq!(Live::<2>::with_capacity(52).err(), Some(Error::BadCapacity));
+    for edit in [Live::insert, Live::update, Live::watch, Live::shift] {
+        assert_eq!(edit(&mut live, 1, &bad), Err(Error::BadBox));
+    }
+    assert_eq!((live.insert(1, &rect), live.watch(5, &rect)), (Err(Error::IdTaken), Err(Error::IdTaken)));
+    assert_eq!((live.update(5, &rect), live.shift(1, &rect)), (Err(Error::IdMissing), Err(Error::IdMissing)));
+    assert_eq!((live.remove(5), live.unwatch(1)), (Err(Error::IdMissing), Err(Error::IdMissing)));
+    assert_eq!((live.rows(1), live.reserve(0, usize::MAX, 0)), (Err(Error::IdMissing), Err(Error::OutOfMemory)));
+    assert_eq!(live.changes()?, [Change { window: 5, id: 1, kind: Kind::Came }]);
+    // What is told of an edit that found no memory for its list.
+    live.insert(2, &rect)?;
+    refuse(1);
+    assert!(catch_unwind(AssertUnwindSafe(|| live.unwatch(5))).is_err());
+    assert_eq!((live.changes()?.len(), live.windows()?), (2, vec![]));
+    Ok(())
+}
+
 /// The least box of whole numbers, by the definition.
 #[test]
 fn grids() -> Result<(), OffGrid> {
@@ -292,10 +440,12 @@ fn grids() -> Result<(), OffGrid> {
 // Between writes, which need the tree alone, the threads of a scope read it side by side.
 #[test]
 fn threads() -> Result<(), Error> {
-    let (mut tree, rows) = (Tree::<2>::with_capacity(5)?, 500);
+    let (mut tree, rows, mut live) = (Tree::<2>::with_capacity(5)?, 500, Live::<2>::new()?);
     for id in 0..rows {
         tree.insert(id.into(), &cube(id, id + 3))?;
     }
+    live.watch(1, &cube(0, 9))?;
+    live.insert(7, &cube(5, 5))?;
     for shift in 1..4 {
         let begun = std::sync::Barrier::new(4);
         let read = |thread: i32| -> Result<(), Error> {
@@ -308,6 +458,8 @@ fn threads() -> Result<(), Error> {
                 assert_eq!(tree.search_rows(&window)?.len(), wanted.len());
                 assert_eq!(tree.get(at.into())?, Some(cube(at, at + 2 + shift)));
                 assert_eq!((tree.nearest(&[-1, -1], 1)?[0].id, tree.len()), (0, rows as usize));
+                assert_eq!((live.rows(1)?, live.changes()?.len(), live.windows()?.len()), (vec![7], 1, 1));
+                assert_eq!(live.rows_tree().join(&tree)?.len(), 3 + shift as usize);
             }
             assert_eq!(Tree::<2>::from_dump(&tree.dump()?)?.len(), rows as usize);
             Ok(())
@@ -414,13 +566,13 @@ fn results() -> Result<(), Error> {
     let tree = line(10_000)?;
     assert!(finds(&tree, 6000)?);
     for rows in [0, 1, 20, 65, 1044, 6000] {
-        let before = COUNTS.get();
+        let before = counts();
         assert!(finds(&tree, rows)?);
-        assert_eq!(COUNTS.get().allocations - before.allocations, usize::from(rows > 0));
+        assert_eq!(counts().allocations - before.allocations, usize::from(rows > 0));
         let found = tree.search_rows(&cube(0, rows - 1))?;
         assert!(found.len() == rows as usize && found.iter().all(|row| row.rect == cube(row.id as i32, row.id as i32)));
         drop(found);
-        assert_eq!(COUNTS.get().held, before.held);
+        assert_eq!(counts().held, before.held);
     }
     Ok(())
 }
@@ -459,12 +611,12 @@ fn output() -> Result<(), Error> {
 fn many() -> Result<(), Error> {
     let tree = line(1 << 20)?;
     assert_eq!((tree.len(), tree.count(&cube(7, 1006))?), (1 << 20, 1000));
-    let before = COUNTS.get().held;
-    COUNTS.set(Counts { most_held: before, ..COUNTS.get() });
+    let before = counts().held;
+    set_counts(Counts { most_held: before, ..counts() });
     for rows in [131_072, 1 << 20] {
         assert_eq!(tree.search(&cube(0, rows - 1))?.len(), rows as usize);
     }
-    assert!(COUNTS.get().most_held - before <= 9 << 20 && COUNTS.get().held - before <= 1 << 20);
+    assert!(counts().most_held - before <= 9 << 20 && counts().held - before <= 1 << 20);
     Ok(())
 }
 

@@ -2,7 +2,6 @@
 
 use std::fmt;
 use std::mem::MaybeUninit;
-use std::ptr;
 
 use crate::calls::{self, Handle};
 use crate::found::{room_for, Found};
@@ -589,8 +588,9 @@ impl<'a, const D: usize> IntoIterator for &'a Tree<D> {
 }
 
 /// The numbers of a box: each minimum, and then each maximum.
-fn numbers<const D: usize>(rect: &Rect<D>) -> *const i32 {
-    ptr::from_ref(rect).cast()
+pub(crate) fn numbers<const D: usize>(rect: &Rect<D>) -> *const i32 {
+    let first: *const Rect<D> = rect;
+    first.cast()
 }
 
 /// The box that a call writes, or none if it answers that error.

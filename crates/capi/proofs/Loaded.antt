@@ -13,8 +13,8 @@ use Rattle.rt_tree_pack.specs.Packing.{IsFirstRepeated}
 use Rattle.rt_tree_restore.specs.declared.fault.RestoreFault.{RestoreFault}
 use Rattle.rt_tree_restore.specs.declared.fault.RestoreFault.TheVariants.{NoBox, TooMany, Repeated, Memory}
 use Rattle.rt_tree_walk.specs.declared.searching.Row.{Row}
-use Rattle.rt_tree.specs.Packing.{ids}
-use Rattle.rt_tree.specs.Restoring.{IsRestoredOf, HasRowWithoutBox, IsRestoreFaultOf}
+use Rattle.rt_map.specs.Packing.{ids}
+use Rattle.rt_map.specs.Restoring.{IsRestoredOf, HasRowWithoutBox, IsRestoreFaultOf}
 use Rattle.rt_tree.specs.Rows.{row_in, rows_of}
 use Rattle.rt_table_store.proofs.Soundness.{cell_passes}
 use Rattle.capi.specs.Loading.{code_of_fault, Loads}

@@ -3,7 +3,7 @@ use Rattle.std.specs.Prelude.{◌≡◌, ◌≢◌, ℕ, ◌*◌, ◌<◌, ◌�
 use Rattle.rt_box.specs.Capacity.{IsCapacity}
 use Rattle.rt_handle.specs.declared.object.HeldTree.{HeldTree}
 use Rattle.rt_handle.specs.declared.object.Object.{Object}
-use Rattle.rt_tree.specs.Packing.{IsPackedOf}
+use Rattle.rt_map.specs.Packing.{IsPackedOf}
 use Rattle.rt_tree_node.specs.Whole.{most_rows_of_a_tree}
 use Rattle.rt_tree_pack.specs.Packing.{IsFirstRepeated}
 use Rattle.rt_tree_walk.specs.declared.searching.Row.{Row}

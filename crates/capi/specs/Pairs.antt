@@ -1,6 +1,6 @@
 -- What a call tells of the pairs of rows whose boxes touch (own).
 use Rattle.std.specs.Prelude.{◌≡◌, ℕ, ℤ, List, length, map, Option, Some, None}
-use Rattle.rt_tree.specs.Join.{JoinsIn, JoinsItselfIn}
+use Rattle.rt_map.specs.Join.{JoinsIn, JoinsItselfIn}
 use Rattle.rt_tree.specs.Lists.{TreeLists}
 use Rattle.rt_tree_join.specs.declared.joining.Pair.{Pair}
 use Rattle.rt_handle.specs.declared.object.Object.{Object}

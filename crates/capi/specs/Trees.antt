@@ -15,8 +15,10 @@ use Rattle.rt_handle.specs.declared.object.Object.{Object}
 use Rattle.rt_handle.specs.declared.object.Object.TheVariants.{Line, Plane, Space}
 use Rattle.rt_tree.specs.Lists.{TreeLists, empty_lists}
 use Rattle.rt_tree.specs.Rows.{box_of, rows_of, GainsRow, LosesRow}
-use Rattle.rt_tree.specs.Changes.{IsInsertion, IsRemoval, IsReplacement}
-use Rattle.rt_tree.specs.Restoring.{IsRestoredOf}
+use Rattle.rt_tree.specs.Changes.{IsInsertion, IsRemoval}
+use Rattle.rt_tree.specs.Moving.{TakesRow, DropsRow}
+use Rattle.rt_tree.specs.Replacing.{IsReplacement}
+use Rattle.rt_map.specs.Restoring.{IsRestoredOf}
 use Rattle.rt_tree_node.specs.Whole.{most_rows_of_a_tree}
 use Rattle.rt_tree_node.specs.declared.arena.Work.{Work}
 use Rattle.rt_tree_nearest.specs.Nearest.{nearest_rows}
@@ -120,7 +122,8 @@ module _ {D : ℕ} where
   abbrev pub Inserts : ℤ → List ℤ → List ℤ → TreeLists D → TreeLists D → Code → Type 0
   Inserts id min max old new Done =
       (rect : List Interval) × (los rect ≡ min) × (his rect ≡ max) × (box_of old.lists id ≡ None) × GainsRow old.lists new.lists id rect ×
-      ((work : Work) × IsInsertion old.lists new.lists id rect work) × (new.lists.capacity ≡ old.lists.capacity)
+      ((work : Work) × IsInsertion old.lists new.lists id rect work × TakesRow old.lists new.lists id rect work) ×
+      (new.lists.capacity ≡ old.lists.capacity)
   Inserts id min max old new BadBox = (¬ AllZip ◌≤ℤ◌ min max) × (new ≡ old)
   Inserts id min max old new IdTaken = AllZip ◌≤ℤ◌ min max × IsSome (box_of old.lists id) × (new ≡ old)
   Inserts id min max old new TreeFull =
@@ -149,7 +152,7 @@ module _ {D : ℕ} where
   abbrev pub Removes : ℤ → TreeLists D → TreeLists D → Code → Type 0
   Removes id old new Done =
       (rect : List Interval) × LosesRow old.lists new.lists id rect × IsRemoval old.lists new.lists id rect ×
-      (new.lists.capacity ≡ old.lists.capacity)
+      DropsRow old.lists new.lists id rect × (new.lists.capacity ≡ old.lists.capacity)
   Removes id old new IdMissing = (box_of old.lists id ≡ None) × (new ≡ old)
   Removes id old new code = ⊥
 

@@ -13,7 +13,8 @@ use crate::handle::fill;
 use crate::keys::Keys;
 use rt_box::Capacity;
 use rt_handle::{Handle, HeldTree, Object, Pass, Words};
-use rt_tree::{BytesFault, Tree};
+use rt_map::{BytesFault, from_bytes, to_bytes};
+use rt_tree::Tree;
 use std::alloc::Global;
 use std::hash::RandomState;
 
@@ -29,7 +30,7 @@ fn write_bytes<const D: usize>(
 ) -> Code
     ensures { WritesBytes buffer.old buffer.new total.old total.new tree.now result }
 {
-    let Ok(bytes) = tree.to_bytes(alloc) else {
+    let Ok(bytes) = to_bytes(alloc, tree) else {
         return Code::OutOfMemory;
     };
     *total = bytes.len() as u64;
@@ -45,7 +46,7 @@ fn read_bytes<const D: usize>(alloc: Global, keys: &Keys, bytes: &[u8]) -> Resul
     let Ok(keys) = RandomState::new(keys) else {
         return Err(Code::OutOfMemory);
     };
-    let tree = match Tree::from_bytes(alloc, keys, bytes) {
+    let tree = match from_bytes(alloc, keys, bytes) {
         Ok(tree) => tree,
         Err(BytesFault::Bad) => return Err(Code::BadBytes),
         Err(BytesFault::TooMany) => return Err(Code::TreeFull),

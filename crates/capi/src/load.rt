@@ -11,7 +11,8 @@ use rt_check::{Shadow, check};
 use rt_check_dump::laws::dumps_are_read;
 use rt_check_dump::{AnyShadow, DumpFault, read_dump};
 use rt_handle::{HeldTree, Object};
-use rt_tree::{RestoreFault, Tree};
+use rt_map::{RestoreFault, from_shadow};
+use rt_tree::Tree;
 use std::alloc::{AllocError, Global};
 use std::hash::RandomState;
 
@@ -56,7 +57,7 @@ fn load_sound<const D: usize>(
     requires sound { IsSound shadow.now }
     ensures { Loads shadow.now result }
 {
-    match Tree::from_shadow(alloc, keys, shadow) {
+    match from_shadow(alloc, keys, shadow) {
         Ok(tree) => Ok(HeldTree {
             tree,
             keys,

@@ -13,6 +13,7 @@ use crate::numbers::{are_matched, ends};
 use crate::query::give_rows;
 use rt_box::Rect;
 use rt_handle::{Object, Pass, Words};
+use rt_map::{nearest_to, within};
 use rt_tree::Tree;
 use std::alloc::Global;
 
@@ -34,7 +35,7 @@ fn within_point<const D: usize>(
         tree.now result }
     ensures kept { result ≢ Done → (ids.new ≡ ids.old) × (boxes.new ≡ boxes.old) × (total.new ≡ total.old) }
 {
-    match tree.within(alloc, point, distance, ids.len()) {
+    match within(alloc, tree, point, distance, ids.len()) {
         Ok(rows) => give_rows(&rows, ids, boxes, total),
         Err(_) => Code::OutOfMemory,
     }
@@ -86,7 +87,7 @@ fn nearest_to_box<const D: usize>(
     let Some(rect) = Rect::new(*min, *max) else {
         return Code::BadBox;
     };
-    match tree.nearest_to(alloc, &rect, ids.len()) {
+    match nearest_to(alloc, tree, &rect, ids.len()) {
         Ok(rows) => give_rows(&rows, ids, boxes, total),
         Err(_) => Code::OutOfMemory,
     }

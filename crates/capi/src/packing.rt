@@ -13,7 +13,8 @@ use crate::keys::Keys;
 use crate::numbers::{are_matched, first_bad, rows_from};
 use rt_box::Capacity;
 use rt_handle::{Handle, HeldTree, Object};
-use rt_tree::{MOST_ROWS_OF_A_TREE, PackFault, Tree};
+use rt_map::{PackFault, from_rows};
+use rt_tree::{MOST_ROWS_OF_A_TREE, Tree};
 use std::alloc::Global;
 use std::hash::RandomState;
 
@@ -41,7 +42,7 @@ fn pack_ordered<const D: usize>(
     let Ok(rows) = rows_from(alloc, ids, boxes) else {
         return Err(Code::OutOfMemory);
     };
-    match Tree::from_rows(alloc, keys, capacity, &rows) {
+    match from_rows(alloc, keys, capacity, &rows) {
         Ok(tree) => Ok(HeldTree {
             tree,
             keys,

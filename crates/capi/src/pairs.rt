@@ -11,7 +11,8 @@ ghost use Rattle.capi.specs.declared.code.Code.TheVariants.{Done, BufferTooSmall
 use crate::answer::{Answer, PairAnswer, hand_back, hand_back_both};
 use crate::code::Code;
 use rt_handle::{Object, Pass, Words};
-use rt_tree::{Pair, Tree};
+use rt_map::{Pair, join, join_self};
+use rt_tree::Tree;
 use std::alloc::Global;
 
 /// Writes the ids of the pairs to the start of two buffers.
@@ -58,7 +59,7 @@ fn join<const D: usize>(
     if right.len() != left.len() {
         return Code::BadLength;
     }
-    match one.join(alloc, other) {
+    match join(alloc, one, other) {
         Ok(pairs) => give_pairs(&pairs, left, right, total),
         Err(_) => Code::OutOfMemory,
     }
@@ -79,7 +80,7 @@ fn join_self<const D: usize>(
     if right.len() != left.len() {
         return Code::BadLength;
     }
-    match tree.join_self(alloc) {
+    match join_self(alloc, tree) {
         Ok(pairs) => give_pairs(&pairs, left, right, total),
         Err(_) => Code::OutOfMemory,
     }

@@ -10,6 +10,7 @@ use crate::code::Code;
 use crate::numbers::{are_matched, ends, write_box, write_boxes, write_ids};
 use crate::relation::Relation;
 use crate::window::related_window;
+use rt_map::nearest;
 use rt_tree::{Found, Row, Tree};
 use std::alloc::{AllocError, Global};
 
@@ -260,7 +261,7 @@ fn nearest_to<const D: usize>(
     ensures found { FindsNearest point.now ids.old ids.new boxes.old boxes.new total.old total.new tree.now result }
     ensures kept { result ≢ Done → (ids.new ≡ ids.old) × (boxes.new ≡ boxes.old) × (total.new ≡ total.old) }
 {
-    match tree.nearest(alloc, point, ids.len()) {
+    match nearest(alloc, tree, point, ids.len()) {
         Ok(rows) => give_rows(&rows, ids, boxes, total),
         Err(_) => Code::OutOfMemory,
     }

@@ -7,7 +7,8 @@ ghost use Rattle.std.specs.Prelude.{◌≡◌, ◌≤◌, ℤ, None};
 ghost use Rattle.rt_tree.specs.Rows.{box_of};
 
 use rt_box::{Capacity, Operator, Rect, Window};
-use rt_tree::{MOST_ROWS_OF_A_TREE, Row, Tree};
+use rt_map::nearest;
+use rt_tree::{MOST_ROWS_OF_A_TREE, Reached, Row, Tree};
 use rt_tree_node::Node;
 use std::alloc::{AllocError, Global};
 use std::hash::RandomState;
@@ -251,6 +252,7 @@ fn answer<const D: usize>(
     row: u64,
     grow: i64,
     rows: &mut Vec<Row<D>>,
+    reached: &mut Vec<Reached>,
 ) -> Result<usize, AllocError>
     requires some { 1 ≤ D }
     requires few { D ≤ 3 }
@@ -258,12 +260,12 @@ fn answer<const D: usize>(
     match question {
         Question::Rows => {
             rows.clear();
-            tree.search_into(alloc, &window_of(shape, row, grow), rows)?;
+            tree.search_into(&window_of(shape, row, grow), rows, reached)?;
             Ok(rows.len())
         }
         Question::Count => tree.count(alloc, &window_of(shape, row, grow)),
         Question::NearestTen => match rect_of(shape, row, grow) {
-            Some(rect) => Ok(tree.nearest(alloc, &rect.lo(), 10)?.len()),
+            Some(rect) => Ok(nearest(alloc, tree, &rect.lo(), 10)?.len()),
             None => Ok(0),
         },
     }
@@ -284,6 +286,7 @@ fn time_answers<R: Clock, const D: usize>(
 {
     let grow = reach(D, load.shape, load.rows, target);
     let mut rows = Vec::new(alloc);
+    let mut reached = Vec::new(alloc);
     let mut found = 0u64;
     let start = Instant::now(rt)?;
     for round in 0..windows {
@@ -291,7 +294,16 @@ fn time_answers<R: Clock, const D: usize>(
             .checked_rem(load.rows)
             .unwrap_or(0)
             .wrapping_add(1);
-        let more = answer(alloc, tree, question, load.shape, row, grow, &mut rows)?;
+        let more = answer(
+            alloc,
+            tree,
+            question,
+            load.shape,
+            row,
+            grow,
+            &mut rows,
+            &mut reached,
+        )?;
         found = found.wrapping_add(more as u64);
     }
     Ok((share(rt, &start, windows)?, found))

@@ -1,27 +1,16 @@
 -- What is said of a dump (own).
 use Rattle.std.specs.Prelude.{◌≡◌, ◌↔◌, ℕ, List, [], ◌∷◌, ◌++◌, codes, decimal, Result, Ok, Err}
-use Rattle.std.specs.Fmt.{signed_decimal}
-use Rattle.std.specs.List.{flat_map}
 use Rattle.rt_check.specs.declared.problem.Problem.{Problem}
 use Rattle.rt_check_dump.specs.declared.dump.AnyShadow.{AnyShadow}
 use Rattle.rt_check_dump.specs.declared.dump.AnyShadow.TheVariants.{One, Two, Three}
 use Rattle.rt_check_dump.specs.declared.fault.LineFault.{LineFault}
-use Rattle.rt_check.specs.Conditions.{code_of as condition_code, problems_of, IsSound}
+use Rattle.rt_check.specs.Conditions.{problems_of, IsSound}
 use Rattle.rt_check_dump.specs.Codes.{code_of, fault_text}
 use Rattle.rt_check_dump.specs.Faults.{IsTextOf}
 use Rattle.rt_check_dump.specs.Reading.{read_text}
+use Rattle.rt_check_report.specs.Verdict.{verdict_lines}
 use Rattle.rt_bytes.specs.declared.outcome.Status.{Status}
 use Rattle.rt_bytes.specs.declared.outcome.Status.TheVariants.{Clean, Refused}
-
--- as `C6 node 1 at 2`
-abbrev pub problem_line : Problem → List ℕ
-problem_line p =
-    flat_map (λ word. word) (codes "C" ∷ decimal (condition_code p.condition) ∷ codes " node " ∷ signed_decimal p.node ∷ codes " at " ∷ decimal p.position ∷ codes "\n" ∷ [])
-
--- a line for each problem, or `ok`
-abbrev pub verdict_lines : List Problem → List ℕ
-verdict_lines [] = codes "ok\n"
-verdict_lines (p ∷ ps) = flat_map problem_line (p ∷ ps)
 
 -- the first fault of a dump: the line's number, the fault's number and its words
 abbrev pub fault_line : ℕ → LineFault → List ℕ

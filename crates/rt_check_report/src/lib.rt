@@ -4,8 +4,8 @@
 //! first fault of the text. Its contract names that report, and `laws` says what it means to be
 //! clean. `write_verdict` writes the verdict alone, of problems that were found elsewhere.
 //!
-//! Stands on `rt_check_dump`, `rt_check` and `rt_bytes`. Definitions: `specs/Report.antt` (what is said of a dump),
-//! `CheckRun.antt` (what a run does to its reader and its writer).
+//! Stands on `rt_check_dump`, `rt_check` and `rt_bytes`. Definitions: `specs/Verdict.antt` (what is said of problems),
+//! `Report.antt` (what is said of a dump), `CheckRun.antt` (what a run does to its reader and its writer).
 #![tactic(auto)]
 
 mod checking;

@@ -1,10 +1,11 @@
 //! What is printed of a dump: a verdict, or the first fault in it. Printing takes no memory.
 //!
-//! The contract of each call names the bytes of its lines, by `specs/Report.antt`.
+//! The contract of each call names the bytes of its lines, by `specs/Verdict.antt` and `specs/Report.antt`.
 
 ghost use Rattle.std.specs.List.{flat_map};
 ghost use Rattle.rt_bytes.specs.Devices.{WritesTo};
-ghost use Rattle.rt_check_report.specs.Report.{problem_line, verdict_lines, fault_line};
+ghost use Rattle.rt_check_report.specs.Report.{fault_line};
+ghost use Rattle.rt_check_report.specs.Verdict.{problem_line, verdict_lines};
 
 use itoa::Buffer;
 use rt_bytes::{ByteWriter, WriteFault, write_parts, write_whole};

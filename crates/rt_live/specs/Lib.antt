@@ -5,3 +5,4 @@ pub mod LiveInside
 pub mod Following
 pub mod Finding
 pub mod Faults
+pub mod Room

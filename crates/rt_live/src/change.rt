@@ -1,6 +1,6 @@
 //! Changes: what a window is told of a row.
 
-ghost use Rattle.std.specs.Prelude.{◌≡◌, ◌++◌, OnOk};
+ghost use Rattle.std.specs.Prelude.{◌≡◌, ◌≤◌, ◌++◌, length, vec_capacity, OnOk, OnErr};
 ghost use Rattle.rt_live.specs.Changes.{told_of_row, told_of_window, listed};
 
 use std::alloc::AllocError;
@@ -57,7 +57,9 @@ pub(crate) fn push_told(
     id: i64,
     told: Option<Kind>,
 ) -> Result<(), AllocError>
-    ensures { OnOk result (changes.new.items ≡ changes.old.items ++ listed window id told) }
+    ensures told { OnOk result (changes.new.items ≡ changes.old.items ++ listed window id told) }
+    ensures full { OnErr result (vec_capacity changes.old ≤ length changes.old.items) }
+    ensures capacity { vec_capacity changes.old ≤ vec_capacity changes.new }
 {
     let Some(kind) = told else {
         return Ok(());

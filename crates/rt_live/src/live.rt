@@ -3,11 +3,13 @@
 //! An edit first makes room, and finds what is to be told, in a list of its own. What it then commits takes no memory and
 //! can't fail. So an edit that is refused leaves all as it was.
 
-ghost use Rattle.std.specs.Prelude.{◌≡◌, ◌≤◌, ◌<◌, None, Some, Err, map, length, IsSome, IfOk, IfErr, OnOk, OnErr};
+ghost use Rattle.std.specs.Prelude.{◌≡◌, ◌≢◌, ◌≤◌, ◌<◌, None, Some, Err, map, length, IsSome, IsOk, IfOk, IfErr, OnOk, OnErr};
 ghost use Rattle.rt_tree_node.specs.Whole.{most_rows_of_a_tree};
 ghost use Rattle.rt_live.specs.Rows.{AreRising, rows_by_id, box_at};
 ghost use Rattle.rt_live.specs.Live.{empty, with_row, with_window, seen};
-ghost use Rattle.rt_live.specs.declared.fault.Fault.TheVariants.{Taken, Missing, WindowTaken, NoWindow};
+ghost use Rattle.rt_live.specs.LiveInside.{nodes_ahead};
+ghost use Rattle.rt_live.specs.Room.{around, KeepsRoom};
+ghost use Rattle.rt_live.specs.declared.fault.Fault.TheVariants.{Taken, Missing, WindowTaken, NoWindow, Memory};
 ghost use Rattle.rt_live.specs.Faults.{IsFaultOfInsertion, IsFaultOfEdit, IsFaultOfWatch, IsFaultOfWindow};
 
 use crate::change::Change;
@@ -65,8 +67,20 @@ impl<const D: usize> Model for Live<D> {
 fn empty_scratch<const D: usize>(alloc: Global) -> Scratch<D> {
     Scratch {
         found: Vec::new(alloc),
+        last: Vec::new(alloc),
         reached: Vec::new(alloc),
     }
+}
+
+/// The most nodes that the tree has while its rows fit into the room that there is.
+fn nodes_ahead<const D: usize>(tree: &Tree<D>) -> Result<usize, AllocError>
+    ensures { IfOk result (λ nodes. nodes ≡ nodes_ahead tree.now) }
+{
+    let capacity = tree.capacity();
+    capacity.facts();
+    let rows = tree.len().checked_add(tree.spare()).ok_or(AllocError)?;
+    let nodes = rows / (capacity.least() - 1);
+    nodes.checked_add(1).ok_or(AllocError)
 }
 
 /// The ids of rows.
@@ -150,13 +164,14 @@ impl<const D: usize> Live<D> {
             return Err(Fault::NoWindow);
         }
         let mut scratch = empty_scratch(self.alloc);
-        find_either(self.alloc, &self.rows, &rect, &None, &mut scratch)?;
+        find_either(&self.rows, &rect, &None, &mut scratch)?;
         let ids = ids_of(self.alloc, scratch.found.as_slice())?;
         Ok(ids)
     }
 
-    /// Makes room for so many more rows and windows, and for edits that find and tell no more than so many changes. Such an
-    /// edit then asks for no memory but the list of the nodes that its searches reach: 16 bytes a node.
+    /// Makes room for so many more rows and windows, and for edits that look at no more than so many windows, or rows: those
+    /// around the old box and the new one. While room lasts, such an edit can't fail for want of memory. An insertion or a new
+    /// box uses up the room of one row, a new window or another box of a window that of one window.
     ///
     /// # Errors
     ///
@@ -172,7 +187,9 @@ impl<const D: usize> Live<D> {
         self.planned.reserve(changes)?;
         self.changes.reserve(changes)?;
         self.scratch.found.reserve(changes)?;
-        self.scratch.reached.reserve(changes)?;
+        self.scratch.last.reserve(changes)?;
+        let nodes = nodes_ahead(&self.rows)?.max(nodes_ahead(&self.windows)?);
+        self.scratch.reached.reserve(nodes)?;
         Ok(())
     }
 
@@ -187,6 +204,10 @@ impl<const D: usize> Live<D> {
         requires few { was.now ≡ None → length self.old.lists.rows < most_rows_of_a_tree }
         ensures ok { OnOk result (self.new.lists ≡ with_row self.old.lists id.now is.now) }
         ensures err { OnErr result (self.new.lists ≡ self.old.lists) }
+        ensures succeeds { (IsSome is.now → 1 ≤ self.old.row_room) →
+            around was.now is.now self.old.lists.windows ≤ self.old.change_room → IsOk result }
+        ensures room { (IsSome is.now → 1 ≤ self.old.row_room) → KeepsRoom self.old self.new 1 0 }
+        ensures less_room { is.now ≡ None → KeepsRoom self.old self.new 0 0 }
     {
         if does_stay(was, is) {
             self.changes.clear();
@@ -196,7 +217,6 @@ impl<const D: usize> Live<D> {
         self.rows.is_in_shape();
         make_room(&mut self.rows, is)?;
         plan_row(
-            self.alloc,
             &self.windows,
             id,
             was,
@@ -220,6 +240,10 @@ impl<const D: usize> Live<D> {
         requires few { was.now ≡ None → length self.old.lists.windows < most_rows_of_a_tree }
         ensures ok { OnOk result (self.new.lists ≡ with_window self.old.lists window.now is.now) }
         ensures err { OnErr result (self.new.lists ≡ self.old.lists) }
+        ensures succeeds { (IsSome is.now → 1 ≤ self.old.window_room) →
+            around was.now is.now self.old.lists.rows ≤ self.old.change_room → IsOk result }
+        ensures room { (IsSome is.now → 1 ≤ self.old.window_room) → KeepsRoom self.old self.new 0 1 }
+        ensures less_room { is.now ≡ None → KeepsRoom self.old self.new 0 0 }
     {
         if does_stay(was, is) {
             self.changes.clear();
@@ -229,7 +253,6 @@ impl<const D: usize> Live<D> {
         self.windows.is_in_shape();
         make_room(&mut self.windows, is)?;
         plan_window(
-            self.alloc,
             &self.rows,
             window,
             was,
@@ -253,6 +276,9 @@ impl<const D: usize> Live<D> {
         ensures err { OnErr result (self.new.lists ≡ self.old.lists) }
         ensures taken { IsSome (box_at self.old.lists.rows id.now) → result ≡ Err Taken }
         ensures fault { IfErr result (IsFaultOfInsertion self.old.lists.rows id.now) }
+        ensures fits { 1 ≤ self.old.row_room →
+            around None (Some rect.now) self.old.lists.windows ≤ self.old.change_room → result ≢ Err Memory }
+        ensures room { 1 ≤ self.old.row_room → KeepsRoom self.old self.new 1 0 }
     {
         self.rows.is_in_shape();
         if self.rows.contains(id) {
@@ -275,6 +301,9 @@ impl<const D: usize> Live<D> {
         ensures err { OnErr result (self.new.lists ≡ self.old.lists) }
         ensures missing { box_at self.old.lists.rows id.now ≡ None → result ≡ Err Missing }
         ensures fault { IfErr result (IsFaultOfEdit self.old.lists.rows id.now) }
+        ensures fits { around (box_at self.old.lists.rows id.now) None self.old.lists.windows ≤ self.old.change_room →
+            result ≢ Err Memory }
+        ensures room { KeepsRoom self.old self.new 0 0 }
     {
         let was = self.rows.get(id);
         if was.is_none() {
@@ -295,6 +324,9 @@ impl<const D: usize> Live<D> {
         ensures err { OnErr result (self.new.lists ≡ self.old.lists) }
         ensures missing { box_at self.old.lists.rows id.now ≡ None → result ≡ Err Missing }
         ensures fault { IfErr result (IsFaultOfEdit self.old.lists.rows id.now) }
+        ensures fits { 1 ≤ self.old.row_room →
+            around (box_at self.old.lists.rows id.now) (Some rect.now) self.old.lists.windows ≤ self.old.change_room → result ≢ Err Memory }
+        ensures room { 1 ≤ self.old.row_room → KeepsRoom self.old self.new 1 0 }
     {
         let was = self.rows.get(id);
         if was.is_none() {
@@ -315,6 +347,9 @@ impl<const D: usize> Live<D> {
         ensures err { OnErr result (self.new.lists ≡ self.old.lists) }
         ensures taken { IsSome (box_at self.old.lists.windows window.now) → result ≡ Err WindowTaken }
         ensures fault { IfErr result (IsFaultOfWatch self.old.lists.windows window.now) }
+        ensures fits { 1 ≤ self.old.window_room →
+            around None (Some rect.now) self.old.lists.rows ≤ self.old.change_room → result ≢ Err Memory }
+        ensures room { 1 ≤ self.old.window_room → KeepsRoom self.old self.new 0 1 }
     {
         self.windows.is_in_shape();
         if self.windows.contains(window) {
@@ -337,6 +372,9 @@ impl<const D: usize> Live<D> {
         ensures err { OnErr result (self.new.lists ≡ self.old.lists) }
         ensures no_window { box_at self.old.lists.windows window.now ≡ None → result ≡ Err NoWindow }
         ensures fault { IfErr result (IsFaultOfWindow self.old.lists.windows window.now) }
+        ensures fits { around (box_at self.old.lists.windows window.now) None self.old.lists.rows ≤ self.old.change_room →
+            result ≢ Err Memory }
+        ensures room { KeepsRoom self.old self.new 0 0 }
     {
         let was = self.windows.get(window);
         if was.is_none() {
@@ -356,6 +394,9 @@ impl<const D: usize> Live<D> {
         ensures err { OnErr result (self.new.lists ≡ self.old.lists) }
         ensures no_window { box_at self.old.lists.windows window.now ≡ None → result ≡ Err NoWindow }
         ensures fault { IfErr result (IsFaultOfWindow self.old.lists.windows window.now) }
+        ensures fits { 1 ≤ self.old.window_room →
+            around (box_at self.old.lists.windows window.now) (Some rect.now) self.old.lists.rows ≤ self.old.change_room → result ≢ Err Memory }
+        ensures room { 1 ≤ self.old.window_room → KeepsRoom self.old self.new 0 1 }
     {
         let was = self.windows.get(window);
         if was.is_none() {

@@ -1,15 +1,17 @@
 //! What an edit tells, listed before anything changes.
 
-ghost use Rattle.std.specs.Prelude.{◌≡◌, ◌≤◌, ◌++◌, false, OnOk};
+ghost use Rattle.std.specs.Prelude.{◌≡◌, ◌+◌, ◌<◌, ◌≤◌, ◌++◌, false, length, vec_capacity, IsOk, OnOk, OnErr};
+ghost use Rattle.rt_tree.specs.Rows.{rows_of};
 ghost use Rattle.rt_live.specs.Rows.{rows_by_id};
 ghost use Rattle.rt_live.specs.Changes.{stays, told_each, row_changes, window_changes};
+ghost use Rattle.rt_live.specs.Room.{around, HasRoomAround, Grows};
 
 use crate::change::{Change, push_told, told_of_row, told_of_window};
 use crate::finding::{Scratch, find_either};
 use crate::touching::is_touched;
 use rt_box::Rect;
 use rt_tree::{Row, Tree};
-use std::alloc::{AllocError, Global};
+use std::alloc::AllocError;
 
 /// Lists what these windows are told of a row that had the one box and has the other.
 fn list_row<const D: usize>(
@@ -19,7 +21,9 @@ fn list_row<const D: usize>(
     was: &Option<Rect<D>>,
     is: &Option<Rect<D>>,
 ) -> Result<(), AllocError>
-    ensures { OnOk result (changes.new.items ≡ changes.old.items ++ told_each windows.now id.now was.now is.now) }
+    ensures told { OnOk result (changes.new.items ≡ changes.old.items ++ told_each windows.now id.now was.now is.now) }
+    ensures full { OnErr result (vec_capacity changes.old < length changes.old.items + length windows.now) }
+    ensures capacity { vec_capacity changes.old ≤ vec_capacity changes.new }
 {
     for window in windows {
         let was_in = is_touched(was, &window.rect);
@@ -37,7 +41,9 @@ fn list_window<const D: usize>(
     was: &Option<Rect<D>>,
     is: &Option<Rect<D>>,
 ) -> Result<(), AllocError>
-    ensures { OnOk result (changes.new.items ≡ changes.old.items ++ window_changes rows.now window.now was.now is.now) }
+    ensures told { OnOk result (changes.new.items ≡ changes.old.items ++ window_changes rows.now window.now was.now is.now) }
+    ensures full { OnErr result (vec_capacity changes.old < length changes.old.items + length rows.now) }
+    ensures capacity { vec_capacity changes.old ≤ vec_capacity changes.new }
 {
     for row in rows {
         let was_in = is_touched(was, &row.rect);
@@ -50,7 +56,6 @@ fn list_window<const D: usize>(
 /// Plans what the windows are told of a row that gets another box. Of the windows, those are looked at that touch one of
 /// the boxes.
 pub(crate) fn plan_row<const D: usize>(
-    alloc: Global,
     windows: &Tree<D>,
     id: &i64,
     was: &Option<Rect<D>>,
@@ -60,16 +65,19 @@ pub(crate) fn plan_row<const D: usize>(
 ) -> Result<(), AllocError>
     requires few { D ≤ 3 }
     requires moves { stays was.now is.now ≡ false }
-    ensures { OnOk result (changes.new.items ≡ row_changes (rows_by_id windows.now.lists) id.now was.now is.now) }
+    ensures told { OnOk result (changes.new.items ≡ row_changes (rows_by_id windows.now.lists) id.now was.now is.now) }
+    ensures succeeds { HasRoomAround windows.now.lists was.now is.now scratch.old →
+        around was.now is.now (rows_of windows.now.lists) ≤ vec_capacity changes.old → IsOk result }
+    ensures grows { Grows scratch.old scratch.new }
+    ensures capacity { vec_capacity changes.old ≤ vec_capacity changes.new }
 {
-    find_either(alloc, windows, was, is, scratch)?;
+    find_either(windows, was, is, scratch)?;
     changes.clear();
     list_row(changes, scratch.found.as_slice(), id, was, is)
 }
 
 /// Plans what a window is told that gets another box. Of the rows, those are looked at that touch one of the boxes.
 pub(crate) fn plan_window<const D: usize>(
-    alloc: Global,
     rows: &Tree<D>,
     window: &i64,
     was: &Option<Rect<D>>,
@@ -78,9 +86,13 @@ pub(crate) fn plan_window<const D: usize>(
     changes: &mut Vec<Change>,
 ) -> Result<(), AllocError>
     requires { D ≤ 3 }
-    ensures { OnOk result (changes.new.items ≡ window_changes (rows_by_id rows.now.lists) window.now was.now is.now) }
+    ensures told { OnOk result (changes.new.items ≡ window_changes (rows_by_id rows.now.lists) window.now was.now is.now) }
+    ensures succeeds { HasRoomAround rows.now.lists was.now is.now scratch.old →
+        around was.now is.now (rows_of rows.now.lists) ≤ vec_capacity changes.old → IsOk result }
+    ensures grows { Grows scratch.old scratch.new }
+    ensures capacity { vec_capacity changes.old ≤ vec_capacity changes.new }
 {
-    find_either(alloc, rows, was, is, scratch)?;
+    find_either(rows, was, is, scratch)?;
     changes.clear();
     list_window(changes, scratch.found.as_slice(), window, was, is)
 }

@@ -12,7 +12,7 @@ use Rattle.rt_sql_statement.specs.declared.refusal.Refusal.{Refusal}
 use Rattle.rt_sql_statement.specs.declared.value.Value.{Value}
 use Rattle.rt_sql_statement.specs.declared.value.Value.TheVariants.{Null, Int, Text, Blob}
 use Rattle.rt_check_dump.specs.Dump.{any_text}
-use Rattle.rt_check_report.specs.Report.{verdict_lines}
+use Rattle.rt_check_report.specs.Verdict.{verdict_lines}
 use Rattle.rt_table_row.specs.Views.{ViewChange}
 use Rattle.rt_table_row.specs.RowLists.{Lists}
 use Rattle.rt_reply.specs.declared.rows.Rows.{Rows}

@@ -6,8 +6,7 @@ use Rattle.rt_tree.specs.Lists.{empty_lists}
 use Rattle.rt_table_row.specs.Columns.{Columns}
 use Rattle.rt_table_row.specs.Rows.{TableRow}
 use Rattle.rt_table_row.specs.Edits.{Step, Steps}
-use Rattle.rt_box.specs.declared.interval.Interval.{Interval}
-use Rattle.rt_table_store.specs.Trees.{IsTreeOf, Visits}
+use Rattle.rt_table_store.specs.Trees.{IsTreeOf}
 use Rattle.rt_table_store.specs.Moves.{FollowsSteps}
 
 -- the tree of no rows
@@ -32,9 +31,3 @@ Follows rows steps old new = ⊥
 -- if the steps are taken, a tree follows them
 abbrev pub FollowsIfTaken : List TableRow → Steps → AnyShadow → AnyShadow → Type 0
 FollowsIfTaken rows taken old new = IfOk taken (λ steps. Follows rows steps old new)
-
--- `visited` nodes of the tree are reached by the window
-abbrev pub VisitsAny : AnyShadow → List Interval → ℕ → Type 0
-VisitsAny (One tree) window visited = Visits tree window visited
-VisitsAny (Two tree) window visited = Visits tree window visited
-VisitsAny (Three tree) window visited = Visits tree window visited

@@ -27,7 +27,7 @@ use Rattle.rt_tree.specs.Rows.{box_in}
 use Rattle.rt_tree.specs.Boxes.{HasBoxes}
 use Rattle.rt_tree.specs.Search.{IsReachedIn}
 use Rattle.rt_tree.proofs.Members.{find-one, contains-none, contains-cases}
-use Rattle.rt_table_store.specs.Trees.{Visits}
+use Rattle.rt_table_store.specs.Visiting.{Visits}
 use Rattle.rt_table_store.proofs.Order.{eq_same, eq_from}
 use Rattle.rt_table_store.proofs.Soundness.{append_first, append_rest, none_fails, flat_from, found_in, cell_passes}
 

@@ -12,7 +12,7 @@ use Rattle.rt_check.specs.Shadow.{ShadowLists}
 use Rattle.rt_sql_statement.specs.declared.value.Value.{Value}
 use Rattle.rt_tree.specs.Lists.{IsInShape}
 use Rattle.rt_tree.specs.Rows.{box_of}
-use Rattle.rt_tree.specs.Changes.{IsReplacement}
+use Rattle.rt_tree.specs.Replacing.{IsReplacement}
 use Rattle.rt_table_row.specs.Rows.{TableRow, without_id}
 use Rattle.rt_table_row.specs.Edits.{Becomes}
 use Rattle.rt_table_store.specs.StoreInside.{rows_in}

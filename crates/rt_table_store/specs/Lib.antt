@@ -1,5 +1,6 @@
 pub mod StoreLists
 pub mod Trees
+pub mod Visiting
 pub mod Picking
 pub mod Moves
 pub mod GreatestIds

@@ -8,7 +8,8 @@ use Rattle.rt_tree_walk.specs.declared.searching.Row.{Row}
 use Rattle.rt_table_row.specs.Rows.{TableRow, row_at}
 use Rattle.rt_table_row.specs.Filters.{Placed, admits}
 use Rattle.rt_table_row.specs.Windows.{IsWindowAt}
-use Rattle.rt_table_store.specs.Trees.{leaf_row, Visits}
+use Rattle.rt_table_store.specs.Trees.{leaf_row}
+use Rattle.rt_table_store.specs.Visiting.{Visits}
 
 module _ {D : ℕ} where
   -- the table's row of that id has that box

@@ -1,13 +1,10 @@
 -- The tree that stands for the rows of a table. Source: SQLite's documentation (The SQLite R*Tree Module, section 3.4: the
 -- shadow tables); own.
-use Rattle.std.specs.Prelude.{◌≡◌, ℕ, ◌<◌, Bool, ℤ, List, length, map, count_by}
-use Rattle.std.specs.Ordering.{int_eq}
-use Rattle.rt_box.specs.declared.interval.Interval.{Interval}
+use Rattle.std.specs.Prelude.{◌≡◌, ℕ, Bool, List, map, count_by}
 use Rattle.rt_check.specs.Shadow.{ShadowLists}
 use Rattle.rt_tree_walk.specs.declared.searching.Row.{Row}
 use Rattle.rt_tree.specs.Lists.{IsInShape}
 use Rattle.rt_tree.specs.Rows.{rows_of}
-use Rattle.rt_tree.specs.Search.{IsReachedIn}
 use Rattle.rt_table_row.specs.Rows.{TableRow}
 
 module _ {D : ℕ} where
@@ -20,10 +17,3 @@ module _ {D : ℕ} where
   pub record IsTreeOf (rows : List TableRow) (tree : ShadowLists D) : Type 0 where
     pub shape : IsInShape tree
     pub each : (test : Row D → Bool) → count_by test (rows_of tree) ≡ count_by test (map leaf_row rows)
-
-  -- the window reaches `visited` nodes: each of them is counted once, and no other
-  pub record Visits (tree : ShadowLists D) (window : List Interval) (visited : ℕ) : Type 0 where
-    pub numbers : List ℤ
-    pub once : (number : ℤ) → IsReachedIn tree window number → count_by (int_eq number) numbers ≡ 1
-    pub only : (number : ℤ) → 0 < count_by (int_eq number) numbers → IsReachedIn tree window number
-    pub counted : visited ≡ length numbers

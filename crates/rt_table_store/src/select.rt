@@ -11,7 +11,7 @@ ghost use Rattle.rt_tree.specs.Search.{FindsIn};
 ghost use Rattle.rt_table_row.specs.Rows.{TableRow};
 ghost use Rattle.rt_table_row.specs.Filters.{admits};
 ghost use Rattle.rt_table_row.specs.Windows.{IsWindowAt};
-ghost use Rattle.rt_table_store.specs.Trees.{Visits};
+ghost use Rattle.rt_table_store.specs.Visiting.{Visits};
 ghost use Rattle.rt_table_store.specs.Picking.{Stands, ArePicked, passing_rows, picked_rows, picked_ids, HasFreeWindow, VisitsBy, VisitsFreely};
 ghost use Rattle.rt_table_store.specs.declared.select.Nodes.TheVariants.{Counted};
 
@@ -78,7 +78,8 @@ fn search<const D: usize>(
         LIKELY_ROWS
     };
     let mut rows = Vec::with_capacity(alloc, room)?;
-    let visited = tree.search_into(alloc, window, &mut rows)?;
+    let mut reached = Vec::new(alloc);
+    let visited = tree.search_into(window, &mut rows, &mut reached)?;
     Ok(Found { rows, visited })
 }
 

@@ -19,8 +19,7 @@ use Rattle.rt_tree_walk.specs.Search.{row_of}
 use Rattle.rt_tree_walk.proofs.Listed.{levels-below}
 use Rattle.rt_tree_walk.proofs.Progress.{IsSettled}
 use Rattle.rt_tree_walk.specs.Rows.{rows_in}
-use Rattle.rt_tree_walk.proofs.Below.{rows_under, rows-leaf, child-hull, held-below}
-use Rattle.rt_tree_join.proofs.Below.{rows-none, rows-inner}
+use Rattle.rt_tree_walk.proofs.Below.{rows_under, rows-leaf, rows-none, rows-inner, child-hull, held-below}
 use Rattle.rt_tree.specs.Bounds.{HoldsRows, IsLeastAround}
 use Rattle.rt_tree.specs.BoundsInside.{IsRootBox}
 
@@ -76,7 +75,7 @@ module _ {D : ℕ} (t : Arena D) (s : IsSettled t) where
   high : level_at t.nodes t.root ≡ Some t.level
   high = s.whole.linked.root_level
 
-  root-least : 1 ≤ length (cells_at t.nodes t.root) → IsLeastAround (rows_in t) (hull_at t.nodes t.root)
+  pub root-least : 1 ≤ length (cells_at t.nodes t.root) → IsLeastAround (rows_in t) (hull_at t.nodes t.root)
   root-least some = record {
     some = λ none.
         let nothing : HoldsRows [] (rows_in t) = subst (HoldsRows []) (sym none) (All-nil (λ (r : Row D). Holds [] r.rect)) in

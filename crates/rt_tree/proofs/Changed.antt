@@ -18,12 +18,14 @@ use Rattle.rt_tree_outside.specs.Outside.{outside}
 use Rattle.rt_tree_walk.proofs.Progress.{IsSettled}
 use Rattle.rt_tree.specs.Rows.{box_of, GainsRow, LosesRow}
 use Rattle.rt_tree.specs.Changes.{IsInsertion, IsRemoval}
+use Rattle.rt_tree.specs.Moving.{TakesRow, DropsRow}
 use Rattle.rt_tree.specs.TreeInside.{IsKept}
 use Rattle.rt_tree.specs.declared.tree.Tree.TheInside.{Inside}
 use Rattle.rt_tree.proofs.Kept.{settled}
 use Rattle.rt_tree.proofs.Shape.{entries-long}
 use Rattle.rt_tree.proofs.Rows.{rows-counted, few-have, box-none, box-some, leaf-is}
-use Rattle.rt_tree.proofs.Exact.{insertion, removal}
+use Rattle.rt_tree.proofs.Exact.{takes-row, drops-row}
+use Rattle.rt_tree.proofs.Ruled.{insertion, removal}
 use Rattle.rt_tree.proofs.Lookup.{gains, loses}
 
 module _ {D : ℕ} where
@@ -91,8 +93,11 @@ module _ {D : ℕ} where
           gains (outside t.arena) (outside u) (few-have t.arena s) (few-have u s1) id rect
           (λ (test : Row D → Bool). rows-counted u s1 test ∙ i.rows (λ c. test (row_of c)) ∙ ap (λ m. m + cond (test record { id = id; rect = rect }) 1 0) (sym (rows-counted t.arena s test)))
 
-      pub inserted-exact : IsInsertion (outside t.arena) (outside u) id rect work
-      inserted-exact = insertion t.arena u (settled t k) (record { whole = i.whole; none = i.none_waits }) id rect work i
+      pub inserted-ruled : IsInsertion (outside t.arena) (outside u) id rect work
+      inserted-ruled = insertion t.arena u (settled t k) (record { whole = i.whole; none = i.none_waits }) id rect work i
+
+      pub inserted-takes : TakesRow (outside t.arena) (outside u) id rect work
+      inserted-takes = takes-row t.arena u (settled t k) (record { whole = i.whole; none = i.none_waits }) id rect work i
 
     module _ (r : Removes t.arena u id rect) where
       pub fewer-rows : row_count u + 1 ≡ row_count t.arena
@@ -120,10 +125,13 @@ module _ {D : ℕ} where
           (λ (test : Row D → Bool).
           ap (λ m. m + cond (test record { id = id; rect = rect }) 1 0) (rows-counted u s1 test) ∙ r.rows (λ c. test (row_of c)) ∙ sym (rows-counted t.arena s test))
 
-      pub removed-exact : IsSome (leaf_of int_eq t.arena.leaves id) → IsRemoval (outside t.arena) (outside u) id rect
-      removed-exact known = by (leaf_of int_eq t.arena.leaves id) refl
+      pub removed-ruled : IsRemoval (outside t.arena) (outside u) id rect
+      removed-ruled = removal t.arena u (settled t k) (record { whole = r.whole; none = r.none_waits }) id rect r removed-rows.was
+
+      pub removed-drops : IsSome (leaf_of int_eq t.arena.leaves id) → DropsRow (outside t.arena) (outside u) id rect
+      removed-drops known = by (leaf_of int_eq t.arena.leaves id) refl
         where
-          by : (o : Option ℕ) → leaf_of int_eq t.arena.leaves id ≡ o → IsRemoval (outside t.arena) (outside u) id rect
+          by : (o : Option ℕ) → leaf_of int_eq t.arena.leaves id ≡ o → DropsRow (outside t.arena) (outside u) id rect
           by None e = absurd (true≢false (sym known ∙ ap is_some e))
           by (Some leaf) e =
-              removal t.arena u (settled t k) (record { whole = r.whole; none = r.none_waits }) id rect leaf e (leaf-is t.arena (settled t k) id leaf e) r
+              drops-row t.arena u (settled t k) (record { whole = r.whole; none = r.none_waits }) id rect leaf e (leaf-is t.arena (settled t k) id leaf e) r

@@ -1,4 +1,4 @@
--- An insertion and a removal, said of the tree from outside.
+-- Which rows an insertion and a removal move, said of the tree from outside.
 use Rattle.std.proofs.Common.{◌≡◌, ◌≢◌, ℕ, suc, ◌+◌, ℤ, pos, List, [], ◌∷◌, ◌++◌, length, map, get_or, take, drop, Some, None, slice_get, arith, refl, ap, sym, ◌∙◌, subst, inl, inr}
 use Rattle.std.proofs.Math.ListN.{get_or-map}
 use Rattle.std.specs.List.{All, flat_map, remove, drop-map, take-map}
@@ -32,8 +32,8 @@ use Rattle.rt_tree_outside.proofs.Judged.{row}
 use Rattle.rt_tree_outside.proofs.Flawless.{numbering}
 use Rattle.rt_tree.specs.Lists.{root_level}
 use Rattle.rt_tree.specs.Way.{boxes_in, cell_with, LeadsTo, JoinsLeaf, LeavesLeaf, ChangesLeaf, way_up}
-use Rattle.rt_tree.specs.Changes.{picked, overfull, HalvesRoot, TakesRow, IsInsertion, IsRemoval}
-use Rattle.rt_tree.proofs.Shape.{root-high, nodes-long}
+use Rattle.rt_tree.specs.Moving.{picked, overfull, HalvesRoot, TakesRow, DropsRow}
+use Rattle.rt_tree.proofs.Shape.{root-high}
 use Rattle.rt_tree.proofs.Reading.{number, cells-read}
 use Rattle.rt_tree.proofs.Along.{tree-same, changes-leaf}
 use Rattle.rt_tree.proofs.Entries.{entry-some, entry-none, entry-same}
@@ -174,8 +174,8 @@ module _ {D : ℕ} where
             (ap (λ bs. second_group bs h.parts.cut) all-boxes);
       }
 
-    pub insertion : (id : ℤ) (rect : List Interval) (work : Work) → Inserts t u id rect work → IsInsertion (outside t) (outside u) id rect work
-    insertion id rect work i =
+    pub takes-row : (id : ℤ) (rect : List Interval) (work : Work) → Inserts t u id rect work → TakesRow (outside t) (outside u) id rect work
+    takes-row id rect work i =
         let cell : Cell D = record { number = id; rect = rect } in
         let high : level_at t.nodes t.root ≡ Some t.level = s.whole.linked.root_level in
         let low = leads-low t s t.level t.root rect i.leaf i.path high i.leads in
@@ -183,47 +183,28 @@ module _ {D : ℕ} where
         let level1 = root-high u s1 in
         let long = leaf-long i.leaf low in
         let way = leads-read t s t.level t.root rect i.leaf i.path high i.leads in
-        let takes : TakesRow (outside t) (outside u) id rect = record {
+        record {
           leaf = number t i.leaf;
           path = map (number t) i.path;
           leads = subst (λ (z : ℤ). LeadsTo (outside t).nodes (root_level (outside t)) z rect (number t i.leaf) (map (number t) i.path)) root-one
               (subst (λ (l : ℕ). LeadsTo (outside t).nodes l (number t t.root) rect (number t i.leaf) (map (number t) i.path)) (sym level) way);
           joins = λ fits. joins-leaf i.leaf i.path cell low (i.joins (omega (arith, long, fits)));
           halves = λ flat full. let zero_level : t.level ≡ 0 = sym level ∙ flat in halves-root cell zero_level (i.halves zero_level (omega (arith, long, full)));
-        } in
-        record {
-          steps = record {
-            before = t;
-            shown_before = refl;
-            whole = s.whole;
-            idle = s.none;
-            awaiting = i.awaiting;
-            awaits = i.awaits;
-            after = u;
-            shown_after = refl;
-            none_waits = i.none_waits;
-            marks = i.marks;
-            turns = i.turns;
-          };
-          takes = takes;
-          takes_work = record {
-            placements = i.placements;
-            few = omega (arith, i.few, level1);
-            nodes = omega (arith, i.nodes, level, level1, nodes-long t s, nodes-long u s1);
-            none = (
-              λ e. elim (i.none.0 e) [ inl fits ↦ inl (omega (arith, long, fits)) | inr flat ↦ inr (level ∙ flat) ],
-              λ h. elim h [ inl fits ↦ i.none.1 (inl (omega (arith, long, fits))) | inr flat ↦ i.none.1 (inr (sym level ∙ flat)) ],
-            );
-            plain = λ e. omega (arith, i.plain e, level, level1);
-          };
+          placements = i.placements;
+          few = omega (arith, i.few, level1);
+          none = (
+            λ e. elim (i.none.0 e) [ inl fits ↦ inl (omega (arith, long, fits)) | inr flat ↦ inr (level ∙ flat) ],
+            λ h. elim h [ inl fits ↦ i.none.1 (inl (omega (arith, long, fits))) | inr flat ↦ i.none.1 (inr (sym level ∙ flat)) ],
+          );
+          plain = λ e. omega (arith, i.plain e, level, level1);
         }
 
-    pub removal : (id : ℤ) (rect : List Interval) (k : ℕ) → leaf_of int_eq t.leaves id ≡ Some k → level_at t.nodes k ≡ Some 0 → Removes t u id rect → IsRemoval (outside t) (outside u) id rect
-    removal id rect k e low r =
+    pub drops-row : (id : ℤ) (rect : List Interval) (k : ℕ) → leaf_of int_eq t.leaves id ≡ Some k → level_at t.nodes k ≡ Some 0 → Removes t u id rect →
+        DropsRow (outside t) (outside u) id rect
+    drops-row id rect k e low r =
         let cell : Cell D = record { number = id; rect = rect } in
         let is = numbering t s in
         record {
-          steps = record { before = t; shown_before = refl; whole = s.whole; idle = s.none; after = u; shown_after = refl; steps = r.steps };
           leaf = number t k;
           entry = entry-some t id k e;
           leaves = λ h.

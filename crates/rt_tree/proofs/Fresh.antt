@@ -18,7 +18,7 @@ use Rattle.rt_tree_node.specs.Places.{cells_of, leaf_cells_of, level_of, parent_
 use Rattle.rt_tree_node.specs.Sound.{IsLinked, IsFitted, HasHomes}
 use Rattle.rt_tree_node.specs.Whole.{row_count}
 use Rattle.rt_tree_node.proofs.Sums.{sum_over-updated}
-use Rattle.rt_tree.specs.TreeInside.{IsKept}
+use Rattle.rt_tree.specs.Kept.{IsKeptWith}
 
 pub within-itself : (xs : List ℤ) → AllZip ◌≤ℤ◌ xs xs
 within-itself [] = tt
@@ -98,7 +98,7 @@ module _ {D : ℕ} where
           omega (arith, step, start, here, none)
 
       pub fresh-kept : 1 ≤ D → D ≤ 3 → IsCapacity t.capacity → 33 ≤ t.nodes.capacity → t.nodes.capacity ≤ 2 ^ 62 → 1152 ≤ vec_capacity t.pending →
-          IsKept {D = D} record { arena = t; spare = 0 }
+          IsKeptWith t 0
       fresh-kept some few cap room keys pending_room = record {
         some = some;
         few = few;

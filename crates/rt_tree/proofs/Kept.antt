@@ -8,10 +8,15 @@ use Rattle.rt_tree_outside.proofs.Flawless.{outside-sound}
 use Rattle.rt_tree_outside.proofs.Subtrees.{outside-ordered}
 use Rattle.rt_tree_outside.proofs.Rows.{entries-rise}
 use Rattle.rt_tree.specs.Lists.{IsInShape}
+use Rattle.rt_tree_node.specs.declared.arena.Arena.{Arena}
+use Rattle.rt_tree.specs.Kept.{IsKeptWith}
 use Rattle.rt_tree.specs.TreeInside.{IsKept}
 use Rattle.rt_tree.specs.declared.tree.Tree.TheInside.{Inside}
 
 module _ {D : ℕ} where
+  pub kept-settled : (t : Arena D) (more : ℕ) → IsKeptWith t more → IsSettled t
+  kept-settled t more k = record { whole = k.whole; none = k.idle }
+
   pub settled : (t : Inside D) → IsKept t → IsSettled t.arena
   settled t k = record { whole = k.whole; none = k.idle }
 

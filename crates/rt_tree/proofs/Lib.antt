@@ -4,7 +4,7 @@ pub mod Kept
 pub mod Rows
 pub mod Reading
 pub mod Boxes
-pub mod Reached
+pub mod Finds
 pub mod Fresh
 pub mod Lookup
 pub mod Located
@@ -15,10 +15,11 @@ pub mod Along
 pub mod Entries
 pub mod Leads
 pub mod Exact
+pub mod Ruled
 pub mod Low
 pub mod Nearby
-pub mod FromRows
 pub mod Around
 pub mod Once
 pub mod Boxed
-pub mod FromShadow
+pub mod BareKept
+pub mod Everything

@@ -8,11 +8,11 @@ use Rattle.rt_tree_node.specs.declared.arena.Work.{Work}
 use Rattle.rt_tree_place.specs.Insertion.{Inserts}
 use Rattle.rt_tree_remove.specs.Removal.{Removes}
 use Rattle.rt_tree_outside.specs.Outside.{outside}
-use Rattle.rt_tree.specs.Changes.{IsReplacement}
+use Rattle.rt_tree.specs.Replacing.{IsReplacement}
 use Rattle.rt_tree.specs.TreeInside.{IsKept}
 use Rattle.rt_tree.specs.declared.tree.Tree.TheInside.{Inside}
 use Rattle.rt_tree.proofs.Kept.{in-shape}
-use Rattle.rt_tree.proofs.Changed.{fewer-rows, removed-kept, removed-rows, removed-exact, inserted-kept, inserted-rows, inserted-exact}
+use Rattle.rt_tree.proofs.Changed.{fewer-rows, removed-kept, removed-rows, removed-ruled, removed-drops, inserted-kept, inserted-rows, inserted-ruled, inserted-takes}
 
 module _ {D : ℕ} where
   module _ (t : Inside D) (k : IsKept t) (mid new : Arena D) (id : ℤ) (was rect : List Interval) (work : Work) (removes : Removes t.arena mid id was)
@@ -33,8 +33,10 @@ module _ {D : ℕ} where
       shape = in-shape between between-kept unique;
       capacity = removes.capacity;
       loses = removed-rows t k mid id was removes;
-      removal = removed-exact t k mid id was removes known;
+      removal = removed-ruled t k mid id was removes;
+      drops = removed-drops t k mid id was removes known;
       work = work;
       gains = inserted-rows between between-kept new id rect work inserts;
-      insertion = inserted-exact between between-kept new id rect work inserts;
+      insertion = inserted-ruled between between-kept new id rect work inserts;
+      takes = inserted-takes between between-kept new id rect work inserts;
     }

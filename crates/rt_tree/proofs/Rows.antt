@@ -23,7 +23,7 @@ use Rattle.rt_tree_node.specs.Places.{times_listed, pending_rows, leaf_cells_of,
 use Rattle.rt_tree_node.proofs.Places.{leaf-at_leaf}
 use Rattle.rt_tree_walk.specs.declared.searching.Row.{Row}
 use Rattle.rt_tree_walk.specs.Search.{times, row_of}
-use Rattle.rt_tree_outside.specs.InOrder.{row_cell}
+use Rattle.rt_tree_outside.specs.LeafRows.{row_cell}
 use Rattle.rt_tree_walk.specs.Preorder.{tree_keys, number_in}
 use Rattle.rt_tree_outside.specs.Outside.{cell_row, outside}
 use Rattle.rt_tree_node.proofs.Sums.{upto-list}

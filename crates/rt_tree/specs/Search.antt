@@ -1,10 +1,12 @@
 -- Searches by windows (Guttman 1984, section 3.1).
-use Rattle.std.specs.Prelude.{◌≡◌, ℕ, suc, ◌<◌, Bool, ℤ, List, ◌++◌, length, Some, All, Contains, count_by}
+use Rattle.std.specs.Prelude.{◌≡◌, ℕ, suc, ◌+◌, ◌<◌, ◌≤◌, Bool, ℤ, List, ◌++◌, length, Some, All, Contains, count_by, Vec, vec_capacity}
+use Rattle.std.specs.declared.alloc.Global.{Global}
 use Rattle.std.specs.Ordering.{int_eq}
 use Rattle.rt_box.specs.declared.interval.Interval.{Interval}
 use Rattle.rt_box.specs.Window.{Admits, MayHold}
 use Rattle.rt_check.specs.declared.node.RawCell.{RawCell}
 use Rattle.rt_check.specs.Shadow.{ShadowLists}
+use Rattle.rt_tree_walk.specs.declared.searching.Reached.{Reached}
 use Rattle.rt_tree_walk.specs.declared.searching.Row.{Row}
 use Rattle.rt_tree_walk.specs.Search.{AsksAdmitted}
 use Rattle.rt_tree_outside.specs.InOrder.{cells_of_number}
@@ -40,3 +42,10 @@ module _ {D : ℕ} where
     pub more : List (Row D)
     pub is : new ≡ old ++ more
     pub finds : FindsIn s window more visited
+
+  -- the lists have room for the rows that the window admits, and for all nodes
+  pub record HasRoomToFindIn (s : ShadowLists D) (window : List Interval) (rows : Vec (Row D) Global) (reached : Vec Reached Global) : Type 0 where
+    pub count : ℕ
+    pub counts : CountsIn s window count
+    pub rows_fit : length rows.items + count ≤ vec_capacity rows
+    pub nodes_fit : length s.nodes ≤ vec_capacity reached

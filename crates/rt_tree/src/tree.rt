@@ -3,7 +3,7 @@
 //! Rows come and go without taking memory: `reserve` makes room for the nodes of any tree with that many rows. Between two
 //! calls no cell is pending and no node is out of shape (`IsKept` in `specs/TreeInside.antt`).
 
-ghost use Rattle.std.specs.Prelude.{◌≡◌, ◌≢◌, ◌<◌, ◌≤◌, ◌+◌, ◌-◌, ◌*◌, ◌/◌, ◌^◌, ◌↔◌, ℤ, [], max, length, is_some, Some, None, IsSome, IfSome, IsNone, IfNone, IfOk, IfErr, OnOk, OnErr};
+ghost use Rattle.std.specs.Prelude.{◌≡◌, ◌≢◌, ◌<◌, ◌≤◌, ◌+◌, ◌-◌, ◌*◌, ◌/◌, ◌^◌, ◌↔◌, ℤ, [], max, length, is_some, vec_capacity, Some, None, IsSome, IfSome, IsNone, IfNone, IsOk, IfOk, IfErr, OnOk, OnErr};
 ghost use Rattle.std.specs.List.{list_any, count_by};
 ghost use Rattle.std.specs.Ordering.{int_eq};
 ghost use Rattle.rt_box.specs.Capacity.{least_fill};
@@ -11,33 +11,25 @@ ghost use Rattle.rt_tree_node.specs.Whole.{most_rows_of_a_tree};
 ghost use Rattle.rt_tree.specs.Lists.{root_level, most_nodes, least_rows, empty_lists, IsInShape};
 ghost use Rattle.rt_tree.specs.Rows.{box_of, rows_of, GainsRow, LosesRow};
 ghost use Rattle.rt_tree.specs.Boxes.{HasBoxes};
-ghost use Rattle.rt_tree.specs.Changes.{IsInsertion, IsRemoval, ReplacesOther};
-ghost use Rattle.rt_tree.specs.Packing.{ids, IsPackedOf};
-ghost use Rattle.rt_tree.specs.Restoring.{IsRestoredOf, IsRestoreFaultOf};
-ghost use Rattle.rt_tree.specs.Search.{FindsIn, FindsInAfter, CountsIn};
-ghost use Rattle.rt_tree.specs.Join.{JoinsIn, JoinsItselfIn};
+ghost use Rattle.rt_tree.specs.Changes.{IsInsertion, IsRemoval};
+ghost use Rattle.rt_tree.specs.Moving.{TakesRow, DropsRow};
+ghost use Rattle.rt_tree.specs.Replacing.{ReplacesOther};
+ghost use Rattle.rt_tree.specs.Search.{FindsIn, FindsInAfter, CountsIn, HasRoomToFindIn};
 ghost use Rattle.rt_tree.specs.Bounds.{IsLeastAround};
-ghost use Rattle.rt_tree_bytes.specs.TreeBytes.{tree_bytes};
-ghost use Rattle.rt_tree_pack.specs.Packing.{IsFaultOf};
+ghost use Rattle.indexmap.specs.IndexMap.{keys};
+ghost use Rattle.rt_tree_outside.specs.Outside.{outside};
+ghost use Rattle.rt_tree.specs.Kept.{IsKeptWith};
 ghost use Rattle.rt_tree_walk.specs.Search.{StaysInFront};
-ghost use Rattle.rt_tree_nearest.specs.Nearest.{nearest_rows, rows_within, nearest_rows_to};
 
-use crate::bounds::root_box;
-use crate::bytes::bytes_arena;
-use crate::packing::{bare_arena, pack_rows};
-use crate::restoring::shadow_arena;
+use crate::bounds::{admits_root, root_box};
+use crate::rowless::bare_arena;
 use rt_box::{Capacity, Rect, Window};
 use rt_check::Shadow;
-use rt_tree_bytes::{BytesFault, bytes_of};
-use rt_tree_join::{Pair, join, join_self};
-use rt_tree_nearest::{nearest, nearest_to, within};
 use rt_tree_node::{Arena, Node, Work, leaves_facts};
 use rt_tree_outside::shadow_of;
-use rt_tree_pack::PackFault;
 use rt_tree_place::{insert_row, levels_are_few, nodes_are_few};
 use rt_tree_remove::{find_row, remove_found, replace_found};
-use rt_tree_restore::RestoreFault;
-use rt_tree_walk::{Found, Row, count, search, search_into};
+use rt_tree_walk::{Found, Reached, Row, count, search, search_into};
 use slab::Slab;
 use std::alloc::{AllocError, Global};
 use std::hash::RandomState;
@@ -106,7 +98,7 @@ impl<const D: usize> Model for Tree<D> {
 }
 
 /// The nodes that there is to be room for if there are that many rows: each except the root has `capacity.least()` cells.
-pub(crate) fn nodes_for(capacity: Capacity, rows: usize) -> usize
+pub fn nodes_for(capacity: Capacity, rows: usize) -> usize
     requires { rows ≤ 2 ^ 43 }
     ensures { rows + (least_fill capacity - 1) * 33 ≤ (least_fill capacity - 1) * result }
 {
@@ -210,67 +202,21 @@ impl<const D: usize> Tree<D> {
         Ok(Tree { arena, spare: 0 })
     }
 
-    /// A tree of these rows, packed all at once: few of its nodes have fewer cells than they may have. Look-ups by id hash by
-    /// `keys`, which are to be random if others choose the ids.
-    ///
-    /// # Errors
-    ///
-    /// `TooMany` if there are more rows than `MOST_ROWS_OF_A_TREE`, `Repeated` if two have one id, and `Memory` if no memory is
-    /// left.
-    pub fn from_rows(
-        alloc: Global,
-        keys: RandomState,
-        capacity: Capacity,
-        rows: &[Row<D>],
-    ) -> Result<Tree<D>, PackFault>
-        requires some { 1 ≤ D }
-        requires few { D ≤ 3 }
-        ensures tree { IfOk result (λ tree. IsPackedOf tree.lists capacity rows.now) }
-        ensures spare { IfOk result (λ tree. tree.spare ≡ 0) }
-        ensures fault { IfErr result (λ fault. IsFaultOf (ids rows.now) fault) }
+    /// A tree of these nodes, for the crates that make trees.
+    pub fn from_arena(arena: Arena<D>) -> Tree<D>
+        requires kept { IsKeptWith arena 0 }
+        ensures { result ≡ record { lists = outside arena.entry; spare = 0; ids = keys arena.entry.leaves } }
     {
-        let arena = pack_rows(alloc, keys, capacity, rows)?;
-        Ok(Tree { arena, spare: 0 })
+        Tree { arena, spare: 0 }
     }
 
-    /// A tree of the shadow's rows. If the shadow is sound and its nodes stand in preorder, as `shadow` lists them, it is that
-    /// very tree, which tests show; else the rows are packed. Look-ups by id hash by `keys`, which are to be random if others
-    /// choose the ids.
-    ///
-    /// # Errors
-    ///
-    /// `NoBox` if a row's cell has some lo above its hi, `TooMany` if there are more rows than `MOST_ROWS_OF_A_TREE`, `Repeated` if
-    /// two have one id, and `Memory` if no memory is left.
-    pub fn from_shadow(
-        alloc: Global,
-        keys: RandomState,
-        shadow: &Shadow<D>,
-    ) -> Result<Tree<D>, RestoreFault>
-        requires some { 1 ≤ D }
-        requires few { D ≤ 3 }
-        ensures tree { IfOk result (λ tree. IsRestoredOf tree.lists shadow.now) }
-        ensures spare { IfOk result (λ tree. tree.spare ≡ 0) }
-        ensures fault { IfErr result (λ fault. IsRestoreFaultOf shadow.now fault) }
+    /// The nodes, for the crates that read trees.
+    pub fn arena(&self) -> &Arena<D>
+        ensures kept { IsKeptWith result.now self.now.spare }
+        ensures lists { outside result.now ≡ self.now.lists }
+        ensures ids { keys result.now.leaves ≡ self.now.ids }
     {
-        let arena = shadow_arena(alloc, keys, shadow)?;
-        Ok(Tree { arena, spare: 0 })
-    }
-
-    /// The tree that has these bytes, which `to_bytes` has written. Look-ups by id hash by `keys`, which are to be random if
-    /// others choose the ids.
-    ///
-    /// # Errors
-    ///
-    /// `Bad` if no tree of `D` axes is found that has these bytes, `TooMany` if they have more rows than `MOST_ROWS_OF_A_TREE`, and
-    /// `Memory` if no memory is left. What is taken is no more than a few times what the bytes take.
-    pub fn from_bytes(alloc: Global, keys: RandomState, bytes: &[u8]) -> Result<Tree<D>, BytesFault>
-        requires some { 1 ≤ D }
-        requires few { D ≤ 3 }
-        ensures tree { IfOk result (λ tree. tree_bytes tree.lists ≡ bytes.now) }
-        ensures spare { IfOk result (λ tree. tree.spare ≡ 0) }
-    {
-        let arena = bytes_arena(alloc, keys, bytes)?;
-        Ok(Tree { arena, spare: 0 })
+        &self.arena
     }
 
     /// The number of rows.
@@ -278,6 +224,13 @@ impl<const D: usize> Tree<D> {
         ensures { result ≡ length self.now.lists.rows }
     {
         self.arena.leaves.len()
+    }
+
+    /// The greatest number of cells in a node.
+    pub fn capacity(&self) -> Capacity
+        ensures { result ≡ self.now.lists.capacity }
+    {
+        self.arena.capacity
     }
 
     /// How many more rows `insert` takes without asking for memory.
@@ -349,17 +302,6 @@ impl<const D: usize> Tree<D> {
         shadow_of(alloc, keys, &self.arena)
     }
 
-    /// The tree in a compact form: with two axes 24 bytes a row, and little more for the nodes.
-    ///
-    /// # Errors
-    ///
-    /// `AllocError` if no memory is left.
-    pub fn to_bytes(&self, alloc: Global) -> Result<Vec<u8>, AllocError>
-        ensures { IfOk result (λ bytes. bytes.items ≡ tree_bytes self.now.lists) }
-    {
-        bytes_of(alloc, &self.arena)
-    }
-
     /// A law: whatever was done to the tree, the checker finds no problem in it, its nodes are in preorder, and its row
     /// entries stand by rising id. The call does nothing.
     pub fn is_in_shape(&self)
@@ -406,26 +348,31 @@ impl<const D: usize> Tree<D> {
         search(alloc, &self.arena, window)
     }
 
-    /// Appends the rows whose boxes the window admits, and returns the number of nodes that the search went into. A list
-    /// that is kept between searches asks for memory only a few times.
+    /// Appends the rows whose boxes the window admits, and returns the number of nodes that the search went into. What
+    /// `reached` held is dropped. Both lists keep their memory, so searches that share them ask for some only a few times.
     ///
     /// # Errors
     ///
-    /// `AllocError` if no memory is left for the rows found, or for the list of the nodes reached: 16 bytes a node. Some of
-    /// the rows that were found may then stand in the list.
+    /// `AllocError` if no memory is left for the rows found, or for the nodes reached: 16 bytes a node. Some of the rows that
+    /// were found may then stand in the list. If `rows` has room for the rows found, and `reached` for the nodes of the tree,
+    /// the search doesn't fail.
     pub fn search_into(
         &self,
-        alloc: Global,
         window: &Window<D>,
         rows: &mut Vec<Row<D>>,
+        reached: &mut Vec<Reached>,
     ) -> Result<u64, AllocError>
         ensures ok { IfOk result (λ nodes. FindsInAfter self.now.lists window.now rows.old.items rows.new.items nodes) }
         ensures err { OnErr result (StaysInFront rows.old.items rows.new.items) }
+        ensures succeeds { HasRoomToFindIn self.now.lists window.now rows.old reached.old → IsOk result }
+        ensures rows_capacity { vec_capacity rows.old ≤ vec_capacity rows.new }
+        ensures nodes_capacity { vec_capacity reached.old ≤ vec_capacity reached.new }
     {
-        search_into(alloc, &self.arena, window, rows)
+        search_into(&self.arena, window, rows, reached)
     }
 
-    /// Counts the rows whose boxes the window admits: as many as `search` would find, without a list of them.
+    /// Counts the rows whose boxes the window admits: as many as `search` would find, without a list of them. If all of them
+    /// lie inside the window, it looks at the root alone.
     ///
     /// # Errors
     ///
@@ -433,87 +380,10 @@ impl<const D: usize> Tree<D> {
     pub fn count(&self, alloc: Global, window: &Window<D>) -> Result<usize, AllocError>
         ensures { IfOk result (λ count. CountsIn self.now.lists window.now count) }
     {
+        if admits_root(&self.arena, window) {
+            return Ok(self.arena.leaves.len());
+        }
         count(alloc, &self.arena, window)
-    }
-
-    /// The `k` rows whose boxes are nearest to the point, by squared distance and then by id; all rows if there are fewer. A
-    /// point in a box, or on its edge, has the distance 0.
-    ///
-    /// What is nearest is looked at first, so a search for few rows goes into few nodes.
-    ///
-    /// # Errors
-    ///
-    /// `AllocError` if no memory is left for what is returned or seen.
-    pub fn nearest(
-        &self,
-        alloc: Global,
-        point: &[i32; D],
-        k: usize,
-    ) -> Result<Vec<Row<D>>, AllocError>
-        ensures { IfOk result (λ rows. rows.items ≡ nearest_rows point.now k (rows_of self.now.lists)) }
-    {
-        nearest(alloc, &self.arena, point, k)
-    }
-
-    /// Of the rows whose boxes are within the distance of the point, the `k` nearest, in the order of `nearest`. The distance
-    /// is in the unit of coordinates; a row is within it if the squared distance is at most its square.
-    ///
-    /// # Errors
-    ///
-    /// `AllocError` if no memory is left for what is returned or seen.
-    pub fn within(
-        &self,
-        alloc: Global,
-        point: &[i32; D],
-        distance: u64,
-        k: usize,
-    ) -> Result<Vec<Row<D>>, AllocError>
-        ensures { IfOk result (λ rows. rows.items ≡ rows_within point.now distance k (rows_of self.now.lists)) }
-    {
-        within(alloc, &self.arena, point, distance, k)
-    }
-
-    /// The `k` rows whose boxes are nearest to the box, by squared distance and then by id; all rows if there are fewer. Boxes
-    /// that have a point in common have the distance 0.
-    ///
-    /// # Errors
-    ///
-    /// `AllocError` if no memory is left for what is returned or seen.
-    pub fn nearest_to(
-        &self,
-        alloc: Global,
-        rect: &Rect<D>,
-        k: usize,
-    ) -> Result<Vec<Row<D>>, AllocError>
-        ensures { IfOk result (λ rows. rows.items ≡ nearest_rows_to rect.now k (rows_of self.now.lists)) }
-    {
-        nearest_to(alloc, &self.arena, rect, k)
-    }
-
-    /// The pairs of rows, one of this tree and one of the other, whose boxes touch, each pair once, in no stated order. A
-    /// common point is enough, be it on an edge.
-    ///
-    /// Both trees are gone through together: two nodes are looked at only if their boxes touch.
-    ///
-    /// # Errors
-    ///
-    /// `AllocError` if no memory is left for the pairs, or for the list of the pairs of nodes that are still to come.
-    pub fn join(&self, alloc: Global, other: &Tree<D>) -> Result<Vec<Pair>, AllocError>
-        ensures { IfOk result (λ pairs. JoinsIn self.now.lists other.now.lists pairs.items) }
-    {
-        join(alloc, &self.arena, &other.arena)
-    }
-
-    /// The pairs of two different rows of this tree whose boxes touch, each pair once, in no stated order. The lower id stands on
-    /// the left.
-    ///
-    /// # Errors
-    ///
-    /// `AllocError` if no memory is left for the pairs, or for the list of the pairs of nodes that are still to come.
-    pub fn join_self(&self, alloc: Global) -> Result<Vec<Pair>, AllocError>
-        ensures { IfOk result (λ pairs. JoinsItselfIn self.now.lists pairs.items) }
-    {
-        join_self(alloc, &self.arena)
     }
 
     /// Makes room for `more` further rows. The room grows by as many rows as there are, so that many reservations of one row
@@ -524,6 +394,7 @@ impl<const D: usize> Tree<D> {
     /// `AllocError` if no memory is left, or if more rows than 2^42 are asked for, which no machine holds; the tree is then
     /// as before.
     pub fn reserve(&mut self, more: usize) -> Result<(), AllocError>
+        ensures same { more ≤ self.old.spare → (self.new ≡ self.old) × IsOk result }
         ensures room { OnOk result (more ≤ self.new.spare) }
         ensures keeps { self.old.spare ≤ self.new.spare }
         ensures most { self.new.spare ≤ max self.old.spare (max more (length self.old.lists.rows)) }
@@ -552,6 +423,7 @@ impl<const D: usize> Tree<D> {
         requires spare { 1 ≤ self.old.spare }
         ensures rows { GainsRow self.old.lists self.new.lists id.now rect.now }
         ensures insertion { IsInsertion self.old.lists self.new.lists id.now rect.now result }
+        ensures takes { TakesRow self.old.lists self.new.lists id.now rect.now result }
         ensures spare { self.new.spare + 1 ≡ self.old.spare }
         ensures capacity { self.new.lists.capacity ≡ self.old.lists.capacity }
     {
@@ -566,6 +438,7 @@ impl<const D: usize> Tree<D> {
         ensures same { IfNone result (self.new ≡ self.old) }
         ensures rows { IfSome result (LosesRow self.old.lists self.new.lists id.now) }
         ensures removal { IfSome result (IsRemoval self.old.lists self.new.lists id.now) }
+        ensures drops { IfSome result (DropsRow self.old.lists self.new.lists id.now) }
         ensures spare { self.new.spare ≡ self.old.spare }
         ensures capacity { self.new.lists.capacity ≡ self.old.lists.capacity }
     {
@@ -581,6 +454,7 @@ impl<const D: usize> Tree<D> {
         requires { IsSome (box_of self.old.lists id.now) }
         ensures rows { LosesRow self.old.lists self.new.lists id.now result }
         ensures removal { IsRemoval self.old.lists self.new.lists id.now result }
+        ensures drops { DropsRow self.old.lists self.new.lists id.now result }
         ensures spare { self.new.spare ≡ self.old.spare }
         ensures capacity { self.new.lists.capacity ≡ self.old.lists.capacity }
     {

@@ -18,7 +18,7 @@ use Rattle.rt_tree_walk.specs.Preorder.{keys_in}
 use Rattle.rt_tree_walk.proofs.Judging.{All-mapped}
 use Rattle.rt_tree_walk.proofs.Listed.{levels-below}
 use Rattle.rt_tree_walk.proofs.Progress.{IsSettled}
-use Rattle.rt_tree_walk.proofs.Below.{leaf_rows, rows_under, rows-leaf, child-hull, held-below}
+use Rattle.rt_tree_walk.proofs.Below.{rows_under, rows-leaf, rows-inner, rows-none, child-hull, held-below}
 use Rattle.rt_tree_join.specs.declared.joining.Pair.{Pair}
 use Rattle.rt_tree_join.specs.declared.due.Due.{Due}
 use Rattle.rt_tree_join.specs.declared.due.Side.TheVariants.{Left, Right}
@@ -27,22 +27,8 @@ use Rattle.rt_tree_join.specs.Due.{subtree_of, child_due, opened, AreHeld, keys_
 use Rattle.rt_tree_join.proofs.Boxes.{touch-apart, touch-apart_swapped}
 use Rattle.rt_tree_join.proofs.Counting.{sum-filtered, sum-filter_le, sum-mapped, sum-scaled, sum-scaled_left, additive, left-joined, right-joined, right-none, pairs-apart}
 
-flat-flat : {X Y Z : Type 0} (f : Y → List Z) (g : X → List Y) (xs : List X) → flat_map f (flat_map g xs) ≡ flat_map (λ x. flat_map f (g x)) xs
-flat-flat f g [] = refl
-flat-flat f g (x ∷ xs) = flat_map-append f (g x) (flat_map g xs) ∙ ap (λ l. flat_map f (g x) ++ l) (flat-flat f g xs)
-
 module _ {D : ℕ} where
   -- ---- one tree
-  pub rows-inner : (t : Arena D) (l k : ℕ) → level_at t.nodes k ≡ Some (suc l) →
-      rows_under t.nodes (suc l) k ≡ flat_map (λ c. rows_under t.nodes l (key_of c)) (cells_at t.nodes k)
-  rows-inner t l k at =
-      ap (λ cells. map row_of cells ++ flat_map (leaf_rows t.nodes) (flat_map (λ c. keys_in t.nodes l (key_of c)) (cells_at t.nodes k))) (leaf-at_inner t.nodes k l at)
-      ∙ flat-flat (leaf_rows t.nodes) (λ c. keys_in t.nodes l (key_of c)) (cells_at t.nodes k)
-
-  pub rows-none : (t : Arena D) (l k : ℕ) → level_at t.nodes k ≡ Some l → cells_at t.nodes k ≡ [] → rows_under t.nodes l k ≡ []
-  rows-none t zero k at e = rows-leaf t.nodes k at ∙ ap (map row_of) e
-  rows-none t (suc l) k at e = rows-inner t l k at ∙ ap (flat_map (λ c. rows_under t.nodes l (key_of c))) e
-
   pub keys-inner : (t : Arena D) (l k : ℕ) → length (keys_in t.nodes (suc l) k) ≡ suc (sum_by (λ c. length (keys_in t.nodes l (key_of c))) (cells_at t.nodes k))
   keys-inner t l k = ap suc (length-flat_map (λ c. keys_in t.nodes l (key_of c)) (cells_at t.nodes k))
 

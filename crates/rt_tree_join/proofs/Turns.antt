@@ -14,7 +14,8 @@ use Rattle.rt_tree_join.specs.declared.due.Subtree.{Subtree}
 use Rattle.rt_tree_join.specs.declared.joining.Pair.{Pair}
 use Rattle.rt_tree_join.specs.Join.{has_ids, touching_pairs, Joins}
 use Rattle.rt_tree_join.specs.Due.{IsDue, count_due, steps_due, StartsWith, Goes}
-use Rattle.rt_tree_join.proofs.Below.{rows-none, whole-tree}
+use Rattle.rt_tree_walk.proofs.Below.{rows-none}
+use Rattle.rt_tree_join.proofs.Below.{whole-tree}
 use Rattle.rt_tree_join.proofs.Counting.{right-none}
 use Rattle.rt_tree_join.proofs.Once.{pairs-once}
 

@@ -16,7 +16,7 @@ use Rattle.rt_tree_walk.specs.Preorder.{keys_in}
 use Rattle.rt_tree_walk.proofs.Judging.{All-mapped}
 use Rattle.rt_tree_walk.proofs.Progress.{IsSettled}
 use Rattle.rt_tree_walk.specs.Rows.{rows_in}
-use Rattle.rt_tree_walk.proofs.Below.{rows-leaf, rows_under}
+use Rattle.rt_tree_walk.proofs.Below.{rows-leaf, rows_under, rows-none, rows-inner}
 use Rattle.rt_tree_join.specs.declared.joining.Pair.{Pair}
 use Rattle.rt_tree_join.specs.declared.due.Due.{Due}
 use Rattle.rt_tree_join.specs.declared.due.Subtree.{Subtree}
@@ -26,7 +26,7 @@ use Rattle.rt_tree_join.specs.Due.{subtree_of, child_due, pairs_of_row, IsSubtre
 use Rattle.rt_tree_join.specs.Itself.{pairs_within, later_pairs, later_due, count_within, steps_within, StartsWithin, Splits}
 use Rattle.rt_tree_join.proofs.Boxes.{touch-apart}
 use Rattle.rt_tree_join.proofs.Counting.{sum-filtered, sum-mapped, additive, right-joined, right-none, with-joined, pairs-apart, row-pairs}
-use Rattle.rt_tree_join.proofs.Below.{rows-none, rows-inner, keys-inner, keys-some, node-level, children, whole-tree}
+use Rattle.rt_tree_join.proofs.Below.{keys-inner, keys-some, node-level, children, whole-tree}
 
 module _ {D : ℕ} where
   -- ---- lists of rows

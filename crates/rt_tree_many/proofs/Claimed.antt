@@ -7,7 +7,7 @@ use Rattle.std.proofs.lemmas.List.{length-map}
 use Rattle.std.specs.Ordering.{int_eq}
 use Rattle.indexmap.specs.IndexSet.{insert_key}
 use Rattle.rt_check.specs.Shadow.{ShadowLists}
-use Rattle.rt_tree.specs.Packing.{ids}
+use Rattle.rt_map.specs.Packing.{ids}
 use Rattle.rt_tree_walk.specs.declared.searching.Row.{Row}
 use Rattle.rt_tree_many.specs.Insertion.{has_id, is_among, IsTaken, IsFirstTaken, AreNew, Claims}
 use Rattle.rt_tree_many.proofs.Lists.{id-at, ids-next}

@@ -4,7 +4,8 @@ use Rattle.std.specs.List.{list_any}
 use Rattle.std.specs.Ordering.{int_eq}
 use Rattle.rt_check.specs.Shadow.{ShadowLists}
 use Rattle.rt_tree.specs.Changes.{IsInsertion}
-use Rattle.rt_tree.specs.Packing.{ids}
+use Rattle.rt_tree.specs.Moving.{TakesRow}
+use Rattle.rt_map.specs.Packing.{ids}
 use Rattle.rt_tree.specs.Rows.{rows_of, box_of}
 use Rattle.rt_tree_node.specs.Whole.{most_rows_of_a_tree}
 use Rattle.rt_tree_node.specs.declared.arena.Work.{Work}
@@ -52,7 +53,7 @@ module _ {D : ℕ} where
   pub data InsertsInTurn (first : ShadowLists D) : List (Row D) → ShadowLists D → Type 0 where
     none : InsertsInTurn first [] first
     more : {rows : List (Row D)} {old new : ShadowLists D} (row : Row D) (work : Work) → InsertsInTurn first rows old →
-        IsInsertion old new row.id row.rect work → InsertsInTurn first (rows ++ row ∷ []) new
+        IsInsertion old new row.id row.rect work → TakesRow old new row.id row.rect work → InsertsInTurn first (rows ++ row ∷ []) new
 
   -- ---- how taken ids are found; no public clause cites what follows
   -- the place of the first row whose id is taken, if there is one

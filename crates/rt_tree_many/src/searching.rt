@@ -7,6 +7,7 @@ ghost use Rattle.rt_tree_many.specs.Parts.{FindsMany, FindsNearest};
 
 use crate::parts::FoundMany;
 use rt_box::Window;
+use rt_map::nearest;
 use rt_tree::Tree;
 use std::alloc::{AllocError, Global};
 
@@ -23,10 +24,10 @@ pub fn search_many<const D: usize>(
     ensures { IfOk result (λ found. FindsMany tree.now.lists windows.now found.ids.items found.starts.items) }
 {
     let mut found = FoundMany::with_room(alloc, windows.len())?;
-    let mut rows = Vec::new(alloc);
+    let (mut rows, mut reached) = (Vec::new(alloc), Vec::new(alloc));
     for window in windows {
         rows.clear();
-        let _ = tree.search_into(alloc, window, &mut rows)?;
+        let _ = tree.search_into(window, &mut rows, &mut reached)?;
         found.add(&rows)?;
     }
     Ok(found)
@@ -67,7 +68,7 @@ pub fn nearest_many<const D: usize>(
 {
     let mut found = FoundMany::with_room(alloc, points.len())?;
     for point in points {
-        let rows = tree.nearest(alloc, point, k)?;
+        let rows = nearest(alloc, tree, point, k)?;
         found.add(&rows)?;
     }
     Ok(found)

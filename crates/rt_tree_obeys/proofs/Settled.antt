@@ -1,8 +1,8 @@
 -- Placements one after the other are those of the rules.
-use Rattle.std.proofs.Common.{◌≡◌, ◌≢◌, ◌+◌, inl, inr, true, false, ℕ, zero, suc, ◌<◌, ◌≤◌, List, [], ◌∷◌, ◌++◌, map, length, reverse, refl, sym, ap, ◌∙◌, subst, arith, length-append}
-use Rattle.std.specs.Prelude.{nat_lt, if◌then◌else◌}
+use Rattle.std.proofs.Common.{◌≡◌, ◌≢◌, ◌+◌, ◌*◌, inl, inr, ℕ, zero, suc, ◌<◌, ◌≤◌, List, [], ◌∷◌, ◌++◌, map, length, reverse, refl, sym, ap, ◌∙◌, subst, arith, length-append}
+use Rattle.std.proofs.Math.Nat.{mul-suc, le_of_mul-le-mul_left}
 use Rattle.std.specs.List.{All}
-use Rattle.std.proofs.lemmas.Bool.Decides.{nat_tests}
+use Rattle.rt_box.specs.Capacity.{IsCapacity, reinsertion_share}
 use Rattle.std.proofs.lemmas.Option.{none-some}
 use Rattle.std.proofs.lemmas.List.{append-nil, length-map, length-reverse, nil_from_length}
 use Rattle.std.proofs.lemmas.List.Elements.{All-nil, All-cons}
@@ -10,7 +10,7 @@ use Rattle.rt_tree_node.specs.declared.arena.Arena.{Arena}
 use Rattle.rt_tree_node.specs.declared.arena.Work.{Work as Counts}
 use Rattle.rt_tree_node.specs.declared.cell.Cell.{Cell}
 use Rattle.rt_tree_node.specs.declared.cell.Pending.{Pending}
-use Rattle.rt_tree_node.specs.Places.{key_of, hull_at}
+use Rattle.rt_tree_node.specs.Places.{key_of, hull_at, pending_at}
 use Rattle.rt_tree_node.specs.Sound.{IsLinked, Names}
 use Rattle.rt_tree_node.specs.Whole.{IsWhole}
 use Rattle.rt_tree_place.specs.NewRow.{AwaitsLeaf, pending_row}
@@ -18,30 +18,24 @@ use Rattle.rt_tree_place.specs.Placement.{PlacesLast}
 use Rattle.rt_tree_place.specs.Turns.{PlacesInTurn}
 use Rattle.rt_tree_rules.specs.Nested.{Tree, Waiting}
 use Rattle.rt_tree_rules.specs.Placing.{Work, Standing, insert_one, place, places, start, Settles}
+use Rattle.rt_tree_rules.proofs.Counted.{inserts}
 use Rattle.rt_tree_obeys.specs.View.{tree_in, waiting_in, waiting_cells}
-use Rattle.rt_tree_obeys.specs.Laws.{Stands, SettlingObeys, InsertionObeys, marked_in}
+use Rattle.rt_tree_obeys.specs.Laws.{Stands, Obeys, CountsAs, SettlingObeys, InsertionObeys}
 use Rattle.rt_tree_obeys.proofs.Placed.{placing}
 
 places_more : (axes K n : ℕ) (s : Standing) → places axes K (suc n) s ≡ place axes K (places axes K n s)
 places_more axes K zero s = refl
 places_more axes K (suc n) s = places_more axes K n (place axes K s)
 
-lt_true : (m n : ℕ) → m < n → nat_lt m n ≡ true
-lt_true m n less = grind (arith, nat_tests)
+-- the share is one cell at least
+share_some : (K : ℕ) → IsCapacity K → 0 < reinsertion_share K
+share_some K valid = let low = valid.0 in omega arith
 
-lt_false : (m n : ℕ) → n ≤ m → nat_lt m n ≡ false
-lt_false m n less = grind (arith, nat_tests)
-
-abbrev one_if : ℕ → ℕ → ℕ
-one_if m n = if nat_lt m n then 1 else 0
-
--- whether the next placing marks a level
-abbrev marks_next : ℕ → ℕ → Standing → ℕ
-marks_next axes K s = if nat_lt s.course.marks (place axes K s).course.marks then 1 else 0
-
-marked_more : (axes K n : ℕ) (s : Standing) → marked_in axes K (suc n) s ≡ marked_in axes K n s + marks_next axes K (places axes K n s)
-marked_more axes K zero s = omega arith
-marked_more axes K (suc n) s = let later = marked_more axes K n (place axes K s) in omega arith
+cancel : (k m n : ℕ) → 0 < k → k * m ≡ k * n → m ≡ n
+cancel k m n some e =
+    let up : m ≤ n = le_of_mul-le-mul_left (omega (arith, e)) some in
+    let down : n ≤ m = le_of_mul-le-mul_left (omega (arith, e)) some in
+    omega arith
 
 pub stands_whole : {D : ℕ} (t : Arena D) → IsWhole t → Stands t
 stands_whole t whole = record {
@@ -61,7 +55,44 @@ module _ {D : ℕ} (old : Arena D) (base : List Waiting) (entry : Waiting) where
     pending : waiting_cells t ≡ base ++ reverse waits
     stands : Stands t
     capacity : t.capacity ≡ old.capacity
-    marked : work.reinsertions ≡ marked_in D old.capacity count (start D old.capacity (tree_in old) entry)
+    counts : CountsAs work effort
+
+  -- of the cells that waited one was placed, and a share of cells more waits if a node gave up cells
+  counted : (t u : Arena D) (marks marks1 : ℕ) (work work1 : Counts) (so_far : SoFar t marks work) → PlacesLast t u marks marks1 work work1 →
+      {w : Waiting} (rest : List Waiting) → so_far.waits ≡ w ∷ rest → (obeys : Obeys t u base rest marks marks1 w so_far.effort) →
+      CountsAs work1 obeys.spent
+  counted t u marks marks1 work work1 so_far last {w = w} rest is_waits obeys =
+      let K = t.capacity in
+      let share = reinsertion_share K in
+      let valid : IsCapacity K = subst IsCapacity last.capacity last.whole.fitted.cap in
+      let e = so_far.effort in
+      let c = inserts D K valid (tree_in t) w record { marks = marks; waiting = rest; work = e } in
+      let placements : obeys.spent.placements ≡ suc e.placements = sym (ap (λ (s : Standing). s.course.work.placements) obeys.inserted) ∙ c.placements in
+      let waits : length obeys.waits + share * e.reinsertions ≡ length rest + share * obeys.spent.reinsertions
+      = subst (λ (s : Standing). length s.course.waiting + share * e.reinsertions ≡ length rest + share * s.course.work.reinsertions) obeys.inserted c.waits in
+      let was : length t.pending.items ≡ length base + suc (length rest)
+      = sym (length-map t.pending.items (waiting_in t.nodes)) ∙ ap (length {A = Waiting}) (so_far.pending ∙ ap (λ vs. base ++ reverse vs) is_waits)
+      ∙ length-append base (reverse (w ∷ rest)) ∙ ap (λ n. length base + n) (length-reverse (w ∷ rest)) in
+      let is : length u.pending.items ≡ length base + length obeys.waits
+      = sym (length-map u.pending.items (waiting_in u.nodes)) ∙ ap (length {A = Waiting}) obeys.pending
+      ∙ length-append base (reverse obeys.waits) ∙ ap (λ n. length base + n) (length-reverse obeys.waits) in
+      let left : length t.pending.items ≡ length last.left + 1 = ap (length {A = Pending D}) last.was ∙ length-append last.left (last.entry ∷ []) in
+      let more : work1.reinsertions ≡ obeys.spent.reinsertions = elim last.waits [
+        | inl again ↦
+            let long : length u.pending.items ≡ length last.left + share
+            = ap (length {A = Pending D}) again.pending ∙ length-append last.left (pending_at again.level again.far)
+            ∙ ap (λ n. length last.left + n) (length-map again.far (λ (x : Cell D). record { level = again.level; cell = x }) ∙ again.share) in
+            let step = mul-suc share e.reinsertions in
+            let next : suc e.reinsertions ≡ obeys.spent.reinsertions
+            = cancel share (suc e.reinsertions) obeys.spent.reinsertions (share_some K valid) (omega (arith, step, waits, was, is, left, long)) in
+            again.counted ∙ ap suc so_far.counts.reinsertions ∙ next
+        | inr none ↦
+            let long : length u.pending.items ≡ length last.left = ap (length {A = Pending D}) none.pending in
+            let same : e.reinsertions ≡ obeys.spent.reinsertions
+            = cancel share e.reinsertions obeys.spent.reinsertions (share_some K valid) (omega (arith, waits, was, is, left, long)) in
+            none.counted ∙ so_far.counts.reinsertions ∙ same
+      ] in
+      record { placements = last.placements ∙ ap suc so_far.counts.placements ∙ sym placements; reinsertions = more }
 
   more : (t u : Arena D) (marks marks1 : ℕ) (work work1 : Counts) → SoFar t marks work → length base < length t.pending.items → PlacesLast t u marks marks1 work work1 →
       SoFar u marks1 work1
@@ -89,22 +120,7 @@ module _ {D : ℕ} (old : Arena D) (base : List Waiting) (entry : Waiting) where
             pending = obeys.pending;
             stands = stands_whole u last.whole;
             capacity = last.capacity ∙ so_far.capacity;
-            marked =
-                let was : (places D K so_far.count s).course.marks ≡ marks = ap (λ (x : Standing). x.course.marks) so_far.is in
-                let now : (place D K (places D K so_far.count s)).course.marks ≡ marks1
-                = ap (λ (x : Standing). x.course.marks) (sym (places_more D K so_far.count s) ∙ is_next) in
-                let step : marks_next D K (places D K so_far.count s) ≡ one_if marks marks1
-                = ap (λ (m : ℕ). one_if m (place D K (places D K so_far.count s)).course.marks) was ∙ ap (one_if marks) now in
-                let all = marked_more D K so_far.count s in
-                let before = so_far.marked in
-                elim last.waits [
-                  | inl again ↦
-                      let one : one_if marks marks1 ≡ 1 = ap (λ b. if b then 1 else 0) (lt_true marks marks1 (omega (arith, again.unmarked, again.marked))) in
-                      omega (arith, again.counted)
-                  | inr none ↦
-                      let no_more : one_if marks marks1 ≡ 0 = ap (λ b. if b then 1 else 0) (lt_false marks marks1 (omega (arith, none.marked))) in
-                      omega (arith, none.counted)
-                ];
+            counts = counted t u marks marks1 work work1 so_far last rest is_waits obeys;
           }
 
   in_turn : (n : ℕ) → n ≡ length base → Stands old → waiting_cells old ≡ base ++ entry ∷ [] → (t : Arena D) (marks : ℕ) (work : Counts) →
@@ -117,7 +133,7 @@ module _ {D : ℕ} (old : Arena D) (base : List Waiting) (entry : Waiting) where
     pending = pending;
     stands = stands;
     capacity = refl;
-    marked = refl;
+    counts = record { placements = refl; reinsertions = refl };
   }
   in_turn n n_is stands pending t marks work (PlacesInTurn.next {t = m} {marks = marks0} {work = work0} before some last) =
       more m t marks0 marks work0 work (in_turn n n_is stands pending m marks0 work0 before) (omega arith) last
@@ -137,7 +153,7 @@ settling axes old new marks work base entry stands pending turns few =
     let none : so_far.waits ≡ [] = nil_from_length so_far.waits (omega arith) in
     record {
       effort = so_far.effort;
-      reinsertions = so_far.marked;
+      counts = so_far.counts;
       settles = record {
         count = so_far.count;
         none_waits = ap (λ (s : Standing). s.course.waiting) so_far.is ∙ none;
@@ -175,7 +191,7 @@ row_stands {D = D} before awaiting c whole idle awaits =
 record Ruled (axes K : ℕ) (old new : Tree) (row : Waiting) (work : Counts) : Type 0 where
   effort : Work
   settles : Settles axes K old row new effort
-  reinsertions : work.reinsertions ≡ marked_in axes K settles.count (start axes K old row)
+  counts : CountsAs work effort
 
 pub insertion : InsertionObeys
 insertion axes before awaiting after id rect marks work whole idle awaits turns none_waits =
@@ -187,7 +203,7 @@ insertion axes before awaiting after id rect marks work whole idle awaits turns 
     let tree : tree_in awaiting ≡ tree_in before = ap tree_in awaits.rest in
     let capacity : awaiting.capacity ≡ before.capacity = ap (λ (t : Arena axes). t.capacity) awaits.rest in
     let ruled : Ruled axes awaiting.capacity (tree_in awaiting) (tree_in after) row work
-    = record { effort = settled.effort; settles = settled.settles; reinsertions = settled.reinsertions } in
+    = record { effort = settled.effort; settles = settled.settles; counts = settled.counts } in
     let moved = subst (λ (k : ℕ). Ruled axes k (tree_in before) (tree_in after) row work) capacity
     (subst (λ (x : Tree). Ruled axes awaiting.capacity x (tree_in after) row work) tree ruled) in
-    record { effort = moved.effort; insertion = moved.settles; reinsertions = moved.reinsertions; whole = settled.whole; capacity = settled.capacity ∙ capacity }
+    record { effort = moved.effort; insertion = moved.settles; counts = moved.counts; whole = settled.whole; capacity = settled.capacity ∙ capacity }

@@ -1,5 +1,5 @@
 -- A placement follows the rules on nested trees.
-use Rattle.std.specs.Prelude.{◌≡◌, ℕ, zero, suc, ◌+◌, nat_lt, if◌then◌else◌, ℤ, List, [], ◌∷◌, ◌++◌, Some, None, length, reverse, All}
+use Rattle.std.specs.Prelude.{◌≡◌, ℕ, suc, ℤ, List, [], ◌∷◌, ◌++◌, Some, None, length, reverse, All}
 use Rattle.rt_box.specs.declared.interval.Interval.{Interval}
 use Rattle.rt_tree_node.specs.declared.arena.Arena.{Arena}
 use Rattle.rt_tree_node.specs.declared.arena.Work.{Work}
@@ -11,7 +11,7 @@ use Rattle.rt_tree_place.specs.Placement.{PlacesLast}
 use Rattle.rt_tree_place.specs.Turns.{PlacesInTurn}
 use Rattle.rt_tree_remove.specs.Removal.{RemovesInSteps}
 use Rattle.rt_tree_rules.specs.Nested.{Row, Waiting}
-use Rattle.rt_tree_rules.specs.Placing.{Work as Effort, Standing, insert_one, place, start, Settles, IsInsertion}
+use Rattle.rt_tree_rules.specs.Placing.{Work as Effort, insert_one, Settles, IsInsertion}
 use Rattle.rt_tree_rules.specs.Removing.{IsRemoval}
 use Rattle.rt_tree_rules.specs.Shadow.{nodes_in}
 use Rattle.rt_tree_outside.specs.Outside.{outside}
@@ -39,19 +39,17 @@ PlacingObeys = (axes : ℕ) (old new : Arena axes) (marks marks1 : ℕ) (work wo
     Stands old → PlacesLast old new marks marks1 work work1 → waiting_cells old ≡ base ++ reverse (entry ∷ rest) →
     Obeys old new base rest marks marks1 entry effort
 
-module _ (axes capacity : ℕ) where
-  -- how many of the first placings mark a level, as each does that inserts cells again
-  abbrev pub marked_in : ℕ → Standing → ℕ
-  marked_in zero s = 0
-  marked_in (suc n) s =
-      (if nat_lt s.course.marks (place axes capacity s).course.marks then 1 else 0) + marked_in n (place axes capacity s)
+-- the code counts as many placements and reinsertions as the rules; splits it counts by the nodes that they make
+pub record CountsAs (work : Work) (effort : Effort) : Type 0 where
+  pub placements : work.placements ≡ effort.placements
+  pub reinsertions : work.reinsertions ≡ effort.reinsertions
 
 module _ {D : ℕ} where
   -- the cell that was pending last is settled by the rules, and the others are pending still
   pub record Settled (old new : Arena D) (base : List Waiting) (entry : Waiting) (work : Work) : Type 0 where
     pub effort : Effort
     pub settles : Settles D old.capacity (tree_in old) entry (tree_in new) effort
-    pub reinsertions : work.reinsertions ≡ marked_in D old.capacity settles.count (start D old.capacity (tree_in old) entry)
+    pub counts : CountsAs work effort
     pub pending : waiting_cells new ≡ base
     pub whole : IsWhole new
     pub capacity : new.capacity ≡ old.capacity
@@ -63,12 +61,11 @@ SettlingObeys = (axes : ℕ) (old new : Arena axes) (marks : ℕ) (work : Work) 
     length new.pending.items ≡ length base →
     Settled old new base entry work
 
--- the tree after an insertion by the rules, of which as many placings mark a level as insert cells again
+-- the tree after an insertion by the rules, with that work
 pub record Inserted {axes : ℕ} (before after : Arena axes) (row : Row) (work : Work) : Type 0 where
   pub effort : Effort
   pub insertion : IsInsertion axes before.capacity (tree_in before) row (tree_in after) effort
-  pub reinsertions : work.reinsertions
-      ≡ marked_in axes before.capacity insertion.count (start axes before.capacity (tree_in before) record { level = 0; entry = row })
+  pub counts : CountsAs work effort
   pub whole : IsWhole after
   pub capacity : after.capacity ≡ before.capacity
 

@@ -2,8 +2,8 @@
 //! its cells name in the cells' place.
 //!
 //! A pending cell is placed as `insert_one` places its nested view, whatever else waits; so are all pending cells, one after
-//! the other, and so a row comes and goes. What is seen of an arena is what is seen of its nested tree. Of the `Work`
-//! that an insertion answers only the reinsertions are compared: each marks a level.
+//! the other, and so a row comes and goes. What is seen of an arena is what is seen of its nested tree. The code counts
+//! as many placements and reinsertions as the rules do.
 //!
 //! Each function does nothing: its contract is the law, over the steps that the contracts of `rt_tree_place` and
 //! `rt_tree_remove` tell. Definitions: `specs/View.antt` (the nested tree of an arena), `Laws.antt`.

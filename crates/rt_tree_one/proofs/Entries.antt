@@ -22,12 +22,12 @@ use Rattle.rt_tree_one.specs.Laws.{RowsAreDetermined}
 abbrev entry : ℤ → ℤ → RowEntry
 entry id leaf = record { id = id; leaf = leaf }
 
-append-none : {X : Type 0} (xs ys : List X) → xs ++ ys ≡ [] → (xs ≡ []) × (ys ≡ [])
+pub append-none : {X : Type 0} (xs ys : List X) → xs ++ ys ≡ [] → (xs ≡ []) × (ys ≡ [])
 append-none [] ys e = (refl, e)
 append-none (x ∷ xs) ys e = let none : ⊥ = cc in absurd none
 
 module _ {X : Type 0} where
-  abbrev Each : (X → Type 0) → List X → Type 0
+  abbrev pub Each : (X → Type 0) → List X → Type 0
   Each P [] = Unit {0}
   Each P (x ∷ xs) = P x × Each P xs
 
@@ -195,7 +195,7 @@ module _ {D : ℕ} where
     entry_is leaf None e = let none : ⊥ = cc in absurd none
     entry_is leaf (Some r) e = (r, refl, same_int r.leaf leaf e)
 
-    abbrev of_nodes : List Problem
+    abbrev pub of_nodes : List Problem
     of_nodes = root_problems s
         ++ node_problems HasPlace (has_place s) s.nodes
         ++ cell_problems NamesChild (λ n c. is_leaf n || names_child s n c) s.nodes

@@ -1,3 +1,4 @@
 pub mod Entries
+pub mod Filled
 pub mod Inserted
 pub mod Removed

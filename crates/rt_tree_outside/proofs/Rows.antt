@@ -23,7 +23,8 @@ use Rattle.rt_tree_node.proofs.Places.{leaf-at_leaf, leaf-at_inner}
 use Rattle.rt_tree_walk.specs.Search.{times}
 use Rattle.rt_tree_walk.specs.Preorder.{tree_keys, number_in}
 use Rattle.rt_tree_outside.specs.Outside.{cell_row, row_entry, rising, outside}
-use Rattle.rt_tree_outside.specs.InOrder.{AreByRisingId, row_cell, HasRows}
+use Rattle.rt_tree_outside.specs.InOrder.{AreByRisingId}
+use Rattle.rt_tree_outside.specs.LeafRows.{row_cell, HasRows}
 use Rattle.rt_tree_node.proofs.Sums.{upto-list}
 use Rattle.rt_tree_walk.proofs.Totals.{sum-listed}
 use Rattle.rt_tree_walk.proofs.Reaching.{leaf-level, All_contained}

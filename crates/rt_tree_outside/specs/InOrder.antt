@@ -1,16 +1,12 @@
 -- Shadows in preorder: a node is listed right before what is below it, cell by cell (Knuth, The Art of Computer Programming, volume 1, section 2.3.1).
-use Rattle.std.specs.Prelude.{◌≡◌, ℕ, zero, suc, ◌+◌, ◌<◌, ℤ, pos, List, [], ◌∷◌, length, slice_index_or, sum_by, count_by, Bool, ◌<ℤ◌}
+use Rattle.std.specs.Prelude.{◌≡◌, ℕ, zero, suc, ◌+◌, ◌<◌, ℤ, pos, List, [], ◌∷◌, length, slice_index_or, sum_by, ◌<ℤ◌}
 use Rattle.std.specs.List.{AllPairs}
 use Rattle.std.specs.Option.{option_map_or}
 use Rattle.rt_check.specs.declared.node.NodeRow.{NodeRow}
 use Rattle.rt_check.specs.declared.node.RawCell.{RawCell}
 use Rattle.rt_check.specs.declared.node.RowEntry.{RowEntry}
 use Rattle.rt_check.specs.Shadow.{ShadowLists}
-use Rattle.rt_check.specs.Conditions.{node_of, leaf_cells}
-use Rattle.rt_box.specs.Rect.{los, his}
-use Rattle.rt_tree_node.specs.declared.arena.Arena.{Arena}
-use Rattle.rt_tree_node.specs.declared.cell.Cell.{Cell}
-use Rattle.rt_tree_node.specs.Places.{count_rows}
+use Rattle.rt_check.specs.Conditions.{node_of}
 
 module _ {D : ℕ} where
   -- the cells of the node of that number
@@ -37,12 +33,3 @@ module _ {D : ℕ} where
 -- entries by rising id
 abbrev pub AreByRisingId : List RowEntry → Type 0
 AreByRisingId rows = AllPairs (λ r s. r.id <ℤ s.id) rows
-
-module _ {D : ℕ} where
-  -- a row as a cell
-  abbrev pub row_cell : Cell D → RawCell D
-  row_cell c = record { number = c.number; lo = los c.rect; hi = his c.rect }
-
-  -- the leaves' cells are the rows: for each test as many pass it
-  abbrev pub HasRows : ShadowLists D → Arena D → Type 0
-  HasRows s t = (test : RawCell D → Bool) → count_by test (leaf_cells s.nodes) ≡ count_rows (λ c. test (row_cell c)) t.nodes t.pending.items

@@ -5,7 +5,8 @@
 ghost use Rattle.std.specs.Prelude.{◌≡◌, []};
 ghost use Rattle.rt_check.specs.Conditions.{IsSound};
 ghost use Rattle.rt_tree_node.specs.Whole.{IsWhole, IsBranched};
-ghost use Rattle.rt_tree_outside.specs.InOrder.{IsPreorder, AreByRisingId, HasRows};
+ghost use Rattle.rt_tree_outside.specs.InOrder.{IsPreorder, AreByRisingId};
+ghost use Rattle.rt_tree_outside.specs.LeafRows.{HasRows};
 ghost use Rattle.rt_tree_outside.specs.Outside.{outside};
 
 use rt_tree_node::{Arena, leaves_facts};

@@ -7,7 +7,7 @@
 //! It asks for a whole tree without pending cells, and takes memory for what it returns and for lists of nodes.
 //!
 //! Stands on `rt_tree_walk` (the keys of the nodes in preorder), `rt_tree_node`, and `rt_check` for the tree from outside.
-//! Definitions: `specs/Outside.antt`, `InOrder.antt`.
+//! Definitions: `specs/Outside.antt`, `InOrder.antt`, `LeafRows.antt`.
 #![tactic(auto)]
 
 pub mod laws;

@@ -17,11 +17,12 @@ use Rattle.rt_tree_node.specs.Places.{key_of, leaf_part, cells_of, cells_at, par
 use Rattle.rt_tree_node.specs.Open.{IsOpen}
 use Rattle.rt_tree_node.specs.Sound.{IsLinked, IsFitted, HasHomes}
 use Rattle.rt_tree_node.specs.Whole.{IsWhole, HasRoom, most_rows_of_a_tree}
+use Rattle.rt_tree.specs.Bare.{IsBare}
 use Rattle.rt_tree_node.proofs.Places.{rows-joined}
 use Rattle.rt_tree_node.proofs.Fitted.{fitted-weaker}
 use Rattle.rt_tree_node.proofs.Many.{linked-reordered, fitted-reordered, homes-reordered}
 use Rattle.rt_tree_place.proofs.WayDown.{node-from_level, present}
-use Rattle.rt_tree_pack.specs.Packing.{IsBare, AreEntered, Packs}
+use Rattle.rt_tree_pack.specs.Packing.{AreEntered, Packs}
 use Rattle.rt_tree_pack.specs.Steps.{is_top, is_top_or, MayFill, Fills, IsBelowRoot, PacksUpTo, LiftsRoot, PacksBelow, HasRoomToPack}
 use Rattle.rt_tree_pack.proofs.Ready.{ready, ready-rows}
 use Rattle.rt_tree_pack.proofs.Lifted.{lifted, lifted-rows}

@@ -16,7 +16,8 @@ use Rattle.rt_tree_node.specs.Sound.{Names, IsLinked, HasHomes}
 use Rattle.rt_tree_node.specs.Open.{HasHull, IsFittedBut, IsOpen}
 use Rattle.rt_tree_node.proofs.Places.{nodes-joined, rows-joined, names_key, has_id}
 use Rattle.rt_tree_place.proofs.Sums.{sum-none}
-use Rattle.rt_tree_pack.specs.Packing.{IsBare, AreEntered}
+use Rattle.rt_tree.specs.Bare.{IsBare}
+use Rattle.rt_tree_pack.specs.Packing.{AreEntered}
 use Rattle.rt_tree_pack.specs.Steps.{is_top}
 
 module _ {D : ℕ} (t : Arena D) (rows : List (Cell D)) (bare : IsBare t) (entered : AreEntered t rows) where

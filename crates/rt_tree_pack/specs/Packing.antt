@@ -32,16 +32,6 @@ IsFaultOf ids TooMany = most_rows_of_a_tree < length ids
 IsFaultOf ids (Repeated at) = IsFirstRepeated ids at
 IsFaultOf ids Memory = Unit {0}
 
-module _ {D : ℕ} where
-  -- a tree without rows: its root is a leaf, and there is no other node
-  pub record IsBare (t : Arena D) : Type 0 where
-    pub cap : IsCapacity t.capacity
-    pub leaf : get t.nodes t.root ≡ Some record { level = 0; parent = None; cells = [] }
-    pub level : t.level ≡ 0
-    pub alone : (key : ℕ) → key ≢ t.root → get t.nodes key ≡ None
-    pub one : slab_len t.nodes ≡ 1
-    pub idle : t.pending.items ≡ []
-
 module _ {D : ℕ} {S : Type 0} where
   -- no id stands twice among the rows, and these ids have an entry, and no others
   abbrev pub HasEntries : IndexMap ℤ ℕ S → List (Cell D) → Type 0

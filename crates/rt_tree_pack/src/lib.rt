@@ -10,8 +10,8 @@
 //! 1997): sorted along the first axis and cut into slabs, and each slab along the next. No contract says so: of the
 //! order only that no cell comes or goes is proved.
 //!
-//! Stands on `rt_tree_node`, and on `rt_tree_place` (cells attached, and laws). Definitions: `specs/Packing.antt` (what packing comes
-//! to) and `Steps.antt` (its steps).
+//! Stands on `rt_tree_node`, on `rt_tree` (one without rows is filled), and on `rt_tree_place` (cells attached, and laws).
+//! Definitions: `specs/Packing.antt` (what packing comes to) and `Steps.antt` (its steps).
 #![tactic(auto)]
 
 mod entries;

@@ -2,7 +2,8 @@
 
 ghost use Rattle.std.specs.Prelude.{◌≡◌, ◌^◌, ◌<◌, ◌≤◌, [], length, OnOk, IfOk};
 ghost use Rattle.rt_tree_node.specs.Whole.{HasRoom, most_rows_of_a_tree};
-ghost use Rattle.rt_tree_pack.specs.Packing.{IsBare, AreEntered, Packs};
+ghost use Rattle.rt_tree.specs.Bare.{IsBare};
+ghost use Rattle.rt_tree_pack.specs.Packing.{AreEntered, Packs};
 ghost use Rattle.rt_tree_pack.specs.Steps.{PacksBelow};
 
 use crate::filling::fill;

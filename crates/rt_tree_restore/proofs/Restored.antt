@@ -13,9 +13,10 @@ use Rattle.rt_tree_node.specs.Places.{key_of, cells_of, cells_at, parent_at, pen
 use Rattle.rt_tree_node.specs.Open.{IsOpen}
 use Rattle.rt_tree_node.specs.Sound.{IsLinked, IsFitted, HasHomes}
 use Rattle.rt_tree_node.specs.Whole.{IsWhole}
+use Rattle.rt_tree.specs.Bare.{IsBare}
 use Rattle.rt_tree_node.proofs.Fitted.{fitted-weaker}
 use Rattle.rt_tree_place.proofs.WayDown.{node-from_level, present}
-use Rattle.rt_tree_pack.specs.Packing.{IsBare, AreEntered}
+use Rattle.rt_tree_pack.specs.Packing.{AreEntered}
 use Rattle.rt_tree_pack.specs.Steps.{is_top, is_top_or, MayFill, Fills, IsBelowRoot, LiftsRoot}
 use Rattle.rt_tree_pack.proofs.Ready.{ready, ready-rows}
 use Rattle.rt_tree_pack.proofs.Lifted.{lifted, lifted-rows}

@@ -1,7 +1,8 @@
 //! All levels of a tree.
 
 ghost use Rattle.std.specs.Prelude.{◌≡◌, ◌^◌, ◌<◌, ◌≤◌, true, IfOk};
-ghost use Rattle.rt_tree_pack.specs.Packing.{IsBare, AreEntered};
+ghost use Rattle.rt_tree.specs.Bare.{IsBare};
+ghost use Rattle.rt_tree_pack.specs.Packing.{AreEntered};
 ghost use Rattle.rt_tree_restore.specs.Restoring.{Restores};
 ghost use Rattle.rt_tree_restore.specs.Steps.{FitsRoot};
 

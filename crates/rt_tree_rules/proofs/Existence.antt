@@ -123,14 +123,14 @@ module _ (axes capacity : ℕ) (valid : IsCapacity capacity) where
     pub waiting : All FullWaiting b.course.waiting
     pub rows : load l b.node + load (suc l) b.beside + waits b.course.waiting ≤ load l node + waits old.waiting
 
-  same_boxes : (l : ℕ) (node : Node l) → length (boxes l node) ≡ length node
+  pub same_boxes : (l : ℕ) (node : Node l) → length (boxes l node) ≡ length node
   same_boxes l [] = refl
   same_boxes l (e ∷ node) = ap suc (same_boxes l node)
 
   same_positions : (l : ℕ) (node : Node l) → positions (boxes l node) ≡ positions node
   same_positions l node = ap (λ n. range_with_len 0 n) (same_boxes l node)
 
-  within : (l : ℕ) (node : Node l) (ps : List ℕ) → All (λ p. p < length (boxes l node)) ps → All (λ p. p < length node) ps
+  pub within : (l : ℕ) (node : Node l) (ps : List ℕ) → All (λ p. p < length (boxes l node)) ps → All (λ p. p < length node) ps
   within l node ps all = subst (λ (n : ℕ). All (λ p. p < n) ps) (same_boxes l node) all
 
   positions_within : (l : ℕ) (node : Node l) → All (λ p. p < length (boxes l node)) (positions (boxes l node))

@@ -90,7 +90,7 @@ module _ (D : ℕ) where
       let tail : a ≡ b = later.0 in
       (cc, later.1)
 
-  length_starts : (l number : ℕ) (a : List (Node l)) → length (map (child_cell {D = D} l) (starts (node_count l) number a)) ≡ length a
+  pub length_starts : (l number : ℕ) (a : List (Node l)) → length (map (child_cell {D = D} l) (starts (node_count l) number a)) ≡ length a
   length_starts l number [] = refl
   length_starts l number (x ∷ a) = let e = length_starts l (number + node_count l x) a in cc
 

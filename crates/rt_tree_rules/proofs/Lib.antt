@@ -3,3 +3,4 @@ pub mod Faithful
 pub mod Chosen
 pub mod Picks
 pub mod Existence
+pub mod Counted

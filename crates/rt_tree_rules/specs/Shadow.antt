@@ -1,5 +1,5 @@
 -- What the checker sees of a nested tree: its nodes in preorder, numbered from 1, and its row entries by rising id.
-use Rattle.std.specs.Prelude.{ℕ, zero, suc, ◌+◌, ℤ, pos, List, [], ◌∷◌, Option, None, Some, map, sum_by}
+use Rattle.std.specs.Prelude.{◌≡◌, ℕ, zero, suc, ◌+◌, ℤ, pos, List, [], ◌∷◌, Option, None, Some, map, sum_by}
 use Rattle.std.specs.List.{flat_map}
 use Rattle.std.specs.Ordering.{int_cmp}
 use Rattle.rt_box.specs.Rect.{los, his}
@@ -49,3 +49,7 @@ module _ {D : ℕ} where
     nodes = nodes_in tree.level 1 None tree.root;
     rows = sort_by (λ r s. int_cmp r.id s.id) (entries_in tree.level 1 tree.root);
   }
+
+  -- the root's number is 1, and the nodes that are listed are those of the nested tree
+  abbrev pub Shows : ShadowLists D → Tree → Type 0
+  Shows s tree = (s.root ≡ pos 1) × (s.nodes ≡ nodes_in tree.level 1 None tree.root)

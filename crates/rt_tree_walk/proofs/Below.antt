@@ -31,6 +31,10 @@ use Rattle.rt_tree_walk.proofs.Progress.{IsSettled}
 use Rattle.rt_tree_walk.proofs.Listed.{levels-below, listed-there, listed-once, contained-from_times}
 use Rattle.rt_tree_walk.specs.Rows.{rows_in}
 
+flat-flat : {X Y Z : Type 0} (f : Y → List Z) (g : X → List Y) (xs : List X) → flat_map f (flat_map g xs) ≡ flat_map (λ x. flat_map f (g x)) xs
+flat-flat f g [] = refl
+flat-flat f g (x ∷ xs) = flat_map-append f (g x) (flat_map g xs) ∙ ap (λ l. flat_map f (g x) ++ l) (flat-flat f g xs)
+
 module _ {D : ℕ} where
   abbrev pub leaf_rows : Slab (NodeCells D) → ℕ → List (Row D)
   leaf_rows a key = map row_of (leaf_cells_at a key)
@@ -42,6 +46,17 @@ module _ {D : ℕ} where
   -- a leaf's rows are its cells
   pub rows-leaf : (a : Slab (NodeCells D)) (k : ℕ) → level_at a k ≡ Some 0 → rows_under a 0 k ≡ map row_of (cells_at a k)
   rows-leaf a k at = append-nil (leaf_rows a k) ∙ ap (map row_of) (leaf-at_leaf a k at)
+
+  -- those of an inner node are its children's
+  pub rows-inner : (t : Arena D) (l k : ℕ) → level_at t.nodes k ≡ Some (suc l) →
+      rows_under t.nodes (suc l) k ≡ flat_map (λ c. rows_under t.nodes l (key_of c)) (cells_at t.nodes k)
+  rows-inner t l k at =
+      ap (λ cells. map row_of cells ++ flat_map (leaf_rows t.nodes) (flat_map (λ c. keys_in t.nodes l (key_of c)) (cells_at t.nodes k))) (leaf-at_inner t.nodes k l at)
+      ∙ flat-flat (leaf_rows t.nodes) (λ c. keys_in t.nodes l (key_of c)) (cells_at t.nodes k)
+
+  pub rows-none : (t : Arena D) (l k : ℕ) → level_at t.nodes k ≡ Some l → cells_at t.nodes k ≡ [] → rows_under t.nodes l k ≡ []
+  rows-none t zero k at e = rows-leaf t.nodes k at ∙ ap (map row_of) e
+  rows-none t (suc l) k at e = rows-inner t l k at ∙ ap (flat_map (λ c. rows_under t.nodes l (key_of c))) e
 
   -- ---- a node's box holds the rows below it
   module _ (t : Arena D) (s : IsSettled t) where

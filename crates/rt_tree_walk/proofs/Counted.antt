@@ -40,13 +40,13 @@ includes-decides : (i : Interval) (z : ℤ) → Decides (includes i z) (Includes
 unfolding includes
 includes-decides i z = Decides-and (int_le i.lo z) (int_le z i.hi) (int_le-true i.lo z, int_le-from i.lo z) (int_le-true z i.hi, int_le-from z i.hi)
 
-allowed : List Interval → List ℤ → Bool
+pub allowed : List Interval → List ℤ → Bool
 allowed [] [] = true
 allowed [] (z ∷ zs) = false
 allowed (i ∷ is) [] = false
 allowed (i ∷ is) (z ∷ zs) = includes i z && allowed is zs
 
-allowed-decides : (is : List Interval) (zs : List ℤ) → Decides (allowed is zs) (AllZip Includes is zs)
+pub allowed-decides : (is : List Interval) (zs : List ℤ) → Decides (allowed is zs) (AllZip Includes is zs)
 unfolding allowed
 allowed-decides [] [] = (λ e. tt, λ h. refl)
 allowed-decides [] (z ∷ zs) = (λ e. absurd (true≢false (sym e)), λ h. absurd h)
@@ -54,7 +54,7 @@ allowed-decides (i ∷ is) [] = (λ e. absurd (true≢false (sym e)), λ h. absu
 allowed-decides (i ∷ is) (z ∷ zs) = Decides-and (includes i z) (allowed is zs) (includes-decides i z) (allowed-decides is zs)
 
 -- ---- lists and the keys in them
-count-all : {X : Type 0} (test : X → Bool) (xs : List X) → All (λ x. test x ≡ true) xs → count_by test xs ≡ length xs
+pub count-all : {X : Type 0} (test : X → Bool) (xs : List X) → All (λ x. test x ≡ true) xs → count_by test xs ≡ length xs
 count-all test [] all = refl
 count-all test (x ∷ xs) all =
     let here : ◌≡◌ {A = ℕ} (cond (test x) 1 0) 1 = ap (λ b. cond b 1 0) (All-head (λ y. test y ≡ true) x xs all) in

@@ -51,6 +51,15 @@ module _ {D : ℕ} (a : Slab (NodeCells D)) (window : List Interval) where
   counting-dropped key n count keys keys1 went h =
       record { rows_are = went.rows_are; children_are = TakesChildren-dropped window (inner_cells_at a key) n keys keys1 went.children_are h }
 
+-- a leaf's rows are taken, and no children
+pub visits-leaf : {D : ℕ} (a : Slab (NodeCells D)) (window : List Interval) (key : ℕ) (n : NodeCells D) → get a key ≡ Some n → n.level ≡ 0 →
+    (old new : List (Row D)) (keys : List ℕ) → TakesRows window n.cells old new → Visits a window key old new keys keys
+visits-leaf a window key n here leaf old new keys takes = record {
+  rows_are = subst (λ (cells : List (Cell _)). TakesRows window cells old new) (sym (ap leaf_cells_of here ∙ ap (λ l. leaf_part l n.cells) leaf)) takes;
+  children_are = subst (λ (cells : List (Cell _)). TakesChildren window cells keys keys) (sym (ap inner_cells_of here ∙ ap (λ l. inner_part l n.cells) leaf))
+      (TakesChildren-none window keys);
+}
+
 module _ {D : ℕ} (a : Slab (NodeCells D)) (window : List Interval) (key : ℕ) (n : NodeCells D) (here : get a key ≡ Some n) (leaf : n.level ≡ 0)
     (all : All (λ c. Admits window c.rect) (cells_at a key)) where
   all-rows : (old new : List (Row D)) → new ≡ old ++ map row_of n.cells → TakesRows window (leaf_cells_at a key) old new

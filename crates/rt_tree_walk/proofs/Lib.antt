@@ -7,6 +7,7 @@ pub mod Inside
 pub mod Due
 pub mod Counted
 pub mod Listed
+pub mod Fitting
 pub mod Below
 pub mod Ints
 pub mod Judging

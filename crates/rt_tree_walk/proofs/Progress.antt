@@ -69,7 +69,7 @@ module _ {D : ℕ} where
       linked = settled-linked t s
 
   -- each node reached has a level
-  reached-level : (t : Arena D) (window : List Interval) → IsLinked t.nodes t.root t.level [] → (k : ℕ) → IsReached t window k →
+  pub reached-level : (t : Arena D) (window : List Interval) → IsLinked t.nodes t.root t.level [] → (k : ℕ) → IsReached t window k →
       (l : ℕ) × (level_at t.nodes k ≡ Some l)
   reached-level t window linked k IsReached.root = (t.level, linked.root_level)
   reached-level t window linked k (IsReached.child {key = key} l up lev leads) =
@@ -88,6 +88,16 @@ module _ {D : ℕ} where
     | inl h ↦ h
     | inr past ↦ absurd (none-some l (sym (ap level_of (get_or_past a.slots k None past)) ∙ lev))
   ]
+
+  -- listed keys at which there are nodes, counted
+  pub occupied : (a : Slab (NodeCells D)) (xs : List ℕ) → ((k : ℕ) → 0 < times k xs → is_some (get a k) ≡ true) →
+      sum_by (λ k. cond (is_some (get a k)) 1 0) xs ≡ length xs
+  occupied a [] all = refl
+  occupied a (x ∷ xs) all =
+      let one = sum_by-cons (λ k. cond (is_some (get a k)) 1 0) x xs in
+      let here : ◌≡◌ {A = ℕ} (cond (is_some (get a x)) 1 0) 1 =
+      ap (λ b. cond b 1 0) (all x (omega (arith, times-append x (x ∷ []) xs, times-one x x refl))) in
+      omega (arith, one, here, occupied a xs (λ k some. all k (omega (arith, times-append k (x ∷ []) xs))))
 
   -- ---- one node more
   module _ (t : Arena D) (window : List Interval) (s : IsSettled t) (keys rest : List ℕ) (key : ℕ) (rows : List (Row D)) (visited : ℕ)
@@ -117,7 +127,7 @@ module _ {D : ℕ} where
           arith,
           bound,
           upto-le f few (length t.nodes.slots),
-          occupied xs (λ k some.
+          occupied t.nodes xs (λ k some.
               let h = reached-level t window link k (so.reached k (omega (arith, times-append k so.seen (key ∷ []), keys-split k))) in level-some t.nodes k h.0 h.1),
           length_push so.seen key,
           so.counted,
@@ -126,15 +136,6 @@ module _ {D : ℕ} where
         at_most : (b : Bool) → cond b 1 0 ≤ 1
         at_most true = omega arith
         at_most false = omega arith
-
-        occupied : (xs : List ℕ) → ((k : ℕ) → 0 < times k xs → is_some (get t.nodes k) ≡ true) →
-            sum_by (λ k. cond (is_some (get t.nodes k)) 1 0) xs ≡ length xs
-        occupied [] all = refl
-        occupied (x ∷ xs) all =
-            let a = sum_by-cons (λ k. cond (is_some (get t.nodes k)) 1 0) x xs in
-            let b : ◌≡◌ {A = ℕ} (cond (is_some (get t.nodes x)) 1 0) 1 =
-            ap (λ b. cond b 1 0) (all x (omega (arith, times-append x (x ∷ []) xs, times-one x x refl))) in
-            omega (arith, a, b, occupied xs (λ k some. all k (omega (arith, times-append k (x ∷ []) xs))))
 
     module _ (rows1 : List (Row D)) (keys1 : List ℕ) (went : Visits t.nodes window key rows rows1 rest keys1) where
       abbrev more : List ℕ
@@ -303,11 +304,10 @@ module _ {D : ℕ} where
     pub next-few : at < length t.nodes.slots
     next-few = visited-few t window s (drop at (keys_of reached)) (drop (at + 1) (keys_of reached)) next.key so.more at so.so first
 
-    pub After-next : (rows1 : List (Row D)) (reached1 : List Reached) (query : List Interval) → query ≡ window →
-        Visits t.nodes query next.key rows rows1 (keys_of reached) (keys_of reached1) →
-        ProgressAfter t window (drop (at + 1) (keys_of reached1)) old rows1 (at + 1)
-    After-next rows1 reached1 query e went =
-        After-step t window s (drop at (keys_of reached)) (drop (at + 1) (keys_of reached)) next.key old rows at so first rows1 (drop (at + 1) (keys_of reached1))
-        (visits-dropped t.nodes window next.key (at + 1) rows rows1 (keys_of reached) (keys_of reached1)
-        (subst (λ (w : List Interval). Visits t.nodes w next.key rows rows1 (keys_of reached) (keys_of reached1)) e went)
+    pub After-next : (rows1 : List (Row D)) (keys1 : List ℕ) (query : List Interval) → query ≡ window →
+        Visits t.nodes query next.key rows rows1 (keys_of reached) keys1 → ProgressAfter t window (drop (at + 1) keys1) old rows1 (at + 1)
+    After-next rows1 keys1 query e went =
+        After-step t window s (drop at (keys_of reached)) (drop (at + 1) (keys_of reached)) next.key old rows at so first rows1 (drop (at + 1) keys1)
+        (visits-dropped t.nodes window next.key (at + 1) rows rows1 (keys_of reached) keys1
+        (subst (λ (w : List Interval). Visits t.nodes w next.key rows rows1 (keys_of reached) keys1) e went)
         (omega (arith, below, length-map reached (λ (d : Reached). d.key))))

@@ -1,10 +1,13 @@
 -- Searches by windows (Guttman 1984, section 3.1: a search descends into each child whose rectangle may hold what it looks for).
-use Rattle.std.specs.Prelude.{◌≡◌, ℕ, suc, ◌<◌, Bool, true, List, ◌++◌, length, Some, All, count_by, nat_eq, Contains}
+use Rattle.std.specs.Prelude.{◌≡◌, ℕ, suc, ◌+◌, ◌<◌, ◌≤◌, Bool, true, List, ◌++◌, length, Some, All, count_by, nat_eq, Contains, Vec, vec_capacity}
+use Rattle.std.specs.declared.alloc.Global.{Global}
+use Rattle.slab.specs.Slab.{slab_len}
 use Rattle.rt_box.specs.declared.interval.Interval.{Interval}
 use Rattle.rt_box.specs.Window.{Admits, MayHold}
 use Rattle.rt_tree_node.specs.declared.arena.Arena.{Arena}
 use Rattle.rt_tree_node.specs.declared.cell.Cell.{Cell}
 use Rattle.rt_tree_node.specs.Places.{key_of, cells_at, level_at, count_rows}
+use Rattle.rt_tree_walk.specs.declared.searching.Reached.{Reached}
 use Rattle.rt_tree_walk.specs.declared.searching.Row.{Row}
 
 -- how often the key is listed
@@ -58,3 +61,10 @@ module _ {D : ℕ} where
   -- the rows that a list held are the first ones
   abbrev pub StaysInFront : List (Row D) → List (Row D) → Type 0
   StaysInFront old new = (more : List (Row D)) × (new ≡ old ++ more)
+
+  -- the lists have room for the rows that the window admits, and for all nodes
+  pub record HasRoomToFind (t : Arena D) (window : List Interval) (rows : Vec (Row D) Global) (reached : Vec Reached Global) : Type 0 where
+    pub count : ℕ
+    pub counts : Counts t window count
+    pub rows_fit : length rows.items + count ≤ vec_capacity rows
+    pub nodes_fit : slab_len t.nodes ≤ vec_capacity reached

@@ -1,6 +1,6 @@
 -- What a search takes from one node.
-use Rattle.std.specs.Prelude.{◌≡◌, ℕ, ◌/◌, ◌%◌, ◌==◌, ◌≤◌, ◌<◌, Bool, true, if◌then◌else◌, Contains, List, [], ◌∷◌, ◌++◌, length, map, All, count_by}
-use Rattle.std.specs.Prelude.{Vec}
+use Rattle.std.specs.Prelude.{◌≡◌, ◌⊎◌, ℕ, ◌/◌, ◌%◌, ◌==◌, ◌≤◌, ◌<◌, Bool, true, if◌then◌else◌, Contains, List, [], ◌∷◌, ◌++◌, length, map, All, count_by}
+use Rattle.std.specs.Prelude.{Vec, vec_capacity}
 use Rattle.std.specs.declared.alloc.Global.{Global}
 use Rattle.slab.specs.Slab.{Slab}
 use Rattle.rt_box.specs.declared.interval.Interval.{Interval}
@@ -97,3 +97,23 @@ module _ {D : ℕ} where
   abbrev pub GoesIntoCounting : Arena D → Query D → Reached → ℕ → Vec Reached Global → Vec Reached Global → Type 0
   GoesIntoCounting t query next count old new =
       VisitsCounting t.nodes query.window next.key count (keys_of old.items) (keys_of new.items)
+
+  -- ---- what doesn't fit
+  -- a list has no room for the rows of those cells that the window admits
+  pub record LacksRows (window : List Interval) (cells : List (Cell D)) (rows : Vec (Row D) Global) : Type 0 where
+    pub rows1 : List (Row D)
+    pub takes : TakesRows window cells rows.items rows1
+    pub full : vec_capacity rows < length rows1
+
+  -- a list has no room for the children that the query reaches
+  pub record LacksNodes (query : Query D) (cells : List (Cell D)) (reached : Vec Reached Global) : Type 0 where
+    pub keys1 : List ℕ
+    pub takes : TakesChildren query.window cells (keys_of reached.items) keys1
+    pub full : vec_capacity reached < length keys1
+
+  -- one of the lists has no room for what they would hold after the visit
+  pub record LacksRoom (t : Arena D) (query : Query D) (next : Reached) (rows : Vec (Row D) Global) (reached : Vec Reached Global) : Type 0 where
+    pub rows1 : List (Row D)
+    pub keys1 : List ℕ
+    pub went : Visits t.nodes query.window next.key rows.items rows1 (keys_of reached.items) keys1
+    pub full : (vec_capacity rows < length rows1) ⊎ (vec_capacity reached < length keys1)

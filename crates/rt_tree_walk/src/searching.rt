@@ -5,15 +5,15 @@
 //! children by its reach. Tests without branches are there for speed alone, and so are `ahead` and the mark of a node
 //! (`specs/Search.antt`).
 
-ghost use Rattle.std.specs.Prelude.{◌≡◌, ◌^◌, ◌≤◌, ◌<◌, ◌++◌, [], true, false, All, length, map, List, IfOk, OnOk, OnErr};
+ghost use Rattle.std.specs.Prelude.{◌≡◌, ◌+◌, ◌^◌, ◌≤◌, ◌<◌, ◌++◌, [], true, false, All, length, map, List, IsOk, IfOk, OnOk, OnErr, vec_len, vec_capacity};
 ghost use Rattle.rt_box.specs.declared.interval.Interval.{Interval};
 ghost use Rattle.slab.specs.Slab.{ContainsKey};
 ghost use Rattle.rt_box.specs.Capacity.{most_cells};
 ghost use Rattle.rt_box.specs.Window.{Admits, AdmitsWithin, IsReach};
 ghost use Rattle.rt_tree_node.specs.Whole.{IsWhole};
 ghost use Rattle.rt_tree_node.specs.Places.{key_of};
-ghost use Rattle.rt_tree_walk.specs.Search.{row_of, Finds, FindsAfter, StaysInFront};
-ghost use Rattle.rt_tree_walk.specs.Visits.{picked, picked_keys, IsQuery, MarkHolds, TakesRows, Marks, AppendsKeys, ReachesChildren, MarksChildren, GoesInto};
+ghost use Rattle.rt_tree_walk.specs.Search.{row_of, Finds, FindsAfter, StaysInFront, HasRoomToFind};
+ghost use Rattle.rt_tree_walk.specs.Visits.{picked, picked_keys, IsQuery, MarkHolds, TakesRows, Marks, AppendsKeys, ReachesChildren, MarksChildren, GoesInto, LacksRows, LacksNodes, LacksRoom};
 
 use crate::ahead::{LookAhead, Need};
 use rt_box::{Rect, Window};
@@ -75,9 +75,10 @@ impl<const D: usize> Query<D> {
     }
 }
 
-/// A node that a search reaches, and goes into when its turn comes.
-#[derive(Clone, Copy)]
-pub(crate) struct Reached {
+/// A node that a search reaches, and goes into when its turn comes. It tells nothing to others: they keep a list of such nodes
+/// for a search.
+#[derive(Clone, Copy, Debug)]
+pub struct Reached {
     pub(crate) key: Key,
     /// Whether it is known that the window admits each box that lies in the node's.
     pub(crate) is_inside: bool,
@@ -128,6 +129,8 @@ fn push_rows<const D: usize>(
     requires { bits < 2 ^ length leaf.now.cells }
     ensures ok { OnOk result (rows.new.items ≡ rows.old.items ++ map row_of (picked leaf.now.cells bits)) }
     ensures err { OnErr result (rows.new.items ≡ rows.old.items) }
+    ensures full { OnErr result (vec_capacity rows.old < vec_len rows.old + length (picked leaf.now.cells bits)) }
+    ensures capacity { vec_capacity rows.old ≤ vec_capacity rows.new }
 {
     leaf.facts();
     rows.reserve(bits.count_ones() as usize)?;
@@ -155,23 +158,21 @@ fn take_few<const D: usize>(
 ) -> Result<(), AllocError>
     ensures ok { OnOk result (TakesRows window.now leaf.now.cells rows.old.items rows.new.items) }
     ensures err { OnErr result (rows.new.items ≡ rows.old.items) }
+    ensures full { OnErr result (LacksRows window.now leaf.now.cells rows.old) }
+    ensures capacity { vec_capacity rows.old ≤ vec_capacity rows.new }
 {
     let bits = window.admitted(boxes_of(leaf));
     push_rows(rows, leaf, bits)
 }
 
-/// Takes the rows of a leaf that the window admits. It suits leaves of which it admits many: each row is appended at once,
-/// and taken back if the window refuses it.
+/// Takes the rows of a leaf that the window admits, into a list that has room for all of them. It suits leaves of which it
+/// admits many: each row is appended at once, and taken back if the window refuses it.
 #[inline(never)]
-fn take_many<const D: usize>(
-    rows: &mut Vec<Row<D>>,
-    leaf: &Node<D>,
-    window: &Window<D>,
-) -> Result<(), AllocError>
-    ensures ok { OnOk result (TakesRows window.now leaf.now.cells rows.old.items rows.new.items) }
-    ensures err { OnErr result (rows.new.items ≡ rows.old.items) }
+fn take_many<const D: usize>(rows: &mut Vec<Row<D>>, leaf: &Node<D>, window: &Window<D>)
+    requires room { vec_len rows.old + length leaf.now.cells ≤ vec_capacity rows.old }
+    ensures rows { TakesRows window.now leaf.now.cells rows.old.items rows.new.items }
+    ensures capacity { vec_capacity rows.old ≤ vec_capacity rows.new }
 {
-    rows.reserve(leaf.len())?;
     let alloc = *rows.allocator();
     let mut list = mem::replace(rows, Vec::new(alloc));
     let (boxes, window) = (leaf.boxes(), *window);
@@ -185,7 +186,6 @@ fn take_many<const D: usize>(
         }
     }
     *rows = list;
-    Ok(())
 }
 
 /// Takes all rows of a leaf.
@@ -193,6 +193,8 @@ fn take_many<const D: usize>(
 fn take_all<const D: usize>(rows: &mut Vec<Row<D>>, leaf: &Node<D>) -> Result<(), AllocError>
     ensures ok { OnOk result (rows.new.items ≡ rows.old.items ++ map row_of leaf.now.cells) }
     ensures err { OnErr result (rows.new.items ≡ rows.old.items) }
+    ensures full { OnErr result (vec_capacity rows.old < vec_len rows.old + length leaf.now.cells) }
+    ensures capacity { vec_capacity rows.old ≤ vec_capacity rows.new }
 {
     rows.reserve(leaf.len())?;
     let alloc = *rows.allocator();
@@ -205,7 +207,8 @@ fn take_all<const D: usize>(rows: &mut Vec<Row<D>>, leaf: &Node<D>) -> Result<()
     Ok(())
 }
 
-/// Takes the rows of a leaf that the window admits. A search whose list holds many is likely to find many more.
+/// Takes the rows of a leaf that the window admits. A search whose list holds many is likely to find many more. It asks for no
+/// more room than what it finds needs.
 fn take_rows<const D: usize>(
     rows: &mut Vec<Row<D>>,
     leaf: &Node<D>,
@@ -213,11 +216,14 @@ fn take_rows<const D: usize>(
 ) -> Result<(), AllocError>
     ensures ok { OnOk result (TakesRows window.now leaf.now.cells rows.old.items rows.new.items) }
     ensures err { OnErr result (rows.new.items ≡ rows.old.items) }
+    ensures full { OnErr result (LacksRows window.now leaf.now.cells rows.old) }
+    ensures capacity { vec_capacity rows.old ≤ vec_capacity rows.new }
 {
-    if rows.len() < MANY_ROWS {
+    if rows.len() < MANY_ROWS || rows.capacity() - rows.len() < leaf.len() {
         return take_few(rows, leaf, window);
     }
-    take_many(rows, leaf, window)
+    take_many(rows, leaf, window);
+    Ok(())
 }
 
 /// Whether the window is known to admit each box that lies in this one. If `asks` isn't set, nothing is known.
@@ -242,6 +248,8 @@ fn push_children<const D: usize>(
     requires within { bits < 2 ^ length node.now.cells }
     ensures keys { OnOk result (AppendsKeys (picked_keys node.now.cells bits) reached.old reached.new) }
     ensures marks { OnOk result (Marks query.now.window node.now.cells reached.old.items reached.new.items) }
+    ensures full { OnErr result (vec_capacity reached.old < vec_len reached.old + length (picked node.now.cells bits)) }
+    ensures capacity { vec_capacity reached.old ≤ vec_capacity reached.new }
 {
     node.facts();
     let count = bits.count_ones() as usize;
@@ -273,6 +281,8 @@ pub(crate) fn take_children<const D: usize>(
     requires { IsQuery query.now }
     ensures children { OnOk result (ReachesChildren query.now node.now.cells reached.old reached.new) }
     ensures marks { OnOk result (Marks query.now.window node.now.cells reached.old.items reached.new.items) }
+    ensures full { OnErr result (LacksNodes query.now node.now.cells reached.old) }
+    ensures capacity { vec_capacity reached.old ≤ vec_capacity reached.new }
 {
     let bits = query.reach.admitted(boxes_of(node));
     push_children(reached, node, bits, query)
@@ -297,6 +307,9 @@ fn visit<const D: usize>(
     ensures ok { OnOk result (GoesInto tree.now query.now next rows.old rows.new reached.old reached.new) }
     ensures marks { OnOk result (MarksChildren tree.now query.now next reached.old reached.new) }
     ensures err { OnErr result (rows.new.items ≡ rows.old.items) }
+    ensures full { OnErr result (LacksRoom tree.now query.now next rows.old reached.old) }
+    ensures rows_capacity { vec_capacity rows.old ≤ vec_capacity rows.new }
+    ensures nodes_capacity { vec_capacity reached.old ≤ vec_capacity reached.new }
 {
     let node = node_at(&tree.nodes, next.key);
     if node.level() > 0 {
@@ -308,43 +321,48 @@ fn visit<const D: usize>(
     take_rows(rows, node, &query.window)
 }
 
-/// Appends the rows whose boxes the window admits, and returns the number of nodes that the search went into. A list that
-/// is kept between searches asks for memory only a few times.
+/// Appends the rows whose boxes the window admits, and returns the number of nodes that the search went into. What `reached`
+/// held is dropped. Both lists keep their memory, so searches that share them ask for some only a few times.
 ///
 /// The search goes into the root, and from a node into each child in whose box one may lie that the
 /// window admits.
 ///
 /// # Errors
 ///
-/// `AllocError` if no memory is left for the rows found, or for the list of the nodes reached: 16 bytes a node. Some of the
-/// rows that were found may then stand in the list.
+/// `AllocError` if no memory is left for the rows found, or for the nodes reached: 16 bytes a node. Some of the rows that were
+/// found may then stand in the list. If `rows` has room for the rows found, and `reached` for the nodes of the tree, the search
+/// doesn't fail.
 pub fn search_into<const D: usize>(
-    alloc: Global,
     tree: &Arena<D>,
     window: &Window<D>,
     rows: &mut Vec<Row<D>>,
+    reached: &mut Vec<Reached>,
 ) -> Result<u64, AllocError>
     requires whole { IsWhole tree.now }
     requires settled { tree.now.pending.items ≡ [] }
     requires few { D ≤ 3 }
     ensures ok { IfOk result (λ visited. FindsAfter tree.now window.now rows.old.items rows.new.items visited) }
     ensures err { OnErr result (StaysInFront rows.old.items rows.new.items) }
+    ensures succeeds { HasRoomToFind tree.now window.now rows.old reached.old → IsOk result }
+    ensures rows_capacity { vec_capacity rows.old ≤ vec_capacity rows.new }
+    ensures nodes_capacity { vec_capacity reached.old ≤ vec_capacity reached.new }
 {
-    let mut reached = Vec::with_capacity(alloc, REACHED_ROOM)?;
-    reached.push(Reached::root(tree))?;
     slab_facts(&tree.nodes);
+    reached.clear();
+    reached.reserve(tree.nodes.len().min(REACHED_ROOM))?;
+    reached.push(Reached::root(tree))?;
     let (query, mut ahead) = (Query::new(window), LookAhead::new(tree, Need::Rows));
     let mut visited = 0;
     while visited < reached.len() {
-        ahead.look(tree, &reached, visited);
+        ahead.look(tree, reached.as_slice(), visited);
         let next = reached[visited];
-        visit(rows, &mut reached, tree, next, &query)?;
+        visit(rows, reached, tree, next, &query)?;
         visited += 1;
     }
     Ok(visited as u64)
 }
 
-/// Finds the rows whose boxes the window admits, each once, in no stated order: `search_into` a list of its own.
+/// Finds the rows whose boxes the window admits, each once, in no stated order: `search_into` lists of its own.
 ///
 /// # Errors
 ///
@@ -360,6 +378,7 @@ pub fn search<const D: usize>(
     ensures { IfOk result (λ found. Finds tree.now window.now found.rows.items found.visited) }
 {
     let mut rows = Vec::with_capacity(alloc, FIRST_ROOM)?;
-    let visited = search_into(alloc, tree, window, &mut rows)?;
+    let mut reached = Vec::new(alloc);
+    let visited = search_into(tree, window, &mut rows, &mut reached)?;
     Ok(Found { rows, visited })
 }

@@ -2,6 +2,7 @@
 
 use rt_box::{Capacity, Rect};
 use rt_live::{Kind, Live};
+use rt_map::join;
 use std::alloc::Global;
 use std::hash::RandomState;
 use std::process::Abort;
@@ -63,11 +64,7 @@ fn expect_seen(
     copy: &mut Vec<(i64, i64)>,
 ) -> Result<(), Fail> {
     let mut seen = Vec::new(rt.alloc());
-    for pair in live
-        .windows_tree()
-        .join(rt.alloc(), live.rows_tree())?
-        .iter()
-    {
+    for pair in join(rt.alloc(), live.windows_tree(), live.rows_tree())?.iter() {
         seen.push((pair.left, pair.right))?;
     }
     seen.sort()?;

@@ -3,6 +3,7 @@
 
 use crate::rows::{insert_reserved, remove};
 use rt_box::{Capacity, Rect, Window};
+use rt_map::nearest;
 use rt_tree::Tree;
 use std::hash::RandomState;
 use std::process::Abort;
@@ -22,20 +23,20 @@ fn expect_rows(rt: &impl Abort, tree: &Tree<2>, rows: i64) {
     assert!(rt; i64::try_from(tree.len()) == Ok(rows));
 }
 
-/// Searches into a list, counts and looks for the nearest row; a list that is kept keeps its prefix after a refusal.
+/// Searches into lists, counts and looks for the nearest row; a list that is kept keeps its prefix after a refusal.
 fn find(rt: &(impl Abort + AllocGlobal), tree: &Tree<2>) {
     let window = Window::all();
     if let Ok(count) = tree.count(rt.alloc(), &window) {
         assert!(rt; count == tree.len());
     }
-    let mut rows = Vec::new(rt.alloc());
+    let (mut rows, mut reached) = (Vec::new(rt.alloc()), Vec::new(rt.alloc()));
     for turn in 1..=2usize {
         let before = rows.len();
-        let is_found = tree.search_into(rt.alloc(), &window, &mut rows).is_ok();
+        let is_found = tree.search_into(&window, &mut rows, &mut reached).is_ok();
         assert!(rt; rows.len() >= before, "{turn}");
         assert!(rt; !is_found || rows.len() == before.wrapping_add(tree.len()));
     }
-    if let Ok(nearest) = tree.nearest(rt.alloc(), &[37, 53], 1) {
+    if let Ok(nearest) = nearest(rt.alloc(), &tree, &[37, 53], 1) {
         // Row 1 begins there.
         let id = nearest.first().map(|row| row.id);
         assert!(rt; id == tree.contains(&1).then_some(1));

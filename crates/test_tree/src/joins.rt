@@ -5,6 +5,7 @@
 use crate::rows::insert;
 use crate::searches::rect;
 use rt_box::{Capacity, Rect};
+use rt_map::join;
 use rt_tree::Tree;
 use std::alloc::Global;
 use std::hash::RandomState;
@@ -47,7 +48,7 @@ fn expect_join(
         }
     }
     let mut found = Vec::new(rt.alloc());
-    for pair in left.join(rt.alloc(), right)?.iter() {
+    for pair in join(rt.alloc(), left, right)?.iter() {
         found.push((pair.left, pair.right))?;
     }
     found.sort()?;

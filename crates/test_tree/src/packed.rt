@@ -5,7 +5,8 @@ ghost use Rattle.std.specs.Prelude.{◌≤◌};
 use rt_box::{Capacity, Rect};
 use rt_bytes::Sink;
 use rt_check_dump::{AnyShadow, write_dump};
-use rt_tree::{PackFault, Row, Tree};
+use rt_map::{PackFault, from_rows};
+use rt_tree::{Row, Tree};
 use std::alloc::Global;
 use std::hash::RandomState;
 use std::process::Abort;
@@ -77,7 +78,7 @@ fn packed<const D: usize>(
             rect: rect(id)?,
         })?;
     }
-    match Tree::from_rows(alloc, keys, capacity, &rows) {
+    match from_rows(alloc, keys, capacity, &rows) {
         Ok(tree) => Ok(tree),
         Err(_) => Err(Fail::from("no tree")),
     }
@@ -95,7 +96,7 @@ fn thirteen_points_make_three_leaves(rt: HostRuntime) -> Result<(), Fail> {
             rect: Rect::new([at], [at]).ok_or("no box")?,
         })?;
     }
-    let Ok(tree) = Tree::from_rows(rt.alloc(), keys, capacity, &rows) else {
+    let Ok(tree) = from_rows(rt.alloc(), keys, capacity, &rows) else {
         return Err(Fail::from("no tree"));
     };
     let mut sink = Sink::new(rt.alloc());
@@ -148,7 +149,7 @@ fn the_first_repeated_id_is_named(rt: HostRuntime) -> Result<(), Fail> {
             rect: rect::<2>(id)?,
         })?;
     }
-    let fault = Tree::from_rows(rt.alloc(), keys, capacity, &rows).err();
+    let fault = from_rows(rt.alloc(), keys, capacity, &rows).err();
     assert!(rt; fault == Some(PackFault::Repeated { at: 3 }));
     Ok(())
 }

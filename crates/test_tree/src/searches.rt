@@ -2,8 +2,11 @@
 //!
 //! The boxes have three axes, and ends of 32 bits among their coordinates; many are equally far from a point.
 
+ghost use Rattle.std.specs.Prelude.{◌<◌};
+
 use crate::rows::insert;
 use rt_box::{Capacity, Operator, Rect, Window};
+use rt_map::nearest;
 use rt_tree::Tree;
 use std::alloc::Global;
 use std::hash::RandomState;
@@ -76,7 +79,7 @@ fn expect_nearest(
     k: usize,
 ) -> Result<(), Fail> {
     let wanted = plainly_nearest(rt.alloc(), point, k)?;
-    let rows = tree.nearest(rt.alloc(), point, k)?;
+    let rows = nearest(rt.alloc(), tree, point, k)?;
     assert!(rt; rows.len() == wanted.len());
     for (row, (away, id)) in rows.iter().zip(wanted.iter()) {
         assert!(rt; row.id == *id);
@@ -121,6 +124,55 @@ fn a_count_is_that_of_a_plain_list(rt: HostRuntime) -> Result<(), Fail> {
         }
         let count = tree.count(rt.alloc(), &window)?;
         assert!(rt; count == wanted);
+    }
+    Ok(())
+}
+
+/// Whether the comparison holds of the box's coordinate: of `lo` on the first axis, of `hi` on it, of `lo` on the second axis
+/// and so on.
+fn keeps(rect: &Rect<3>, coordinate: usize, is_least: bool, value: i32) -> bool
+    requires { coordinate < 6 }
+{
+    let axis = coordinate / 2;
+    let end = if coordinate % 2 == 0 {
+        rect.lo()[axis]
+    } else {
+        rect.hi()[axis]
+    };
+    if is_least { end >= value } else { end <= value }
+}
+
+fn expect_count(
+    rt: &(impl Abort + AllocGlobal),
+    tree: &Tree<3>,
+    coordinate: usize,
+    is_least: bool,
+    value: i32,
+) -> Result<(), Fail>
+    requires { coordinate < 6 }
+{
+    let op = if is_least { Operator::Ge } else { Operator::Le };
+    let mut window = Window::<3>::all();
+    window.narrow(coordinate, op, i64::from(value));
+    let mut wanted = 0usize;
+    for id in 0..ROWS {
+        if keeps(&rect(id)?, coordinate, is_least, value) {
+            wanted = wanted.wrapping_add(1);
+        }
+    }
+    assert!(rt; tree.count(rt.alloc(), &window)? == wanted);
+    Ok(())
+}
+
+/// All rows lie in some of these windows, and in others the box around them does, but not each row.
+#[test]
+fn a_count_of_most_rows_is_that_of_a_plain_list(rt: HostRuntime) -> Result<(), Fail> {
+    let tree = tree_of_all(rt.alloc(), RandomState::new(&rt)?)?;
+    for coordinate in 0..6 {
+        for value in [i32::MIN, i32::MIN + 1, 5, i32::MAX - 1, i32::MAX] {
+            expect_count(&rt, &tree, coordinate, true, value)?;
+            expect_count(&rt, &tree, coordinate, false, value)?;
+        }
     }
     Ok(())
 }

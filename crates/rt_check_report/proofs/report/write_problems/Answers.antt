@@ -1,6 +1,6 @@
 use Rattle.std.proofs.Common.{arith}
 use Rattle.rt_bytes.proofs.Writing.{WritesAll-part, WritesPrefix-part, Writes-failed}
-use Rattle.rt_check_report.specs.Report.{problem_line}
+use Rattle.rt_check_report.specs.Verdict.{problem_line}
 use Rattle.rt_check_report.proofs.report.write_problems.Goals as goal
 
 pub returns-in_err-write_problem : goal.returns-in_err-write_problem

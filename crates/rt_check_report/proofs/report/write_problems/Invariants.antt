@@ -1,7 +1,7 @@
 use Rattle.std.proofs.Common.{take}
 use Rattle.std.specs.List.{flat_map}
 use Rattle.rt_bytes.specs.Bytes.{WritesAll}
-use Rattle.rt_check_report.specs.Report.{problem_line}
+use Rattle.rt_check_report.specs.Verdict.{problem_line}
 use Rattle.rt_check_report.proofs.report.write_problems.Given as goal
 
 -- the lines of the problems before this one are written

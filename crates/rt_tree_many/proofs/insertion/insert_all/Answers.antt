@@ -46,7 +46,7 @@ loop-row-preserved g c =
           (gains-more old tree new (take i rows) row c.loop-row.invariant.gains c.insert.ensures.rows
           (fresh-among old tree rows i row within c.row-item.is c.requires.new));
       turns = subst (λ (l : List (Row g.row.D)). InsertsInTurn old l new) (sym next)
-          (more row c.insert.result c.loop-row.invariant.turns c.insert.ensures.insertion);
+          (more row c.insert.result c.loop-row.invariant.turns c.insert.ensures.insertion c.insert.ensures.takes);
       spare = omega (arith, c.insert.ensures.spare, c.loop-row.invariant.spare);
       capacity = c.insert.ensures.capacity ∙ c.loop-row.invariant.capacity;
     }

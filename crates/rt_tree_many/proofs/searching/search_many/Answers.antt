@@ -1,6 +1,6 @@
 use Rattle.std.proofs.Common.{◌≡◌, ◌+◌, List, [], ◌∷◌, ◌++◌, take, sym, ap, subst}
 use Rattle.rt_box.specs.declared.interval.Interval.{Interval}
-use Rattle.rt_tree.specs.Packing.{ids}
+use Rattle.rt_map.specs.Packing.{ids}
 use Rattle.rt_tree_many.specs.Parts.{FindsIds, FindsMany}
 use Rattle.rt_tree_many.proofs.Lists.{take-item}
 use Rattle.rt_tree_many.proofs.Joined.{found-ids, finds-none, finds-more}

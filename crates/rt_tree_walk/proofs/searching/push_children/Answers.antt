@@ -8,6 +8,7 @@ use Rattle.rt_tree_node.specs.declared.cell.Cell.{Cell}
 use Rattle.rt_tree_node.specs.Places.{key_of}
 use Rattle.rt_tree_walk.specs.declared.searching.Reached.{Reached}
 use Rattle.rt_tree_walk.specs.Visits.{picked, keys_of, NamesInside}
+use Rattle.rt_tree_walk.proofs.Fitting.{on-err}
 use Rattle.rt_tree_walk.proofs.Picked.{picked-first, picked-none, length-picked}
 use Rattle.rt_tree_walk.proofs.searching.push_children.Goals as goal
 
@@ -24,6 +25,7 @@ loop-rest-init g c =
         inside = All-nil (λ d. d.is_inside ≡ true → NamesInside c.args.query.now.window cells d.key);
       };
       room = omega (arith, length-picked cells c.args.bits c.requires.within, ap vec_len c.replace-list.ensures.value, ap vec_capacity c.replace-list.ensures.value, c.in_ok-reserve.ensures.len, c.in_ok-reserve.ensures.ok);
+      capacity = omega (arith, ap vec_capacity c.replace-list.ensures.value, c.in_ok-reserve.ensures.capacity);
     }
 
 pub cell-cell-requires : goal.cell-cell-requires
@@ -65,6 +67,7 @@ loop-rest-preserved g c =
             (λ yes. (c.cell-cell.result, (at, first.within, sym c.cell-cell.ensures), sym c.key.ensures, c.is_inside.ensures yes));
       };
       room = omega (arith, c.push_reserved.ensures.len, c.push_reserved.ensures.capacity, ap length is, before.room);
+      capacity = omega (arith, c.push_reserved.ensures.capacity, before.capacity);
     }
 
 pub returns-clause-keys : goal.returns-clause-keys
@@ -73,3 +76,7 @@ returns-clause-keys g c =
     let none : c.loop-rest.rest ≡ 0 = omega (arith, c.loop-rest-test.false) in
     sym (ap (λ (ks : List ℕ). keys_of c.loop-rest.list.items ++ ks) (ap (λ n. map key_of (picked cells n)) none ∙ ap (map key_of) (picked-none cells)) ∙ append-nil (keys_of c.loop-rest.list.items))
     ∙ c.loop-rest.invariant.keys
+
+pub returns-in_err-reserve-clause-full : goal.returns-in_err-reserve-clause-full
+returns-in_err-reserve-clause-full g c =
+    on-err c.from_residual.result c.from_residual.ensures.0 (omega (arith, length-picked c.args.node.now.cells c.args.bits c.requires.within, c.in_err-reserve.ensures.full))

@@ -10,6 +10,7 @@ invariant-loop-rest g l = record {
   keys : keys_of l.list.items ++ map key_of (picked l.node.cells l.rest) ≡ keys_of l.fn.reached.items ++ map key_of (picked l.node.cells l.bits);
   marks : Marks l.query.window l.node.cells l.fn.reached.items l.list.items;
   room : vec_len l.list + length (picked l.node.cells l.rest) ≤ vec_capacity l.list;
+  capacity : vec_capacity l.fn.reached ≤ vec_capacity l.list;
 }
 
 abbrev pub decreases-loop-rest : goal.decreases-loop-rest

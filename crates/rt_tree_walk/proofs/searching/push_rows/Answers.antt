@@ -5,6 +5,7 @@ use lib.Count.{count_trailing_zeros}
 use Rattle.rt_tree_walk.specs.declared.searching.Row.{Row}
 use Rattle.rt_tree_walk.specs.Search.{row_of}
 use Rattle.rt_tree_walk.specs.Visits.{picked}
+use Rattle.rt_tree_walk.proofs.Fitting.{on-err}
 use Rattle.rt_tree_walk.proofs.Picked.{picked-first, picked-none, length-picked}
 use Rattle.rt_tree_walk.proofs.searching.push_rows.Goals as goal
 
@@ -16,6 +17,7 @@ loop-rest-init g c =
       below = c.requires;
       rows = ap (λ (rs : List (Row g.row.D)). rs ++ map row_of (picked cells c.args.bits)) same;
       room = omega (arith, length-picked cells c.args.bits c.requires, ap vec_len c.replace-list.ensures.value, ap vec_capacity c.replace-list.ensures.value, c.in_ok-reserve.ensures.len, c.in_ok-reserve.ensures.ok);
+      capacity = omega (arith, ap vec_capacity c.replace-list.ensures.value, c.in_ok-reserve.ensures.capacity);
     }
 
 pub cell-requires : goal.cell-requires
@@ -45,6 +47,7 @@ loop-rest-preserved g c =
           ∙ append_assoc c.loop-rest.list.items (row_of c.cell.result ∷ []) (map row_of (picked cells next))
           ∙ ap (λ (cs : List _). c.loop-rest.list.items ++ map row_of cs) (sym is) ∙ before.rows;
       room = omega (arith, c.push_reserved.ensures.len, c.push_reserved.ensures.capacity, ap length is, before.room);
+      capacity = omega (arith, c.push_reserved.ensures.capacity, before.capacity);
     }
 
 pub returns-clause-ok : goal.returns-clause-ok
@@ -53,3 +56,7 @@ returns-clause-ok g c =
     let none : c.loop-rest.rest ≡ 0 = omega (arith, c.loop-rest-test.false) in
     sym (ap (λ (rs : List (Row g.row.D)). c.loop-rest.list.items ++ rs) (ap (λ n. map row_of (picked cells n)) none ∙ ap (map row_of) (picked-none cells)) ∙ append-nil c.loop-rest.list.items)
     ∙ c.loop-rest.invariant.rows
+
+pub returns-in_err-reserve-clause-full : goal.returns-in_err-reserve-clause-full
+returns-in_err-reserve-clause-full g c =
+    on-err c.from_residual.result c.from_residual.ensures.0 (omega (arith, length-picked c.args.leaf.now.cells c.args.bits c.requires, c.in_err-reserve.ensures.full))

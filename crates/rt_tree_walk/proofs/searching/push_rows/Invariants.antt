@@ -9,6 +9,7 @@ invariant-loop-rest g l = record {
   below : l.rest < 2 ^ length l.leaf.cells;
   rows : l.list.items ++ map row_of (picked l.leaf.cells l.rest) ≡ l.fn.rows.items ++ map row_of (picked l.leaf.cells l.bits);
   room : vec_len l.list + length (picked l.leaf.cells l.rest) ≤ vec_capacity l.list;
+  capacity : vec_capacity l.fn.rows ≤ vec_capacity l.list;
 }
 
 abbrev pub decreases-loop-rest : goal.decreases-loop-rest

@@ -6,3 +6,4 @@ use Rattle.rt_tree_walk.proofs.searching.take_all.Given as goal
 abbrev pub invariant-loop-at : goal.invariant-loop-at
 invariant-loop-at g l =
     (l.list.items ≡ l.fn.rows.items ++ map row_of (take l.at l.leaf.cells)) × (vec_len l.list + length l.leaf.cells ≤ vec_capacity l.list + l.at)
+    × (vec_capacity l.fn.rows ≤ vec_capacity l.list)

@@ -26,10 +26,12 @@ loop-at-preserved g c =
         subst (λ rs. TakesRows window (take (at + 1) cells) old rs) (sym (ap (λ (l : Vec (Row g.row.D) Global). l.items) w.list-is ∙ (same_from_push w.take_last.new.self.items list.items w.take_last.result (row_of next.0) (sym w.take_last.ensures.items ∙ grown)).0))
             (TakesRows-keeps window cells at rect next.0 old list.items next.1 c.loop-at.invariant.0 (iff_false c.admits-admitted.ensures w.if-not-admitted.true)),
         omega (arith, ap vec_len w.list-is, ap vec_capacity w.list-is, w.take_last.ensures.capacity, w.take_last.ensures.len, c.push_reserved.ensures.len, c.push_reserved.ensures.capacity, c.loop-at.invariant.1),
+        omega (arith, ap vec_capacity w.list-is, w.take_last.ensures.capacity, c.push_reserved.ensures.capacity, c.loop-at.invariant.2),
       )
       | else-not-admitted w ↦ (
         subst (λ rs. TakesRows window (take (at + 1) cells) old rs) (sym (ap (λ (l : Vec (Row g.row.D) Global). l.items) w.list-is))
             (TakesRows-takes window cells at rect next.0 old list.items c.push_reserved.new.self.items next.1 c.loop-at.invariant.0 (c.admits-admitted.ensures.0 w.if-not-admitted.false) grown),
         omega (arith, ap vec_len w.list-is, ap vec_capacity w.list-is, c.push_reserved.ensures.len, c.push_reserved.ensures.capacity, c.loop-at.invariant.1),
+        omega (arith, ap vec_capacity w.list-is, c.push_reserved.ensures.capacity, c.loop-at.invariant.2),
       )
     ]

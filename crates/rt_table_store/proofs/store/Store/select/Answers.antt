@@ -4,7 +4,7 @@ use Rattle.rt_box.specs.declared.interval.Interval.{Interval}
 use Rattle.rt_box.specs.Window.{IsUnlimited}
 use Rattle.rt_tree_walk.specs.declared.searching.Found.{Found}
 use Rattle.rt_tree_walk.specs.declared.searching.Row.{Row}
-use Rattle.rt_table_store.specs.Trees.{Visits}
+use Rattle.rt_table_store.specs.Visiting.{Visits}
 use Rattle.rt_table_store.specs.Picking.{VisitsBy}
 use Rattle.rt_table_store.specs.declared.select.Nodes.TheVariants.{Counted}
 use Rattle.rt_table_store.proofs.store.Store.select.Goals as goal

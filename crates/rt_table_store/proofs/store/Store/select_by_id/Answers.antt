@@ -2,7 +2,7 @@ use Rattle.std.proofs.Common.{◌≡◌, ℕ, length, sym, ap, ◌∙◌, subst}
 use Rattle.rt_check.specs.Shadow.{ShadowLists}
 use Rattle.rt_tree.specs.Boxes.{HasBoxes}
 use Rattle.rt_table_store.specs.StoreLists.{StoreLists}
-use Rattle.rt_table_store.specs.Trees.{Visits}
+use Rattle.rt_table_store.specs.Visiting.{Visits}
 use Rattle.rt_table_store.proofs.Everywhere.{visits_all}
 use Rattle.rt_table_store.proofs.store.Store.select_by_id.Goals as goal
 

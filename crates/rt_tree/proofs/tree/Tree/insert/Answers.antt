@@ -6,8 +6,9 @@ use Rattle.rt_tree_outside.specs.Outside.{outside}
 use Rattle.rt_tree.specs.Lists.{TreeLists}
 use Rattle.rt_tree.specs.Rows.{box_of, GainsRow}
 use Rattle.rt_tree.specs.Changes.{IsInsertion}
+use Rattle.rt_tree.specs.Moving.{TakesRow}
 use Rattle.rt_tree.proofs.Kept.{settled}
-use Rattle.rt_tree.proofs.Changed.{absent-leaf, less-room, rows-are, inserted-kept, inserted-rows, inserted-exact}
+use Rattle.rt_tree.proofs.Changed.{absent-leaf, less-room, rows-are, inserted-kept, inserted-rows, inserted-ruled, inserted-takes}
 use Rattle.rt_tree.proofs.tree.Tree.insert.Goals as goal
 
 pub insert_row-work-requires : goal.insert_row-work-requires
@@ -45,4 +46,9 @@ returns-clause-rows g c =
 pub returns-clause-insertion : goal.returns-clause-insertion
 returns-clause-insertion g c =
     subst (λ (v : TreeLists g.row.D). IsInsertion v.lists (outside c.insert_row-work.new.tree) c.args.id.now c.args.rect.now c.insert_row-work.result) c.self.view_is
-    (inserted-exact c.self.inside c.self.invariant c.insert_row-work.new.tree c.args.id.now c.args.rect.now c.insert_row-work.result c.insert_row-work.ensures)
+    (inserted-ruled c.self.inside c.self.invariant c.insert_row-work.new.tree c.args.id.now c.args.rect.now c.insert_row-work.result c.insert_row-work.ensures)
+
+pub returns-clause-takes : goal.returns-clause-takes
+returns-clause-takes g c =
+    subst (λ (v : TreeLists g.row.D). TakesRow v.lists (outside c.insert_row-work.new.tree) c.args.id.now c.args.rect.now c.insert_row-work.result) c.self.view_is
+    (inserted-takes c.self.inside c.self.invariant c.insert_row-work.new.tree c.args.id.now c.args.rect.now c.insert_row-work.result c.insert_row-work.ensures)

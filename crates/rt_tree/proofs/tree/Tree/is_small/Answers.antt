@@ -1,6 +1,6 @@
 use Rattle.std.proofs.Common.{◌≡◌, true, refl, ◌+◌, ◌-◌, ◌/◌, ◌^◌, ◌<◌, ◌≤◌, length, arith, ap, subst}
 use Rattle.rt_box.specs.Capacity.{least_fill}
-use Rattle.rt_tree_nearest.proofs.Same.{count-all}
+use Rattle.rt_tree_place.proofs.Sums.{count-all}
 use Rattle.rt_tree_walk.specs.declared.searching.Row.{Row}
 use Rattle.rt_tree_outside.specs.Outside.{outside}
 use Rattle.rt_tree.specs.Lists.{TreeLists, root_level, least_rows}
@@ -62,6 +62,6 @@ returns-clause-entries g c =
     let k = c.self.invariant in
     let t = c.self.inside.arena in
     let counted = rows-counted t (settled i k) (λ r. true) in
-    let all = count-all (λ (r : Row g.row.D). true) (rows_of (outside t)) (λ j d h. refl) in
+    let all = count-all (rows_of (outside t)) in
     let same : length (outside t).rows ≡ length (rows_of (outside t)) = omega (arith, rows-are i k, counted, all) in
     subst (λ (v : TreeLists g.row.D). length v.lists.rows ≡ length (rows_of v.lists)) c.self.view_is same

@@ -1,4 +1,4 @@
-use Rattle.rt_tree.proofs.FromRows.{bare-kept}
+use Rattle.rt_tree.proofs.BareKept.{bare-kept}
 use Rattle.rt_tree.proofs.tree.Tree.new.Goals as goal
 
 pub invariant_of-result : goal.invariant_of-result

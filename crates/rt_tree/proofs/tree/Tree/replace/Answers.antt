@@ -9,7 +9,7 @@ use Rattle.rt_tree_remove.specs.Steps.{IsLocationOf}
 use Rattle.rt_tree_outside.specs.Outside.{outside}
 use Rattle.rt_tree.specs.Lists.{TreeLists}
 use Rattle.rt_tree.specs.Rows.{box_of}
-use Rattle.rt_tree.specs.Changes.{IsReplacement}
+use Rattle.rt_tree.specs.Replacing.{IsReplacement}
 use Rattle.rt_tree.proofs.Kept.{settled}
 use Rattle.rt_tree.proofs.Changed.{present-leaf, less-room, way-waits}
 use Rattle.rt_tree.proofs.Located.{found-box, found-some, found-there}

@@ -6,7 +6,7 @@ use Rattle.rt_tree_walk.specs.Search.{Finds}
 use Rattle.rt_tree.specs.Lists.{TreeLists}
 use Rattle.rt_tree.specs.Search.{FindsIn}
 use Rattle.rt_tree.proofs.Kept.{settled}
-use Rattle.rt_tree.proofs.Reached.{finds-in}
+use Rattle.rt_tree.proofs.Finds.{finds-in}
 use Rattle.rt_tree.proofs.tree.Tree.search.Goals as goal
 
 pub returns : goal.returns

@@ -7,8 +7,9 @@ use Rattle.rt_tree_outside.specs.Outside.{outside}
 use Rattle.rt_tree.specs.Lists.{TreeLists}
 use Rattle.rt_tree.specs.Rows.{box_of, LosesRow}
 use Rattle.rt_tree.specs.Changes.{IsRemoval}
+use Rattle.rt_tree.specs.Moving.{DropsRow}
 use Rattle.rt_tree.proofs.Kept.{settled}
-use Rattle.rt_tree.proofs.Changed.{less-room, way-waits, removed-kept, removed-rows, removed-exact}
+use Rattle.rt_tree.proofs.Changed.{less-room, way-waits, removed-kept, removed-rows, removed-ruled, removed-drops}
 use Rattle.rt_tree.proofs.Rows.{box-none}
 use Rattle.rt_tree.proofs.tree.Tree.take.Goals as goal
 
@@ -43,7 +44,12 @@ returns-clause-rows g c =
 
 pub returns-clause-removal : goal.returns-clause-removal
 returns-clause-removal g c =
+    subst (λ (v : TreeLists g.row.D). IsRemoval v.lists (outside c.remove_found.new.tree) c.args.id.now c.in_ok-found.found.rect) c.self.view_is
+    (removed-ruled c.self.inside c.self.invariant c.remove_found.new.tree c.args.id.now c.in_ok-found.found.rect c.remove_found.ensures)
+
+pub returns-clause-drops : goal.returns-clause-drops
+returns-clause-drops g c =
     let i = c.self.inside in
     let k = c.self.invariant in
-    subst (λ (v : TreeLists g.row.D). IsRemoval v.lists (outside c.remove_found.new.tree) c.args.id.now c.in_ok-found.found.rect) c.self.view_is
-    (removed-exact i k c.remove_found.new.tree c.args.id.now c.in_ok-found.found.rect c.remove_found.ensures (ap is_some c.in_ok-found.ensures.home))
+    subst (λ (v : TreeLists g.row.D). DropsRow v.lists (outside c.remove_found.new.tree) c.args.id.now c.in_ok-found.found.rect) c.self.view_is
+    (removed-drops i k c.remove_found.new.tree c.args.id.now c.in_ok-found.found.rect c.remove_found.ensures (ap is_some c.in_ok-found.ensures.home))

@@ -1,0 +1,5 @@
+pub mod Packing
+pub mod PackingInside
+pub mod Restoring
+pub mod RestoringInside
+pub mod Join

@@ -1,0 +1,102 @@
+//! A tree as bytes, and the tree whose bytes these are.
+//!
+//! What the bytes say of nodes is taken as their shapes, and the rows are packed into nodes of these. The tree's own bytes are
+//! then compared with the given ones, so nothing has to be known of how they were read.
+
+ghost use Rattle.std.specs.Prelude.{◌≡◌, ◌≤◌, true, IfOk};
+ghost use Rattle.rt_tree_bytes.specs.TreeBytes.{tree_bytes};
+ghost use Rattle.rt_map.specs.RestoringInside.{IsArenaOfBytes};
+ghost use Rattle.rt_tree.specs.Kept.{IsKeptWith};
+
+use crate::restoring::shaped_arena;
+use rt_tree::Tree;
+use rt_tree_bytes::{BytesFault, Parts, bytes_of, read};
+use rt_tree_node::Arena;
+use rt_tree_pack::PackFault;
+use std::alloc::{AllocError, Global};
+use std::hash::RandomState;
+
+/// The fault of bytes whose rows make no tree.
+fn fault_of(fault: PackFault) -> BytesFault {
+    match fault {
+        PackFault::TooMany => BytesFault::TooMany,
+        PackFault::Repeated { .. } => BytesFault::Bad,
+        PackFault::Memory => BytesFault::Memory,
+    }
+}
+
+/// Whether the bytes are equal.
+fn are_same(bytes: &[u8], others: &[u8]) -> bool
+    ensures { result ≡ true → bytes.now ≡ others.now }
+{
+    bytes == others
+}
+
+/// The nodes of a tree of these parts.
+fn arena_of<const D: usize>(
+    alloc: Global,
+    keys: RandomState,
+    parts: &Parts<D>,
+) -> Result<Arena<D>, BytesFault>
+    requires some { 1 ≤ D }
+    requires few { D ≤ 3 }
+    ensures { IfOk result (λ arena. IsKeptWith arena 0) }
+{
+    match shaped_arena(alloc, keys, parts.capacity, &parts.shapes, &parts.rows) {
+        Ok(Some(arena)) => Ok(arena),
+        Ok(None) => Err(BytesFault::Bad),
+        Err(fault) => Err(fault_of(fault)),
+    }
+}
+
+/// The nodes of the tree whose bytes these are.
+pub(crate) fn bytes_arena<const D: usize>(
+    alloc: Global,
+    keys: RandomState,
+    bytes: &[u8],
+) -> Result<Arena<D>, BytesFault>
+    requires some { 1 ≤ D }
+    requires few { D ≤ 3 }
+    ensures { IfOk result (λ arena. IsArenaOfBytes arena bytes.now) }
+{
+    let parts = read::<D>(alloc, bytes)?;
+    let arena = arena_of(alloc, keys, &parts)?;
+    let again = bytes_of(alloc, &arena)?;
+    let same = are_same(again.as_slice(), bytes);
+    if !same {
+        return Err(BytesFault::Bad);
+    }
+    Ok(arena)
+}
+
+/// The tree that has these bytes, which `to_bytes` has written. Look-ups by id hash by `keys`, which are to be random if
+/// others choose the ids.
+///
+/// # Errors
+///
+/// `Bad` if no tree of `D` axes is found that has these bytes, `TooMany` if they have more rows than `MOST_ROWS_OF_A_TREE`, and
+/// `Memory` if no memory is left. What is taken is no more than a few times what the bytes take.
+pub fn from_bytes<const D: usize>(
+    alloc: Global,
+    keys: RandomState,
+    bytes: &[u8],
+) -> Result<Tree<D>, BytesFault>
+    requires some { 1 ≤ D }
+    requires few { D ≤ 3 }
+    ensures tree { IfOk result (λ tree. tree_bytes tree.lists ≡ bytes.now) }
+    ensures spare { IfOk result (λ tree. tree.spare ≡ 0) }
+{
+    let arena = bytes_arena(alloc, keys, bytes)?;
+    Ok(Tree::from_arena(arena))
+}
+
+/// The tree in a compact form: with two axes 24 bytes a row, and little more for the nodes.
+///
+/// # Errors
+///
+/// `AllocError` if no memory is left.
+pub fn to_bytes<const D: usize>(alloc: Global, tree: &Tree<D>) -> Result<Vec<u8>, AllocError>
+    ensures { IfOk result (λ bytes. bytes.items ≡ tree_bytes tree.now.lists) }
+{
+    bytes_of(alloc, tree.arena())
+}

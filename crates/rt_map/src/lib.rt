@@ -1,0 +1,31 @@
+//! What a map program asks of a tree beyond rows and windows.
+//!
+//! - `from_rows` makes a tree of a list of rows, packed all at once.
+//! - `from_shadow` makes a tree of a shadow: that very tree if its nodes stand in preorder, which is tested and not proved, or
+//!   else one of its rows.
+//! - `to_bytes` writes a tree in a compact form, and `from_bytes` makes a tree with given bytes.
+//! - `nearest` lists the rows whose boxes are nearest to a point, `within` those of them within a distance, and
+//!   `nearest_to` the rows nearest to a box.
+//! - `join` lists the pairs of rows, one of each of two trees, whose boxes touch, and `join_self` those of one tree.
+//!
+//! Stands on `rt_tree`, `rt_tree_pack`, `rt_tree_restore`, `rt_tree_bytes`, `rt_tree_nearest` and `rt_tree_join`. Tables need
+//! none of it, so the shell doesn't wait for its proof. Definitions: `specs/Packing.antt` (a tree of a list of rows),
+//! `Restoring.antt` (a tree of a shadow), `Join.antt`, `specs/TreeBytes.antt` of `rt_tree_bytes`, and `specs/Nearest.antt` of
+//! `rt_tree_nearest`.
+#![tactic(auto)]
+
+mod bytes;
+mod nearby;
+mod packing;
+mod pairs;
+mod restoring;
+
+pub use bytes::{from_bytes, to_bytes};
+pub use nearby::{nearest, nearest_to, within};
+pub use packing::from_rows;
+pub use pairs::{join, join_self};
+pub use restoring::from_shadow;
+pub use rt_tree_bytes::BytesFault;
+pub use rt_tree_join::Pair;
+pub use rt_tree_pack::PackFault;
+pub use rt_tree_restore::RestoreFault;
