@@ -15,10 +15,6 @@ returns-in_err-push-clause-full g c =
     let passes : apart c.row-item.result ≡ true = ap not (sym c.is_touched.ensures ∙ c.if-not-is_touched.true) in
     let more = count-more apart rows i c.row-item.result (omega (arith, c.loop-row-test.true)) c.row-item.is passes in
     err-without c.from_residual.result c.from_residual.ensures.0
-<<<<<<< HEAD
-    (omega (arith, more, filter-long apart (take i rows), filter-long apart rows, ap length c.loop-row.invariant.rows,
-        length-append c.args.found.now.items (filter apart (take i rows)), c.loop-row.invariant.capacity, c.in_err-push.ensures.full))
-=======
     (omega (
       arith,
       more,
@@ -29,4 +25,3 @@ returns-in_err-push-clause-full g c =
       c.loop-row.invariant.capacity,
       c.in_err-push.ensures.full,
     ))
->>>>>>> 81c5987c546866b056b718df9582389a0d21d084

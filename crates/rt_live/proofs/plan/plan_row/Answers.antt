@@ -33,10 +33,6 @@ pub returns-clause-succeeds : goal.returns-clause-succeeds
 returns-clause-succeeds g c = λ room fits.
     let long = filter-long (touches_either c.args.was.now c.args.is.now) (by_id (rows_of c.args.windows.now.lists)) in
     ok-without c.list_row.result c.list_row.ensures.full
-<<<<<<< HEAD
-    (λ full. omega (arith, full, fits, long, ap length c.clear.ensures.items, c.clear.ensures.capacity,
-        ap length (c.as_slice.ensures.value ∙ c.in_ok-find_either.ensures.rows)))
-=======
     (λ full. omega (
       arith,
       full,
@@ -46,4 +42,3 @@ returns-clause-succeeds g c = λ room fits.
       c.clear.ensures.capacity,
       ap length (c.as_slice.ensures.value ∙ c.in_ok-find_either.ensures.rows),
     ))
->>>>>>> 81c5987c546866b056b718df9582389a0d21d084
