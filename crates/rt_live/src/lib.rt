@@ -6,11 +6,13 @@
 //!   windows are told: which rows left, came, or moved inside, by rising window and then by rising id.
 //! - An edit that is refused leaves the rows, the windows and the last changes as they were.
 //! - An edit of a row looks at the windows around its old box and its new one, an edit of a window at the rows there.
+//! - `reserve` makes room: the next edit that looks at no more than that can't fail for want of memory.
 //! - `copies_follow` is the theorem: a copy of what a window sees, which follows the changes, is what the window sees.
 //!
 //! Stands on `rt_tree`, whose rows are also the windows, and on `rt_tree_sort`. Definitions: `specs/Rows.antt` (rows and
 //! windows as plain lists), `Changes.antt` (what is told), `Live.antt` (what each edit makes of rows and windows),
-//! `Faults.antt` (when an edit is refused), `Following.antt` (a copy that follows).
+//! `Faults.antt` (when an edit is refused), `Room.antt` (what an edit looks at, and room for it), `Following.antt` (a copy that
+//! follows).
 #![tactic(auto)]
 
 ghost use Rattle.rt_live.specs.Following.{CopiesFollow};
