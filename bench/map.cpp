@@ -132,6 +132,7 @@ public:
         views.resize(size_t(window) + 1);
         windows.insert(window, views[size_t(window)] = box);
     }
+    void unwatch(int64_t window) { windows.remove(window, views[size_t(window)]); }
     int64_t move(int64_t id, const Box &box)
     {
         Box &own = boxes[size_t(id)];
@@ -317,6 +318,11 @@ public:
         uint64_t count = 0;
         must(juicedelta_live_watch(&live, window, of(box), 4, &count));
     }
+    void unwatch(int64_t window)
+    {
+        uint64_t count = 0;
+        must(juicedelta_live_unwatch(&live, window, &count));
+    }
     int64_t move(int64_t id, const Box &box)
     {
         uint64_t count = 0;
@@ -417,48 +423,56 @@ static Box screen(uint64_t rows, uint64_t number, int32_t steps)
     return box.min[0] += steps, box.max[0] += steps, box;
 }
 
-// The windows with these numbers are there too; then rows move and go back.
-template <class Any>
-static void moves_told(Any &live, const Rows &all, uint64_t first, uint64_t past, const char *move, const char *back)
-{
-    const uint64_t rows = all.ids.size(), some = rows / 10;
-    auto at_row = [&](uint64_t turn) { return turn * 7919 % rows; };
-    auto moved = [&](uint64_t row) { Box box = all.boxes[row]; return box.min[0] += 30, box.max[0] += 30, box; };
-    for (uint64_t window = first; window < past; window++)
-        live.watch(int64_t(window), screen(rows, window, 0));
-    timed(move, some, [&](uint64_t at) { uint64_t row = at_row(at); return live.move(all.ids[row], moved(row)); });
-    timed(back, some, [&](uint64_t at) { uint64_t row = at_row(at); return live.move(all.ids[row], all.boxes[row]); });
-}
-
-// So many windows pan, beside two searches for each.
-template <class Any> static void pans(Any &live, uint64_t rows, uint64_t windows)
-{
-    timed("two_searches", windows, [&](uint64_t at) { return live.search(screen(rows, at, 0)) + live.search(screen(rows, at, 200)); });
-    timed("shift", windows, [&](uint64_t at) { return live.shift(int64_t(at), screen(rows, at, 200)); });
-}
-
-// A window over everything, and then a thousand more over one place.
-template <class Any> static void crowds(const Rows &all)
-{
-    const uint64_t some = all.ids.size() / 100;
-    Any live(all);
-    live.watch(0, {{-2000000, -2000000}, {3000000, 3000000}});
-    auto stretched = [&](uint64_t row, int32_t by) { Box box = all.boxes[row]; return box.max[0] += by, box; };
-    timed("all_seen", some, [&](uint64_t at) { return live.move(all.ids[at], stretched(at, 30)); });
-    for (int32_t window = 1; window <= 1000; window++) {
-        Box box = all.boxes[0];
-        box.min[0] -= window, box.min[1] -= window, box.max[0] += window, box.max[1] += window;
-        live.watch(window, box);
+// The work of live windows, each kind under its name behind the kind of tree.
+template <class Any> struct Told {
+    Any &live;
+    const Rows &all;
+    std::string kind;
+    uint64_t rows = all.ids.size();
+    template <class Call> void timed(const char *name, uint64_t calls, Call call) { ::timed((kind + name).c_str(), calls, call); }
+    // The windows with these numbers are there too; then rows move and go back.
+    void moves(uint64_t first, uint64_t past, const char *move, const char *back)
+    {
+        const uint64_t some = rows / 10;
+        auto at_row = [&](uint64_t turn) { return turn * 7919 % rows; };
+        auto moved = [&](uint64_t row) { Box box = all.boxes[row]; return box.min[0] += 30, box.max[0] += 30, box; };
+        for (uint64_t window = first; window < past; window++)
+            live.watch(int64_t(window), screen(rows, window, 0));
+        timed(move, some, [&](uint64_t at) { uint64_t row = at_row(at); return live.move(all.ids[row], moved(row)); });
+        timed(back, some, [&](uint64_t at) { uint64_t row = at_row(at); return live.move(all.ids[row], all.boxes[row]); });
     }
-    timed("crowd", some, [&](uint64_t at) { return live.move(all.ids[0], stretched(0, int32_t(at % 2))); });
-}
+    // So many windows pan, beside two searches for each.
+    void pans(uint64_t windows)
+    {
+        timed("two_searches", windows, [&](uint64_t at) { return live.search(screen(rows, at, 0)) + live.search(screen(rows, at, 200)); });
+        timed("shift", windows, [&](uint64_t at) { return live.shift(int64_t(at), screen(rows, at, 200)); });
+    }
+    // A window over everything, and then a thousand more over one place. They are gone again at the end.
+    void crowds()
+    {
+        const uint64_t some = rows / 100;
+        auto stretched = [&](uint64_t row, uint64_t by) { Box box = all.boxes[row]; return box.max[0] += int32_t(by), box; };
+        live.watch(0, {{-2000000, -2000000}, {3000000, 3000000}});
+        timed("all_seen", some, [&](uint64_t at) { return live.move(all.ids[at / 2], stretched(at / 2, 1 - at % 2)); });
+        for (int32_t window = 1; window <= 1000; window++) {
+            Box box = all.boxes[0];
+            box.min[0] -= window, box.min[1] -= window, box.max[0] += window, box.max[1] += window;
+            live.watch(window, box);
+        }
+        timed("crowd", some, [&](uint64_t at) { return live.move(all.ids[0], stretched(0, 1 - at % 2)); });
+        for (int32_t window = 0; window <= 1000; window++)
+            live.unwatch(window);
+    }
+};
 
-template <class Any> static void live_windows(const Rows &all)
+template <class Any> static void live_windows(const Rows &all, const char *kind)
 {
     Any live(all);
-    moves_told(live, all, 0, 10000, "told_10000", "back_10000");
-    moves_told(live, all, 10000, 100000, "told_100000", "back_100000");
-    pans(live, all.ids.size(), 10000);
+    Told<Any> told = {live, all, kind};
+    told.crowds();
+    told.moves(0, 10000, "told_10000", "back_10000");
+    told.moves(10000, 100000, "told_100000", "back_100000");
+    told.pans(10000);
 }
 #endif
 
@@ -533,8 +547,10 @@ int main(int count, char **words)
     tree.reset();
     if (has_all) {
         insertions(all);
-        live_windows<Live>(all);
-        crowds<Live>(all);
+        live_windows<Live>(all, "");
+#if defined(PEER_BOOST)
+        live_windows<SmallLive>(all, "small_");
+#endif
     }
 #else
     (void)has_all;

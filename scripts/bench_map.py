@@ -29,6 +29,11 @@ class Bound(NamedTuple):
     figure: Callable[[Times, Times], float]
 
 
+def least(boost: Times, work: str) -> float:
+    """Boost's time by nodes of 51 cells or of 16, the less of both."""
+    return min(boost[work], boost["small_" + work])
+
+
 # Own times and Boost's. A bound whose times are missing isn't printed.
 BOUNDS = [
     Bound("rows at once, over Boost's packing", 1.3, lambda own, boost: own["load"] / boost["load"]),
@@ -50,11 +55,11 @@ BOUNDS = [
     Bound("join, over Boost's search for each row", 0.4, lambda own, boost: own["join"] / boost["asked"]),
     Bound("many windows in a call, over calls", 0.9, lambda own, boost: own["many"] / own["calls"]),
     Bound("four threads' time for a window, over one's", 1 / 3.2, lambda own, boost: own["four_threads"] / own["one_thread"]),
-    Bound("move told to 10,000 windows, over Boost's", 0.35, lambda own, boost: own["told_10000"] / boost["told_10000"]),
+    Bound("move told to 10,000 windows, over Boost's", 0.35, lambda own, boost: own["told_10000"] / least(boost, "told_10000")),
     Bound("the same, ns above a plain move", 1500, lambda own, boost: own["told_10000"] - own["move"]),
-    Bound("move told to 100,000 windows, over Boost's", 0.4, lambda own, boost: own["told_100000"] / boost["told_100000"]),
-    Bound("move that all of 1,000 windows see, the same", 1, lambda own, boost: own["crowd"] / boost["crowd"]),
-    Bound("move that one window over all sees, the same", 1, lambda own, boost: own["all_seen"] / boost["all_seen"]),
+    Bound("move told to 100,000 windows, over Boost's", 0.4, lambda own, boost: own["told_100000"] / least(boost, "told_100000")),
+    Bound("move that all of 1,000 windows see, the same", 1, lambda own, boost: own["crowd"] / least(boost, "crowd")),
+    Bound("move that one window over all sees, the same", 1, lambda own, boost: own["all_seen"] / least(boost, "all_seen")),
     Bound("window that pans, over two searches", 1, lambda own, boost: own["shift"] / own["two_searches"]),
 ]
 

@@ -17,7 +17,8 @@ static void live_told(const pair *pair, int32_t code, uint64_t own, uint64_t pla
 {
     static changes told, wanted;
     CHECK(own == plain);
-    CHECK(juicedelta_live_changes(&pair->tree, told.windows, BUFFER, told.ids, BUFFER, told.kinds, BUFFER, &told.total) == JUICEDELTA_OK);
+    CHECK(juicedelta_live_changes(&pair->tree, told.windows, BUFFER, told.ids, BUFFER, told.kinds, BUFFER, &told.total)
+        == JUICEDELTA_OK);
     CHECK(plain_live_changes(&pair->list, wanted.windows, BUFFER, wanted.ids, BUFFER, wanted.kinds, BUFFER, &wanted.total)
         == JUICEDELTA_OK);
     CHECK(told.total == wanted.total && own == (code == JUICEDELTA_OK ? told.total : 77));
@@ -35,10 +36,12 @@ typedef struct taking {
     __typeof__(juicedelta_live_remove) *own, *plain;
 } taking;
 
-static const setting LIVE_INSERT = {juicedelta_live_insert, plain_live_insert}, LIVE_MOVE = {juicedelta_live_move, plain_live_move},
-                     LIVE_WATCH = {juicedelta_live_watch, plain_live_watch}, LIVE_SHIFT = {juicedelta_live_shift, plain_live_shift};
-static const taking LIVE_REMOVE = {juicedelta_live_remove, plain_live_remove},
-                    LIVE_UNWATCH = {juicedelta_live_unwatch, plain_live_unwatch};
+static const setting LIVE_INSERT = {juicedelta_live_insert, plain_live_insert};
+static const setting LIVE_MOVE = {juicedelta_live_move, plain_live_move};
+static const setting LIVE_WATCH = {juicedelta_live_watch, plain_live_watch};
+static const setting LIVE_SHIFT = {juicedelta_live_shift, plain_live_shift};
+static const taking LIVE_REMOVE = {juicedelta_live_remove, plain_live_remove};
+static const taking LIVE_UNWATCH = {juicedelta_live_unwatch, plain_live_unwatch};
 
 static void live_set(source *from, pair *pair, setting edit, int64_t id, const int32_t *box)
 {
@@ -118,7 +121,8 @@ static void live_rows(source *from, const pair *pair, int64_t window)
     size_t room = below(from, 4) == 0 ? below(from, 10) : BUFFER;
     int32_t code;
     clear_rows(&seen), clear_rows(&wanted);
-    TRY(code, juicedelta_live_rows(&pair->tree, window, seen.ids, room, &seen.total), seen.total == 77 && are_untouched(pair, &seen, 0));
+    TRY(code, juicedelta_live_rows(&pair->tree, window, seen.ids, room, &seen.total),
+        seen.total == 77 && are_untouched(pair, &seen, 0));
     CHECK(code == plain_live_rows(&pair->list, window, wanted.ids, room, &wanted.total));
     CHECK(memcmp(&seen, &wanted, sizeof seen) == 0);
 }
@@ -141,23 +145,24 @@ static void live_changes(source *from, const pair *pair)
 static void live_windows(source *from, const pair *pair)
 {
     static rows windows, wanted, part;
-    size_t width = 2 * pair->axes, length = 1 + below(from, 100);
+    size_t width = 2 * pair->axes, length = 1 + below(from, 100), boxes = width * length;
     uint64_t place = 0, total = 77;
-    CHECK(juicedelta_live_windows(&pair->tree, 0, part.ids, 1, part.boxes, width + 1, &total) == JUICEDELTA_BAD_LENGTH && total == 77);
+    CHECK(juicedelta_live_windows(&pair->tree, 0, part.ids, length, part.boxes, boxes + 1, &total) == JUICEDELTA_BAD_LENGTH);
+    CHECK(total == 77);
     clear_rows(&windows);
     CHECK(plain_live_windows(&pair->list, 0, wanted.ids, BUFFER, wanted.boxes, width * BUFFER, &wanted.total) == JUICEDELTA_OK);
     arm(1);
     do {
         uint64_t left = place < wanted.total ? wanted.total - place : 0, written = left < length ? left : length;
         clear_rows(&part);
-        CHECK(juicedelta_live_windows(&pair->tree, place, part.ids, length, part.boxes, width * length, &part.total) == JUICEDELTA_OK);
+        CHECK(juicedelta_live_windows(&pair->tree, place, part.ids, length, part.boxes, boxes, &part.total) == JUICEDELTA_OK);
         CHECK(part.total == wanted.total && are_untouched(pair, &part, written));
         memcpy(windows.ids + place, part.ids, written * sizeof *part.ids);
         memcpy(windows.boxes + width * place, part.boxes, width * written * sizeof *part.boxes);
         place += length;
     } while (place < wanted.total + length);
     clear_rows(&part);
-    CHECK(juicedelta_live_windows(&pair->tree, UINT64_MAX, part.ids, length, part.boxes, width * length, &part.total) == JUICEDELTA_OK);
+    CHECK(juicedelta_live_windows(&pair->tree, UINT64_MAX, part.ids, length, part.boxes, boxes, &part.total) == JUICEDELTA_OK);
     CHECK(!disarm() && part.total == wanted.total && are_untouched(pair, &part, 0));
     CHECK(are_same(pair, &windows, &wanted, wanted.total));
 }

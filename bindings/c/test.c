@@ -558,37 +558,42 @@ static void live_by_hand(void)
     CHECK(juicedelta_close(&live) == JUICEDELTA_OK);
 }
 
-/* Edits that stay within what was reserved ask for no memory. */
+/* An edit that stays within what was reserved asks for no memory. */
+#define RESERVED(pair, edit)                                                                                           \
+    do {                                                                                                               \
+        CHECK(juicedelta_live_reserve(&(pair).tree, 1, 1, IDS) == JUICEDELTA_OK);                                      \
+        arm(1);                                                                                                        \
+        CHECK((edit) == JUICEDELTA_OK && !disarm());                                                                   \
+    } while (0)
+
 static void reserved(uint32_t axes)
 {
-    enum { WINDOWS = 20, MOVES = 2000 };
+    enum { WINDOWS = 20, MOVES = 1000 };
     source from = {NULL, 0, 88172645463325252u};
     pair pair;
     int32_t box[ROOM];
+    size_t width = 2 * axes;
     uint64_t count;
     live_open(&pair, axes, 5);
-    CHECK(juicedelta_live_reserve(&pair.tree, IDS, WINDOWS, IDS) == JUICEDELTA_OK);
-    arm(1);
     for (int64_t id = 0; id < IDS; id++) {
         a_box(&from, &pair, 60, UINT32_MAX, box);
-        CHECK(juicedelta_live_insert(&pair.tree, id, box, 2 * axes, &count) == JUICEDELTA_OK);
+        RESERVED(pair, juicedelta_live_insert(&pair.tree, id, box, width, &count));
     }
     for (int64_t window = 0; window < WINDOWS; window++) {
         a_box(&from, &pair, 1000, UINT32_MAX, box);
-        CHECK(juicedelta_live_watch(&pair.tree, window, box, 2 * axes, &count) == JUICEDELTA_OK);
+        RESERVED(pair, juicedelta_live_watch(&pair.tree, window, box, width, &count));
     }
     for (int move = 0; move < MOVES; move++) {
         int64_t id = below(&from, IDS), window = below(&from, WINDOWS);
         a_box(&from, &pair, 1000, UINT32_MAX, box);
-        CHECK(juicedelta_live_shift(&pair.tree, window, box, 2 * axes, &count) == JUICEDELTA_OK);
-        CHECK(juicedelta_live_move(&pair.tree, id, box, 2 * axes, &count) == JUICEDELTA_OK);
-        CHECK(juicedelta_live_remove(&pair.tree, id, &count) == JUICEDELTA_OK);
-        CHECK(juicedelta_live_insert(&pair.tree, id, box, 2 * axes, &count) == JUICEDELTA_OK);
-        CHECK(juicedelta_live_unwatch(&pair.tree, window, &count) == JUICEDELTA_OK);
-        CHECK(juicedelta_live_watch(&pair.tree, window, box, 2 * axes, &count) == JUICEDELTA_OK);
+        RESERVED(pair, juicedelta_live_shift(&pair.tree, window, box, width, &count));
+        RESERVED(pair, juicedelta_live_move(&pair.tree, id, box, width, &count));
+        RESERVED(pair, juicedelta_live_remove(&pair.tree, id, &count));
+        RESERVED(pair, juicedelta_live_insert(&pair.tree, id, box, width, &count));
+        RESERVED(pair, juicedelta_live_unwatch(&pair.tree, window, &count));
+        RESERVED(pair, juicedelta_live_watch(&pair.tree, window, box, width, &count));
     }
-    CHECK(!disarm());
-    pair_close(&pair);
+    CHECK(juicedelta_close(&pair.tree) == JUICEDELTA_OK && plain_close(&pair.list) == JUICEDELTA_OK);
 }
 
 /* ---- Dumps and bytes --------------------------------------------------------------------------------------------- */

@@ -638,7 +638,8 @@ public:
     std::vector<Change> shift(Id window, const Box<D> &box) { return edited(juicedelta_live_shift, window, numbers(box), 2 * D); }
     // Takes the window out. It is told that each row left.
     std::vector<Change> unwatch(Id window) { return edited(juicedelta_live_unwatch, window); }
-    // Makes room for so many more rows and windows, and for edits that tell so many changes.
+    // Makes room for so many more rows and windows, and for the windows or rows that an edit looks at, those around its old box and
+    // its new one. The next edit that stays within that needs no more memory but for its answer.
     void reserve(std::uint64_t rows, std::uint64_t windows, std::uint64_t changes)
     {
         detail::check(juicedelta_live_reserve(handle(), rows, windows, changes));

@@ -15,7 +15,7 @@ from pathlib import Path
 
 from test import RELATIONS, Whole, by_distance, joined, raised, refused, related, started  # This also finds the package.
 
-from juicedelta import Grid, Item, RTree, Shell, _owner
+from juicedelta import Grid, Item, RTree, Shell, _form, _owner
 
 
 def touches(one, other):
@@ -98,8 +98,12 @@ def test_buffers():
     assert RTree.from_rows(array.array("q", [1, 2]), read_only).box(2) == (5, 5, 6, 6)
     raised(ValueError, "whole numbers of 32 bits, not a buffer of format 'd'", RTree.from_rows, [1], array.array("d", boxes[:4]))
     raised(ValueError, "whole numbers of 64 bits, not a buffer of format 'f'", RTree.from_rows, array.array("f", [1]), boxes)
-    raised(ValueError, "whole numbers of 64 bits", RTree.from_rows, array.array("Q", [2**63]), matrix)
-    raised(ValueError, "whole numbers of 32 bits", RTree.from_rows, [1, 2], array.array("q", [2**31] * 8))
+    for length in (1, 200):
+        raised(ValueError, "whole numbers of 64 bits", RTree.from_rows, array.array("Q", [2**63] * length), matrix)
+        wide = RTree.from_rows(range(length), array.array("q", [-(2**31), 5, 2**31 - 1, 5] * length))
+        assert wide.box(length - 1) == (-(2**31), 5, 2**31 - 1, 5)
+        for wrong in ([2**31] * 4, [0, 0, 0, -(2**31) - 1]):
+            raised(ValueError, "whole numbers of 32 bits", RTree.from_rows, range(length), array.array("q", wrong * length))
     raised(ValueError, "boxes have 6 numbers each", RTree.from_rows, [1, 2], matrix, 3)
     for wrong in ([(0, 0, 1), (1, 5, 5, 6, 6)], [1, 2, 3, 4], ["0011"], [(0, 0, 1, 1.5)], [(0, 0, 1, 2**31)], 5, None):
         raised(ValueError, "boxes", RTree.from_rows, [1, 2], wrong)
@@ -129,6 +133,7 @@ def test_grid():
         def back(k, axis):
             return float(starts[axis]) + k / float(scale)
 
+        given, whole = array.array("d"), []
         for _ in range(500):
             lows = [back(random.randrange(-(2**31) + 9, 2**31 - 9), axis) + random.choice([0, random.random() / scale]) for axis in (0, 1)]
             highs = [low + random.choice([0, random.random() * 5 / scale]) for low in lows]
@@ -137,8 +142,20 @@ def test_grid():
                 assert back(box[axis], axis) <= lows[axis] < back(box[axis] + 1, axis)
                 assert back(box[axis + 2] - 1, axis) < highs[axis] <= back(box[axis + 2], axis)
             assert grid.box(grid.floats(box)) == box and grid.floats(box)[:2] == grid.floats(box[:2])
+            given.extend(lows + highs)
+            whole.extend(box)
             point = grid.point(lows)
             assert all(abs(Fraction(lows[k]) - Fraction(back(point[k], k))) * Fraction(scale) <= Fraction(5001, 10000) for k in (0, 1))
+        # A long column, which NumPy takes if it is loaded, has what single numbers have.
+        form = _form.Form(2, grid)
+        assert form.list_of_boxes(given).tolist() == whole and form.columns(array.array("i", whole)).tolist() == [
+            n for k in range(0, len(whole), 4) for n in grid.floats(whole[k : k + 4])
+        ]
+        points = [n for k in range(0, len(given), 4) for n in grid.point(given[k : k + 2])]
+        assert form.list_of_points([given[k : k + 2] for k in range(0, len(given), 4)]).tolist() == points
+        for wrong in (math.nan, math.inf, -math.inf, 1e300):
+            raised(ValueError, "lies outside of the grid", form.list_of_boxes, array.array("d", [*given, wrong, 0, wrong, 0]))
+        raised(ValueError, "", form.list_of_boxes, array.array("d", [*given, back(2, 0), 0, back(1, 0), 0]))
     grid = Grid(1)
     assert grid.box((-(2**31), 2**31 - 1)) == (-(2**31), 2**31 - 1) and grid.box((-0.5, 0.5)) == (-1, 1)
     outside = ((-(2**31) - 0.5, 0), (0, 2**31 - 0.5), (-math.inf, 0), (0, math.inf), (1e300, 1e301))

@@ -27,8 +27,16 @@ def array_of(values: Any, code: str, name: str, width: int = 1) -> "array.array[
     if array.array(form).itemsize == numbers.itemsize and (form in "fd") == (code == "d") and form.islower():
         numbers.frombytes(data)
         return numbers
+    numpy = numpy_for(len(data))
     try:
-        numbers.extend(memoryview(data).cast(form))
+        if numpy is None:
+            numbers.extend(memoryview(data).cast(form))
+        else:
+            wide = numpy.frombuffer(data, form)
+            narrow = wide.astype(code)
+            if code != "d" and not (narrow == wide).all():
+                raise OverflowError
+            numbers.frombytes(narrow.tobytes())
     except OverflowError:
         raise ValueError(f"{name} are {_WORDS[code]}") from None
     return numbers
@@ -44,6 +52,11 @@ def _of_items(values: Iterable[Any], code: str, name: str, width: int) -> "array
         return array.array(code, chain.from_iterable(items))
     except (TypeError, OverflowError):
         raise ValueError(f"{name} are {_WORDS[code]}") from None
+
+
+def numpy_for(length: int) -> Any:
+    """NumPy, if the program uses it and so many numbers are worth its while. It answers what Python does number by number."""
+    return sys.modules.get("numpy") if length >= 100 else None
 
 
 def zeros(code: str, length: int) -> "array.array[int]":

@@ -8,7 +8,7 @@ import struct
 from operator import le
 from typing import Any, Callable, Iterable, Iterator, Optional, SupportsFloat, SupportsIndex, Tuple, Union
 
-from ._buffers import array_of, zeros
+from ._buffers import array_of, numpy_for, zeros
 from ._errors import BAD_BOX, BAD_LENGTH, error_of
 from ._grid import Grid
 
@@ -95,7 +95,11 @@ class Form:
         """Whether no minimum is above its maximum, before both are rounded."""
         width, axes = self.width, self.axes
         ends = [(k, k + axes) if self.interleaved else (2 * k, 2 * k + 1) for k in range(axes)]
-        return all(all(map(le, numbers[low::width], numbers[high::width])) for low, high in ends)
+        pairs = [(numbers[low::width], numbers[high::width]) for low, high in ends]
+        numpy = numpy_for(len(numbers))
+        if numpy is not None:
+            return all((numpy.asarray(low) <= numpy.asarray(high)).all() for low, high in pairs)
+        return all(all(map(le, low, high)) for low, high in pairs)
 
     def list_of_points(self, values: Any) -> "array.array[int]":
         """Many points for the library."""

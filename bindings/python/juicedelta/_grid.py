@@ -6,7 +6,9 @@ import array
 import math
 from itertools import repeat
 from operator import add, gt, le, mul, neg, sub, truediv
-from typing import Iterable, Sequence, SupportsFloat, Tuple, Union
+from typing import Any, Iterable, Sequence, SupportsFloat, Tuple, Union
+
+from ._buffers import numpy_for
 
 _LEAST, _GREATEST = -(2**31), 2**31 - 1
 _FINEST = 2.0**49
@@ -63,18 +65,32 @@ class Grid:
 
     def column(self, values: Sequence[float], place: int, up: bool) -> "array.array[int]":
         """The whole numbers that are nearest below these values, or, if `up`, above, all on the axis of that place."""
+        origin, numpy = self._from(place), numpy_for(len(values))
+        if numpy is not None:
+            with numpy.errstate(all="ignore"):
+                column = numpy.asarray(values, float)
+                below = _below_by(numpy, *((-column, -origin) if up else (column, origin)), self.scale)
+                return _whole_by(numpy, -below if up else below)
         if up:
-            return _whole(map(neg, self._below([-x for x in values], -self._from(place))))
-        return _whole(self._below(values, self._from(place)))
+            return _whole(map(neg, self._below([-x for x in values], -origin)))
+        return _whole(self._below(values, origin))
 
     def nearest(self, values: Sequence[float], place: int) -> "array.array[int]":
         """The whole numbers nearest to these values, all on the axis of that place."""
-        steps = map(mul, map(sub, values, repeat(self._from(place))), repeat(self.scale))
+        origin, numpy = self._from(place), numpy_for(len(values))
+        if numpy is not None:
+            with numpy.errstate(all="ignore"):
+                return _whole_by(numpy, numpy.floor((numpy.asarray(values, float) - origin) * self.scale + 0.5))
+        steps = map(mul, map(sub, values, repeat(origin)), repeat(self.scale))
         return _whole(map(math.floor, map(add, steps, repeat(0.5))))
 
     def back(self, numbers: Sequence[int], place: int) -> "array.array[float]":
         """The floats of these whole numbers, all on the axis of that place."""
-        return array.array("d", map(add, repeat(self._from(place)), map(truediv, numbers, repeat(self.scale))))
+        origin, numpy = self._from(place), numpy_for(len(numbers))
+        if numpy is not None:
+            with numpy.errstate(all="ignore"):
+                return array.array("d", (origin + numpy.asarray(numbers) / self.scale).tobytes())
+        return array.array("d", map(add, repeat(origin), map(truediv, numbers, repeat(self.scale))))
 
     def _below(self, values: Sequence[float], origin: float) -> Iterable[int]:
         # By floats alone the whole number may be off by one, which the floats of it and of the next one show.
@@ -105,3 +121,15 @@ def _whole(numbers: Iterable[int]) -> "array.array[int]":
         return array.array("i", numbers)
     except (ValueError, OverflowError):
         raise ValueError(_OUTSIDE) from None
+
+
+def _below_by(numpy: Any, values: Any, origin: float, scale: float) -> Any:
+    """As Grid._below, on a column at once."""
+    near = numpy.floor((values - origin) * scale)
+    return near + (origin + (near + 1) / scale <= values) - (origin + near / scale > values)
+
+
+def _whole_by(numpy: Any, numbers: Any) -> "array.array[int]":
+    if not ((numbers >= _LEAST) & (numbers <= _GREATEST)).all():  # nor NaN
+        raise ValueError(_OUTSIDE)
+    return array.array("i", numbers.astype("i").tobytes())

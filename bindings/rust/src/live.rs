@@ -183,7 +183,8 @@ impl<const D: usize> Live<D> {
         self.edit(|handle, count| unsafe { calls::juicedelta_live_unwatch(handle, window, count) })
     }
 
-    /// Makes room for so many more rows and windows, and for edits that tell so many changes.
+    /// Makes room for so many more rows and windows, and for the windows or rows that an edit looks at, those around its old box
+    /// and its new one. The next edit that stays within that needs no more memory but for its answer.
     ///
     /// ```
     /// # use juicedelta::{Error, Live};

@@ -11,7 +11,7 @@ use Rattle.rt_tree.proofs.Members.{contains-here, contains-later}
 module _ {X : Type 0} (p : X → Bool) where
   step-long : (x : X) (xs : List X) (b : Bool) → length (cond b (x ∷ xs) xs) ≡ cond b 1 0 + length xs
   step-long x xs true = omega arith
-  step-long x xs false = refl
+  step-long x xs false = omega arith
 
   pub filter-long : (xs : List X) → length (filter p xs) ≡ count_by p xs
   filter-long [] = refl
@@ -37,17 +37,15 @@ module _ {X : Type 0} (p : X → Bool) where
       and-true true = refl
       and-true false = refl
 
+  kept-more : (P : X → Type 0) (x : X) (xs : List X) (b : Bool) → (b ≡ true → P x) → All P xs → All P (cond b (x ∷ xs) xs)
+  kept-more P x xs true here rest = All-cons P x xs (here refl) rest
+  kept-more P x xs false here rest = rest
+
   -- what holds of each element that passes holds of those that were kept
   pub all-kept : (P : X → Type 0) (xs : List X) → ((x : X) → Contains xs x → p x ≡ true → P x) → All P (filter p xs)
   all-kept P [] each = All-nil P
-  all-kept P (x ∷ xs) each = by (p x) refl
-    where
-      rest : All P (filter p xs)
-      rest = all-kept P xs (λ y there passes. each y (contains-later x y xs there) passes)
-
-      by : (b : Bool) → p x ≡ b → All P (cond b (x ∷ filter p xs) (filter p xs))
-      by true e = All-cons P x (filter p xs) (each x (contains-here x xs) e) rest
-      by false e = rest
+  all-kept P (x ∷ xs) each =
+      kept-more P x (filter p xs) (p x) (λ e. each x (contains-here x xs) e) (all-kept P xs (λ y there passes. each y (contains-later x y xs there) passes))
 
 pub count-all : {X : Type 0} (xs : List X) → count_by (λ x. true) xs ≡ length xs
 count-all [] = refl

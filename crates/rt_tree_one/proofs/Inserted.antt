@@ -1,5 +1,5 @@
 -- An insertion has one answer.
-use Rattle.std.proofs.Common.{◌≡◌, ℕ, ◌+◌, ℤ, List, length, sym, ap, ◌∙◌, subst, arith}
+use Rattle.std.proofs.Common.{◌≡◌, ℕ, ℤ, List, length, sym, ap, ◌∙◌, subst, arith}
 use Rattle.rt_check.specs.declared.node.NodeRow.{NodeRow}
 use Rattle.rt_check.specs.declared.node.RowEntry.{RowEntry}
 use Rattle.rt_check.specs.Shadow.{ShadowLists}

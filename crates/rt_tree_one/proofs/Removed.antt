@@ -1,5 +1,5 @@
 -- A removal has one answer, and so has a replacement.
-use Rattle.std.proofs.Common.{◌≡◌, ℕ, sym, ◌∙◌, subst}
+use Rattle.std.proofs.Common.{sym, ◌∙◌, subst}
 use Rattle.rt_check.specs.Shadow.{ShadowLists}
 use Rattle.rt_tree.specs.Changes.{IsInsertion}
 use Rattle.rt_tree_rules.specs.Nested.{Tree}

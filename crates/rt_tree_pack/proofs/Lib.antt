@@ -6,3 +6,4 @@ pub mod Lifted
 pub mod Ready
 pub mod Packed
 pub mod Entered
+pub mod Keyed

@@ -1,10 +1,9 @@
 -- What packing comes to (Leutenegger, Lopez and Edgington, STR: a simple and efficient algorithm for R-tree packing, ICDE
 -- 1997: a level's cells are ordered, cut into runs, and each run is a node; the bound of nodes is own).
-use Rattle.std.specs.Prelude.{◌≡◌, ◌≢◌, ℕ, ◌+◌, ◌/◌, ◌≤◌, ◌<◌, Bool, ℤ, List, [], length, take, slice_get, None, Some, is_some, All, count_by, if◌then◌else◌}
+use Rattle.std.specs.Prelude.{◌≡◌, ℕ, ◌+◌, ◌/◌, ◌≤◌, ◌<◌, Bool, ℤ, List, length, take, slice_get, Some, is_some, All, count_by, if◌then◌else◌}
 use Rattle.std.specs.Ordering.{int_eq}
 use Rattle.indexmap.specs.IndexMap.{IndexMap, get as leaf_of}
-use Rattle.slab.specs.Slab.{get, slab_len}
-use Rattle.rt_box.specs.Capacity.{IsCapacity}
+use Rattle.slab.specs.Slab.{slab_len}
 use Rattle.rt_box.specs.Rect.{IsBox}
 use Rattle.rt_tree_node.specs.declared.arena.Arena.{Arena}
 use Rattle.rt_tree_node.specs.declared.cell.Cell.{Cell}

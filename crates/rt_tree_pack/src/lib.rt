@@ -21,6 +21,9 @@ mod level;
 mod node;
 mod packing;
 mod root;
+mod scratch;
+mod sorting;
+mod splitting;
 mod tile;
 
 pub use entries::enter;

@@ -13,8 +13,8 @@ use crate::tile::tile;
 use rt_tree_node::{Arena, Cell};
 use std::alloc::{AllocError, Global};
 
-/// Packs a tree without rows with these, whose ids have entries already. It takes no memory beyond that of the lists of cells
-/// that name nodes: there is room for the nodes.
+/// Packs a tree without rows with these, whose ids have entries already. There is room for the nodes; what
+/// it takes beside is lists of the cells that name nodes, and lists for a sort of some of the cells.
 ///
 /// # Errors
 ///
@@ -33,7 +33,7 @@ pub fn pack<const D: usize>(
 {
     let mut cells = rows;
     while cells.len() > tree.capacity.greatest() {
-        tile(&mut cells, tree.capacity);
+        tile(alloc, &mut cells, tree.capacity)?;
         let level = tree.level;
         lift_root(tree, &cells[0].rect);
         cells = pack_level(alloc, tree, level, &cells)?;

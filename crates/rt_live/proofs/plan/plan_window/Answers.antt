@@ -1,4 +1,4 @@
-use Rattle.std.proofs.Common.{◌≡◌, ◌∙◌, ◌++◌, List, ap}
+use Rattle.std.proofs.Common.{◌≡◌, ◌∙◌, ◌++◌, List, ap, length, arith}
 use Rattle.std.proofs.lemmas.Result.{on_ok_weaker}
 use Rattle.rt_tree_walk.specs.declared.searching.Row.{Row}
 use Rattle.rt_tree.specs.Rows.{rows_of}
@@ -6,6 +6,8 @@ use Rattle.rt_live.specs.Rows.{by_id}
 use Rattle.rt_live.specs.Changes.{window_changes}
 use Rattle.rt_live.specs.declared.change.Change.{Change}
 use Rattle.rt_live.proofs.Telling.{window-found}
+use Rattle.rt_live.specs.Finding.{touches_either}
+use Rattle.rt_live.proofs.Counting.{filter-long}
 use Rattle.rt_live.proofs.Room.{err-not-ok, ok-without}
 use Rattle.rt_live.proofs.plan.plan_window.Goals as goal
 
@@ -27,4 +29,15 @@ pub returns-in_err-find_either-clause-succeeds : goal.returns-in_err-find_either
 returns-in_err-find_either-clause-succeeds g c = λ room fits. absurd (err-not-ok c.find_either.result _ c.in_err-find_either.was (c.find_either.ensures.succeeds room))
 
 pub returns-clause-succeeds : goal.returns-clause-succeeds
-returns-clause-succeeds g c = λ room fits. ?
+returns-clause-succeeds g c = λ room fits.
+    let long = filter-long (touches_either c.args.was.now c.args.is.now) (by_id (rows_of c.args.rows.now.lists)) in
+    ok-without c.list_window.result c.list_window.ensures.full
+    (λ full. omega (
+      arith,
+      full,
+      fits,
+      long,
+      ap length c.clear.ensures.items,
+      c.clear.ensures.capacity,
+      ap length (c.as_slice.ensures.value ∙ c.in_ok-find_either.ensures.rows),
+    ))

@@ -1,5 +1,6 @@
-use Rattle.std.proofs.Common.{◌≡◌, ℕ, ◌+◌, ◌<◌, ◌≤◌, List, [], ◌++◌, take, drop, length, arith, rules, ap, ◌∙◌, sym, subst}
+use Rattle.std.proofs.Common.{◌≡◌, ℕ, zero, suc, ◌+◌, ◌*◌, ◌^◌, ◌<◌, ◌≤◌, List, [], ◌++◌, take, drop, length, arith, rules, ap, ◌∙◌, sym, subst}
 use Rattle.std.specs.List.Sorted.{IsPermutation}
+use Rattle.std.proofs.Math.Nat.{two-pow-succ}
 use Rattle.std.proofs.lemmas.List.{append-nil, drop_all, take_all}
 use Rattle.std.proofs.lemmas.List.Sorted.{length_permutation}
 use Rattle.slab.specs.Slab.{ContainsKey}
@@ -19,6 +20,19 @@ put-back len items new is moved =
 pub loop-alloc-init : goal.loop-alloc-init
 loop-alloc-init g c = below-none c.args.tree.now c.args.rows.items c.requires.bare c.requires.entered
 
+-- there are no more cells than rows
+scaled-up : (n k : ℕ) → k ≤ 2 ^ n * k
+scaled-up zero k = omega arith
+scaled-up (suc n) k = omega (arith, scaled-up n k, ap (λ x. x * k) (two-pow-succ n))
+
+pub tile-requires : goal.tile-requires
+tile-requires g c =
+    let few = c.requires.few in
+    let items = c.loop-alloc.cells.items in
+    let places : length c.deref_mut.result.now ≤ 2147483648 =
+    omega (arith, ap length c.deref_mut.ensures.value, scaled-up c.loop-alloc.tree.level (length items), c.loop-alloc.invariant.height, c.requires.most) in
+    search rules
+
 pub pack_level-requires : goal.pack_level-requires
 pack_level-requires g c =
     let few = c.requires.few in
@@ -28,7 +42,7 @@ pack_level-requires g c =
     let rows = c.args.rows.items in
     let items = c.loop-alloc.cells.items in
     let new = c.tile.new.cells in
-    let moved : IsPermutation items new = subst (λ xs. IsPermutation xs new) c.deref_mut.ensures.value c.tile.ensures in
+    let moved : IsPermutation items new = subst (λ xs. IsPermutation xs new) c.deref_mut.ensures.value c.in_ok-tile.ensures in
     let cells : c.deref.result.now ≡ new = c.deref.ensures.value ∙ put-back c.loop-alloc.cells.len items new c.loop-alloc.cells.ok.0 moved in
     let so_far = below-reordered s t rows items new c.loop-alloc.invariant moved in
     let over : t.capacity < length new = omega (arith, length_permutation items new moved, c.loop-alloc-test.true, c.greatest.ensures.value, c.len.ensures) in
@@ -46,7 +60,7 @@ loop-alloc-smaller g c =
     let rows = c.args.rows.items in
     let items = c.loop-alloc.cells.items in
     let new = c.tile.new.cells in
-    let moved : IsPermutation items new = subst (λ xs. IsPermutation xs new) c.deref_mut.ensures.value c.tile.ensures in
+    let moved : IsPermutation items new = subst (λ xs. IsPermutation xs new) c.deref_mut.ensures.value c.in_ok-tile.ensures in
     let cells : c.deref.result.now ≡ new = c.deref.ensures.value ∙ put-back c.loop-alloc.cells.len items new c.loop-alloc.cells.ok.0 moved in
     let so_far = below-reordered s t rows items new c.loop-alloc.invariant moved in
     let long = length_permutation items new moved in
@@ -63,7 +77,7 @@ loop-alloc-preserved g c =
     let rows = c.args.rows.items in
     let items = c.loop-alloc.cells.items in
     let new = c.tile.new.cells in
-    let moved : IsPermutation items new = subst (λ xs. IsPermutation xs new) c.deref_mut.ensures.value c.tile.ensures in
+    let moved : IsPermutation items new = subst (λ xs. IsPermutation xs new) c.deref_mut.ensures.value c.in_ok-tile.ensures in
     let cells : c.deref.result.now ≡ new = c.deref.ensures.value ∙ put-back c.loop-alloc.cells.len items new c.loop-alloc.cells.ok.0 moved in
     let so_far = below-reordered s t rows items new c.loop-alloc.invariant moved in
     let over : t.capacity < length new = omega (arith, length_permutation items new moved, c.loop-alloc-test.true, c.greatest.ensures.value, c.len.ensures) in

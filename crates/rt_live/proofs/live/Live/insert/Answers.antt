@@ -3,6 +3,7 @@ use Rattle.std.specs.Option.{is_some}
 use Rattle.rt_tree_node.specs.Whole.{most_rows_of_a_tree}
 use Rattle.rt_live.specs.Rows.{box_at}
 use Rattle.rt_live.proofs.Views.{row-box, rows-long, no-box, not-there}
+use Rattle.rt_live.proofs.Room.{err-not-ok}
 use Rattle.rt_live.proofs.live.Live.insert.Goals as goal
 
 pub returns-then-contains-clause-fault : goal.returns-then-contains-clause-fault
@@ -29,3 +30,12 @@ returns-in_err-edit_row-clause-taken g c = λ some. absurd (not-there _ _ c.cont
 
 pub returns-clause-taken : goal.returns-clause-taken
 returns-clause-taken g c = λ some. absurd (not-there _ _ c.contains.result (row-box c.self.inside c.self.inside c.args.self.now c.self.view_is c.args.id.now) c.contains.ensures c.if-contains.false some)
+
+pub returns-in_err-edit_row-clause-fits : goal.returns-in_err-edit_row-clause-fits
+returns-in_err-edit_row-clause-fits g c = λ room _.
+    err-not-ok c.edit_row.result _ c.in_err-edit_row.was (c.edit_row.ensures.succeeds (λ some. room.rows_fit) (record {
+      rows_fit = omega arith;
+      windows_fit = omega arith;
+      changes_fit = room.changes_fit;
+      can_search = room.can_search;
+    }))

@@ -1,7 +1,10 @@
-use Rattle.std.proofs.Common.{◌≡◌, ◌∙◌, ◌≤◌, ◌<◌, length, None, sym, rules}
+use Rattle.std.proofs.Common.{◌≡◌, ◌∙◌, ◌≤◌, ◌<◌, length, None, sym, rules, arith, List, Option, Some, subst}
 use Rattle.rt_tree_node.specs.Whole.{most_rows_of_a_tree}
 use Rattle.rt_live.specs.Rows.{box_at}
 use Rattle.rt_live.proofs.Views.{row-box}
+use Rattle.rt_box.specs.declared.interval.Interval.{Interval}
+use Rattle.rt_live.specs.Room.{around}
+use Rattle.rt_live.proofs.Room.{err-not-ok}
 use Rattle.rt_live.proofs.live.Live.replace.Goals as goal
 
 pub returns-then-is_none-clause-fault : goal.returns-then-is_none-clause-fault
@@ -26,3 +29,12 @@ pub returns-clause-missing : goal.returns-clause-missing
 returns-clause-missing g c = λ none.
     let some : c.get-was.result ≡ None → ⊥ = search rules in
     absurd (some (c.get-was.ensures ∙ sym (row-box c.self.inside c.self.inside c.args.self.now c.self.view_is c.args.id.now) ∙ none))
+
+pub returns-in_err-edit_row-clause-fits : goal.returns-in_err-edit_row-clause-fits
+returns-in_err-edit_row-clause-fits g c = λ room _.
+    err-not-ok c.edit_row.result _ c.in_err-edit_row.was (c.edit_row.ensures.succeeds (λ some. room.rows_fit) (record {
+      rows_fit = omega arith;
+      windows_fit = omega arith;
+      changes_fit = subst (λ (o : Option (List Interval)). around o (Some c.args.rect.now) c.args.self.now.lists.windows ≤ c.args.self.now.change_room) (row-box c.self.inside c.self.inside c.args.self.now c.self.view_is c.args.id.now ∙ sym c.get-was.ensures) room.changes_fit;
+      can_search = room.can_search;
+    }))

@@ -26,5 +26,5 @@ returns-clause-no_window g c = λ none.
 pub returns-clause-ids : goal.returns-clause-ids
 returns-clause-ids g c =
     c.in_ok-ids.ensures
-    ∙ ap (λ (rows : List (Row g.row.D)). map (λ r. r.id) rows) (c.as_slice.ensures.value ∙ c.in_ok-find_either.ensures)
+    ∙ ap (λ (rows : List (Row g.row.D)). map (λ r. r.id) rows) (c.as_slice.ensures.value ∙ c.in_ok-find_either.ensures.rows)
     ∙ seen-found c.self.inside c.self.inside c.args.self.now c.self.view_is c.args.window.now c.get-rect.result (window-box c.self.inside c.self.inside c.args.self.now c.self.view_is c.args.window.now ∙ sym c.get-rect.ensures)
