@@ -145,12 +145,7 @@ fn seen<const D: usize>(live: &Live<D>, window: i64, ids: &mut [i64], total: &mu
 }
 
 /// The same of what a handle holds.
-fn seen_in(
-    held: Option<&Object>,
-    window: i64,
-    ids: &mut [i64],
-    total: &mut u64,
-) -> Code
+fn seen_in(held: Option<&Object>, window: i64, ids: &mut [i64], total: &mut u64) -> Code
     ensures told { OfLive (option_map (λ object. object.now) held.entry)
         (λ D. TellsSeen window ids.old ids.new total.new) (number_of result) }
     ensures kept { result ≢ Done → result ≢ BufferTooSmall → (ids.new ≡ ids.old) × (total.new ≡ total.old) }

@@ -17,13 +17,13 @@
 //! tree for each relation, `buffer` the copies into the caller's buffers, `keys` the keys of the hashes, `code` what a call
 //! answers, and `answer` what a call that reads answers.
 //!
-//! Stands on `rt_handle`, `rt_tree_many` and `rt_live`, and in proofs on `rt_table_store`. Definitions: `specs/Codes.antt` (the numbers
-//! and words of codes), `Calls.antt` (what a call does to what a handle holds, or reads of it), `Answers.antt` (how the pass
-//! comes back), `Trees.antt` and `Scripts.antt` (what a call does to a tree and to a script shell), `Packing.antt`,
-//! `Insertion.antt`, `Places.antt`, `Near.antt`, `Many.antt`, `Pairs.antt`, `Bytes.antt` and `Live.antt` (what the exports of those
-//! modules do),
-//! `Relations.antt` (each relation is defined once, there, by the points of boxes), `Numbers.antt` (boxes and rows as C has
-//! them), `Buffers.antt`, and `Words.antt`. `Loading.antt` and `Windows.antt` are for proofs here.
+//! Stands on `rt_handle`, `rt_tree_many`, `rt_map` and `rt_live`, and in proofs on `rt_table_store`. Definitions:
+//! `specs/Codes.antt` (the numbers and words of codes), `Calls.antt` (what a call does to what a handle holds, or reads of
+//! it), `Answers.antt` (how the pass comes back), `Trees.antt` and `Scripts.antt` (what a call does to a tree and to a script
+//! shell), `Packing.antt`, `Insertion.antt`, `Places.antt`, `Near.antt`, `Many.antt`, `Pairs.antt`, `Bytes.antt` and `Live.antt`
+//! (what the exports of those modules do; those of `changes` stand in `Live.antt`), `Relations.antt` (each relation is defined
+//! once, there, by the points of boxes), `Numbers.antt` (boxes and rows as C has them), `Buffers.antt`, and `Words.antt`.
+//! `Loading.antt` and `Windows.antt` are for proofs here.
 #![tactic(auto)]
 
 mod answer;

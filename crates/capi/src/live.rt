@@ -142,7 +142,8 @@ pub extern "C" fn juicedelta_live_insert(
     numbers: &[i32],
     changes: &mut u64,
 ) -> i32
-    ensures edited { OnLive handle.old.held handle.new.held (λ D. WithBox numbers.now (RowComes id changes.new)) result }
+    ensures edited { OnLive handle.old.held handle.new.held
+        (λ D. WithBox numbers.now (RowComes id changes.new)) result }
     ensures kept { result ≢ pos 0 → changes.new ≡ changes.old }
 {
     let Some(mut object) = handle.take(alloc) else {
@@ -213,7 +214,8 @@ pub extern "C" fn juicedelta_live_move(
     numbers: &[i32],
     changes: &mut u64,
 ) -> i32
-    ensures edited { OnLive handle.old.held handle.new.held (λ D. WithBox numbers.now (RowMoves id changes.new)) result }
+    ensures edited { OnLive handle.old.held handle.new.held
+        (λ D. WithBox numbers.now (RowMoves id changes.new)) result }
     ensures kept { result ≢ pos 0 → changes.new ≡ changes.old }
 {
     let Some(mut object) = handle.take(alloc) else {
@@ -338,7 +340,8 @@ pub extern "C" fn juicedelta_live_watch(
     numbers: &[i32],
     changes: &mut u64,
 ) -> i32
-    ensures edited { OnLive handle.old.held handle.new.held (λ D. WithBox numbers.now (WindowComes window changes.new)) result }
+    ensures edited { OnLive handle.old.held handle.new.held
+        (λ D. WithBox numbers.now (WindowComes window changes.new)) result }
     ensures kept { result ≢ pos 0 → changes.new ≡ changes.old }
 {
     let Some(mut object) = handle.take(alloc) else {
@@ -414,7 +417,8 @@ pub extern "C" fn juicedelta_live_shift(
     numbers: &[i32],
     changes: &mut u64,
 ) -> i32
-    ensures edited { OnLive handle.old.held handle.new.held (λ D. WithBox numbers.now (WindowMoves window changes.new)) result }
+    ensures edited { OnLive handle.old.held handle.new.held
+        (λ D. WithBox numbers.now (WindowMoves window changes.new)) result }
     ensures kept { result ≢ pos 0 → changes.new ≡ changes.old }
 {
     let Some(mut object) = handle.take(alloc) else {

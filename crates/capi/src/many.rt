@@ -258,7 +258,8 @@ fn count_each_in(
     counts: &mut [u64],
 ) -> Code
     ensures told { OfTree (option_map (λ object. object.now) held.entry)
-        (λ D. OfWindows relation (length counts.old) windows.now (CountsEach counts.old counts.new)) (number_of result) }
+        (λ D. OfWindows relation (length counts.old) windows.now
+        (CountsEach counts.old counts.new)) (number_of result) }
     ensures kept { result ≢ Done → counts.new ≡ counts.old }
 {
     match tree_in(held) {
@@ -329,7 +330,8 @@ fn nearest_each_in(
     total: &mut u64,
 ) -> Code
     ensures told { OfTree (option_map (λ object. object.now) held.entry)
-        (λ D. FindsNearestMany k starts.old starts.new ids.old ids.new total.old total.new points.now) (number_of result) }
+        (λ D. FindsNearestMany k starts.old starts.new ids.old ids.new total.old total.new
+        points.now) (number_of result) }
     ensures kept { result ≢ Done → result ≢ BufferTooSmall →
         (starts.new ≡ starts.old) × (ids.new ≡ ids.old) × (total.new ≡ total.old) }
 {

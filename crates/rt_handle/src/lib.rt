@@ -10,8 +10,8 @@
 //! one call at a time is read so: what a call that reads is given is the pass, of which each call has its own, and the words are
 //! data that no one writes meanwhile.
 //!
-//! Stands on `rt_tree`, `rt_live` and `rt_shell`. Definitions: `specs/Owned.antt` (what memory a handle owns), `Lent.antt` (what a pass
-//! owns, and what is lent by it), `Passes.antt` (what a call that reads is given, and hands back).
+//! Stands on `rt_tree`, `rt_live` and `rt_shell`. Definitions: `specs/Owned.antt` (what memory a handle owns), `Lent.antt` (what
+//! a pass owns, and what is lent by it), `Passes.antt` (what a call that reads is given, and hands back).
 #![tactic(auto)]
 
 mod handle;
