@@ -385,7 +385,8 @@ impl<const D: usize> Live<D> {
         ensures no_window { box_at self.old.lists.windows window.now ≡ None → result ≡ Err NoWindow }
         ensures fault { IfErr result (IsFaultOfWindow self.old.lists.windows window.now) }
         ensures fits { HasRoom self.old 0 1
-            (around (box_at self.old.lists.windows window.now) (Some rect.now) self.old.lists.rows) → result ≢ Err Memory }
+            (around (box_at self.old.lists.windows window.now) (Some rect.now) self.old.lists.rows) →
+            result ≢ Err Memory }
     {
         let was = self.windows.get(window);
         if was.is_none() {

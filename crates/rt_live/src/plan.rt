@@ -40,7 +40,8 @@ fn list_window<const D: usize>(
     was: &Option<Rect<D>>,
     is: &Option<Rect<D>>,
 ) -> Result<(), AllocError>
-    ensures told { OnOk result (changes.new.items ≡ changes.old.items ++ window_changes rows.now window.now was.now is.now) }
+    ensures told { OnOk result (changes.new.items ≡ changes.old.items ++
+        window_changes rows.now window.now was.now is.now) }
     ensures full { OnErr result (vec_capacity changes.old < length changes.old.items + length rows.now) }
     ensures capacity { vec_capacity changes.old ≤ vec_capacity changes.new }
 {
@@ -85,7 +86,8 @@ pub(crate) fn plan_window<const D: usize>(
     changes: &mut Vec<Change>,
 ) -> Result<(), AllocError>
     requires { D ≤ 3 }
-    ensures told { OnOk result (changes.new.items ≡ window_changes (rows_by_id rows.now.lists) window.now was.now is.now) }
+    ensures told { OnOk result (changes.new.items ≡
+        window_changes (rows_by_id rows.now.lists) window.now was.now is.now) }
     ensures succeeds { HasRoomAround rows.now.lists was.now is.now scratch.old →
         around was.now is.now (rows_by_id rows.now.lists) ≤ vec_capacity changes.old → IsOk result }
     ensures grows { Grows scratch.old scratch.new }
