@@ -230,8 +230,9 @@ int32_t juicedelta_live_shift(juicedelta_handle *handle, int64_t window, const i
                               uint64_t *changes);
 /* Takes a window out: the rows that it saw leave it. ID_MISSING, OUT_OF_MEMORY. */
 int32_t juicedelta_live_unwatch(juicedelta_handle *handle, int64_t window, uint64_t *changes);
-/* Makes room for so many more rows and windows, and for `changes` windows or rows that an edit looks at, those around its old
- * box and its new one: the next edit that stays within that needs no more memory. OUT_OF_MEMORY. */
+/* Makes room for `rows` more rows and `windows` more windows, and for `changes` windows or rows that one edit looks at: those
+ * around its old box and its new one. The edits that follow need no more memory, as long as each looks at no more than that,
+ * and together they insert or move at most `rows` rows, and watch or shift at most `windows` windows. OUT_OF_MEMORY. */
 int32_t juicedelta_live_reserve(juicedelta_handle *handle, uint64_t rows, uint64_t windows, uint64_t changes);
 
 /* Writes the changes of the last edit, by rising window and then by rising id: of each the window, the row and what it did, a

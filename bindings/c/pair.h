@@ -259,14 +259,14 @@ static void pair_close(pair *pair)
     CHECK(juicedelta_close(&pair->tree) == JUICEDELTA_OK && plain_close(&pair->list) == JUICEDELTA_OK);
 }
 
-/* A box with sides below `most`, and rarely, by one in `bad`, with min above max on an axis. */
+/* A box with sides below `most`, and rarely, by one in `bad`, with min above max on an axis: never if `bad` is 0. */
 static void a_box(source *from, const pair *pair, uint32_t most, uint32_t bad, int32_t *box)
 {
     memset(box, 0, ROOM * sizeof *box);
     for (uint32_t axis = 0; axis < pair->axes; axis++) {
         int64_t min = a_coordinate(from), max = min + below(from, most);
         box[axis] = (int32_t)min;
-        box[pair->axes + axis] = cut(below(from, bad) == 0 ? min - 1 - below(from, 9) : max);
+        box[pair->axes + axis] = cut(bad > 0 && below(from, bad) == 0 ? min - 1 - below(from, 9) : max);
     }
 }
 
@@ -484,7 +484,7 @@ static void pair_join(source *from, const pair *pair)
     other.tree.object = other.list.object = NULL, other.tree.count = other.list.count = 0;
     for (size_t row = 0; row < count; row++) {
         other_ids[row] = (int64_t)row - 4;
-        a_box(from, &other, 300, UINT32_MAX, boxes + 2 * other.axes * row);
+        a_box(from, &other, 300, 0, boxes + 2 * other.axes * row);
     }
     code = juicedelta_tree_open_rows(&other.tree, other.axes, 5, other_ids, count, boxes, 2 * other.axes * count, 1, 2, &at);
     CHECK(code == JUICEDELTA_OK && at == 77);

@@ -576,16 +576,16 @@ static void reserved(uint32_t axes)
     uint64_t count;
     live_open(&pair, axes, 5);
     for (int64_t id = 0; id < IDS; id++) {
-        a_box(&from, &pair, 60, UINT32_MAX, box);
+        a_box(&from, &pair, 60, 0, box);
         RESERVED(pair, juicedelta_live_insert(&pair.tree, id, box, width, &count));
     }
     for (int64_t window = 0; window < WINDOWS; window++) {
-        a_box(&from, &pair, 1000, UINT32_MAX, box);
+        a_box(&from, &pair, 1000, 0, box);
         RESERVED(pair, juicedelta_live_watch(&pair.tree, window, box, width, &count));
     }
     for (int move = 0; move < MOVES; move++) {
         int64_t id = below(&from, IDS), window = below(&from, WINDOWS);
-        a_box(&from, &pair, 1000, UINT32_MAX, box);
+        a_box(&from, &pair, 1000, 0, box);
         RESERVED(pair, juicedelta_live_shift(&pair.tree, window, box, width, &count));
         RESERVED(pair, juicedelta_live_move(&pair.tree, id, box, width, &count));
         RESERVED(pair, juicedelta_live_remove(&pair.tree, id, &count));

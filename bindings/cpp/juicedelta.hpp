@@ -638,8 +638,9 @@ public:
     std::vector<Change> shift(Id window, const Box<D> &box) { return edited(juicedelta_live_shift, window, numbers(box), 2 * D); }
     // Takes the window out. It is told that each row left.
     std::vector<Change> unwatch(Id window) { return edited(juicedelta_live_unwatch, window); }
-    // Makes room for so many more rows and windows, and for the windows or rows that an edit looks at, those around its old box and
-    // its new one. The next edit that stays within that needs no more memory but for its answer.
+    // Makes room for `rows` more rows and `windows` more windows, and for `changes` windows or rows that one edit looks at: those
+    // around its old box and its new one. The edits that follow need memory for their answers alone, as long as each looks at no
+    // more than that, and together they insert or move at most `rows` rows, and watch or shift at most `windows` windows.
     void reserve(std::uint64_t rows, std::uint64_t windows, std::uint64_t changes)
     {
         detail::check(juicedelta_live_reserve(handle(), rows, windows, changes));

@@ -122,8 +122,9 @@ class Live(Reads):
         return self._edited(live_unwatch, checked(window))
 
     def reserve(self, rows: SupportsIndex = 0, windows: SupportsIndex = 0, changes: SupportsIndex = 0) -> None:
-        """Makes room for so many more rows and windows, and for the windows or rows that an edit looks at, those around its old
-        box and its new one. The next edit that stays within that finds memory, but for its answer."""
+        """Makes room for `rows` more rows and `windows` more windows, and for `changes` windows or rows that one edit looks at:
+        those around its old box and its new one. The edits that follow need memory for their answers alone, as long as each looks
+        at no more than that, and together they insert or move at most `rows` rows, and watch or shift at most `windows` windows."""
         numbers = (whole(rows, "rows"), whole(windows, "windows"), whole(changes, "changes"))
         accept(self._guard.write(live_reserve, self._at, *[min(max(it, 0), 2**64 - 1) for it in numbers]))
 

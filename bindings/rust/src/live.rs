@@ -183,8 +183,9 @@ impl<const D: usize> Live<D> {
         self.edit(|handle, count| unsafe { calls::juicedelta_live_unwatch(handle, window, count) })
     }
 
-    /// Makes room for so many more rows and windows, and for the windows or rows that an edit looks at, those around its old box
-    /// and its new one. The next edit that stays within that needs no more memory but for its answer.
+    /// Makes room for `rows` more rows and `windows` more windows, and for `changes` windows or rows that one edit looks at: those
+    /// around its old box and its new one. The edits that follow need memory for their answers alone, as long as each looks at no
+    /// more than that, and together they insert or move at most `rows` rows, and watch or shift at most `windows` windows.
     ///
     /// ```
     /// # use juicedelta::{Error, Live};

@@ -15,7 +15,7 @@ use Rattle.rt_tree_restore.specs.declared.fault.RestoreFault.TheVariants.{NoBox,
 use Rattle.rt_tree_walk.specs.declared.searching.Row.{Row}
 use Rattle.rt_map.specs.Packing.{ids}
 use Rattle.rt_map.specs.Restoring.{IsRestoredOf, HasRowWithoutBox, IsRestoreFaultOf}
-use Rattle.rt_tree.specs.Rows.{row_in, rows_of}
+use Rattle.rt_tree.specs.Lists.{row_in, rows_of}
 use Rattle.rt_table_store.proofs.Soundness.{cell_passes}
 use Rattle.capi.specs.Loading.{code_of_fault, Loads}
 use Rattle.capi.proofs.Entries.{cells_are_ordered, unique-from-sound}

@@ -13,7 +13,7 @@ use Rattle.rt_check.specs.declared.node.RawCell.{RawCell}
 use Rattle.rt_check.specs.Shadow.{ShadowLists}
 use Rattle.rt_check.specs.Conditions.{is_leaf, leaf_cells}
 use Rattle.rt_tree.specs.Boxes.{HasBoxes}
-use Rattle.rt_tree.specs.Rows.{box_in, row_in, rows_of}
+use Rattle.rt_tree.specs.Lists.{box_in, row_in, rows_of}
 use Rattle.rt_tree_walk.specs.declared.searching.Row.{Row}
 use Rattle.rt_tree_walk.specs.Search.{AsksAdmitted}
 use Rattle.rt_tree_walk.proofs.Ints.{int_le-true, int_le-from}

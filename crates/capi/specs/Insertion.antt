@@ -1,7 +1,6 @@
 -- What a call that inserts many rows does to a tree (own).
 use Rattle.std.specs.Prelude.{◌≡◌, ℕ, ◌+◌, ◌*◌, ◌<◌, ℤ, List, length}
-use Rattle.rt_tree.specs.Lists.{TreeLists}
-use Rattle.rt_tree.specs.Rows.{rows_of}
+use Rattle.rt_tree.specs.Lists.{TreeLists, rows_of}
 use Rattle.rt_tree_many.specs.Insertion.{IsFirstTaken, AreNew, GainsRows, InsertsInTurn}
 use Rattle.rt_tree_node.specs.Whole.{most_rows_of_a_tree}
 use Rattle.rt_tree_walk.specs.declared.searching.Row.{Row}

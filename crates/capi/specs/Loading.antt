@@ -7,7 +7,7 @@ use Rattle.rt_check_dump.specs.declared.dump.AnyShadow.{AnyShadow}
 use Rattle.rt_check_dump.specs.Faults.{IsTextOf, IsDump}
 use Rattle.rt_handle.specs.declared.object.HeldTree.{HeldTree}
 use Rattle.rt_handle.specs.declared.object.Object.{Object}
-use Rattle.rt_tree.specs.Rows.{rows_of}
+use Rattle.rt_tree.specs.Lists.{rows_of}
 use Rattle.rt_tree_restore.specs.declared.fault.RestoreFault.{RestoreFault}
 use Rattle.rt_tree_restore.specs.declared.fault.RestoreFault.TheVariants.{NoBox, TooMany, Repeated, Memory}
 use Rattle.rt_tree_node.specs.Whole.{most_rows_of_a_tree}

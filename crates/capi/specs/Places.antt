@@ -5,8 +5,7 @@ use Rattle.std.specs.Ordering.{int_eq}
 use Rattle.rt_box.specs.declared.interval.Interval.{Interval}
 use Rattle.rt_check.specs.Shadow.{ShadowLists}
 use Rattle.rt_tree.specs.Bounds.{IsLeastAround}
-use Rattle.rt_tree.specs.Lists.{TreeLists}
-use Rattle.rt_tree.specs.Rows.{box_of, rows_of}
+use Rattle.rt_tree.specs.Lists.{TreeLists, box_of, rows_of}
 use Rattle.rt_tree_walk.specs.declared.searching.Row.{Row}
 use Rattle.capi.specs.Buffers.{Copies, Sized}
 use Rattle.capi.specs.Numbers.{ids_of, numbers_of, box_numbers}

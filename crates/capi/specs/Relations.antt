@@ -5,7 +5,7 @@ use Rattle.std.specs.List.{AllZip}
 use Rattle.rt_box.specs.declared.interval.Interval.{Interval}
 use Rattle.rt_box.specs.Rect.{los, his}
 use Rattle.rt_check.specs.Shadow.{ShadowLists}
-use Rattle.rt_tree.specs.Rows.{rows_of}
+use Rattle.rt_tree.specs.Lists.{rows_of}
 use Rattle.rt_tree_walk.specs.declared.searching.Row.{Row}
 use Rattle.capi.specs.declared.relation.Relation.{Relation}
 use Rattle.capi.specs.declared.relation.Relation.TheVariants.{Touches, Within, Holds}

@@ -13,8 +13,7 @@ use Rattle.rt_check_dump.specs.Faults.{IsTextOf}
 use Rattle.rt_handle.specs.declared.object.HeldTree.{HeldTree}
 use Rattle.rt_handle.specs.declared.object.Object.{Object}
 use Rattle.rt_handle.specs.declared.object.Object.TheVariants.{Line, Plane, Space}
-use Rattle.rt_tree.specs.Lists.{TreeLists, empty_lists}
-use Rattle.rt_tree.specs.Rows.{box_of, rows_of, GainsRow, LosesRow}
+use Rattle.rt_tree.specs.Lists.{TreeLists, empty_lists, box_of, rows_of, GainsRow, LosesRow}
 use Rattle.rt_tree.specs.Changes.{IsInsertion, IsRemoval}
 use Rattle.rt_tree.specs.Moving.{TakesRow, DropsRow}
 use Rattle.rt_tree.specs.Replacing.{IsReplacement}

@@ -4,7 +4,7 @@
 
 ghost use Rattle.std.specs.Prelude.{◌≡◌, ◌≢◌, ◌*◌, ◌≤◌, pos, length, take, drop, All, IsSome};
 ghost use Rattle.rt_handle.specs.Passes.{IsOf, IsSame};
-ghost use Rattle.rt_tree.specs.Rows.{box_of};
+ghost use Rattle.rt_tree.specs.Lists.{box_of};
 ghost use Rattle.capi.specs.Calls.{OfTree};
 ghost use Rattle.capi.specs.Places.{CopiesBoxesOf, TellsIds, TellsRows, TellsRowsInto, TellsBounds, TellsBoundsInto};
 ghost use Rattle.capi.specs.declared.code.Code.TheVariants.{Done};

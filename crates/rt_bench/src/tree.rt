@@ -4,7 +4,7 @@
 //! for some ten rows, and for a hundredth of all rows.
 
 ghost use Rattle.std.specs.Prelude.{◌≡◌, ◌≤◌, ℤ, None};
-ghost use Rattle.rt_tree.specs.Rows.{box_of};
+ghost use Rattle.rt_tree.specs.Lists.{box_of};
 
 use rt_box::{Capacity, Operator, Rect, Window};
 use rt_map::nearest;

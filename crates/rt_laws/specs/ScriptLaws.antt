@@ -5,8 +5,7 @@ use Rattle.std.specs.List.{concat, AllZip}
 use Rattle.std.specs.Result.{is_err}
 use Rattle.rt_bytes.specs.declared.outcome.Status.{Status}
 use Rattle.rt_bytes.specs.declared.outcome.Status.TheVariants.{Refused}
-use Rattle.rt_sql_cut.specs.Piece.{PieceText}
-use Rattle.rt_sql_cut.specs.Pieces.{Pieces, EndedPieces}
+use Rattle.rt_sql_cut.specs.Pieces.{PieceText, Pieces, EndedPieces}
 use Rattle.rt_check_dump.specs.declared.dump.AnyShadow.{AnyShadow}
 use Rattle.rt_check_dump.specs.Dump.{any_text}
 use Rattle.rt_sql.specs.Parse.{Parses}

@@ -5,7 +5,7 @@ use Rattle.rt_check.specs.Shadow.{ShadowLists}
 use Rattle.rt_tree.specs.Lists.{IsInShape}
 use Rattle.rt_table_row.specs.Rows.{TableRow}
 use Rattle.rt_table_row.specs.Edits.{Step, Leaves, Comes, Becomes, after_step}
-use Rattle.rt_table_store.specs.Moves.{stays, Gains, Loses, Replaces, TakesStep, TakesEach}
+use Rattle.rt_table_store.specs.Trees.{stays, Gains, Loses, Replaces, TakesStep, TakesEach}
 use Rattle.rt_tree_one.proofs.Inserted.{one_answer as insertion}
 use Rattle.rt_tree_one.proofs.Removed.{one_answer as removal}
 use Rattle.rt_laws_dumps.specs.Laws.{StepsHaveOneAnswer}

@@ -6,8 +6,7 @@ use Rattle.std.specs.List.{concat}
 use Rattle.std.specs.Result.{is_err}
 use Rattle.rt_bytes.specs.declared.outcome.Status.{Status}
 use Rattle.rt_bytes.specs.declared.outcome.Status.TheVariants.{Refused}
-use Rattle.rt_sql_cut.specs.Piece.{PieceText}
-use Rattle.rt_sql_cut.specs.Pieces.{EndedPieces}
+use Rattle.rt_sql_cut.specs.Pieces.{PieceText, EndedPieces}
 use Rattle.rt_sql_cut.proofs.CutterLaws.{cut_one_way}
 use Rattle.rt_sql_cut.proofs.CutterRuns.{first_of, first_gap, first_whole, first_last}
 use Rattle.rt_sql.proofs.Parses.{one_answer}

@@ -5,7 +5,7 @@ use Rattle.rt_check.specs.Shadow.{ShadowLists}
 use Rattle.rt_sql_request.specs.declared.request.Stmt.{Stmt}
 use Rattle.rt_table_row.specs.Rows.{TableRow}
 use Rattle.rt_table_row.specs.Edits.{Step}
-use Rattle.rt_table_store.specs.Moves.{FollowsSteps}
+use Rattle.rt_table_store.specs.Trees.{FollowsSteps}
 use Rattle.rt_session.specs.Session.{State, Outcome, Answers}
 use Rattle.rt_shell.specs.declared.engine.Options.{Options}
 use Rattle.rt_shell.specs.Transcript.{Marks, IsTranscriptByPieces, IsTranscript}

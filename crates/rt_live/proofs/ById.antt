@@ -7,7 +7,7 @@ use Rattle.std.proofs.lemmas.Bool.{cases_Bool}
 use Rattle.rt_box.specs.declared.interval.Interval.{Interval}
 use Rattle.rt_check.specs.Shadow.{ShadowLists}
 use Rattle.rt_tree_walk.specs.declared.searching.Row.{Row}
-use Rattle.rt_tree.specs.Rows.{rows_of, GainsRow, LosesRow}
+use Rattle.rt_tree.specs.Lists.{rows_of, GainsRow, LosesRow}
 use Rattle.rt_tree.specs.Replacing.{IsReplacement}
 use Rattle.rt_live.specs.Rows.{AreRising, box_at, placed, taken, with_box, by_id}
 use Rattle.rt_live.proofs.Order.{eq_same, eq_from}

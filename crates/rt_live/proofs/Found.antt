@@ -20,19 +20,19 @@ use Rattle.rt_tree_walk.specs.declared.searching.Row.{Row}
 use Rattle.rt_tree_walk.proofs.Ints.{int_le-true, int_le-from}
 use Rattle.rt_tree_walk.proofs.Reaching.{All_contained}
 use Rattle.rt_tree_join.specs.Join.{touch, IsTouching}
-use Rattle.rt_tree.specs.Lists.{IsInShape}
-use Rattle.rt_tree.specs.Rows.{box_in, row_in, rows_of}
+use Rattle.rt_tree.specs.Lists.{IsInShape, box_in, row_in, rows_of}
 use Rattle.rt_tree.specs.Boxes.{HasBoxes}
 use Rattle.rt_tree.specs.Search.{FindsIn, FindsInAfter, CountsIn}
 use Rattle.rt_tree.proofs.Members.{contains-here, contains-later, contains-cases, contains-none, contains-mapped}
 use Rattle.rt_live.specs.Rows.{by_id}
 use Rattle.rt_live.specs.Changes.{same_box, touches}
-use Rattle.rt_live.specs.Finding.{is_apart, is_new, touches_either, Appends}
+use Rattle.rt_live.specs.Finding.{Encloses, is_apart, is_new, is_told, touches_hull, touches_either, Appends}
 use Rattle.rt_live.proofs.Sorted.{rises-filter}
 use Rattle.rt_live.proofs.Alike.{count_alike, count_kept, count_permuted, sorted_climbs, same_counts}
 use Rattle.rt_live.proofs.Counting.{filter-long, all-kept, absorbed}
 use Rattle.rt_live.proofs.ById.{id_of, rises-by_id}
 use Rattle.rt_live.proofs.Once.{by_id-counts}
+use Rattle.rt_live.proofs.Telling.{told-either}
 
 -- ---- whether boxes and rows are the same
 equal-ids : (x y : ℤ) → x ≡ y → int_eq x y ≡ true
@@ -135,6 +135,11 @@ either-split false true false = refl
 either-split false false true = refl
 either-split false false false = refl
 
+inside-both : (t c x : Bool) → (c ≡ true → t ≡ true) → (t && (c && x)) ≡ (c && x)
+inside-both true c x h = refl
+inside-both false true x h = absurd (true≢false (sym (h refl)))
+inside-both false false x h = refl
+
 module _ {D : ℕ} where
   -- the box of a row is a box
   row_is_box : (s : ShadowLists D) → HasBoxes s → (r : Row D) → Contains (rows_of s) r → IsBox D r.rect
@@ -195,6 +200,17 @@ module _ {D : ℕ} where
       counted = sym (filter-long (λ r. touch rect r.rect) (rows_of s));
     }
 
+    -- as many rows touch the box as were found
+    pub searched : (found : List (Row D)) (visited : ℕ) → FindsIn s window found visited → Appends (rows_of s) (touches_hull rect) [] found
+    searched found visited finds = record {
+      each = λ test.
+          let one = count_alike test (λ r. admits_row r && test r) found (λ r h. sym (ap (λ (b : Bool). b && test r) (all-admitted found finds.admitted r h))) in
+          let two = finds.each (λ r. admits_row r && test r) (λ r e. only-admitted r (test r) e) in
+          let three = count_alike (λ r. admits_row r && test r) (λ r. touches_hull rect r && test r) (rows_of s)
+          (λ r h. ap (λ (b : Bool). b && test r) (touched r h)) in
+          omega (arith, one, two, three);
+    }
+
     pub appended : (found old new : List (Row D)) (visited : ℕ) → FindsIn s window found visited → new ≡ old ++ filter (is_apart except) found →
         Appends (rows_of s) (is_new (Some rect) except) old new
     appended found old new visited finds is = record {
@@ -214,6 +230,32 @@ module _ {D : ℕ} where
     where
       none : (test : Row D → Bool) (rs : List (Row D)) → count_by (λ r. is_new None except r && test r) rs ≡ 0
       none test rs = count-none test rs
+
+  -- ---- what was found by rising id
+  pub found-sorted : (s : ShadowLists D) → IsInShape s → (pass : Row D → Bool) (found sorted : List (Row D)) → Appends (rows_of s) pass [] found →
+      IsPermutation found sorted → IsSortedByKey id_of int_cmp sorted → sorted ≡ filter pass (by_id (rows_of s))
+  found-sorted s shape pass found sorted so moved in_order =
+      same_counts id_of same_row row-itself row-same sorted (filter pass (by_id (rows_of s))) (sorted_climbs id_of sorted in_order)
+      (rises-filter id_of pass (by_id (rows_of s)) (rises-by_id (rows_of s)))
+      (λ test.
+      let a = so.each test in
+      let b = count_permuted test found sorted moved in
+      let c = by_id-counts s shape (λ r. pass r && test r) in
+      let d = count_kept pass test (by_id (rows_of s)) in
+      omega (arith, a, b, c, d))
+
+  -- of what touches a box around two boxes, that of which a window is told
+  pub told-kept : (rows found : List (Row D)) (hull : List Interval) (was is : Option (List Interval)) → Encloses was is hull → Appends rows (touches_hull hull) [] found →
+      Appends rows (is_told was is) [] (filter (is_told was is) found)
+  told-kept rows found hull was is inside so = record {
+    each = λ test.
+        let one = count_kept (is_told was is) test found in
+        let two = so.each (λ r. is_told was is r && test r) in
+        let three = count_alike (λ r. touches_hull hull r && (is_told was is r && test r)) (λ r. is_told was is r && test r) rows
+        (λ r h. inside-both (touches_hull hull r) (is_told was is r) (test r)
+        (λ e. inside r.rect (told-either (touches was r.rect) (touches is r.rect) e))) in
+        omega (arith, one, two, three);
+  }
 
   -- ---- two searches
   pub found-either : (s : ShadowLists D) → IsInShape s → (was is : Option (List Interval)) (first both sorted : List (Row D)) →

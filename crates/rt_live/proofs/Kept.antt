@@ -4,7 +4,7 @@ use Rattle.std.proofs.lemmas.Bool.{cases_Bool, true≢false}
 use Rattle.std.proofs.lemmas.Option.{same_Some}
 use Rattle.rt_box.specs.declared.interval.Interval.{Interval}
 use Rattle.rt_check.specs.Shadow.{ShadowLists}
-use Rattle.rt_tree.specs.Rows.{rows_of, box_of}
+use Rattle.rt_tree.specs.Lists.{rows_of, box_of}
 use Rattle.rt_tree.specs.Replacing.{ReplacesOther}
 use Rattle.rt_live.specs.Rows.{with_box, by_id}
 use Rattle.rt_live.specs.Changes.{same_box, stays}

@@ -7,6 +7,7 @@ pub mod Once
 pub mod Found
 pub mod Kept
 pub mod Telling
+pub mod Enclosing
 pub mod Views
 pub mod Room
 pub mod Following

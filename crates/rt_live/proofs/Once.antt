@@ -18,8 +18,7 @@ use Rattle.rt_tree_node.proofs.Counts.{count-cons}
 use Rattle.rt_tree_walk.specs.declared.searching.Row.{Row}
 use Rattle.rt_tree_walk.proofs.Reaching.{counted-contained}
 use Rattle.rt_tree_walk.proofs.Judging.{count-mapped}
-use Rattle.rt_tree.specs.Lists.{IsInShape}
-use Rattle.rt_tree.specs.Rows.{row_in, rows_of, box_of}
+use Rattle.rt_tree.specs.Lists.{IsInShape, row_in, rows_of, box_of}
 use Rattle.rt_tree.proofs.Members.{find-one, find-nothing}
 use Rattle.rt_live.specs.Rows.{by_id, box_at}
 use Rattle.rt_live.proofs.Order.{eq_same, eq_from}

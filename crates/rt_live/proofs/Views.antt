@@ -5,8 +5,7 @@ use Rattle.std.specs.Option.{is_some}
 use Rattle.rt_box.specs.declared.interval.Interval.{Interval}
 use Rattle.rt_check.specs.Shadow.{ShadowLists}
 use Rattle.rt_tree_walk.specs.declared.searching.Row.{Row}
-use Rattle.rt_tree.specs.Lists.{IsInShape}
-use Rattle.rt_tree.specs.Rows.{rows_of, box_of}
+use Rattle.rt_tree.specs.Lists.{IsInShape, rows_of, box_of}
 use Rattle.rt_live.specs.declared.change.Change.{Change}
 use Rattle.rt_live.specs.declared.live.Live.TheInside.{Inside}
 use Rattle.rt_live.specs.Rows.{box_at, with_box, by_id}

@@ -1,12 +1,17 @@
--- Rows that are found in a list, in any order. No public clause cites this module.
-use Rattle.std.specs.Prelude.{◌≡◌, ℕ, ◌+◌, Bool, not, ◌&&◌, ◌||◌, List, Option, filter, count_by}
+-- Rows that are found in a list, in any order, and the box around two boxes. No public clause cites this module.
+use Rattle.std.specs.Prelude.{◌≡◌, ℕ, ◌+◌, Bool, true, is_some, not, ◌&&◌, ◌||◌, List, Option, filter, count_by}
 use Rattle.rt_box.specs.declared.interval.Interval.{Interval}
 use Rattle.rt_check.specs.Shadow.{ShadowLists}
+use Rattle.rt_tree_join.specs.Join.{touch}
 use Rattle.rt_tree_walk.specs.declared.searching.Row.{Row}
-use Rattle.rt_tree.specs.Rows.{rows_of}
+use Rattle.rt_tree.specs.Lists.{rows_of}
 use Rattle.rt_live.specs.declared.finding.Scratch.{Scratch}
 use Rattle.rt_live.specs.Rows.{rows_by_id}
-use Rattle.rt_live.specs.Changes.{touches}
+use Rattle.rt_live.specs.Changes.{touches, told_of_window}
+
+-- what touches one of the boxes touches the hull
+abbrev pub Encloses : Option (List Interval) → Option (List Interval) → List Interval → Type 0
+Encloses was is hull = (other : List Interval) → (touches was other || touches is other) ≡ true → touch hull other ≡ true
 
 module _ {D : ℕ} where
   -- the row doesn't touch the box
@@ -20,6 +25,14 @@ module _ {D : ℕ} where
   -- the row touches one of the boxes
   abbrev pub touches_either : Option (List Interval) → Option (List Interval) → Row D → Bool
   touches_either was is r = touches was r.rect || touches is r.rect
+
+  -- a window that had the one box and has the other is told of the row
+  abbrev pub is_told : Option (List Interval) → Option (List Interval) → Row D → Bool
+  is_told was is r = is_some (told_of_window (touches was r.rect) (touches is r.rect))
+
+  -- the row touches the box
+  abbrev pub touches_hull : List Interval → Row D → Bool
+  touches_hull hull r = touch hull r.rect
 
   -- the rows that pass were appended: as many more pass any other test
   pub record Appends (rows : List (Row D)) (pass : Row D → Bool) (old new : List (Row D)) : Type 0 where

@@ -1,5 +1,5 @@
 -- Rows, windows over them, and the changes of the last edit. Source: own.
-use Rattle.std.specs.Prelude.{ℕ, ℤ, Bool, List, [], map, filter, Option}
+use Rattle.std.specs.Prelude.{ℕ, ℤ, List, [], map, filter, Option}
 use Rattle.rt_box.specs.declared.interval.Interval.{Interval}
 use Rattle.rt_tree_walk.specs.declared.searching.Row.{Row}
 use Rattle.rt_live.specs.Rows.{box_at, with_box}
@@ -12,13 +12,14 @@ pub record LiveLists (D : ℕ) : Type 0 where
   pub windows : List (Row D)
   pub changes : List Change
 
--- how many more rows, windows and changes there is room for, and whether there is for the nodes that searches reach
+-- how many more rows, windows and changes there is room for; a tree with fewer rows than `search_room` is searched without
+-- asking for memory
 pub record LiveState (D : ℕ) : Type 0 where
   pub lists : LiveLists D
   pub row_room : ℕ
   pub window_room : ℕ
   pub change_room : ℕ
-  pub can_search : Bool
+  pub search_room : ℕ
 
 module _ {D : ℕ} where
   abbrev pub empty : LiveLists D

@@ -1,9 +1,7 @@
 //! Changes: what a window is told of a row.
 
-ghost use Rattle.std.specs.Prelude.{◌≡◌, ◌≤◌, ◌++◌, length, vec_capacity, OnOk, OnErr};
+ghost use Rattle.std.specs.Prelude.{◌≡◌, ◌+◌, ◌<◌, ◌≤◌, ◌++◌, length, vec_capacity};
 ghost use Rattle.rt_live.specs.Changes.{told_of_row, told_of_window, listed};
-
-use std::alloc::AllocError;
 
 /// What a row did in a window.
 #[derive(Clone, Copy, PartialEq, Eq, Debug)]
@@ -50,20 +48,15 @@ pub(crate) fn told_of_window(was_in: bool, is_in: bool) -> Option<Kind>
     }
 }
 
-/// Lists what a window is told of a row, if it is told anything.
-pub(crate) fn push_told(
-    changes: &mut Vec<Change>,
-    window: i64,
-    id: i64,
-    told: Option<Kind>,
-) -> Result<(), AllocError>
-    ensures told { OnOk result (changes.new.items ≡ changes.old.items ++ listed window id told) }
-    ensures full { OnErr result (vec_capacity changes.old ≤ length changes.old.items) }
-    ensures capacity { vec_capacity changes.old ≤ vec_capacity changes.new }
+/// Lists what a window is told of a row, if it is told anything, in a list that has room.
+#[inline]
+pub(crate) fn push_told(changes: &mut Vec<Change>, window: i64, id: i64, told: Option<Kind>)
+    requires room { length changes.old.items < vec_capacity changes.old }
+    ensures told { changes.new.items ≡ changes.old.items ++ listed window id told }
+    ensures few { length changes.new.items ≤ length changes.old.items + 1 }
+    ensures capacity { vec_capacity changes.new ≡ vec_capacity changes.old }
 {
-    let Some(kind) = told else {
-        return Ok(());
-    };
-    changes.push(Change { window, id, kind })?;
-    Ok(())
+    if let Some(kind) = told {
+        changes.push_reserved(Change { window, id, kind });
+    }
 }

@@ -5,8 +5,9 @@
 //! - `insert`, `remove` and `replace` edit a row; `watch`, `unwatch` and `shift` a window. After each, `changes` lists what
 //!   windows are told: which rows left, came, or moved inside, by rising window and then by rising id.
 //! - An edit that is refused leaves the rows, the windows and the last changes as they were.
-//! - An edit of a row looks at the windows around its old box and its new one, an edit of a window at the rows there.
-//! - `reserve` makes room: the next edit that looks at no more than that can't fail for want of memory.
+//! - An edit of a row looks at the windows around its old box and its new one, an edit of a window at the rows there. Where the
+//!   two boxes are close, the box around both is searched once.
+//! - `reserve` makes room for rows, windows and changes: the edits that keep to that can't fail for want of memory.
 //! - `copies_follow` is the theorem: a copy of what a window sees, which follows the changes, is what the window sees.
 //!
 //! Stands on `rt_tree`, whose rows are also the windows, and on `rt_tree_sort`. Definitions: `specs/Rows.antt` (rows and
@@ -20,7 +21,9 @@ ghost use Rattle.rt_live.specs.Following.{CopiesFollow};
 mod change;
 mod fault;
 mod finding;
+mod hull;
 mod live;
+mod nodes;
 mod plan;
 mod setting;
 mod touching;

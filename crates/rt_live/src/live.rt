@@ -7,13 +7,15 @@ ghost use Rattle.std.specs.Prelude.{◌≡◌, ◌≢◌, ◌≤◌, ◌<◌, No
 ghost use Rattle.rt_tree_node.specs.Whole.{most_rows_of_a_tree};
 ghost use Rattle.rt_live.specs.Rows.{AreRising, rows_by_id, box_at};
 ghost use Rattle.rt_live.specs.Live.{empty, with_row, with_window, seen};
-ghost use Rattle.rt_live.specs.Room.{around, HasRoom};
+ghost use Rattle.rt_live.specs.Room.{around, used, HasRoom, UsesRoom};
 ghost use Rattle.rt_live.specs.declared.fault.Fault.TheVariants.{Taken, Missing, WindowTaken, NoWindow, Memory};
 ghost use Rattle.rt_live.specs.Faults.{IsFaultOfInsertion, IsFaultOfEdit, IsFaultOfWatch, IsFaultOfWindow};
 
 use crate::change::Change;
 use crate::fault::Fault;
 use crate::finding::{Scratch, find_either};
+use crate::hull::least_side;
+use crate::nodes::{few_nodes, nodes_with};
 use crate::plan::{plan_row, plan_window};
 use crate::setting::{make_room, set_box};
 use crate::touching::does_stay;
@@ -32,6 +34,8 @@ pub struct Live<const D: usize> {
     // What the next edit is to tell, and what it finds: kept, so that few edits take memory for them.
     planned: Vec<Change>,
     scratch: Scratch<D>,
+    // No window is shorter than this on any axis: nor was any since there was none.
+    least: u32,
     alloc: Global,
 }
 
@@ -44,6 +48,7 @@ impl<const D: usize> Drop for Live<D> {
             changes: _,
             planned: _,
             scratch: _,
+            least: _,
             alloc: _,
         } = self;
     }
@@ -69,16 +74,6 @@ fn empty_scratch<const D: usize>(alloc: Global) -> Scratch<D> {
         last: Vec::new(alloc),
         reached: Vec::new(alloc),
     }
-}
-
-/// How many nodes a search of the tree is to have room for: those that there are, and those that more rows may need.
-fn nodes_of<const D: usize>(tree: &Tree<D>) -> usize
-    ensures { length tree.now.lists.nodes ≤ result }
-{
-    let capacity = tree.capacity();
-    capacity.facts();
-    let rows = tree.len().saturating_add(tree.spare());
-    tree.node_count().max(rows / (capacity.least() - 1))
 }
 
 /// The ids of rows.
@@ -112,6 +107,7 @@ impl<const D: usize> Live<D> {
             changes: Vec::new(alloc),
             planned: Vec::new(alloc),
             scratch: empty_scratch(alloc),
+            least: u32::MAX,
             alloc,
         })
     }
@@ -168,8 +164,8 @@ impl<const D: usize> Live<D> {
     }
 
     /// Makes room for so many more rows and windows, and for edits that look at no more than so many windows, or rows: those
-    /// around the old box and the new one. The next edit that keeps to that can't fail for want of memory. Each row and
-    /// window that gets a box uses up the room of one.
+    /// around the old box and the new one. The edits that follow can't fail for want of memory, as long as each keeps to that,
+    /// and all together give rows and windows no more boxes. A box uses up the room of one row, or window, at most.
     ///
     /// # Errors
     ///
@@ -180,6 +176,7 @@ impl<const D: usize> Live<D> {
         ensures windows { OnOk result (windows ≤ self.new.window_room) }
         ensures changes { OnOk result (changes ≤ self.new.change_room) }
         ensures room { OnOk result (HasRoom self.new rows windows changes) }
+        ensures keeps { UsesRoom self.old self.new 0 0 }
     {
         self.rows.reserve(rows)?;
         self.windows.reserve(windows)?;
@@ -187,8 +184,12 @@ impl<const D: usize> Live<D> {
         self.changes.reserve(changes)?;
         self.scratch.found.reserve(changes)?;
         self.scratch.last.reserve(changes)?;
-        let nodes = nodes_of(&self.rows).max(nodes_of(&self.windows));
-        self.scratch.reached.reserve(nodes)?;
+        let of_rows = self.rows.capacity();
+        let of_windows = self.windows.capacity();
+        let least = of_rows.least().min(of_windows.least());
+        let for_rows = nodes_with(&self.rows, rows, least)?;
+        let for_windows = nodes_with(&self.windows, windows, least)?;
+        self.scratch.reached.reserve(for_rows.max(for_windows))?;
         Ok(())
     }
 
@@ -205,6 +206,7 @@ impl<const D: usize> Live<D> {
         ensures err { OnErr result (self.new.lists ≡ self.old.lists) }
         ensures succeeds { (IsSome is.now → 1 ≤ self.old.row_room) →
             HasRoom self.old 0 0 (around was.now is.now self.old.lists.windows) → IsOk result }
+        ensures uses { UsesRoom self.old self.new (used is.now) 0 }
     {
         if does_stay(was, is) {
             self.changes.clear();
@@ -212,9 +214,11 @@ impl<const D: usize> Live<D> {
         }
         // The list of the rows is as long as the tree's.
         self.rows.is_in_shape();
+        few_nodes(&self.windows);
         make_room(&mut self.rows, is)?;
         plan_row(
             &self.windows,
+            self.least,
             id,
             was,
             is,
@@ -239,6 +243,7 @@ impl<const D: usize> Live<D> {
         ensures err { OnErr result (self.new.lists ≡ self.old.lists) }
         ensures succeeds { (IsSome is.now → 1 ≤ self.old.window_room) →
             HasRoom self.old 0 0 (around was.now is.now self.old.lists.rows) → IsOk result }
+        ensures uses { UsesRoom self.old self.new 0 (used is.now) }
     {
         if does_stay(was, is) {
             self.changes.clear();
@@ -246,6 +251,7 @@ impl<const D: usize> Live<D> {
         }
         // The list of the windows is as long as the tree's.
         self.windows.is_in_shape();
+        few_nodes(&self.rows);
         make_room(&mut self.windows, is)?;
         plan_window(
             &self.rows,
@@ -255,6 +261,7 @@ impl<const D: usize> Live<D> {
             &mut self.scratch,
             &mut self.planned,
         )?;
+        self.least = least_side(self.least, &self.windows, is);
         set_box(&mut self.windows, window, was, is);
         mem::swap(&mut self.changes, &mut self.planned);
         Ok(())
@@ -273,6 +280,7 @@ impl<const D: usize> Live<D> {
         ensures fault { IfErr result (IsFaultOfInsertion self.old.lists.rows id.now) }
         ensures fits { HasRoom self.old 1 0
             (around None (Some rect.now) self.old.lists.windows) → result ≢ Err Memory }
+        ensures uses { UsesRoom self.old self.new 1 0 }
     {
         self.rows.is_in_shape();
         if self.rows.contains(id) {
@@ -297,6 +305,7 @@ impl<const D: usize> Live<D> {
         ensures fault { IfErr result (IsFaultOfEdit self.old.lists.rows id.now) }
         ensures fits { HasRoom self.old 0 0
             (around (box_at self.old.lists.rows id.now) None self.old.lists.windows) → result ≢ Err Memory }
+        ensures uses { UsesRoom self.old self.new 0 0 }
     {
         let was = self.rows.get(id);
         if was.is_none() {
@@ -319,6 +328,7 @@ impl<const D: usize> Live<D> {
         ensures fault { IfErr result (IsFaultOfEdit self.old.lists.rows id.now) }
         ensures fits { HasRoom self.old 1 0
             (around (box_at self.old.lists.rows id.now) (Some rect.now) self.old.lists.windows) → result ≢ Err Memory }
+        ensures uses { UsesRoom self.old self.new 1 0 }
     {
         let was = self.rows.get(id);
         if was.is_none() {
@@ -341,6 +351,7 @@ impl<const D: usize> Live<D> {
         ensures fault { IfErr result (IsFaultOfWatch self.old.lists.windows window.now) }
         ensures fits { HasRoom self.old 0 1
             (around None (Some rect.now) self.old.lists.rows) → result ≢ Err Memory }
+        ensures uses { UsesRoom self.old self.new 0 1 }
     {
         self.windows.is_in_shape();
         if self.windows.contains(window) {
@@ -365,6 +376,7 @@ impl<const D: usize> Live<D> {
         ensures fault { IfErr result (IsFaultOfWindow self.old.lists.windows window.now) }
         ensures fits { HasRoom self.old 0 0
             (around (box_at self.old.lists.windows window.now) None self.old.lists.rows) → result ≢ Err Memory }
+        ensures uses { UsesRoom self.old self.new 0 0 }
     {
         let was = self.windows.get(window);
         if was.is_none() {
@@ -387,6 +399,7 @@ impl<const D: usize> Live<D> {
         ensures fits { HasRoom self.old 0 1
             (around (box_at self.old.lists.windows window.now) (Some rect.now) self.old.lists.rows) →
             result ≢ Err Memory }
+        ensures uses { UsesRoom self.old self.new 0 1 }
     {
         let was = self.windows.get(window);
         if was.is_none() {

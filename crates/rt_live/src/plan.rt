@@ -1,16 +1,19 @@
 //! What an edit tells, listed before anything changes.
 
-ghost use Rattle.std.specs.Prelude.{◌≡◌, ◌+◌, ◌<◌, ◌≤◌, ◌++◌, false, length, vec_capacity, IsOk, OnOk, OnErr};
+ghost use Rattle.std.specs.Prelude.{◌≡◌, ◌+◌, ◌<◌, ◌≤◌, ◌++◌, true, false, length, vec_capacity, IsOk, OnOk, OnErr};
 ghost use Rattle.rt_live.specs.Rows.{rows_by_id};
 ghost use Rattle.rt_live.specs.Changes.{stays, told_each, row_changes, window_changes};
+ghost use Rattle.rt_live.specs.Finding.{Encloses};
 ghost use Rattle.rt_live.specs.Room.{around, HasRoomAround, Grows};
 
 use crate::change::{Change, push_told, told_of_row, told_of_window};
-use crate::finding::{Scratch, find_either};
+use crate::finding::{Scratch, find_around, find_either, find_told};
+use crate::hull::hull_of;
 use crate::touching::is_touched;
 use rt_box::Rect;
 use rt_tree::{Row, Tree};
 use std::alloc::AllocError;
+use std::mem;
 
 /// Lists what these windows are told of a row that had the one box and has the other.
 fn list_row<const D: usize>(
@@ -24,11 +27,16 @@ fn list_row<const D: usize>(
     ensures full { OnErr result (vec_capacity changes.old < length changes.old.items + length windows.now) }
     ensures capacity { vec_capacity changes.old ≤ vec_capacity changes.new }
 {
+    changes.reserve(windows.len())?;
+    // While nothing else names the list, its end stays in a register.
+    let alloc = *changes.allocator();
+    let mut list = mem::replace(changes, Vec::new(alloc));
     for window in windows {
         let was_in = is_touched(was, &window.rect);
         let is_in = is_touched(is, &window.rect);
-        push_told(changes, window.id, *id, told_of_row(was_in, is_in))?;
+        push_told(&mut list, window.id, *id, told_of_row(was_in, is_in));
     }
+    *changes = list;
     Ok(())
 }
 
@@ -45,18 +53,111 @@ fn list_window<const D: usize>(
     ensures full { OnErr result (vec_capacity changes.old < length changes.old.items + length rows.now) }
     ensures capacity { vec_capacity changes.old ≤ vec_capacity changes.new }
 {
+    changes.reserve(rows.len())?;
+    let alloc = *changes.allocator();
+    let mut list = mem::replace(changes, Vec::new(alloc));
     for row in rows {
         let was_in = is_touched(was, &row.rect);
         let is_in = is_touched(is, &row.rect);
-        push_told(changes, *window, row.id, told_of_window(was_in, is_in))?;
+        push_told(&mut list, *window, row.id, told_of_window(was_in, is_in));
     }
+    *changes = list;
     Ok(())
 }
 
+/// Plans what the windows are told of a row that gets another box, by one search of the box around both boxes.
+fn plan_close_row<const D: usize>(
+    windows: &Tree<D>,
+    hull: &Rect<D>,
+    id: &i64,
+    was: &Option<Rect<D>>,
+    is: &Option<Rect<D>>,
+    scratch: &mut Scratch<D>,
+    changes: &mut Vec<Change>,
+) -> Result<(), AllocError>
+    requires moves { stays was.now is.now ≡ false }
+    requires hull { Encloses was.now is.now hull.now }
+    ensures told { OnOk result (changes.new.items ≡ row_changes (rows_by_id windows.now.lists) id.now was.now is.now) }
+    ensures grows { Grows scratch.old scratch.new }
+    ensures capacity { vec_capacity changes.old ≤ vec_capacity changes.new }
+{
+    // There are one to three axes.
+    hull.facts();
+    find_around(windows, hull, scratch)?;
+    changes.clear();
+    list_row(changes, scratch.last.as_slice(), id, was, is)
+}
+
+/// Plans what the windows are told of a row that gets another box, by one search if the boxes are close. Answers whether it
+/// did. No window is shorter than `least` on any axis.
+fn plan_row_at_once<const D: usize>(
+    windows: &Tree<D>,
+    least: u32,
+    id: &i64,
+    was: &Option<Rect<D>>,
+    is: &Option<Rect<D>>,
+    scratch: &mut Scratch<D>,
+    changes: &mut Vec<Change>,
+) -> bool
+    requires { stays was.now is.now ≡ false }
+    ensures told { result ≡ true →
+        changes.new.items ≡ row_changes (rows_by_id windows.now.lists) id.now was.now is.now }
+    ensures grows { Grows scratch.old scratch.new }
+    ensures capacity { vec_capacity changes.old ≤ vec_capacity changes.new }
+{
+    match hull_of(was, is, least) {
+        Some(hull) => plan_close_row(windows, &hull, id, was, is, scratch, changes).is_ok(),
+        None => false,
+    }
+}
+
+/// Plans what a window is told that gets another box, by one search of the box around both boxes.
+fn plan_close_window<const D: usize>(
+    rows: &Tree<D>,
+    hull: &Rect<D>,
+    window: &i64,
+    was: &Option<Rect<D>>,
+    is: &Option<Rect<D>>,
+    scratch: &mut Scratch<D>,
+    changes: &mut Vec<Change>,
+) -> Result<(), AllocError>
+    requires { Encloses was.now is.now hull.now }
+    ensures told { OnOk result (changes.new.items ≡
+        window_changes (rows_by_id rows.now.lists) window.now was.now is.now) }
+    ensures grows { Grows scratch.old scratch.new }
+    ensures capacity { vec_capacity changes.old ≤ vec_capacity changes.new }
+{
+    hull.facts();
+    find_told(rows, hull, was, is, scratch)?;
+    changes.clear();
+    list_window(changes, scratch.found.as_slice(), window, was, is)
+}
+
+/// Plans what a window is told that gets another box, by one search if the boxes are close. Answers whether it did.
+fn plan_window_at_once<const D: usize>(
+    rows: &Tree<D>,
+    window: &i64,
+    was: &Option<Rect<D>>,
+    is: &Option<Rect<D>>,
+    scratch: &mut Scratch<D>,
+    changes: &mut Vec<Change>,
+) -> bool
+    ensures told { result ≡ true →
+        changes.new.items ≡ window_changes (rows_by_id rows.now.lists) window.now was.now is.now }
+    ensures grows { Grows scratch.old scratch.new }
+    ensures capacity { vec_capacity changes.old ≤ vec_capacity changes.new }
+{
+    match hull_of(was, is, 0) {
+        Some(hull) => plan_close_window(rows, &hull, window, was, is, scratch, changes).is_ok(),
+        None => false,
+    }
+}
+
 /// Plans what the windows are told of a row that gets another box. Of the windows, those are looked at that touch one of
-/// the boxes.
+/// the boxes, or the box around both if they are close.
 pub(crate) fn plan_row<const D: usize>(
     windows: &Tree<D>,
+    least: u32,
     id: &i64,
     was: &Option<Rect<D>>,
     is: &Option<Rect<D>>,
@@ -71,12 +172,17 @@ pub(crate) fn plan_row<const D: usize>(
     ensures grows { Grows scratch.old scratch.new }
     ensures capacity { vec_capacity changes.old ≤ vec_capacity changes.new }
 {
+    if plan_row_at_once(windows, least, id, was, is, scratch, changes) {
+        return Ok(());
+    }
+    // Where no memory is left, there may be room for the windows around the two boxes alone.
     find_either(windows, was, is, scratch)?;
     changes.clear();
     list_row(changes, scratch.found.as_slice(), id, was, is)
 }
 
-/// Plans what a window is told that gets another box. Of the rows, those are looked at that touch one of the boxes.
+/// Plans what a window is told that gets another box. Of the rows, those are looked at that touch one of the boxes,
+/// or the box around both if they are close.
 pub(crate) fn plan_window<const D: usize>(
     rows: &Tree<D>,
     window: &i64,
@@ -93,6 +199,9 @@ pub(crate) fn plan_window<const D: usize>(
     ensures grows { Grows scratch.old scratch.new }
     ensures capacity { vec_capacity changes.old ≤ vec_capacity changes.new }
 {
+    if plan_window_at_once(rows, window, was, is, scratch, changes) {
+        return Ok(());
+    }
     find_either(rows, was, is, scratch)?;
     changes.clear();
     list_window(changes, scratch.found.as_slice(), window, was, is)

@@ -21,11 +21,13 @@ pub(crate) fn touching<const D: usize>(rect: &Rect<D>) -> Window<D>
     window
 }
 
+// Whether boxes touch can't be foreseen. So all ends are compared, with no branch.
+
 /// Whether neither interval begins behind the other's end.
 fn do_meet(one: &Interval, other: &Interval) -> bool
     ensures { result ≡ meet one.now other.now }
 {
-    one.lo <= other.hi && other.lo <= one.hi
+    (one.lo <= other.hi) & (other.lo <= one.hi)
 }
 
 /// Whether two boxes touch.
@@ -34,13 +36,12 @@ fn do_touch<const D: usize>(rect: &Rect<D>, other: &Rect<D>) -> bool
 {
     rect.facts();
     other.facts();
+    let mut meets = true;
     for axis in 0..D {
         let (range, other_range) = (rect.range(axis), other.range(axis));
-        if !do_meet(&range, &other_range) {
-            return false;
-        }
+        meets = meets & do_meet(&range, &other_range);
     }
-    true
+    meets
 }
 
 /// Whether a box is there and touches the other one.

@@ -18,7 +18,7 @@ use Rattle.rt_tree_restore.specs.Restoring.{Restores, fault_of}
 use Rattle.rt_tree_restore.specs.declared.fault.RestoreFault.{RestoreFault}
 use Rattle.rt_tree_restore.specs.declared.fault.RestoreFault.TheVariants.{NoBox, TooMany as AreTooMany, Repeated as IsRepeated, Memory as IsOutOfMemory}
 use Rattle.rt_tree_walk.specs.declared.searching.Row.{Row}
-use Rattle.rt_tree.specs.Rows.{rows_of}
+use Rattle.rt_tree.specs.Lists.{rows_of}
 use Rattle.rt_tree.specs.Kept.{IsKeptWith}
 use Rattle.rt_map.specs.Packing.{ids}
 use Rattle.rt_map.specs.PackingInside.{cell_of}

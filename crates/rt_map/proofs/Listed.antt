@@ -5,7 +5,7 @@ use Rattle.rt_tree_node.specs.declared.arena.Arena.{Arena}
 use Rattle.rt_tree_walk.specs.Rows.{rows_in}
 use Rattle.rt_tree_outside.specs.Outside.{outside}
 use Rattle.rt_tree.specs.Kept.{IsKeptWith}
-use Rattle.rt_tree.specs.Rows.{rows_of}
+use Rattle.rt_tree.specs.Lists.{rows_of}
 use Rattle.rt_tree.proofs.Kept.{kept-settled}
 use Rattle.rt_tree.proofs.Nearby.{rows-listed}
 

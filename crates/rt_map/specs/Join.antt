@@ -3,7 +3,7 @@ use Rattle.std.specs.Prelude.{◌≡◌, ℕ, ◌≤◌, Bool, ℤ, List, count_
 use Rattle.rt_check.specs.Shadow.{ShadowLists}
 use Rattle.rt_tree_join.specs.declared.joining.Pair.{Pair}
 use Rattle.rt_tree_join.specs.Join.{has_ids, touching_pairs, touching_within}
-use Rattle.rt_tree.specs.Rows.{rows_of}
+use Rattle.rt_tree.specs.Lists.{rows_of}
 
 module _ {D : ℕ} where
   -- the pairs of the rows of two trees whose boxes touch: as many pass any test; and no pair of ids comes twice

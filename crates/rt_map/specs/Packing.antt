@@ -4,7 +4,7 @@ use Rattle.std.specs.Prelude.{◌≡◌, ℕ, ◌≤◌, Bool, ℤ, List, length
 use Rattle.rt_check.specs.Shadow.{ShadowLists}
 use Rattle.rt_tree_pack.specs.Packing.{most_packed_nodes}
 use Rattle.rt_tree_walk.specs.declared.searching.Row.{Row}
-use Rattle.rt_tree.specs.Rows.{rows_of}
+use Rattle.rt_tree.specs.Lists.{rows_of}
 
 module _ {D : ℕ} where
   -- the ids of rows

@@ -1,7 +1,7 @@
 //! The rows of a tree that are nearest to a point or a box.
 
 ghost use Rattle.std.specs.Prelude.{◌≡◌, IfOk};
-ghost use Rattle.rt_tree.specs.Rows.{rows_of};
+ghost use Rattle.rt_tree.specs.Lists.{rows_of};
 ghost use Rattle.rt_tree_nearest.specs.Nearest.{nearest_rows, rows_within, nearest_rows_to};
 
 use rt_box::Rect;

@@ -2,7 +2,6 @@
 use Rattle.std.specs.Prelude.{◌≡◌, ℕ, Bool, List, [], ◌∷◌, length}
 use Rattle.rt_sql_statement.specs.declared.value.Value.{Value}
 use Rattle.rt_table_row.specs.Entries.{listed_values}
-use Rattle.rt_table_row.specs.RowLists.{Lists}
 use Rattle.rt_table_row.specs.Rows.{TableRow, values_of}
 use Rattle.rt_table_row.specs.Views.{ViewChange}
 use Rattle.rt_reply.specs.declared.changes.Head.{Head}
@@ -13,7 +12,7 @@ abbrev pub change : Head → List Value → ViewChange
 change head row = record { view = head.view; came = head.came; row = row }
 
 -- each head with its row
-abbrev pub with_rows : List Head → Lists → List ViewChange
+abbrev pub with_rows : List Head → List (List Value) → List ViewChange
 with_rows [] rows = []
 with_rows (head ∷ heads) [] = []
 with_rows (head ∷ heads) (row ∷ rows) = change head row ∷ with_rows heads rows

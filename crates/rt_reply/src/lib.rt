@@ -8,7 +8,7 @@
 //! A table makes rows and changes of what it finds, a session the reply of these, and a shell prints it.
 //!
 //! Stands on `rt_table_row` (values) and `rt_tree_walk` (rows that a search finds). Definitions: `specs/Rows.antt`,
-//! `Shown.antt`, `Changes.antt`.
+//! `Changes.antt`.
 #![tactic(auto)]
 
 mod changes;

@@ -1,7 +1,7 @@
 //! The rows that an answer shows, with the columns that it shows of them.
 //!
 //! Columns are picked when a row is printed, so no value is copied for them. Contracts see a list of rows of values
-//! (`specs/Shown.antt`).
+//! (`specs/Rows.antt`).
 
 use crate::rows::Rows;
 use std::marker::Model;
@@ -22,7 +22,7 @@ impl Model for Shown {
 
     ghost Value = { Lists };
 
-    ghost use Rattle.rt_reply.specs.Shown.{values_shown};
+    ghost use Rattle.rt_reply.specs.Rows.{values_shown};
 
     ghost view = { λ shown. values_shown shown.columns shown.rows };
 }

@@ -14,8 +14,7 @@ use Rattle.rt_table.specs.Replies.{Shows, ShowsIds}
 use Rattle.rt_reply.specs.declared.reply.Reply.TheVariants.{Rows}
 use Rattle.rt_session.specs.Session.{select_reply, shown_values, is_by_id}
 use Rattle.rt_session.specs.Selecting.{ArePlaces}
-use Rattle.rt_reply.specs.Rows.{id_values}
-use Rattle.rt_reply.specs.Shown.{values_at}
+use Rattle.rt_reply.specs.Rows.{id_values, values_at}
 
 pub one_fails : {X : Type 0} (p : X → Bool) (xs : List X) (at : ℕ) (x : X) → at < length xs → x ≡ get_or xs at x → p x ≡ false → list_all p xs ≡ false
 one_fails p [] at x within read fails = absurd (omega arith)

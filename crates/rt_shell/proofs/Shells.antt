@@ -6,7 +6,7 @@ use Rattle.rt_bytes.specs.declared.device.WriteFault.{WriteFault}
 use Rattle.rt_bytes.specs.declared.outcome.Status.{Status}
 use Rattle.rt_bytes.specs.declared.outcome.Status.TheVariants.{Refused}
 use Rattle.rt_bytes.proofs.Writing.{WritesAll-nil, AppendsPrefix-more}
-use Rattle.rt_sql_cut.specs.Piece.{PieceText}
+use Rattle.rt_sql_cut.specs.Pieces.{PieceText}
 use Rattle.rt_sql_cut.specs.Cutter.{ready_piece}
 use Rattle.rt_sql_cut.proofs.CutterFront.{whole_at}
 use Rattle.rt_shell.specs.declared.engine.Engine.{Engine}

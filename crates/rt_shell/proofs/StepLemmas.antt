@@ -1,7 +1,7 @@
 -- What a piece gives, by what its parse and its statement give.
 use Rattle.std.proofs.Common.{◌≡◌, Result, Ok, Err, true, false, refl, sym, ap, inl, inr}
 use Rattle.std.specs.Prelude.{◌⊎◌, ◌≢◌}
-use Rattle.rt_sql_cut.specs.Piece.{PieceText}
+use Rattle.rt_sql_cut.specs.Pieces.{PieceText}
 use Rattle.rt_sql.specs.Parse.{ParsesUnlessMemory}
 use Rattle.rt_sql_request.specs.declared.request.Stmt.{Stmt}
 use Rattle.rt_sql_statement.specs.declared.refusal.Refusal.{Refusal}

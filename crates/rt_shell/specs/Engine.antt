@@ -4,8 +4,7 @@ use Rattle.std.specs.Result.{is_err}
 use Rattle.rt_bytes.specs.Bytes.{Writes, WritesAll, WritesPrefix}
 use Rattle.rt_bytes.specs.declared.device.ByteWriter.{Ghosts as WriterMembers}
 use Rattle.rt_bytes.specs.declared.device.WriteFault.{WriteFault}
-use Rattle.rt_sql_cut.specs.Piece.{PieceText}
-use Rattle.rt_sql_cut.specs.Pieces.{IsGap, IsWholePiece, IsLastPiece, Pieces, EndedPieces}
+use Rattle.rt_sql_cut.specs.Pieces.{PieceText, IsGap, IsWholePiece, IsLastPiece, Pieces, EndedPieces}
 use Rattle.rt_sql_cut.specs.Cutter.{StandsAt, StandsAtEnd, ready_piece}
 use Rattle.rt_sql_statement.specs.declared.refusal.Refusal.{Refusal}
 use Rattle.rt_reply.specs.declared.reply.Reply.{Reply}

@@ -5,8 +5,7 @@ use Rattle.std.specs.List.{concat}
 use Rattle.std.specs.Result.{is_err}
 use Rattle.rt_bytes.specs.declared.outcome.Status.{Status}
 use Rattle.rt_bytes.specs.declared.outcome.Status.TheVariants.{Clean, Refused}
-use Rattle.rt_sql_cut.specs.Piece.{PieceText}
-use Rattle.rt_sql_cut.specs.Pieces.{Pieces, EndedPieces}
+use Rattle.rt_sql_cut.specs.Pieces.{PieceText, Pieces, EndedPieces}
 use Rattle.rt_sql.specs.Parse.{Parses}
 use Rattle.rt_sql_request.specs.declared.request.Stmt.{Stmt}
 use Rattle.rt_sql_statement.specs.declared.refusal.Refusal.{Refusal}

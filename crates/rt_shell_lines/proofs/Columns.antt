@@ -5,8 +5,7 @@ use Rattle.std.proofs.lemmas.List.{drop-map, take-map, drop-take}
 use Rattle.std.proofs.lemmas.List.Folds.{flat_map-map}
 use Rattle.rt_sql_statement.specs.declared.value.Value.{Value}
 use Rattle.rt_tree_walk.specs.declared.searching.Row.{Row}
-use Rattle.rt_reply.specs.Rows.{box_values}
-use Rattle.rt_reply.specs.Shown.{values_at}
+use Rattle.rt_reply.specs.Rows.{box_values, values_at}
 use Rattle.rt_shell_lines.specs.Lines.{value_text, column_text, row_line}
 
 mapped : (row : List Value) (places : List ℕ) →

@@ -3,7 +3,7 @@
 use Rattle.std.specs.Prelude.{ℕ, ℤ, ◌/◌, ◌%◌, Bool, true, false, if◌then◌else◌, List, [], ◌∷◌, ◌++◌, codes, decimal, slice_index_or, map, take, drop, Result, Ok, Err}
 use Rattle.std.specs.Fmt.{digit_glyph, signed_decimal}
 use Rattle.std.specs.List.{flat_map, join_by}
-use Rattle.rt_sql_cut.specs.Piece.{PieceText}
+use Rattle.rt_sql_cut.specs.Pieces.{PieceText}
 use Rattle.rt_sql_cut.specs.declared.piece.Ending.{Ending}
 use Rattle.rt_sql_cut.specs.declared.piece.Ending.TheVariants.{Whole, Incomplete, TooLong}
 use Rattle.rt_sql.specs.Token.{double}
@@ -14,11 +14,9 @@ use Rattle.rt_sql_statement.specs.declared.value.Value.TheVariants.{Null, Int, T
 use Rattle.rt_check_dump.specs.Dump.{any_text}
 use Rattle.rt_check_report.specs.Verdict.{verdict_lines}
 use Rattle.rt_table_row.specs.Views.{ViewChange}
-use Rattle.rt_table_row.specs.RowLists.{Lists}
 use Rattle.rt_reply.specs.declared.rows.Rows.{Rows}
 use Rattle.rt_tree_walk.specs.declared.searching.Row.{Row}
-use Rattle.rt_reply.specs.Rows.{box_values, id_values, values_in}
-use Rattle.rt_reply.specs.Shown.{values_at}
+use Rattle.rt_reply.specs.Rows.{box_values, id_values, values_in, values_at}
 use Rattle.rt_reply.specs.declared.reply.Reply.{Reply}
 use Rattle.rt_reply.specs.declared.reply.Reply.TheVariants as reply
 
@@ -72,7 +70,7 @@ abbrev pub listed_after_bars : List ℤ → List Value → List ℕ
 listed_after_bars numbers values = after_bars value_text (map Int numbers ++ values)
 
 -- the lines of the rows from one place to another
-abbrev pub rows_between : ℕ → ℕ → Lists → List ℕ
+abbrev pub rows_between : ℕ → ℕ → List (List Value) → List ℕ
 rows_between from to rows = flat_map row_line (drop from (take to rows))
 
 -- the lines of rows without auxiliary values

@@ -12,9 +12,8 @@ use Rattle.rt_sql.specs.declared.token.Token.{Token}
 use Rattle.rt_sql.specs.declared.token.Token.TheVariants as token
 use Rattle.rt_sql_statement.specs.declared.value.Value.{Value}
 use Rattle.rt_sql_statement.specs.declared.value.Value.TheVariants as values
-use Rattle.rt_sql.specs.Token.{Text}
+use Rattle.rt_sql.specs.Token.{Text, same_word, is_reserved}
 use Rattle.rt_sql.specs.Number.{Writes}
-use Rattle.rt_sql.specs.Word.{same_word, is_reserved}
 use Rattle.rt_sql.specs.Grammar as G
 use Rattle.rt_sql.specs.Reading.{Parser, Read, TakesTokens}
 use Rattle.rt_sql.specs.Reading as R

@@ -18,12 +18,11 @@ use Rattle.rt_sql.specs.Grammar.{Spells, named_lines, is_command}
 use Rattle.rt_sql.specs.Lex.{piece_tokens}
 use Rattle.rt_sql.specs.Number.{Writes, WritesAnySize, WritesWithin64Bits, with_sign, decimal, fits, within, number_by}
 use Rattle.rt_sql.specs.Parse.{IsText, ParsesText, ParsesAs, Parses, is_unknown}
-use Rattle.rt_sql.specs.Word.{same_word}
+use Rattle.rt_sql.specs.Token.{same_word, Text}
 use Rattle.rt_sql.specs.declared.token.Token.TheVariants as token
-use Rattle.rt_sql_cut.specs.Piece.{PieceText}
+use Rattle.rt_sql_cut.specs.Pieces.{PieceText}
 use Rattle.rt_sql.specs.Reading as R
 use Rattle.rt_sql.specs.Reading.{Outcome, Read}
-use Rattle.rt_sql.specs.Token.{Text}
 use Rattle.rt_sql.specs.Tokens.{PieceTokens}
 use Rattle.rt_sql.proofs.CompleteForms.{complete_whole}
 use Rattle.rt_sql.proofs.Numbers.{fits_signed, fits_from_signed}

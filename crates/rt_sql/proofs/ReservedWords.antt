@@ -6,8 +6,7 @@ use Rattle.std.specs.Char.{to_ascii_lowercase}
 use Rattle.std.proofs.lemmas.Bool.Decides.{nat_tests}
 use Rattle.std.proofs.lemmas.List.{length-map}
 use Rattle.std.specs.Cmp.Lexicographic.{unequal}
-use Rattle.rt_sql.specs.Token.{Text}
-use Rattle.rt_sql.specs.Word.{same_word, is_reserved, reserved_words}
+use Rattle.rt_sql.specs.Token.{Text, same_word, is_reserved, reserved_words}
 
 other_length : (word other : Text) → nat_eq (length other) (length word) ≡ false → same_word word other ≡ false
 other_length word other e = unequal nat_eq _ _ (λ same. absurd (grind (arith, e, nat_tests, sym (length-map word to_ascii_lowercase) ∙ same ∙ length-map other to_ascii_lowercase)))

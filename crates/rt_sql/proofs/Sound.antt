@@ -7,9 +7,8 @@ use Rattle.rt_sql.specs.declared.token.Sign.{Sign}
 use Rattle.rt_sql.specs.declared.token.Sign.TheVariants.{LeftParenthesis, RightParenthesis, Comma, Plus, Minus, Equal, DoubleEqual, LessGreater, BangEqual, Less, LessOrEqual, Greater, GreaterOrEqual}
 use Rattle.rt_sql.specs.declared.token.Token.{Token}
 use Rattle.rt_sql.specs.declared.token.Token.TheVariants as token
-use Rattle.rt_sql.specs.Token.{Text}
+use Rattle.rt_sql.specs.Token.{Text, same_word, is_reserved}
 use Rattle.rt_sql.specs.Number.{Writes}
-use Rattle.rt_sql.specs.Word.{same_word, is_reserved}
 use Rattle.rt_sql.specs.Grammar as G
 use Rattle.rt_sql.specs.Reading.{Parser, Read}
 use Rattle.rt_sql.specs.Reading as R

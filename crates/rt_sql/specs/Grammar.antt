@@ -22,8 +22,7 @@ use Rattle.rt_sql.specs.declared.token.Token.TheVariants as token
 use Rattle.rt_sql_statement.specs.declared.value.Value.{Value}
 use Rattle.rt_sql_statement.specs.declared.value.Value.TheVariants as values
 use Rattle.rt_sql.specs.Number.{Writes}
-use Rattle.rt_sql.specs.Token.{Text, undouble, hex_bytes}
-use Rattle.rt_sql.specs.Word.{same_word, is_reserved}
+use Rattle.rt_sql.specs.Token.{Text, undouble, hex_bytes, same_word, is_reserved}
 
 abbrev pub Part : Type 1
 Part = List Token → List Token → Type 0

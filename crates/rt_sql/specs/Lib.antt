@@ -8,4 +8,3 @@ pub mod Parse
 pub mod Reading
 pub mod Token
 pub mod Tokens
-pub mod Word

@@ -10,8 +10,7 @@ use Rattle.rt_sql.specs.declared.token.Token.{Token}
 use Rattle.rt_sql.specs.declared.token.Token.TheVariants as token
 use Rattle.rt_sql.specs.Grammar.{Spells, is_command}
 use Rattle.rt_sql.specs.Number.{WritesAnySize, WritesWithin64Bits}
-use Rattle.rt_sql_cut.specs.Piece.{PieceText}
-use Rattle.rt_sql_cut.specs.Pieces.{Atom, atoms_text, AreAtoms}
+use Rattle.rt_sql_cut.specs.Pieces.{PieceText, Atom, atoms_text, AreAtoms}
 use Rattle.rt_sql_cut.specs.Text.{is_quote}
 use Rattle.rt_sql.specs.Token.{Text, double}
 use Rattle.rt_sql.specs.Tokens.{PieceTokens}

@@ -28,8 +28,7 @@ use Rattle.rt_sql_statement.specs.declared.statement.Test.TheVariants as test
 use Rattle.rt_sql_statement.specs.declared.value.Value.{Value}
 use Rattle.rt_sql_statement.specs.declared.value.Value.TheVariants as value
 use Rattle.rt_sql.specs.Grammar.{named_lines, is_command}
-use Rattle.rt_sql.specs.Token.{Text, undouble, hex_bytes}
-use Rattle.rt_sql.specs.Word.{same_word, is_reserved}
+use Rattle.rt_sql.specs.Token.{Text, undouble, hex_bytes, same_word, is_reserved}
 
 abbrev pub Outcome : Type 0 → Type 0
 Outcome A = Option (A × List Token)

@@ -1,7 +1,10 @@
--- The characters of a statement's text, as bytes (SQLite's documentation: Identifiers and literals).
-use Rattle.std.specs.Prelude.{◌≡◌, ℕ, ◌+◌, ◌-◌, ◌*◌, ◌<◌, Bool, false, not, List, [], ◌∷◌, ◌++◌, length, take, drop, slice_index, ◌&&◌, ◌||◌, ◌==◌, nat_le, if◌then◌else◌}
+-- The characters of a statement's text, as bytes, and its words (SQLite's documentation: Identifiers and literals; SQLite
+-- keywords).
+use Rattle.std.specs.Prelude.{◌≡◌, ℕ, ◌+◌, ◌-◌, ◌*◌, ◌<◌, Bool, false, not, List, [], ◌∷◌, ◌++◌, length, take, drop, slice_index, ◌&&◌, ◌||◌, ◌==◌, nat_le, if◌then◌else◌, codes}
 use Rattle.std.specs.Char.{is_ascii_alphabetic, is_ascii_alphanumeric, is_ascii_digit}
 use Rattle.std.specs.Int.{is_in_range}
+use Rattle.std.specs.List.{list_any}
+use Rattle.std.specs.Str.{str_eq_ignore_ascii_case}
 
 abbrev pub Text : Type 0
 Text = List ℕ
@@ -49,3 +52,16 @@ hex_bytes (high ∷ low ∷ z) = (16 * hex_value high + hex_value low) ∷ hex_b
 -- a byte that a comment of a line goes on over
 unfoldable pub is_in_line : ℕ → Bool
 is_in_line b = not (b == 10)
+
+abbrev pub same_word : Text → Text → Bool
+same_word a b = str_eq_ignore_ascii_case a b
+
+-- the words that are no names unless they are quoted
+abbrev pub reserved_words : List Text
+reserved_words =
+    codes "AND" ∷ codes "BETWEEN" ∷ codes "CREATE" ∷ codes "DELETE" ∷ codes "DROP" ∷ codes "EXISTS" ∷ codes "FROM"
+    ∷ codes "INSERT" ∷ codes "INTO" ∷ codes "IS" ∷ codes "NOT" ∷ codes "NULL" ∷ codes "OR" ∷ codes "ORDER"
+    ∷ codes "SELECT" ∷ codes "SET" ∷ codes "TABLE" ∷ codes "UPDATE" ∷ codes "USING" ∷ codes "VALUES" ∷ codes "WHERE" ∷ []
+
+unfoldable pub is_reserved : Text → Bool
+is_reserved word = list_any (same_word word) reserved_words

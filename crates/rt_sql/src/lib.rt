@@ -10,7 +10,7 @@
 //! or because no memory is left.
 //!
 //! Stands on `rt_sql_cut` (pieces) and `rt_sql_statement`. Definitions: `specs/Grammar.antt` (which tokens spell which
-//! statement), `Word.antt` (its words), `Tokens.antt` (the tokens of a text), `Token.antt` (their characters),
+//! statement), `Tokens.antt` (the tokens of a text), `Token.antt` (their characters and words),
 //! `Number.antt` (the number that digits write), `Parse.antt` (what a piece asks for); `Reading.antt`, `Lex.antt` and
 //! `Kind.antt` are how the parser and the lexer go about it.
 #![tactic(auto)]

@@ -1,10 +1,10 @@
 //! The words that are names only in quotes.
 //!
-//! A word is compared with the reserved words of its own length alone (`specs/Word.antt`).
+//! A word is compared with the reserved words of its own length alone (`specs/Token.antt`).
 
 ghost use Rattle.std.specs.Prelude.{◌≡◌};
 ghost use Rattle.std.specs.List.{list_any};
-ghost use Rattle.rt_sql.specs.Word as spec;
+ghost use Rattle.rt_sql.specs.Token as spec;
 
 /// The word is one of these, in whatever ASCII case.
 pub fn is_among(word: &str, words: &[&str]) -> bool

@@ -5,8 +5,7 @@ use Rattle.std.proofs.lemmas.List.{take_more, take_all, length-take-le}
 use Rattle.std.proofs.Math.Seq.{take-append-add}
 use Rattle.std.proofs.lemmas.List.Elements.{All-nil, All-push}
 use Rattle.std.specs.Option.{option_map}
-use Rattle.rt_sql_cut.specs.Piece.{PieceText}
-use Rattle.rt_sql_cut.specs.Pieces.{Atom, Byte, Quoted as QuotedAtom, atom_text, atoms_text, IsClosedGap, IsGap, IsOpenComment, IsAtom, AreAtoms, is_gap_byte, BeginsStatement, IsOpenQuote, IsWholePiece, IsLastPiece, holding, piece_of}
+use Rattle.rt_sql_cut.specs.Pieces.{PieceText, Atom, Byte, Quoted as QuotedAtom, atom_text, atoms_text, IsClosedGap, IsGap, IsOpenComment, IsAtom, AreAtoms, is_gap_byte, BeginsStatement, IsOpenQuote, IsWholePiece, IsLastPiece, holding, piece_of}
 use Rattle.rt_sql_cut.specs.Text.{is_quote}
 use Rattle.rt_sql_cut.specs.Cutter.{Front, IsOpen, possible_start, StopsInGap, StopsInStatement, StopsInDotLine, StopsAt, StandsAt, StandsAtEnd, last_ending, ending_at, ready_piece}
 use Rattle.rt_sql_cut.specs.CutterStep.{place_after, gap_after, statement_after, holding_after, holding_in, with_byte, front_after, is_mark, stays, run_len, with_bytes}

@@ -1,8 +1,7 @@
 -- A text is cut in one way, and in one at least.
 use Rattle.std.proofs.Common.{◌≡◌, ◌≢◌, ℕ, List, [], ◌∷◌, ◌++◌, Option, Some, inl, inr, sym, refl, ap, ◌∙◌, subst, ⊎_elim, append_assoc, append-nil}
 use Rattle.std.proofs.lemmas.List.Elements.{All-nil}
-use Rattle.rt_sql_cut.specs.Piece.{PieceText}
-use Rattle.rt_sql_cut.specs.Pieces.{IsGapAtom, IsGap, IsLastPiece, piece_of, Pieces, CuttingIsDetermined, EveryTextIsCut}
+use Rattle.rt_sql_cut.specs.Pieces.{PieceText, IsGapAtom, IsGap, IsLastPiece, piece_of, Pieces, CuttingIsDetermined, EveryTextIsCut}
 use Rattle.rt_sql_cut.specs.Cutter.{StopsAt}
 use Rattle.rt_sql_cut.specs.CutterStep.{place_after, holding_after}
 use Rattle.rt_sql_cut.proofs.CutterFront.{stops_after, no_end, end_or_not}

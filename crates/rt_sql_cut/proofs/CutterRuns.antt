@@ -2,8 +2,7 @@
 use Rattle.std.proofs.Common.{◌≡◌, ◌≢◌, ℕ, Bool, true, false, cond, eqb, List, [], ◌∷◌, ◌++◌, Option, Some, None, ◌⊎◌, inl, inr, sym, refl, ap, ◌∙◌, subst, ⊎_elim, append_assoc, append-nil, All}
 use Rattle.std.proofs.lemmas.Bool.{cases_eq, eqb-true, eq-eqb, ne_eqb, or_cases, cond-true, cond-false, true≢false}
 use Rattle.std.proofs.lemmas.List.Elements.{All-head, All-tail}
-use Rattle.rt_sql_cut.specs.Piece.{PieceText}
-use Rattle.rt_sql_cut.specs.Pieces.{Atom, Byte, Line, Block, Quoted as QuotedAtom, atom_text, atoms_text, IsComment, IsOpenComment, IsGapAtom, IsClosedGap, IsGap, IsAtom, AreAtoms, is_gap_byte, IsOpenQuote, BeginsStatement, IsOpenStatement, IsStatement, IsDotLine, IsWholePiece, IsLastPiece, piece_from}
+use Rattle.rt_sql_cut.specs.Pieces.{PieceText, Atom, Byte, Line, Block, Quoted as QuotedAtom, atom_text, atoms_text, IsComment, IsOpenComment, IsGapAtom, IsClosedGap, IsGap, IsAtom, AreAtoms, is_gap_byte, IsOpenQuote, BeginsStatement, IsOpenStatement, IsStatement, IsDotLine, IsWholePiece, IsLastPiece, piece_from}
 use Rattle.rt_sql_cut.specs.Text.{Lacks, BeginsComment, is_quote}
 use Rattle.rt_sql_cut.specs.Cutter.{last_ending}
 use Rattle.rt_sql_cut.specs.CutterStep.{place_after, gap_after, statement_after}

@@ -2,8 +2,7 @@
 -- what is held of a piece there.
 use Rattle.std.specs.Prelude.{◌≡◌, ℕ, Bool, true, false, List, [], ◌∷◌, ◌++◌, Option, Some, None}
 use Rattle.std.specs.Option.{option_map}
-use Rattle.rt_sql_cut.specs.Piece.{PieceText}
-use Rattle.rt_sql_cut.specs.Pieces.{Atom, atoms_text, IsClosedGap, AreAtoms, IsOpenQuote, BeginsStatement, IsDotLine, holding, piece_of, IsWholePiece}
+use Rattle.rt_sql_cut.specs.Pieces.{PieceText, Atom, atoms_text, IsClosedGap, AreAtoms, IsOpenQuote, BeginsStatement, IsDotLine, holding, piece_of, IsWholePiece}
 use Rattle.rt_sql_cut.specs.Text.{HasClose, IsLineText, IsBlockText}
 use Rattle.rt_sql_cut.specs.declared.piece.Ending.{Ending}
 use Rattle.rt_sql_cut.specs.declared.piece.Ending.TheVariants.{Whole, Incomplete}

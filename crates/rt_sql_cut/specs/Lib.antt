@@ -1,4 +1,3 @@
-pub mod Piece
 pub mod Pieces
 pub mod Text
 pub mod Cutter

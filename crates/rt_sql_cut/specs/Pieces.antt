@@ -1,11 +1,15 @@
 -- How a script's bytes are cut into pieces (own; comments and quotes are those of SQLite's SQL, dot
 -- lines are like its shell's). Everything here speaks of whole texts. Bytes are their codes: 10 is a
 -- line feed, 34 `"`, 39 `'`, 42 `*`, 45 `-`, 46 `.`, 47 `/` and 59 `;`.
-use Rattle.std.specs.Prelude.{◌≡◌, ◌≢◌, ℕ, Bool, false, ◌||◌, ◌==◌, nat_le, if◌then◌else◌, IsTrue, List, [], ◌∷◌, ◌++◌, length, ◌⊎◌, All, Option, Some, None}
-use Rattle.rt_sql_cut.specs.Piece.{PieceText}
-use Rattle.rt_sql_cut.specs.Text.{is_white, is_quote, Lacks, BeginsComment, IsLineText, IsBlockText, IsOpenBlockText}
+use Rattle.std.specs.Prelude.{ℕ, List, ◌≡◌, ◌≢◌, Bool, false, ◌||◌, ◌==◌, nat_le, if◌then◌else◌, IsTrue, [], ◌∷◌, ◌++◌, length, ◌⊎◌, All, Option, Some, None}
 use Rattle.rt_sql_cut.specs.declared.piece.Ending.{Ending}
+use Rattle.rt_sql_cut.specs.Text.{is_white, is_quote, Lacks, BeginsComment, IsLineText, IsBlockText, IsOpenBlockText}
 use Rattle.rt_sql_cut.specs.declared.piece.Ending.TheVariants.{Whole, Incomplete, TooLong}
+
+-- a piece: its bytes, with the `;` of a statement, and how it ended
+pub record PieceText : Type 0 where
+  pub text : List ℕ
+  pub ending : Ending
 
 -- a byte that may stand between pieces: white, or `;`
 abbrev pub is_gap_byte : ℕ → Bool

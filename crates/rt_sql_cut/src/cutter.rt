@@ -4,8 +4,7 @@
 //! which place.
 
 ghost use Rattle.std.specs.Prelude.{◌≡◌, ℕ, ◌+◌, ◌<◌, ◌≤◌, ◌⊎◌, List, [], ◌∷◌, ◌++◌, length, take, drop, IsTrue, IsSome, IsNone, IfSome, IfOk, MatchOption, Some};
-ghost use Rattle.rt_sql_cut.specs.Piece.{PieceText};
-ghost use Rattle.rt_sql_cut.specs.Pieces.{is_gap_byte, IsGap, IsWholePiece, IsLastPiece};
+ghost use Rattle.rt_sql_cut.specs.Pieces.{PieceText, is_gap_byte, IsGap, IsWholePiece, IsLastPiece};
 ghost use Rattle.std.specs.List.{list_any};
 ghost use Rattle.rt_sql_cut.specs.CutterStep.{is_mark, unmarked_len};
 

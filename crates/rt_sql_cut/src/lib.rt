@@ -9,8 +9,8 @@
 //! For every text and every way of feeding it, a piece is ready exactly if one has ended. Only `Cutter::new` takes
 //! memory.
 //!
-//! Stands on nothing but std. Definitions: `specs/Pieces.antt` (the pieces of a whole text), `Piece.antt` (one
-//! piece), `Text.antt` (white space, quotes and comments), `Cutter.antt` (where a cutter stands), `Room.antt` (its
+//! Stands on nothing but std. Definitions: `specs/Pieces.antt` (the pieces of a whole text),
+//! `Text.antt` (white space, quotes and comments), `Cutter.antt` (where a cutter stands), `Room.antt` (its
 //! memory).
 #![tactic(auto)]
 

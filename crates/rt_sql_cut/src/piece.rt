@@ -23,7 +23,7 @@ pub struct Piece<'a> {
 }
 
 impl<'a> Model for Piece<'a> {
-    ghost use Rattle.rt_sql_cut.specs.Piece.{PieceText};
+    ghost use Rattle.rt_sql_cut.specs.Pieces.{PieceText};
 
     ghost Value = { PieceText };
 

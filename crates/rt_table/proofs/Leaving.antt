@@ -15,8 +15,7 @@ use Rattle.rt_table_row.specs.Tables.{TableLists, edited}
 use Rattle.rt_table_row.proofs.Filters.{first}
 use Rattle.rt_table_row.specs.Views.{View, ViewChange, deltas}
 use Rattle.rt_table_store.specs.StoreLists.{StoreLists}
-use Rattle.rt_table_store.specs.Trees.{IsTreeOf}
-use Rattle.rt_table_store.specs.Moves.{FollowsSteps}
+use Rattle.rt_table_store.specs.Trees.{IsTreeOf, FollowsSteps}
 use Rattle.rt_table_store.proofs.Moved.{has-row}
 use Rattle.rt_table_store.proofs.Picked.{key_left}
 use Rattle.rt_table_store.proofs.Sorted.{rises}

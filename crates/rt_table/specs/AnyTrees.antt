@@ -6,8 +6,7 @@ use Rattle.rt_tree.specs.Lists.{empty_lists}
 use Rattle.rt_table_row.specs.Columns.{Columns}
 use Rattle.rt_table_row.specs.Rows.{TableRow}
 use Rattle.rt_table_row.specs.Edits.{Step, Steps}
-use Rattle.rt_table_store.specs.Trees.{IsTreeOf}
-use Rattle.rt_table_store.specs.Moves.{FollowsSteps}
+use Rattle.rt_table_store.specs.Trees.{IsTreeOf, FollowsSteps}
 
 -- the tree of no rows
 abbrev pub new_tree : ℕ → Columns → AnyShadow

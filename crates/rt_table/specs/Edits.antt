@@ -11,7 +11,7 @@ use Rattle.rt_table_row.specs.Filters.{is_by_id}
 use Rattle.rt_table_row.specs.Edits.{Step, Steps, steps_of, outcome, leaving}
 use Rattle.rt_table_row.specs.Views.{ViewChange, deltas}
 use Rattle.rt_table_row.specs.Tables.{TableLists, edited}
-use Rattle.rt_table_store.specs.Moves.{FollowsSteps}
+use Rattle.rt_table_store.specs.Trees.{FollowsSteps}
 use Rattle.rt_table.specs.AnyTrees.{FollowsIfTaken}
 
 -- the steps of an edit, or its refusal

@@ -90,7 +90,7 @@ impl<const D: usize> Table<D> {
     ghost use Rattle.rt_table.specs.Ready.{IsReady};
     ghost use Rattle.rt_table.specs.Edits.{edit_steps, edit_outcome, lists_after, changes_to, removal, FollowsEdit, NeedsPlan};
     ghost use Rattle.rt_tree.specs.Lists.{empty_lists};
-    ghost use Rattle.rt_table_store.specs.Moves.{FollowsSteps};
+    ghost use Rattle.rt_table_store.specs.Trees.{FollowsSteps};
     ghost use Rattle.rt_table_store.specs.declared.select.Nodes.TheVariants.{Counted};
 
     /// A table of these columns, without rows and views. The nodes of its tree have at most `capacity` cells. Look-ups

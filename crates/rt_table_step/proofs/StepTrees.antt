@@ -3,8 +3,7 @@ use Rattle.std.proofs.Common.{◌≡◌, ℕ, List, [], ◌∷◌, ◌++◌, ref
 use Rattle.rt_check.specs.Shadow.{ShadowLists}
 use Rattle.rt_table_row.specs.Rows.{TableRow}
 use Rattle.rt_table_row.specs.Edits.{Step, after_step, outcome}
-use Rattle.rt_table_store.specs.Trees.{IsTreeOf}
-use Rattle.rt_table_store.specs.Moves.{TakesStep, TakesEach}
+use Rattle.rt_table_store.specs.Trees.{IsTreeOf, TakesStep, TakesEach}
 
 -- the rows after some steps and then one more
 pub outcome-last : (rows : List TableRow) (steps : List Step) (step : Step) → outcome rows (steps ++ step ∷ []) ≡ after_step (outcome rows steps) step

@@ -5,7 +5,7 @@
 ghost use Rattle.std.specs.Prelude.{◌≡◌, ◌≤◌, ◌+◌, map};
 ghost use Rattle.rt_table_row.specs.Edits.{after_step, outcome};
 ghost use Rattle.rt_table_row.specs.Entries.{step_of};
-ghost use Rattle.rt_table_store.specs.Moves.{TakesStep, TakesEach};
+ghost use Rattle.rt_table_store.specs.Trees.{TakesStep, TakesEach};
 ghost use Rattle.rt_table_step.specs.Steps.{Applies, ApplyInTurn, inserts, inserts_all, auxiliary_rows_of, auxiliary_rows_all};
 
 use rt_table_row::Step;

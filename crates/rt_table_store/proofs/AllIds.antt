@@ -16,7 +16,7 @@ use Rattle.rt_tree_walk.specs.declared.searching.Row.{Row}
 use Rattle.rt_sql_statement.specs.declared.value.Value.{Value}
 use Rattle.rt_tree_sort.proofs.Buckets.{count-each}
 use Rattle.rt_tree.specs.Boxes.{HasBoxes}
-use Rattle.rt_tree.specs.Rows.{rows_of, box_of}
+use Rattle.rt_tree.specs.Lists.{rows_of, box_of}
 use Rattle.rt_tree.proofs.Members.{contains-map, contains-mapped}
 use Rattle.rt_table_row.specs.Rows.{TableRow, AreRising}
 use Rattle.rt_table_row.specs.Filters.{Placed, admits}

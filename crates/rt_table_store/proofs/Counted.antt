@@ -13,8 +13,7 @@ use Rattle.rt_tree_node.proofs.Counts.{count-cons}
 use Rattle.rt_sql_statement.specs.declared.value.Value.{Value}
 use Rattle.rt_table_row.specs.Rows.{TableRow, row_at, without_id}
 use Rattle.rt_tree_walk.specs.declared.searching.Row.{Row}
-use Rattle.rt_tree.specs.Lists.{IsInShape}
-use Rattle.rt_tree.specs.Rows.{rows_of, box_of}
+use Rattle.rt_tree.specs.Lists.{IsInShape, rows_of, box_of}
 use Rattle.rt_tree.proofs.Members.{find-nothing}
 use Rattle.rt_table_store.specs.StoreInside.{joined, rows_in}
 use Rattle.rt_table_store.specs.Trees.{leaf_row, IsTreeOf}

@@ -22,8 +22,7 @@ use Rattle.rt_tree_node.proofs.Counts.{count-cons}
 use Rattle.rt_tree_outside.specs.InOrder.{AreInOrder, nodes_in, cells_of_number}
 use Rattle.rt_tree_walk.proofs.Reaching.{All_contained, counted-contained}
 use Rattle.rt_tree_walk.proofs.Judging.{count-mapped}
-use Rattle.rt_tree.specs.Lists.{IsInShape, level_of_number}
-use Rattle.rt_tree.specs.Rows.{box_in}
+use Rattle.rt_tree.specs.Lists.{IsInShape, level_of_number, box_in}
 use Rattle.rt_tree.specs.Boxes.{HasBoxes}
 use Rattle.rt_tree.specs.Search.{IsReachedIn}
 use Rattle.rt_tree.proofs.Members.{find-one, contains-none, contains-cases}

@@ -21,7 +21,7 @@ use Rattle.rt_tree_node.proofs.Counts.{count-some}
 use Rattle.rt_tree_walk.specs.declared.searching.Row.{Row}
 use Rattle.rt_tree_walk.proofs.Reaching.{All_contained, counted-contained}
 use Rattle.rt_tree_walk.proofs.Judging.{count-mapped}
-use Rattle.rt_tree.specs.Rows.{box_in, row_in, rows_of}
+use Rattle.rt_tree.specs.Lists.{box_in, row_in, rows_of}
 use Rattle.rt_tree.specs.Boxes.{HasBoxes}
 use Rattle.rt_tree.specs.Search.{FindsIn, FindsInAfter}
 use Rattle.rt_tree.proofs.Members.{contains-none, contains-map, contains-mapped}

@@ -20,8 +20,7 @@ use Rattle.rt_table_row.specs.Rows.{TableRow, AreRising, row_at}
 use Rattle.rt_tree_walk.specs.declared.searching.Row.{Row}
 use Rattle.rt_tree_walk.proofs.Reaching.{counted-contained}
 use Rattle.rt_tree_walk.proofs.Judging.{count-mapped}
-use Rattle.rt_tree.specs.Lists.{IsInShape}
-use Rattle.rt_tree.specs.Rows.{row_in, rows_of, box_of}
+use Rattle.rt_tree.specs.Lists.{IsInShape, row_in, rows_of, box_of}
 use Rattle.rt_tree.proofs.Members.{find-one, find-nothing}
 use Rattle.rt_table_store.specs.StoreInside.{joined, rows_in}
 use Rattle.rt_table_store.proofs.Order.{eq_from}

@@ -6,8 +6,7 @@ use Rattle.indexmap.specs.IndexMap.{IndexMap, get}
 use Rattle.rt_box.specs.declared.interval.Interval.{Interval}
 use Rattle.rt_check.specs.Shadow.{ShadowLists}
 use Rattle.rt_sql_statement.specs.declared.value.Value.{Value}
-use Rattle.rt_tree.specs.Lists.{IsInShape}
-use Rattle.rt_tree.specs.Rows.{box_of, GainsRow, LosesRow}
+use Rattle.rt_tree.specs.Lists.{IsInShape, box_of, GainsRow, LosesRow}
 use Rattle.rt_table_store.proofs.Order.{eq_from}
 use Rattle.rt_table_store.proofs.Moved.{differs}
 use Rattle.rt_table_store.proofs.Counted.{entries-counted}

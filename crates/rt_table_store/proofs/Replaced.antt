@@ -10,14 +10,12 @@ use Rattle.rt_box.specs.declared.interval.Interval.{Interval}
 use Rattle.rt_box.proofs.Equality.{interval_eq, Decides-box_eq}
 use Rattle.rt_check.specs.Shadow.{ShadowLists}
 use Rattle.rt_sql_statement.specs.declared.value.Value.{Value}
-use Rattle.rt_tree.specs.Lists.{IsInShape}
-use Rattle.rt_tree.specs.Rows.{box_of}
+use Rattle.rt_tree.specs.Lists.{IsInShape, box_of}
 use Rattle.rt_tree.specs.Replacing.{IsReplacement}
 use Rattle.rt_table_row.specs.Rows.{TableRow, without_id}
 use Rattle.rt_table_row.specs.Edits.{Becomes}
 use Rattle.rt_table_store.specs.StoreInside.{rows_in}
-use Rattle.rt_table_store.specs.Trees.{IsTreeOf}
-use Rattle.rt_table_store.specs.Moves.{stays, Gains, Replaces, TakesStep}
+use Rattle.rt_table_store.specs.Trees.{IsTreeOf, stays, Gains, Replaces, TakesStep}
 use Rattle.rt_table_store.proofs.Order.{eq_same}
 use Rattle.rt_table_store.proofs.Joined.{boxed, row-at}
 use Rattle.rt_table_store.proofs.Counted.{is-tree}

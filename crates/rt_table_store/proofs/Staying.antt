@@ -7,7 +7,7 @@ use Rattle.rt_box.specs.declared.interval.Interval.{Interval}
 use Rattle.rt_box.specs.Interval.{interval}
 use Rattle.rt_box.proofs.Equality.{interval_eq, Decides-box_eq}
 use Rattle.rt_table_row.specs.Rows.{TableRow, row_at}
-use Rattle.rt_table_store.specs.Moves.{same_box, stays}
+use Rattle.rt_table_store.specs.Trees.{same_box, stays}
 use Rattle.rt_table_store.proofs.Order.{eq_from}
 
 grouped : (a b c : Bool) → ((a && b) && c) ≡ (a && (b && c))

@@ -9,8 +9,7 @@ use Rattle.indexmap.specs.IndexMap.{IndexMap}
 use Rattle.rt_check.specs.Shadow.{ShadowLists}
 use Rattle.rt_sql_statement.specs.declared.value.Value.{Value}
 use Rattle.rt_table_row.specs.Rows.{TableRow, row_at, largest_id}
-use Rattle.rt_tree.specs.Lists.{IsInShape}
-use Rattle.rt_tree.specs.Rows.{box_of}
+use Rattle.rt_tree.specs.Lists.{IsInShape, box_of}
 use Rattle.rt_table_store.specs.GreatestIds.{IsTop, Ranks}
 use Rattle.rt_table_store.specs.StoreInside.{rows_in}
 use Rattle.rt_table_store.proofs.Ranking.{ranks-same}

@@ -3,7 +3,7 @@ use Rattle.std.specs.Prelude.{◌≡◌, ◌≢◌, ℕ, ◌<◌, ℤ, ◌≤ℤ
 use Rattle.std.specs.List.{list_any}
 use Rattle.std.specs.Ordering.{int_eq}
 use Rattle.rt_check.specs.Shadow.{ShadowLists}
-use Rattle.rt_tree.specs.Rows.{box_of}
+use Rattle.rt_tree.specs.Lists.{box_of}
 
 -- none if there is no id
 abbrev pub IsTop : List ℤ → Option ℤ → Type 0

@@ -2,6 +2,5 @@ pub mod StoreLists
 pub mod Trees
 pub mod Visiting
 pub mod Picking
-pub mod Moves
 pub mod GreatestIds
 pub mod StoreInside

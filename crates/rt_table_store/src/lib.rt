@@ -7,8 +7,8 @@
 //! What callers know of a store is the list of its rows, the tree of their boxes, and its room.
 //!
 //! Stands on `rt_table_row`, `rt_tree` and `rt_tree_sort`. Definitions: `specs/StoreLists.antt` (rows, tree and room),
-//! `Picking.antt`, `GreatestIds.antt` (the largest id), `Trees.antt` and `Moves.antt` (the tree that stands for the rows,
-//! and when it changes).
+//! `Picking.antt`, `GreatestIds.antt` (the largest id), `Trees.antt` (the tree that stands for the rows, and when it
+//! changes).
 #![tactic(auto)]
 
 mod largest;

@@ -13,8 +13,7 @@ ghost use Rattle.rt_tree.specs.Changes.{IsInsertion, IsRemoval};
 ghost use Rattle.rt_table_row.specs.Rows.{AreRising, row_at, has_id, with_row, without_id, largest_id};
 ghost use Rattle.rt_table_row.specs.Edits.{Becomes, most_rows};
 ghost use Rattle.rt_table_row.specs.Entries.{row_of, view_row};
-ghost use Rattle.rt_table_store.specs.Trees.{leaf_row, IsTreeOf};
-ghost use Rattle.rt_table_store.specs.Moves.{TakesStep};
+ghost use Rattle.rt_table_store.specs.Trees.{leaf_row, IsTreeOf, TakesStep};
 
 use crate::largest::Largest;
 use indexmap::IndexMap;

@@ -8,7 +8,7 @@ use Rattle.rt_box.specs.Rect.{los, his}
 use Rattle.rt_check.specs.declared.node.RawCell.{RawCell}
 use Rattle.rt_check.specs.Conditions.{coordinate, each_axis}
 use Rattle.rt_tree_walk.proofs.Ints.{int_le-true}
-use Rattle.rt_tree.specs.Rows.{intervals, box_in}
+use Rattle.rt_tree.specs.Lists.{intervals, box_in}
 use Rattle.rt_tree.proofs.Rows.{intervals-back}
 
 both : (a b : Bool) → (a && b) ≡ true → (a ≡ true) × (b ≡ true)

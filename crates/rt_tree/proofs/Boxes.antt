@@ -14,7 +14,7 @@ use Rattle.rt_tree_walk.proofs.Listed.{HasNode}
 use Rattle.rt_tree_walk.proofs.Judging.{All-mapped}
 use Rattle.rt_tree_outside.proofs.Judged.{row, row-cells}
 use Rattle.rt_tree_outside.proofs.Flawless.{numbering}
-use Rattle.rt_tree.specs.Rows.{box_in}
+use Rattle.rt_tree.specs.Lists.{box_in}
 use Rattle.rt_tree.specs.Boxes.{HasBoxes}
 use Rattle.rt_tree.proofs.Rows.{intervals-back}
 use Rattle.rt_tree.proofs.Reading.{number}

@@ -16,7 +16,7 @@ use Rattle.rt_tree_walk.specs.declared.searching.Row.{Row}
 use Rattle.rt_tree_walk.specs.Search.{row_of}
 use Rattle.rt_tree_outside.specs.Outside.{outside}
 use Rattle.rt_tree_walk.proofs.Progress.{IsSettled}
-use Rattle.rt_tree.specs.Rows.{box_of, GainsRow, LosesRow}
+use Rattle.rt_tree.specs.Lists.{box_of, GainsRow, LosesRow}
 use Rattle.rt_tree.specs.Changes.{IsInsertion, IsRemoval}
 use Rattle.rt_tree.specs.Moving.{TakesRow, DropsRow}
 use Rattle.rt_tree.specs.TreeInside.{IsKept}

@@ -20,7 +20,7 @@ use Rattle.rt_tree_walk.proofs.Progress.{IsSettled}
 use Rattle.rt_tree_walk.proofs.Below.{leaf_rows}
 use Rattle.rt_tree_outside.specs.Outside.{outside}
 use Rattle.rt_tree.specs.BoundsInside.{AdmitsRoot}
-use Rattle.rt_tree.specs.Rows.{rows_of}
+use Rattle.rt_tree.specs.Lists.{rows_of}
 use Rattle.rt_tree.specs.Search.{CountsIn}
 use Rattle.rt_tree.proofs.Around.{root-least}
 use Rattle.rt_tree.proofs.Nearby.{rows-listed}

@@ -22,8 +22,7 @@ use Rattle.rt_tree_walk.proofs.Reaching.{All_contained, counted-contained}
 use Rattle.rt_tree_walk.proofs.Judging.{count-mapped}
 use Rattle.rt_tree_walk.proofs.Progress.{IsSettled}
 use Rattle.rt_tree_outside.proofs.Flawless.{numbering}
-use Rattle.rt_tree.specs.Lists.{level_of_number}
-use Rattle.rt_tree.specs.Rows.{box_in}
+use Rattle.rt_tree.specs.Lists.{level_of_number, box_in}
 use Rattle.rt_tree.specs.Search.{IsReachedIn, FindsIn, CountsIn}
 use Rattle.rt_tree.proofs.Members.{contains-map, contains-mapped}
 use Rattle.rt_tree.proofs.Rows.{intervals-back, rows-counted}

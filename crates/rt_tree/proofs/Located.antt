@@ -12,7 +12,7 @@ use Rattle.rt_tree_remove.specs.declared.location.Location.{Location}
 use Rattle.rt_tree_remove.specs.Steps.{IsLocationOf}
 use Rattle.rt_tree_outside.specs.Outside.{outside}
 use Rattle.rt_tree_walk.proofs.Progress.{IsSettled}
-use Rattle.rt_tree.specs.Rows.{box_of}
+use Rattle.rt_tree.specs.Lists.{box_of}
 use Rattle.rt_tree.proofs.Rows.{box-none, box-there}
 
 -- a row that has a box is taken

@@ -10,7 +10,7 @@ use Rattle.rt_check.specs.Shadow.{ShadowLists}
 use Rattle.rt_tree_walk.specs.declared.searching.Row.{Row}
 use Rattle.rt_tree_walk.proofs.Reaching.{counted-contained}
 use Rattle.rt_tree_node.proofs.Counts.{count-some}
-use Rattle.rt_tree.specs.Rows.{rows_of, box_of, GainsRow, LosesRow}
+use Rattle.rt_tree.specs.Lists.{rows_of, box_of, GainsRow, LosesRow}
 use Rattle.rt_tree.proofs.Members.{find-one, find-nothing}
 
 -- ---- whether boxes are the same

@@ -18,7 +18,7 @@ use Rattle.rt_tree_walk.proofs.Progress.{IsSettled}
 use Rattle.rt_tree_walk.proofs.Listed.{HasNode, listed-there}
 use Rattle.rt_tree_outside.proofs.Judged.{row, row-cells, row-leaf, row-inner}
 use Rattle.rt_tree_outside.proofs.Flawless.{numbering}
-use Rattle.rt_tree.specs.Rows.{row_in, rows_of}
+use Rattle.rt_tree.specs.Lists.{row_in, rows_of}
 use Rattle.rt_tree.proofs.Reading.{number}
 use Rattle.rt_tree.proofs.Rows.{row-back}
 

@@ -35,7 +35,7 @@ use Rattle.rt_tree_walk.proofs.Listed.{listed-contained}
 use Rattle.rt_tree_outside.proofs.Judged.{row, row-cells, row-leaf}
 use Rattle.rt_tree_outside.proofs.Flawless.{numbering}
 use Rattle.rt_tree_outside.proofs.Rows.{outside-rows}
-use Rattle.rt_tree.specs.Rows.{intervals, row_in, rows_of, box_of}
+use Rattle.rt_tree.specs.Lists.{intervals, row_in, rows_of, box_of}
 use Rattle.rt_tree.proofs.Members.{contains-map, contains-flat, find-one, find-nothing}
 
 pub intervals-back : (b : List Interval) → intervals (los b) (his b) ≡ b

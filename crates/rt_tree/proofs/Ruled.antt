@@ -12,7 +12,7 @@ use Rattle.rt_tree_obeys.specs.View.{tree_in}
 use Rattle.rt_tree_obeys.proofs.Settled.{insertion as inserts}
 use Rattle.rt_tree_obeys.proofs.Removed.{removal as removes}
 use Rattle.rt_tree_obeys.proofs.Seen.{nodes_seen}
-use Rattle.rt_tree.specs.Rows.{box_of}
+use Rattle.rt_tree.specs.Lists.{box_of}
 use Rattle.rt_tree.specs.Changes.{IsInsertion, IsRemoval}
 use Rattle.rt_tree.proofs.Shape.{root-high, nodes-long}
 

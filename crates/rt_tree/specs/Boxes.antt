@@ -2,7 +2,7 @@
 use Rattle.std.specs.Prelude.{ℕ, All}
 use Rattle.rt_box.specs.Rect.{IsBox}
 use Rattle.rt_check.specs.Shadow.{ShadowLists}
-use Rattle.rt_tree.specs.Rows.{box_in}
+use Rattle.rt_tree.specs.Lists.{box_in}
 
 module _ {D : ℕ} where
   -- each cell has a box, whether it names a node or a row

@@ -8,8 +8,7 @@ use Rattle.rt_tree_rules.specs.Nested.{Tree}
 use Rattle.rt_tree_rules.specs.Placing.{Work as Effort, IsInsertion as InsertsByRules}
 use Rattle.rt_tree_rules.specs.Removing.{IsRemoval as RemovesByRules}
 use Rattle.rt_tree_rules.specs.Shadow.{Shows}
-use Rattle.rt_tree.specs.Lists.{root_level}
-use Rattle.rt_tree.specs.Rows.{box_of}
+use Rattle.rt_tree.specs.Lists.{root_level, box_of}
 
 module _ {D : ℕ} where
   -- as many cells were inserted, and as many nodes relieved of cells, as by the rules; each split added a node, and so did

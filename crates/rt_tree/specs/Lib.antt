@@ -1,5 +1,4 @@
 pub mod Lists
-pub mod Rows
 pub mod Boxes
 pub mod Bare
 pub mod Kept

@@ -10,8 +10,7 @@ use Rattle.rt_tree_walk.specs.declared.searching.Reached.{Reached}
 use Rattle.rt_tree_walk.specs.declared.searching.Row.{Row}
 use Rattle.rt_tree_walk.specs.Search.{AsksAdmitted}
 use Rattle.rt_tree_outside.specs.InOrder.{cells_of_number}
-use Rattle.rt_tree.specs.Lists.{level_of_number}
-use Rattle.rt_tree.specs.Rows.{box_in, rows_of}
+use Rattle.rt_tree.specs.Lists.{level_of_number, box_in, rows_of}
 
 module _ {D : ℕ} where
   -- the root is reached, and of a reached node above the leaves each child in whose cell the window may hold a box

@@ -11,8 +11,7 @@ use Rattle.rt_check.specs.Shadow.{ShadowLists}
 use Rattle.rt_check.specs.Conditions.{node_of, entry_of}
 use Rattle.rt_tree_subtree.specs.Subtree.{IsBestChild}
 use Rattle.rt_tree_outside.specs.InOrder.{cells_of_number}
-use Rattle.rt_tree.specs.Lists.{root_level}
-use Rattle.rt_tree.specs.Rows.{box_in}
+use Rattle.rt_tree.specs.Lists.{root_level, box_in}
 
 module _ {D : ℕ} where
   -- the boxes of the cells

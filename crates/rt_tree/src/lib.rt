@@ -18,7 +18,7 @@
 //! - `arena` and `from_arena` are for the crates that read and make whole trees, as `rt_map` does.
 //!
 //! Stands on `rt_tree_node`, `rt_tree_walk`, `rt_tree_outside`, `rt_tree_place`, `rt_tree_remove` and `rt_tree_obeys`, and on
-//! `rt_check` for the tree from outside. Definitions: `specs/Lists.antt` (a tree from outside), `Rows.antt`, `Boxes.antt`,
+//! `rt_check` for the tree from outside. Definitions: `specs/Lists.antt` (a tree from outside, and its rows), `Boxes.antt`,
 //! `Bounds.antt`, `Changes.antt` (insertion and removal), `Moving.antt` (which rows move), `Replacing.antt`, `Search.antt`,
 //! `Way.antt`, `Kept.antt` (what holds of its nodes).
 #![tactic(auto)]

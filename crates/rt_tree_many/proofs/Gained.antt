@@ -6,7 +6,7 @@ use Rattle.std.proofs.lemmas.List.{map-append, take-map, length-take-le}
 use Rattle.std.proofs.lemmas.List.Elements.{All-nil, All-push}
 use Rattle.rt_check.specs.Shadow.{ShadowLists}
 use Rattle.rt_map.specs.Packing.{ids}
-use Rattle.rt_tree.specs.Rows.{rows_of, box_of, GainsRow}
+use Rattle.rt_tree.specs.Lists.{rows_of, box_of, GainsRow}
 use Rattle.rt_tree_node.proofs.Counts.{count-append, count-cons}
 use Rattle.rt_tree_nearest.proofs.Same.{count-all}
 use Rattle.rt_tree_walk.specs.declared.searching.Row.{Row}

@@ -6,7 +6,7 @@ use Rattle.std.proofs.lemmas.Bool.Decides.{Decides-int_eq}
 use Rattle.std.proofs.lemmas.Option.{slice_get-get_or}
 use Rattle.std.proofs.lemmas.Map.Keys.{any_passes_from_place}
 use Rattle.rt_check.specs.Shadow.{ShadowLists}
-use Rattle.rt_tree.specs.Rows.{box_of}
+use Rattle.rt_tree.specs.Lists.{box_of}
 
 pub place-held : {D : ℕ} (s : ShadowLists D) (ids : List ℤ) (place : ℕ) (d : ℤ) → place < length ids →
     ((id : ℤ) → list_any (int_eq id) ids ≡ is_some (box_of s id)) → IsSome (box_of s (get_or ids place d))

@@ -6,7 +6,7 @@ use Rattle.rt_check.specs.Shadow.{ShadowLists}
 use Rattle.rt_tree.specs.Changes.{IsInsertion}
 use Rattle.rt_tree.specs.Moving.{TakesRow}
 use Rattle.rt_map.specs.Packing.{ids}
-use Rattle.rt_tree.specs.Rows.{rows_of, box_of}
+use Rattle.rt_tree.specs.Lists.{rows_of, box_of}
 use Rattle.rt_tree_node.specs.Whole.{most_rows_of_a_tree}
 use Rattle.rt_tree_node.specs.declared.arena.Work.{Work}
 use Rattle.rt_tree_walk.specs.declared.searching.Row.{Row}

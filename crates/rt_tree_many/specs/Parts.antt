@@ -5,7 +5,7 @@ use Rattle.rt_box.specs.declared.interval.Interval.{Interval}
 use Rattle.rt_box.specs.Window.{Admits}
 use Rattle.rt_check.specs.Shadow.{ShadowLists}
 use Rattle.rt_map.specs.Packing.{ids}
-use Rattle.rt_tree.specs.Rows.{rows_of}
+use Rattle.rt_tree.specs.Lists.{rows_of}
 use Rattle.rt_tree_nearest.specs.Nearest.{nearest_rows}
 use Rattle.rt_tree_walk.specs.Search.{AsksAdmitted}
 use Rattle.rt_tree_walk.specs.declared.searching.Row.{Row}

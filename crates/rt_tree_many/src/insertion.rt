@@ -3,7 +3,7 @@
 //! Their ids are looked up first, then room is made for all. What follows can't fail.
 
 ghost use Rattle.std.specs.Prelude.{◌≡◌, ◌+◌, ◌≤◌, length, IfOk, IfErr, OnOk, OnErr};
-ghost use Rattle.rt_tree.specs.Rows.{rows_of};
+ghost use Rattle.rt_tree.specs.Lists.{rows_of};
 ghost use Rattle.rt_tree_node.specs.Whole.{most_rows_of_a_tree};
 ghost use Rattle.rt_tree_many.specs.Insertion.{TellsTaken, AreNew, Claims, GainsRows, InsertsInTurn, IsFaultOf};
 

@@ -1,7 +1,7 @@
 //! Rows by their place in the order of the tree's ids.
 
 ghost use Rattle.std.specs.Prelude.{◌≡◌, ◌<◌, Some, IsSome, length, slice_get};
-ghost use Rattle.rt_tree.specs.Rows.{box_of};
+ghost use Rattle.rt_tree.specs.Lists.{box_of};
 
 use rt_tree::{Row, Tree};
 

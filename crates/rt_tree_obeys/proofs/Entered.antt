@@ -14,8 +14,7 @@ use Rattle.rt_tree_node.specs.Places.{key_of, cells_at, level_at, rects}
 use Rattle.rt_tree_node.specs.Sound.{IsLinked}
 use Rattle.rt_tree_place.specs.Path.{LeadsTo}
 use Rattle.rt_tree_rules.specs.Nested.{Entry, Node, Waiting, box, boxes, if_level, of_level}
-use Rattle.rt_tree_rules.specs.Choices.{best_child}
-use Rattle.rt_tree_rules.specs.Placing.{Becomes, Course, treat, rejoin, enter}
+use Rattle.rt_tree_rules.specs.Placing.{best_child, Becomes, Course, treat, rejoin, enter}
 use Rattle.rt_tree_rules.proofs.Chosen.{child as child_taken}
 use Rattle.rt_tree_obeys.specs.View.{entry_in, node_in, waiting_in}
 use Rattle.rt_tree_obeys.proofs.Frames.{SameBelow, Frame, frame_entered, entries_same}

@@ -9,7 +9,7 @@ use Rattle.rt_tree_choice.specs.Sorting.{positions}
 use Rattle.rt_tree_choice.specs.Reinsertion.{farthest_positions}
 use Rattle.rt_tree_node.proofs.Counts.{count-cons, count-append}
 use Rattle.rt_tree_place.specs.Rules.{IsRisingList}
-use Rattle.rt_tree_rules.specs.Choices.{near_positions}
+use Rattle.rt_tree_rules.specs.Placing.{near_positions}
 
 abbrev times : ℕ → List ℕ → ℕ
 times x xs = count_by (λ p. nat_eq p x) xs

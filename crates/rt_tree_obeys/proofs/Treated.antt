@@ -19,8 +19,7 @@ use Rattle.rt_tree_place.specs.Rules.{Parts, ReInserts}
 use Rattle.rt_tree_place.proofs.Groups.{front-below, back-below, All-picked}
 use Rattle.rt_tree_place.proofs.Positions.{parted-within}
 use Rattle.rt_tree_rules.specs.Nested.{Entry, Node, Waiting, boxes}
-use Rattle.rt_tree_rules.specs.Choices.{picked, best_cut, near_positions}
-use Rattle.rt_tree_rules.specs.Placing.{Becomes, Course, split, reinsert}
+use Rattle.rt_tree_rules.specs.Placing.{picked, best_cut, near_positions, Becomes, Course, split, reinsert}
 use Rattle.rt_tree_rules.proofs.Chosen.{cut as cut_taken}
 use Rattle.rt_tree_obeys.specs.View.{entry_in, node_in, waiting_in}
 use Rattle.rt_tree_obeys.proofs.Frames.{SameBelow, entries_same}

@@ -50,11 +50,11 @@ module _ {X P : Type 0} (test : X → Bool) (entry : ℕ × X → P) where
   passes n x xs true is e = (is, e)
   passes n x xs false is e = let none : ⊥ = cc in absurd none
 
-  none-fail : (n : ℕ) (xs : List X) → left n xs ≡ [] → Each (λ x. test x ≡ true) xs
+  pub none-fail : (n : ℕ) (xs : List X) → left n xs ≡ [] → Each (λ x. test x ≡ true) xs
   none-fail n [] e = tt
   none-fail n (x ∷ xs) e = let r = passes n x xs (test x) refl e in (r.0, none-fail (n + 1) xs r.1)
 
-same_int : (x y : ℤ) → int_eq x y ≡ true → x ≡ y
+pub same_int : (x y : ℤ) → int_eq x y ≡ true → x ≡ y
 same_int x y e = (Decides-int_eq x y).0 e
 
 int_same : (x y : ℤ) → x ≡ y → int_eq x y ≡ true

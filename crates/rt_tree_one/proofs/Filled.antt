@@ -44,7 +44,7 @@ module _ {X P : Type 0} (test : X → Bool) (entry : X → P) where
   passes x xs true is e = (is, e)
   passes x xs false is e = let none : ⊥ = cc in absurd none
 
-  none_fails : (xs : List X) → failing test entry xs ≡ [] → Each (λ x. test x ≡ true) xs
+  pub none_fails : (xs : List X) → failing test entry xs ≡ [] → Each (λ x. test x ≡ true) xs
   none_fails [] e = tt
   none_fails (x ∷ xs) e = let r = passes x xs (test x) refl e in (r.0, none_fails xs r.1)
 
@@ -53,13 +53,13 @@ each_parts P [] ys each = (tt, each)
 each_parts P (x ∷ xs) ys each = let rest = each_parts P xs ys each.1 in ((each.0, rest.0), rest.1)
 
 module _ {D : ℕ} (s : ShadowLists D) where
-  abbrev Fills : NodeRow D → Type 0
+  abbrev pub Fills : NodeRow D → Type 0
   Fills n = is_filled s n ≡ true
 
   abbrev lacking : NodeRow D → Problem
   lacking n = record { condition = Filling; node = n.number; position = 0 }
 
-  all_fill : IsSound s → Each Fills s.nodes
+  pub all_fill : IsSound s → Each Fills s.nodes
   all_fill sound =
       let all = append-none (of_nodes s ++ cell_problems HasEntry (λ n c. not (is_leaf n) || has_entry s n c) s.nodes) (row_problems HasCell (has_cell s) s.rows) sound in
       let nodes = append-none (of_nodes s) (cell_problems HasEntry (λ n c. not (is_leaf n) || has_entry s n c) s.nodes) all.0 in
@@ -74,7 +74,7 @@ module _ {D : ℕ} (s : ShadowLists D) where
   least_met : (n : NodeRow D) → Fills n → least_cells s n ≤ length n.cells
   least_met n fills = nat_le_is (least_cells s n) (length n.cells) (and_right (nat_le (length n.cells) s.capacity) (nat_le (least_cells s n) (length n.cells)) fills)
 
-  below_root : (n : NodeRow D) → is_root s n ≡ false → Fills n → least_fill s.capacity ≤ length n.cells
+  pub below_root : (n : NodeRow D) → is_root s n ≡ false → Fills n → least_fill s.capacity ≤ length n.cells
   below_root n other fills =
       let least : ◌≡◌ {A = ℕ} (least_cells s n) (least_fill s.capacity) = ap (λ b. if b then (if is_leaf n then 0 else 2) else least_fill s.capacity) other in
       omega (arith, least, least_met n fills)

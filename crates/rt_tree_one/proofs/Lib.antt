@@ -2,3 +2,9 @@ pub mod Entries
 pub mod Filled
 pub mod Inserted
 pub mod Removed
+pub mod Standing
+pub mod Hulling
+pub mod Children
+pub mod Reading
+pub mod Within
+pub mod Nested

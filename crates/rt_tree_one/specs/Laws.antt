@@ -1,14 +1,16 @@
--- There is one tree that an insertion, a removal and a replacement make of a tree, as it is seen from outside; and the
--- nested tree that a sound one shows is one of those that the rules take (own).
-use Rattle.std.specs.Prelude.{◌≡◌, ℕ, ℤ, List}
+-- There is one tree that an insertion, a removal and a replacement make of a tree, as it is seen from outside; and a
+-- sound tree shows one nested tree, which is one of those that the rules take (own).
+use Rattle.std.specs.Prelude.{◌≡◌, ℕ, ℤ, List, length}
+use Rattle.std.specs.List.{All}
 use Rattle.rt_box.specs.declared.interval.Interval.{Interval}
+use Rattle.rt_box.specs.Capacity.{IsCapacity}
 use Rattle.rt_check.specs.Shadow.{ShadowLists}
 use Rattle.rt_check.specs.Conditions.{IsSound}
 use Rattle.rt_tree_node.specs.declared.arena.Work.{Work}
 use Rattle.rt_tree_rules.specs.Nested.{Tree}
 use Rattle.rt_tree_rules.specs.Filled.{IsFilledTree}
 use Rattle.rt_tree_rules.specs.Shadow.{Shows}
-use Rattle.rt_tree_outside.specs.InOrder.{AreByRisingId}
+use Rattle.rt_tree_outside.specs.InOrder.{IsPreorder, AreByRisingId}
 use Rattle.rt_tree.specs.Lists.{IsInShape}
 use Rattle.rt_tree.specs.Changes.{IsInsertion, IsRemoval}
 use Rattle.rt_tree.specs.Replacing.{IsReplacement}
@@ -34,6 +36,16 @@ RemovalIsDetermined = (axes : ℕ) (old one other : ShadowLists axes) (id : ℤ)
 abbrev pub ReplacementIsDetermined : Type 0
 ReplacementIsDetermined = (axes : ℕ) (old one other : ShadowLists axes) (id : ℤ) (rect : List Interval) →
     IsInShape one → IsInShape other → IsReplacement old one id rect → IsReplacement old other id rect → one ≡ other
+
+-- each cell has a lo and a hi on each axis, as its type says
+abbrev pub CellsHaveAxes : {axes : ℕ} → ShadowLists axes → Type 0
+CellsHaveAxes {axes} s = All (λ n. All (λ c. (length c.lo ≡ axes) × (length c.hi ≡ axes)) n.cells) s.nodes
+
+-- a sound tree in preorder shows a nested tree, and only one
+abbrev pub SoundTreesAreNested : Type 0
+SoundTreesAreNested = (axes : ℕ) (s : ShadowLists axes) →
+    IsCapacity s.capacity → CellsHaveAxes s → IsSound s → IsPreorder s →
+    (tree : Tree) × Shows s tree × ((other : Tree) → Shows s other → other ≡ tree)
 
 -- a nested tree that a sound one shows is filled, so it takes each row and gives up each
 abbrev pub SoundTreesAreFilled : Type 0

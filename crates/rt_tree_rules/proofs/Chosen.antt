@@ -10,7 +10,7 @@ use Rattle.rt_tree_choice.specs.declared.split.Cut.{Cut}
 use Rattle.rt_box.specs.Keys.{Less, IsLeast}
 use Rattle.rt_tree_subtree.specs.Subtree.{child_key}
 use Rattle.rt_tree_choice.specs.Split.{cut_at, first_sizes, axis_key, cut_key, IsCutOf}
-use Rattle.rt_tree_rules.specs.Choices.{is_less, least, best_axis, cuts_of}
+use Rattle.rt_tree_rules.specs.Placing.{is_less, least, best_axis, cuts_of}
 use Rattle.rt_tree_rules.specs.Laws.{BestChildIsTaken, BestCutIsTaken}
 
 less_true : (xs ys : List ℕ) → Less xs ys → is_less xs ys ≡ true

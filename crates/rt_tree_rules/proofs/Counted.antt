@@ -12,8 +12,7 @@ use Rattle.rt_tree_choice.specs.Sorting.{sort_by, positions}
 use Rattle.rt_tree_choice.specs.Reinsertion.{farthest_positions, by_distance}
 use Rattle.rt_tree_choice.proofs.Sorted.{length-sorting, sorting-within}
 use Rattle.rt_tree_rules.specs.Nested.{Entry, Node, box, boxes, Tree, Waiting}
-use Rattle.rt_tree_rules.specs.Choices.{best_child, picked}
-use Rattle.rt_tree_rules.specs.Placing.{Course, Standing, split, reinsert, treat, enter, grow, insert_one}
+use Rattle.rt_tree_rules.specs.Placing.{best_child, picked, Course, Standing, split, reinsert, treat, enter, grow, insert_one}
 use Rattle.rt_tree_rules.proofs.Picks.{length-picks}
 use Rattle.rt_tree_rules.proofs.Existence.{same_boxes, within}
 

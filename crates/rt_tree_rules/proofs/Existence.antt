@@ -19,8 +19,7 @@ use Rattle.rt_tree_choice.specs.Split.{cut_at, cut_key, along, first_sizes}
 use Rattle.rt_tree_choice.specs.Reinsertion.{farthest_positions, by_distance}
 use Rattle.rt_tree_choice.proofs.Sorted.{length-sorting, sorting-within}
 use Rattle.rt_tree_rules.specs.Nested.{Row, Entry, Node, box, boxes, Tree, Waiting, if_level, of_level}
-use Rattle.rt_tree_rules.specs.Choices.{is_less, least, best_axis, best_child, best_cut, cuts_of, near_positions, picked}
-use Rattle.rt_tree_rules.specs.Placing.{Work, Course, Becomes, Standing, split, reinsert, treat, rejoin, enter, grow, insert_one, place, places, start, Settles, IsInsertion}
+use Rattle.rt_tree_rules.specs.Placing.{is_less, least, best_axis, best_child, best_cut, cuts_of, near_positions, picked, Work, Course, Becomes, Standing, split, reinsert, treat, rejoin, enter, grow, insert_one, place, places, start, Settles, IsInsertion}
 use Rattle.rt_tree_rules.specs.Removing.{Thinned, has_row, condense, take_out, shorten, SettleInTurn, IsRemoval}
 use Rattle.rt_tree_rules.specs.Filled.{IsFilled, IsFilledTree}
 use Rattle.rt_tree_rules.specs.Laws.{InsertionExists, RemovalExists}

@@ -12,7 +12,7 @@ use Rattle.std.proofs.lemmas.List.Sorted.{sum_by-IsPermutation}
 use Rattle.std.proofs.lemmas.Option.{slice_get-get_or, slice_get_within, get_or_from_slice_get}
 use Rattle.rt_tree_choice.specs.Sorting.{sort_by, positions}
 use Rattle.rt_tree_choice.proofs.Sorted.{sort-permutes}
-use Rattle.rt_tree_rules.specs.Choices.{picked}
+use Rattle.rt_tree_rules.specs.Placing.{picked}
 
 -- the weight of an element that may be there
 abbrev pub weight_of : {X : Type 0} → (X → ℕ) → Option X → ℕ

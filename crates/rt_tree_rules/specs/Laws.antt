@@ -5,9 +5,8 @@ use Rattle.rt_box.specs.Capacity.{IsCapacity}
 use Rattle.rt_tree_choice.specs.declared.split.Cut.{Cut}
 use Rattle.rt_tree_subtree.specs.Subtree.{IsBestChild}
 use Rattle.rt_tree_choice.specs.Split.{IsBestCut}
-use Rattle.rt_tree_rules.specs.Choices.{best_child, best_cut}
+use Rattle.rt_tree_rules.specs.Placing.{best_child, best_cut, Work, Settles, IsInsertion}
 use Rattle.rt_tree_rules.specs.Nested.{Row, Tree, Waiting}
-use Rattle.rt_tree_rules.specs.Placing.{Work, Settles, IsInsertion}
 use Rattle.rt_tree_rules.specs.Removing.{IsRemoval, IsReplacement}
 use Rattle.rt_tree_rules.specs.Filled.{IsFilledTree}
 use Rattle.rt_tree_rules.specs.Shadow.{shadow_of}

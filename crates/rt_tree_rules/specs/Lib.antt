@@ -1,5 +1,4 @@
 pub mod Nested
-pub mod Choices
 pub mod Placing
 pub mod Removing
 pub mod Filled

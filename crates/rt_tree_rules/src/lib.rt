@@ -5,7 +5,7 @@
 //! tree. There always is one, if nodes are filled, and it is filled too. No two trees look the same to the checker. Each
 //! function does nothing: its contract is the law. That the code follows these rules stands in `rt_tree_obeys`.
 //!
-//! Definitions: `specs/Nested.antt` (trees), `Choices.antt`, `Placing.antt` and `Removing.antt` (the rules), `Filled.antt`,
+//! Definitions: `specs/Nested.antt` (trees), `Placing.antt` and `Removing.antt` (the rules), `Filled.antt`,
 //! `Shadow.antt` (what the checker sees), `Laws.antt`. `Examples.antt` holds the rules against worked trees. The keys of the choices are
 //! those of `rt_tree_choice`.
 #![tactic(auto)]

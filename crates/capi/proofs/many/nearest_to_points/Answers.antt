@@ -1,5 +1,5 @@
 use Rattle.std.proofs.Common.{◌≡◌, length, arith, ◌∙◌}
-use Rattle.rt_tree.specs.Rows.{rows_of}
+use Rattle.rt_tree.specs.Lists.{rows_of}
 use Rattle.capi.proofs.Searching.{points-fit}
 use Rattle.capi.proofs.many.nearest_to_points.Goals as goal
 

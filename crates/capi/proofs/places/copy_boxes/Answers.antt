@@ -1,7 +1,7 @@
 use Rattle.std.proofs.Common.{ℤ, ◌≤◌, ◌*◌, List, length, take, drop, All, IsSome, arith, rules, sym, ap, subst, ◌∙◌}
 use Rattle.std.proofs.Math.Nat.{mul-le-mul_right}
 use Rattle.std.proofs.lemmas.List.{length-take}
-use Rattle.rt_tree.specs.Rows.{box_of}
+use Rattle.rt_tree.specs.Lists.{box_of}
 use Rattle.capi.specs.Places.{CopiesBoxesOf}
 use Rattle.capi.proofs.Rowing.{all_there}
 use Rattle.capi.proofs.places.copy_boxes.Goals as goal

@@ -1,6 +1,6 @@
 use Rattle.std.proofs.Common.{arith, ap, ◌∙◌}
 use Rattle.std.proofs.lemmas.Int.{ints}
-use Rattle.rt_tree.specs.Rows.{box_of}
+use Rattle.rt_tree.specs.Lists.{box_of}
 use Rattle.rt_bench.proofs.tree.time_insertions.Goals as goal
 use Rattle.rt_bench.proofs.tree.time_insertions.Goals.{then-row-last+then-spare-gt0+then-len-lt-MOST_ROWS_OF_A_TREE, else-row-last}
 

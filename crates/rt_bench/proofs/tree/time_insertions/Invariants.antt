@@ -1,5 +1,5 @@
 use Rattle.std.proofs.Common.{◌≡◌, None, ℤ, ◌<ℤ◌}
-use Rattle.rt_tree.specs.Rows.{box_of}
+use Rattle.rt_tree.specs.Lists.{box_of}
 use Rattle.rt_bench.proofs.tree.time_insertions.Given as goal
 
 abbrev pub invariant-loop-row : goal.invariant-loop-row

@@ -1,6 +1,6 @@
 use Rattle.std.proofs.Common.{List, Option, sym, subst}
 use Rattle.rt_box.specs.declared.interval.Interval.{Interval}
-use Rattle.rt_tree.specs.Rows.{rows_of}
+use Rattle.rt_tree.specs.Lists.{rows_of}
 use Rattle.rt_live.specs.Finding.{is_new, Appends}
 use Rattle.rt_live.specs.Room.{HasRoomToAppend}
 use Rattle.rt_live.proofs.Found.{appended-none}

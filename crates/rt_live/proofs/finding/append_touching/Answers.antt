@@ -4,7 +4,7 @@ use Rattle.std.proofs.lemmas.List.{length-append}
 use Rattle.std.proofs.lemmas.Result.{on_ok_weaker}
 use Rattle.rt_tree_walk.specs.declared.searching.Row.{Row}
 use Rattle.rt_tree.specs.Search.{FindsIn}
-use Rattle.rt_tree.specs.Rows.{rows_of}
+use Rattle.rt_tree.specs.Lists.{rows_of}
 use Rattle.rt_live.specs.Finding.{is_apart, is_new}
 use Rattle.rt_live.proofs.Found.{appended, finds_alone, counts-touching}
 use Rattle.rt_live.proofs.Room.{appended-long, ok-without, err-not-ok}

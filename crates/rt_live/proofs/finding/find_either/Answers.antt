@@ -3,7 +3,7 @@ use Rattle.std.specs.Prelude.{IsPermutation}
 use Rattle.std.proofs.lemmas.List.{with_items_is}
 use Rattle.std.proofs.lemmas.List.Sorted.{length_permutation}
 use Rattle.rt_tree_walk.specs.declared.searching.Row.{Row}
-use Rattle.rt_tree.specs.Rows.{rows_of}
+use Rattle.rt_tree.specs.Lists.{rows_of}
 use Rattle.rt_live.specs.Finding.{is_new, Appends}
 use Rattle.rt_live.proofs.Found.{found-either}
 use Rattle.rt_live.specs.Changes.{touches}

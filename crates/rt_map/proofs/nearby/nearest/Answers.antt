@@ -2,7 +2,7 @@ use Rattle.std.proofs.Common.{◌≡◌, ap, ◌∙◌}
 use Rattle.std.proofs.lemmas.Result.{IfOk-weaker}
 use Rattle.rt_tree_walk.specs.Rows.{rows_in}
 use Rattle.rt_tree_nearest.specs.Nearest.{nearest_rows}
-use Rattle.rt_tree.specs.Rows.{rows_of}
+use Rattle.rt_tree.specs.Lists.{rows_of}
 use Rattle.rt_map.proofs.Listed.{listed}
 use Rattle.rt_map.proofs.nearby.nearest.Goals as goal
 

@@ -6,7 +6,7 @@ use Rattle.rt_tree_node.specs.declared.arena.Arena.{Arena}
 use Rattle.rt_tree_walk.specs.declared.searching.Row.{Row}
 use Rattle.rt_tree_walk.specs.Rows.{rows_in}
 use Rattle.rt_tree_join.specs.Join.{touching_pairs, Joins}
-use Rattle.rt_tree.specs.Rows.{rows_of}
+use Rattle.rt_tree.specs.Lists.{rows_of}
 use Rattle.rt_map.specs.Join.{JoinsIn}
 use Rattle.rt_map.proofs.Listed.{listed}
 use Rattle.rt_map.proofs.pairs.join.Goals as goal

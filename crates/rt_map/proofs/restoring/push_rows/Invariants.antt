@@ -1,5 +1,5 @@
 use Rattle.std.proofs.Common.{◌≡◌, ◌++◌, take, map}
-use Rattle.rt_tree.specs.Rows.{row_in}
+use Rattle.rt_tree.specs.Lists.{row_in}
 use Rattle.rt_map.proofs.restoring.push_rows.Given as goal
 
 abbrev pub invariant-loop-cell : goal.invariant-loop-cell

@@ -1,6 +1,6 @@
 use Rattle.std.proofs.Common.{◌≡◌, take, map}
 use Rattle.rt_check.specs.Conditions.{leaf_cells}
-use Rattle.rt_tree.specs.Rows.{row_in}
+use Rattle.rt_tree.specs.Lists.{row_in}
 use Rattle.rt_map.proofs.restoring.shadow_rows.Given as goal
 
 abbrev pub invariant-loop-node : goal.invariant-loop-node

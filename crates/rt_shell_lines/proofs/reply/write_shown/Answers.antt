@@ -1,6 +1,5 @@
 use Rattle.std.proofs.Common.{◌≡◌, refl, map}
-use Rattle.rt_reply.specs.Rows.{values_in}
-use Rattle.rt_reply.specs.Shown.{values_at}
+use Rattle.rt_reply.specs.Rows.{values_in, values_at}
 use Rattle.rt_shell_lines.proofs.Columns.{column_lines}
 use Rattle.rt_shell_lines.proofs.reply.write_shown.Goals as goal
 

@@ -3,8 +3,7 @@ use Rattle.std.specs.Vec.Iter.{into_iter_items}
 use Rattle.rt_table_row.specs.Rows.{TableRow}
 use Rattle.rt_table_row.specs.Edits.{Step, after_step, outcome}
 use Rattle.rt_table_row.specs.Entries.{step_of}
-use Rattle.rt_table_store.specs.Trees.{IsTreeOf}
-use Rattle.rt_table_store.specs.Moves.{TakesStep}
+use Rattle.rt_table_store.specs.Trees.{IsTreeOf, TakesStep}
 use Rattle.rt_table_step.proofs.StepTrees.{one_more, outcome-last}
 use Rattle.rt_table_step.proofs.steps.apply.Goals as goal
 

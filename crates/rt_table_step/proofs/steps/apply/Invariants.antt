@@ -2,7 +2,7 @@ use Rattle.std.proofs.Common.{◌≡◌, ◌≤◌, List, ◌++◌, map}
 use Rattle.std.specs.Vec.Iter.{into_iter_items, into_iter_len}
 use Rattle.rt_table_row.specs.Edits.{Step, outcome}
 use Rattle.rt_table_row.specs.Entries.{step_of}
-use Rattle.rt_table_store.specs.Moves.{TakesEach}
+use Rattle.rt_table_store.specs.Trees.{TakesEach}
 use Rattle.rt_table_step.specs.Steps.{ApplyInTurn, inserts_all, auxiliary_rows_all}
 use Rattle.rt_table_step.proofs.steps.apply.Given as goal
 

@@ -1,5 +1,5 @@
 use Rattle.std.proofs.Common.{◌≡◌, ◌+◌, ◌<◌, ◌≤◌, List, [], ◌∷◌, ◌++◌, take, length, None, arith, rules, refl, sym, ◌∙◌, subst}
-use Rattle.rt_tree.specs.Rows.{box_of}
+use Rattle.rt_tree.specs.Lists.{box_of}
 use Rattle.rt_tree_node.specs.Whole.{most_rows_of_a_tree}
 use Rattle.rt_tree_walk.specs.declared.searching.Row.{Row}
 use Rattle.rt_tree_many.specs.Insertion.{GainsRows, InsertsInTurn}

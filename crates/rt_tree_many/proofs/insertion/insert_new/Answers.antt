@@ -1,6 +1,6 @@
 use Rattle.std.proofs.Common.{◌≡◌, ◌+◌, ◌≤◌, length, arith, rules, ap, sym, subst}
 use Rattle.rt_check.specs.Shadow.{ShadowLists}
-use Rattle.rt_tree.specs.Rows.{rows_of}
+use Rattle.rt_tree.specs.Lists.{rows_of}
 use Rattle.rt_tree_node.specs.Whole.{most_rows_of_a_tree}
 use Rattle.rt_tree_many.specs.Insertion.{AreNew}
 use Rattle.rt_tree_many.proofs.insertion.insert_new.Goals as goal

@@ -1,5 +1,5 @@
 use Rattle.std.proofs.Common.{◌<◌, pos, length, get_or, IsSome, arith, rules, ap}
-use Rattle.rt_tree.specs.Rows.{box_of}
+use Rattle.rt_tree.specs.Lists.{box_of}
 use Rattle.rt_tree_many.proofs.Places.{place-held}
 use Rattle.rt_tree_many.proofs.order.row_at.Goals as goal
 

@@ -1,7 +1,7 @@
 use Rattle.std.proofs.Common.{◌≡◌, ◌+◌, ◌≤◌, rules, List, [], ◌∷◌, ◌++◌, take, map, ℤ, sym, ap, ◌∙◌, subst}
 use Rattle.std.proofs.lemmas.List.{map-append}
 use Rattle.rt_map.specs.Packing.{ids}
-use Rattle.rt_tree.specs.Rows.{rows_of}
+use Rattle.rt_tree.specs.Lists.{rows_of}
 use Rattle.rt_tree_many.specs.Parts.{HasParts, nearest_ids}
 use Rattle.rt_tree_many.proofs.Lists.{take-item}
 use Rattle.rt_tree_many.proofs.Joined.{parts-more}

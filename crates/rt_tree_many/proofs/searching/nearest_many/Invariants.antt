@@ -1,5 +1,5 @@
 use Rattle.std.proofs.Common.{take, map}
-use Rattle.rt_tree.specs.Rows.{rows_of}
+use Rattle.rt_tree.specs.Lists.{rows_of}
 use Rattle.rt_tree_many.specs.Parts.{HasParts, nearest_ids}
 use Rattle.rt_tree_many.proofs.searching.nearest_many.Given as goal
 

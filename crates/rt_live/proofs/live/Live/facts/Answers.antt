@@ -1,5 +1,5 @@
 use Rattle.std.proofs.Common.{subst}
-use Rattle.rt_tree.specs.Rows.{rows_of}
+use Rattle.rt_tree.specs.Lists.{rows_of}
 use Rattle.rt_live.specs.Rows.{AreRising}
 use Rattle.rt_live.specs.Live.{LiveState}
 use Rattle.rt_live.proofs.ById.{by_id-rising}

@@ -36,5 +36,6 @@ returns-in_err-edit_row-clause-fits g c = λ room _.
       rows_fit = omega arith;
       windows_fit = omega arith;
       changes_fit = subst (λ (o : Option (List Interval)). around o (Some c.args.rect.now) c.args.self.now.lists.windows ≤ c.args.self.now.change_room) (row-box c.self.inside c.self.inside c.args.self.now c.self.view_is c.args.id.now ∙ sym c.get-was.ensures) room.changes_fit;
-      can_search = room.can_search;
+      rows_reached = omega (arith, room.rows_reached);
+      windows_reached = omega (arith, room.windows_reached);
     }))

@@ -37,5 +37,6 @@ returns-in_err-edit_window-clause-fits g c = λ room _.
       rows_fit = omega arith;
       windows_fit = omega arith;
       changes_fit = room.changes_fit;
-      can_search = room.can_search;
+      rows_reached = omega (arith, room.rows_reached);
+      windows_reached = omega (arith, room.windows_reached);
     }))

@@ -1,6 +1,5 @@
 use Rattle.std.proofs.Common.{◌≡◌, Option, Some, MatchOption, ◌⊎◌, subst, rules}
-use Rattle.rt_sql_cut.specs.Piece.{PieceText}
-use Rattle.rt_sql_cut.specs.Pieces.{IsGap, IsWholePiece, IsLastPiece}
+use Rattle.rt_sql_cut.specs.Pieces.{PieceText, IsGap, IsWholePiece, IsLastPiece}
 use Rattle.rt_sql_cut.specs.Cutter.{ready_piece}
 use Rattle.rt_sql_cut.proofs.CutterFront.{whole_at, last_at}
 use Rattle.rt_sql_cut.proofs.cutter.Cutter.ready.Goals as goal

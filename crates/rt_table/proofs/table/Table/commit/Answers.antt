@@ -4,8 +4,7 @@ use Rattle.std.proofs.lemmas.List.Elements.{All-weaker}
 use Rattle.indexmap.specs.IndexSet.{spare}
 use Rattle.rt_table_row.specs.Edits.{outcome}
 use Rattle.rt_table_row.specs.Entries.{step_of}
-use Rattle.rt_table_store.specs.Trees.{IsTreeOf}
-use Rattle.rt_table_store.specs.Moves.{FollowsSteps}
+use Rattle.rt_table_store.specs.Trees.{IsTreeOf, FollowsSteps}
 use Rattle.rt_table_view.specs.declared.view.Watched.{Watched}
 use Rattle.rt_table.specs.Held.{Held}
 use Rattle.rt_table_view.specs.Preparing.{IsAwaited}

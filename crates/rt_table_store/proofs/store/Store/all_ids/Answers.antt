@@ -4,7 +4,7 @@ use Rattle.std.specs.List.{list_any}
 use Rattle.std.specs.Ordering.{int_eq}
 use Rattle.rt_check.specs.Shadow.{ShadowLists}
 use Rattle.rt_tree.specs.Boxes.{HasBoxes}
-use Rattle.rt_tree.specs.Rows.{box_of}
+use Rattle.rt_tree.specs.Lists.{box_of}
 use Rattle.rt_table_store.specs.StoreLists.{StoreLists}
 use Rattle.rt_table_store.proofs.AllIds.{ids-of-all}
 use Rattle.rt_table_store.proofs.store.Store.all_ids.Goals as goal

@@ -1,6 +1,6 @@
 use Rattle.std.proofs.Common.{sym, ap, ◌∙◌}
 use Rattle.std.specs.Option.{is_some}
-use Rattle.rt_tree.specs.Rows.{box_of}
+use Rattle.rt_tree.specs.Lists.{box_of}
 use Rattle.rt_table_row.specs.Rows.{has_id}
 use Rattle.rt_table_store.specs.StoreLists.{StoreLists}
 use Rattle.rt_table_store.specs.StoreInside.{rows_in}

@@ -5,7 +5,7 @@ use Rattle.std.specs.Ordering.{int_eq}
 use Rattle.std.proofs.lemmas.Int.{to_z-of_z}
 use Rattle.std.proofs.lemmas.List.{length-map}
 use Rattle.indexmap.specs.IndexMap.{get}
-use Rattle.rt_tree.specs.Rows.{box_of, GainsRow}
+use Rattle.rt_tree.specs.Lists.{box_of, GainsRow}
 use Rattle.rt_check.specs.declared.node.RowEntry.{RowEntry}
 use Rattle.rt_table_row.specs.Rows.{has_id, with_row}
 use Rattle.rt_table_row.specs.Entries.{row_of}

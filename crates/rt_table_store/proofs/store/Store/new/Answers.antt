@@ -1,8 +1,7 @@
 use Rattle.std.proofs.Common.{◌≡◌, ℤ, List, [], rules, refl, sym, subst}
 use Rattle.std.specs.Prelude.{is_some}
 use Rattle.rt_check.specs.Shadow.{ShadowLists}
-use Rattle.rt_tree.specs.Lists.{empty_lists}
-use Rattle.rt_tree.specs.Rows.{box_of}
+use Rattle.rt_tree.specs.Lists.{empty_lists, box_of}
 use Rattle.rt_table_store.specs.GreatestIds.{Ranks}
 use Rattle.rt_table_store.proofs.Ranking.{ranks-all}
 use Rattle.rt_table_store.proofs.store.Store.new.Goals as goal

@@ -5,7 +5,7 @@ use Rattle.std.specs.Ordering.{int_eq}
 use Rattle.std.proofs.lemmas.Int.{to_z-of_z}
 use Rattle.indexmap.specs.IndexMap.{get}
 use Rattle.rt_sql_statement.specs.declared.value.Value.{Value}
-use Rattle.rt_tree.specs.Rows.{box_of}
+use Rattle.rt_tree.specs.Lists.{box_of}
 use Rattle.rt_table_row.specs.Rows.{TableRow, row_at, without_id}
 use Rattle.rt_table_store.specs.StoreLists.{StoreLists}
 use Rattle.rt_table_store.proofs.Joined.{boxed, row-at}

@@ -2,13 +2,13 @@ use Rattle.std.proofs.Common.{◌≡◌, ◌≢◌, ◌≤◌, ℤ, true, [], So
 use Rattle.std.specs.Option.{unwrap_or}
 use Rattle.std.specs.Ordering.{int_eq}
 use Rattle.indexmap.specs.IndexMap.{get}
-use Rattle.rt_tree.specs.Rows.{box_of}
+use Rattle.rt_tree.specs.Lists.{box_of}
 use Rattle.rt_table_row.specs.Rows.{has_id, with_row, without_id}
 use Rattle.rt_table_row.specs.Edits.{Becomes}
 use Rattle.rt_table_row.specs.Entries.{row_of}
 use Rattle.rt_table_store.specs.StoreLists.{StoreLists}
 use Rattle.rt_table_store.specs.StoreInside.{rows_in}
-use Rattle.rt_table_store.specs.Moves.{TakesStep}
+use Rattle.rt_table_store.specs.Trees.{TakesStep}
 use Rattle.rt_table_store.proofs.Moved.{a-box, rows-replaced}
 use Rattle.rt_table_store.proofs.Kept.{auxiliary-kept, there-replaced}
 use Rattle.rt_table_store.proofs.Replaced.{box-here, boxes-kept, as-many, takes-step}

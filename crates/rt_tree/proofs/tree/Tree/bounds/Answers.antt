@@ -3,8 +3,7 @@ use Rattle.std.specs.Option.{IfSome}
 use Rattle.rt_tree_walk.specs.declared.searching.Row.{Row}
 use Rattle.rt_tree_walk.specs.Rows.{rows_in}
 use Rattle.rt_tree.specs.Bounds.{IsLeastAround}
-use Rattle.rt_tree.specs.Lists.{TreeLists}
-use Rattle.rt_tree.specs.Rows.{rows_of}
+use Rattle.rt_tree.specs.Lists.{TreeLists, rows_of}
 use Rattle.rt_tree.proofs.Around.{bounds-are}
 use Rattle.rt_tree.proofs.Kept.{settled}
 use Rattle.rt_tree.proofs.Nearby.{rows-listed}

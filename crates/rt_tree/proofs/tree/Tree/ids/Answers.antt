@@ -4,8 +4,7 @@ use Rattle.std.specs.List.{list_any, count_by}
 use Rattle.std.specs.Ordering.{int_eq}
 use Rattle.indexmap.specs.IndexMap.{keys}
 use Rattle.std.proofs.lemmas.Map.Made.{is_some-lookup}
-use Rattle.rt_tree.specs.Lists.{TreeLists}
-use Rattle.rt_tree.specs.Rows.{box_of}
+use Rattle.rt_tree.specs.Lists.{TreeLists, box_of}
 use Rattle.rt_tree.proofs.Kept.{settled}
 use Rattle.rt_tree.proofs.Once.{distinct-once}
 use Rattle.rt_tree.proofs.Rows.{has-row}

@@ -3,8 +3,7 @@ use Rattle.std.specs.Ordering.{int_eq}
 use Rattle.indexmap.specs.IndexMap.{get as leaf_of, spare}
 use Rattle.rt_tree_node.specs.Whole.{IsWhole, IsBranched, HasRoom, row_count}
 use Rattle.rt_tree_outside.specs.Outside.{outside}
-use Rattle.rt_tree.specs.Lists.{TreeLists}
-use Rattle.rt_tree.specs.Rows.{box_of, GainsRow}
+use Rattle.rt_tree.specs.Lists.{TreeLists, box_of, GainsRow}
 use Rattle.rt_tree.specs.Changes.{IsInsertion}
 use Rattle.rt_tree.specs.Moving.{TakesRow}
 use Rattle.rt_tree.proofs.Kept.{settled}

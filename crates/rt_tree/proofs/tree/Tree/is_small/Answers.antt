@@ -3,8 +3,7 @@ use Rattle.rt_box.specs.Capacity.{least_fill}
 use Rattle.rt_tree_place.proofs.Sums.{count-all}
 use Rattle.rt_tree_walk.specs.declared.searching.Row.{Row}
 use Rattle.rt_tree_outside.specs.Outside.{outside}
-use Rattle.rt_tree.specs.Lists.{TreeLists, root_level, least_rows}
-use Rattle.rt_tree.specs.Rows.{rows_of}
+use Rattle.rt_tree.specs.Lists.{TreeLists, root_level, least_rows, rows_of}
 use Rattle.rt_tree.proofs.Kept.{settled}
 use Rattle.rt_tree.proofs.Rows.{rows-counted}
 use Rattle.rt_tree.proofs.Shape.{nodes-long, root-high}

@@ -7,8 +7,7 @@ use Rattle.rt_box.proofs.Equality.{Decides-box_eq}
 use Rattle.rt_tree_node.specs.Whole.{IsWhole, IsBranched, HasRoom, row_count}
 use Rattle.rt_tree_remove.specs.Steps.{IsLocationOf}
 use Rattle.rt_tree_outside.specs.Outside.{outside}
-use Rattle.rt_tree.specs.Lists.{TreeLists}
-use Rattle.rt_tree.specs.Rows.{box_of}
+use Rattle.rt_tree.specs.Lists.{TreeLists, box_of}
 use Rattle.rt_tree.specs.Replacing.{IsReplacement}
 use Rattle.rt_tree.proofs.Kept.{settled}
 use Rattle.rt_tree.proofs.Changed.{present-leaf, less-room, way-waits}

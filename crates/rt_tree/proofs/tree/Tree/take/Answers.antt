@@ -4,8 +4,7 @@ use Rattle.rt_box.specs.Capacity.{least_fill}
 use Rattle.rt_tree_node.specs.Whole.{IsWhole, IsBranched, HasRoom, row_count}
 use Rattle.rt_tree_remove.specs.Steps.{IsLocationOf}
 use Rattle.rt_tree_outside.specs.Outside.{outside}
-use Rattle.rt_tree.specs.Lists.{TreeLists}
-use Rattle.rt_tree.specs.Rows.{box_of, LosesRow}
+use Rattle.rt_tree.specs.Lists.{TreeLists, box_of, LosesRow}
 use Rattle.rt_tree.specs.Changes.{IsRemoval}
 use Rattle.rt_tree.specs.Moving.{DropsRow}
 use Rattle.rt_tree.proofs.Kept.{settled}
