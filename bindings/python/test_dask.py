@@ -103,16 +103,18 @@ def test_errors(client):
 
 
 def killed_meanwhile(client, call, task):
-    """What the call answers, while a worker is killed that has to do with such a task of it."""
+    """What the call answers, while a worker is killed that has such a task of it to do. The worker is stopped first, so that it ends none."""
+    (worker, process), *_ = client.run(os.getpid).items()
+    os.kill(process, signal.SIGSTOP)
     with ThreadPoolExecutor(1) as pool:
-        for _ in range(20):
-            (worker, process), *_ = client.run(os.getpid).items()
-            answer = pool.submit(call)
-            while not answer.done():
-                if any(task in key for key in client.processing().get(worker, ())):
-                    os.kill(process, signal.SIGKILL)
-                    return answer.result()
-    raise AssertionError("each call ended before the worker was killed")
+        answer = pool.submit(call)
+        try:
+            while not any(task in key for key in client.processing().get(worker, ())):
+                assert not answer.done(), "the stopped worker had nothing to do"
+                time.sleep(0.01)
+        finally:
+            os.kill(process, signal.SIGKILL)
+        return answer.result()
 
 
 def test_many_rows(client):

@@ -7,7 +7,7 @@
 //! - An edit that is refused leaves the rows, the windows and the last changes as they were.
 //! - An edit of a row looks at the windows around its old box and its new one, an edit of a window at the rows there. Where the
 //!   two boxes are close, the box around both is searched once.
-//! - `reserve` makes room for rows, windows and changes: the edits that keep to that can't fail for want of memory.
+//! - `reserve` makes room for rows, windows and changes: edits within these bounds can't fail for want of memory.
 //! - `copies_follow` is the theorem: a copy of what a window sees, which follows the changes, is what the window sees.
 //!
 //! Stands on `rt_tree`, whose rows are also the windows, and on `rt_tree_sort`. Definitions: `specs/Rows.antt` (rows and

@@ -34,7 +34,7 @@ pub struct Live<const D: usize> {
     // What the next edit is to tell, and what it finds: kept, so that few edits take memory for them.
     planned: Vec<Change>,
     scratch: Scratch<D>,
-    // No window is shorter than this on any axis: nor was any since there was none.
+    // A lower bound of the windows' sides: the shortest side since there last was no window.
     least: u32,
     alloc: Global,
 }
@@ -163,9 +163,9 @@ impl<const D: usize> Live<D> {
         Ok(ids)
     }
 
-    /// Makes room for so many more rows and windows, and for edits that look at no more than so many windows, or rows: those
-    /// around the old box and the new one. The edits that follow can't fail for want of memory, as long as each keeps to that,
-    /// and all together give rows and windows no more boxes. A box uses up the room of one row, or window, at most.
+    /// Makes room for `rows` and `windows` more, and for edits that look at up to `changes` windows, or rows: those around the
+    /// old box and the new one. Edits within these bounds then can't fail for want of memory. An edit that gives a row a box
+    /// counts as one of `rows`, and one that gives a window a box as one of `windows`.
     ///
     /// # Errors
     ///
