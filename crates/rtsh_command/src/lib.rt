@@ -190,42 +190,57 @@ fn program<'a>(alloc: Global) -> Result<Command<'a>, AllocError> {
     )
 }
 
+/// An option without a value, `--NAME`.
+fn flag<'a>(alloc: Global, name: &'a str, help: &'a str) -> Arg<'a> {
+    Arg::new(alloc, name)
+        .long(name)
+        .help(help)
+        .action(ArgAction::SetTrue)
+}
+
+/// An option with a value, `--NAME VALUE`.
+fn option<'a>(alloc: Global, name: &'a str, value: &'a str, help: &'a str) -> Arg<'a> {
+    Arg::new(alloc, name)
+        .long(name)
+        .value_name(value)
+        .help(help)
+}
+
+/// The file that a command reads.
+fn file<'a>(alloc: Global, help: &'a str) -> Arg<'a> {
+    Arg::new(alloc, "file").value_name("FILE").help(help)
+}
+
 fn run<'a>(alloc: Global) -> Result<Command<'a>, AllocError> {
-    let capacity = Arg::new(alloc, "capacity")
-        .long("capacity")
-        .value_name("M")
-        .help(
-            "How many cells a node of a table's tree holds at most, from 5 to 51; it changes the dumps that .nodes prints, and no other line",
-        )
-        .value_parser(value_parser!(u8).range(5..=51))
-        .default_value("51");
-    let bail = Arg::new(alloc, "bail")
-        .long("bail")
-        .help("Ends after the first refusal")
-        .action(ArgAction::SetTrue);
-    let echo = Arg::new(alloc, "echo")
-        .long("echo")
-        .help("Prints each statement and dot line before its answer")
-        .action(ArgAction::SetTrue);
-    let unbuffered = Arg::new(alloc, "unbuffered")
-        .long("unbuffered")
-        .help("Writes each answer before the next statement is read, into a pipe too")
-        .action(ArgAction::SetTrue);
-    let place = Arg::new(alloc, "where")
-        .long("where")
-        .help(
-            "Shows on the error output the line of each refused statement, and the word where its syntax fails; a terminal there shows them anyway, unless the script is typed",
-        )
-        .action(ArgAction::SetTrue);
+    let capacity = option(
+        alloc,
+        "capacity",
+        "M",
+        "How many cells a node of a table's tree holds at most, from 5 to 51; it changes the dumps that .nodes prints, and no other line",
+    )
+    .value_parser(value_parser!(u8).range(5..=51))
+    .default_value("51");
     Ok(
         Command::new(alloc, "run")
             .about("Runs a script, and prints what it gives")
             .after_help(SCRIPT_HELP)
             .arg(capacity)?
-            .arg(bail)?
-            .arg(echo)?
-            .arg(unbuffered)?
-            .arg(place)?
+            .arg(flag(alloc, "bail", "Ends after the first refusal"))?
+            .arg(flag(
+                alloc,
+                "echo",
+                "Prints each statement and dot line before its answer",
+            ))?
+            .arg(flag(
+                alloc,
+                "unbuffered",
+                "Writes each answer before the next statement is read, into a pipe too",
+            ))?
+            .arg(flag(
+                alloc,
+                "where",
+                "Shows on the error output the line of each refused statement, and the word where its syntax fails; a terminal there shows them anyway, unless the script is typed",
+            ))?
             .arg(file(
                 alloc,
                 "The script; without it, or with `-`, standard input is read",
@@ -246,39 +261,37 @@ fn check<'a>(alloc: Global) -> Result<Command<'a>, AllocError> {
 }
 
 fn draw<'a>(alloc: Global) -> Result<Command<'a>, AllocError> {
-    let axes = Arg::new(alloc, "axes")
-        .long("axes")
-        .value_name("AXES")
-        .help(
-            "The axes to the right and upwards; one alone draws bars; without it 1,2, or of a tree of one axis 1",
-        )
-        .value_parser(["1", "2", "3", "1,2", "1,3", "2,1", "2,3", "3,1", "3,2"].as_slice());
-    let levels = Arg::new(alloc, "levels")
-        .long("levels")
-        .value_name("LEVELS")
-        .help("Draws the cells of these levels alone, as 0-2 or 1; leaves are on level 0")
-        .value_delimiter('-')
-        .value_parser(value_parser!(u8));
-    let all = Arg::new(alloc, "all")
-        .long("all")
-        .help("Draws the cells of leaves however many boxes there are")
-        .action(ArgAction::SetTrue);
+    let axes = option(
+        alloc,
+        "axes",
+        "AXES",
+        "The axes to the right and upwards; one alone draws bars; without it 1,2, or of a tree of one axis 1",
+    )
+    .value_parser(["1", "2", "3", "1,2", "1,3", "2,1", "2,3", "3,1", "3,2"].as_slice());
+    let levels = option(
+        alloc,
+        "levels",
+        "LEVELS",
+        "Draws the cells of these levels alone, as 0-2 or 1; leaves are on level 0",
+    )
+    .value_delimiter('-')
+    .value_parser(value_parser!(u8));
     Ok(
         Command::new(alloc, "draw")
             .about("Draws the tree of a dump, as an SVG")
             .after_help(DRAW_HELP)
             .arg(axes)?
             .arg(levels)?
-            .arg(all)?
+            .arg(flag(
+                alloc,
+                "all",
+                "Draws the cells of leaves however many boxes there are",
+            ))?
             .arg(file(
                 alloc,
                 "The dump; without it, or with `-`, standard input is read",
             ))?,
     )
-}
-
-fn file<'a>(alloc: Global, help: &'a str) -> Arg<'a> {
-    Arg::new(alloc, "file").value_name("FILE").help(help)
 }
 
 /// What the parsed command line asks for.
