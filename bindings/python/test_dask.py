@@ -104,7 +104,9 @@ def test_errors(client):
 
 def killed_meanwhile(client, call, task):
     """What the call answers, while a worker is killed that has such a task of it to do. The worker is stopped first, so that it ends none."""
-    (worker, process), *_ = client.run(os.getpid).items()
+    held = client.has_what()
+    worker = max(held, key=lambda it: len(held[it]))
+    process = client.run(os.getpid, workers=[worker])[worker]
     os.kill(process, signal.SIGSTOP)
     with ThreadPoolExecutor(1) as pool:
         answer = pool.submit(call)
