@@ -1,7 +1,6 @@
 //! Live windows: rows, windows over them, and what each edit tells the windows.
 
 ghost use Rattle.std.specs.Prelude.{◌≡◌, ◌≢◌, ◌≤◌, length};
-ghost use Rattle.rt_calls.specs.Calls.{Opens};
 ghost use Rattle.rt_calls.specs.Live.{MakesLive, MakesNew, OnAxes, WithBox};
 ghost use Rattle.rt_calls.specs.Live.{RowComes, RowMoves, RowLeaves, WindowComes, WindowMoves, WindowLeaves, Reserves};
 ghost use Rattle.rt_calls.specs.declared.code.Code.TheVariants.{Done};
