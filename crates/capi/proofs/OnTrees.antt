@@ -4,10 +4,10 @@ use Rattle.std.specs.Prelude.{Option}
 use Rattle.rt_tree.specs.Lists.{TreeLists}
 use Rattle.rt_handle.specs.declared.object.HeldTree.{HeldTree}
 use Rattle.rt_handle.specs.declared.object.Object.{Object}
-use Rattle.capi.specs.Calls.{OnTree, Fills, Opens}
-use Rattle.capi.specs.Codes.{number_of}
-use Rattle.capi.specs.declared.code.Code.{Code}
-use Rattle.capi.specs.declared.code.Code.TheVariants.{Done, Closed, OtherKind, AlreadyOpen, BadCapacity, BadBox, IdTaken, IdMissing, BufferTooSmall, OutOfMemory, TreeFull, Ended, TooLong, BadDump, BadLength, BadAxes, BadRelation, Empty, BadBytes}
+use Rattle.rt_calls.specs.Calls.{OnTree, Fills, Opens}
+use Rattle.rt_calls.specs.Codes.{number_of}
+use Rattle.rt_calls.specs.declared.code.Code.{Code}
+use Rattle.rt_calls.specs.declared.code.Code.TheVariants.{Done, Closed, OtherKind, AlreadyOpen, BadCapacity, BadBox, IdTaken, IdMissing, BufferTooSmall, OutOfMemory, TreeFull, Ended, TooLong, BadDump, BadLength, BadAxes, BadRelation, Empty, BadBytes}
 
 pub on_tree_by_id : (says : ℤ → (D : ℕ) → HeldTree D → TreeLists D → Code → Type 0) (id given : ℤ) (held new : Option Object) (object after : Object)
     (number told : ℤ) → held ≡ Some object → new ≡ Some after → number ≡ told → id ≡ given →

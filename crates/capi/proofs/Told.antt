@@ -4,11 +4,11 @@ use Rattle.std.specs.Prelude.{Option}
 use Rattle.rt_live.specs.Live.{LiveLists}
 use Rattle.rt_tree.specs.Lists.{TreeLists}
 use Rattle.rt_handle.specs.declared.object.Object.{Object}
-use Rattle.capi.specs.Calls.{OfTree}
-use Rattle.capi.specs.Codes.{number_of}
-use Rattle.capi.specs.Live.{OfLive}
-use Rattle.capi.specs.Pairs.{OfTrees}
-use Rattle.capi.specs.declared.code.Code.{Code}
+use Rattle.rt_calls.specs.Calls.{OfTree}
+use Rattle.rt_calls.specs.Codes.{number_of}
+use Rattle.rt_calls.specs.Live.{OfLive}
+use Rattle.rt_calls.specs.Pairs.{OfTrees}
+use Rattle.rt_calls.specs.declared.code.Code.{Code}
 
 pub told_of : (says : (D : ℕ) → TreeLists D → Code → Type 0) (seen held : Option Object) (code : Code) (number : ℤ) → seen ≡ held →
     number ≡ number_of code → OfTree seen says (number_of code) → OfTree held says number

@@ -1,111 +1,13 @@
 //! What is read of live windows: the changes of the last edit, the rows that a window sees, and the windows.
 
-ghost use Rattle.std.specs.Prelude.{◌≡◌, ◌≢◌, ◌≤◌, pos, length, option_map};
+ghost use Rattle.std.specs.Prelude.{◌≡◌, ◌≢◌, pos};
 ghost use Rattle.rt_handle.specs.Passes.{IsOf, IsSame};
-ghost use Rattle.capi.specs.Buffers.{Copies};
-ghost use Rattle.capi.specs.Codes.{number_of};
-ghost use Rattle.capi.specs.Live.{OfLive, number_of_kind, windows_of, changed_ids, kinds_of, GivesChanges};
-ghost use Rattle.capi.specs.Live.{TellsChanges, TellsSeen, TellsWindows};
-ghost use Rattle.capi.specs.declared.code.Code.TheVariants.{Done, BufferTooSmall};
+ghost use Rattle.rt_calls.specs.Live.{OfLive};
+ghost use Rattle.rt_calls.specs.Live.{TellsChanges, TellsSeen, TellsWindows};
 
-use crate::answer::{Answer, hand_back};
-use crate::buffer::copy_to;
-use crate::code::Code;
-use crate::places::rows;
-use rt_handle::{AnyLive, Object, Pass, Words};
-use rt_live::{Change, Fault, Kind, Live};
-
-/// The number of a kind of change.
-fn kind_number(kind: Kind) -> u8
-    ensures { result ≡ number_of_kind kind }
-{
-    match kind {
-        Kind::Left => 0,
-        Kind::Came => 1,
-        Kind::Moved => 2,
-    }
-}
-
-/// Writes what the changes tell to the start of three buffers.
-fn write_changes(changes: &[Change], windows: &mut [i64], ids: &mut [i64], kinds: &mut [u8])
-    requires windows { length changes.now ≤ length windows.old }
-    requires ids { length changes.now ≤ length ids.old }
-    requires kinds { length changes.now ≤ length kinds.old }
-    ensures windows { Copies (windows_of changes.now) windows.old windows.new Done }
-    ensures ids { Copies (changed_ids changes.now) ids.old ids.new Done }
-    ensures kinds { Copies (kinds_of changes.now) kinds.old kinds.new Done }
-{
-    for at in 0..changes.len() {
-        windows[at] = changes[at].window;
-        ids[at] = changes[at].id;
-        kinds[at] = kind_number(changes[at].kind);
-    }
-}
-
-/// Writes the changes to the start of three buffers of one length, and their number to `total`.
-fn give_changes(
-    changes: &[Change],
-    windows: &mut [i64],
-    ids: &mut [i64],
-    kinds: &mut [u8],
-    total: &mut u64,
-) -> Code
-    requires ids { length ids.old ≡ length windows.old }
-    requires kinds { length kinds.old ≡ length windows.old }
-    ensures given { GivesChanges windows.old windows.new ids.old ids.new kinds.old kinds.new total.new
-        changes.now result }
-    ensures kept { result ≢ Done → result ≢ BufferTooSmall →
-        (windows.new ≡ windows.old) × (ids.new ≡ ids.old) × (kinds.new ≡ kinds.old) × (total.new ≡ total.old) }
-{
-    *total = changes.len() as u64;
-    if changes.len() > windows.len() {
-        return Code::BufferTooSmall;
-    }
-    write_changes(changes, windows, ids, kinds);
-    Code::Done
-}
-
-/// Writes the changes of the last edit.
-fn changes<const D: usize>(
-    live: &Live<D>,
-    windows: &mut [i64],
-    ids: &mut [i64],
-    kinds: &mut [u8],
-    total: &mut u64,
-) -> Code
-    ensures told { TellsChanges windows.old windows.new ids.old ids.new kinds.old kinds.new total.new
-        live.now.lists result }
-    ensures kept { result ≢ Done → result ≢ BufferTooSmall →
-        (windows.new ≡ windows.old) × (ids.new ≡ ids.old) × (kinds.new ≡ kinds.old) × (total.new ≡ total.old) }
-{
-    if ids.len() != windows.len() || kinds.len() != windows.len() {
-        return Code::BadLength;
-    }
-    give_changes(live.changes(), windows, ids, kinds, total)
-}
-
-/// The same of what a handle holds.
-fn changes_in(
-    held: Option<&Object>,
-    windows: &mut [i64],
-    ids: &mut [i64],
-    kinds: &mut [u8],
-    total: &mut u64,
-) -> Code
-    ensures told { OfLive (option_map (λ object. object.now) held.entry)
-        (λ D. TellsChanges windows.old windows.new
-        ids.old ids.new kinds.old kinds.new total.new) (number_of result) }
-    ensures kept { result ≢ Done → result ≢ BufferTooSmall →
-        (windows.new ≡ windows.old) × (ids.new ≡ ids.old) × (kinds.new ≡ kinds.old) × (total.new ≡ total.old) }
-{
-    match held {
-        None => Code::Closed,
-        Some(Object::Live(AnyLive::Line(held))) => changes(&held.live, windows, ids, kinds, total),
-        Some(Object::Live(AnyLive::Plane(held))) => changes(&held.live, windows, ids, kinds, total),
-        Some(Object::Live(AnyLive::Space(held))) => changes(&held.live, windows, ids, kinds, total),
-        Some(_) => Code::OtherKind,
-    }
-}
+use rt_calls::changes::{changes_in, seen_in, windows_in};
+use rt_calls::{Answer, hand_back};
+use rt_handle::{Pass, Words};
 
 /// The changes of the last edit.
 #[unsafe(no_mangle)]
@@ -129,36 +31,6 @@ pub extern "C" fn juicedelta_live_changes(
     hand_back(code, lease)
 }
 
-/// Writes the ids of the rows that a window sees, and their number.
-fn seen<const D: usize>(live: &Live<D>, window: i64, ids: &mut [i64], total: &mut u64) -> Code
-    ensures told { TellsSeen window ids.old ids.new total.new live.now.lists result }
-    ensures kept { result ≢ Done → result ≢ BufferTooSmall → (ids.new ≡ ids.old) × (total.new ≡ total.old) }
-{
-    match live.rows(&window) {
-        Ok(found) => {
-            *total = found.len() as u64;
-            copy_to(&found, ids)
-        }
-        Err(Fault::NoWindow) => Code::IdMissing,
-        Err(_) => Code::OutOfMemory,
-    }
-}
-
-/// The same of what a handle holds.
-fn seen_in(held: Option<&Object>, window: i64, ids: &mut [i64], total: &mut u64) -> Code
-    ensures told { OfLive (option_map (λ object. object.now) held.entry)
-        (λ D. TellsSeen window ids.old ids.new total.new) (number_of result) }
-    ensures kept { result ≢ Done → result ≢ BufferTooSmall → (ids.new ≡ ids.old) × (total.new ≡ total.old) }
-{
-    match held {
-        None => Code::Closed,
-        Some(Object::Live(AnyLive::Line(held))) => seen(&held.live, window, ids, total),
-        Some(Object::Live(AnyLive::Plane(held))) => seen(&held.live, window, ids, total),
-        Some(Object::Live(AnyLive::Space(held))) => seen(&held.live, window, ids, total),
-        Some(_) => Code::OtherKind,
-    }
-}
-
 /// The ids of the rows that a window sees.
 #[unsafe(no_mangle)]
 pub extern "C" fn juicedelta_live_rows(
@@ -176,45 +48,6 @@ pub extern "C" fn juicedelta_live_rows(
     let lease = pass.open();
     let code = seen_in(lease.peek(handle), window, ids, total);
     hand_back(code, lease)
-}
-
-/// Writes the windows from the place on.
-fn windows<const D: usize>(
-    live: &Live<D>,
-    from: u64,
-    ids: &mut [i64],
-    boxes: &mut [i32],
-    total: &mut u64,
-) -> Code
-    requires some { 1 ≤ D }
-    requires few { D ≤ 3 }
-    ensures told { TellsWindows from ids.old ids.new boxes.old boxes.new total.new live.now.lists result }
-    ensures kept { result ≢ Done → (ids.new ≡ ids.old) × (boxes.new ≡ boxes.old) × (total.new ≡ total.old) }
-{
-    let tree = live.windows_tree();
-    tree.is_in_shape();
-    rows(tree, from, ids, boxes, total)
-}
-
-/// The same of what a handle holds.
-fn windows_in(
-    held: Option<&Object>,
-    from: u64,
-    ids: &mut [i64],
-    boxes: &mut [i32],
-    total: &mut u64,
-) -> Code
-    ensures told { OfLive (option_map (λ object. object.now) held.entry)
-        (λ D. TellsWindows from ids.old ids.new boxes.old boxes.new total.new) (number_of result) }
-    ensures kept { result ≢ Done → (ids.new ≡ ids.old) × (boxes.new ≡ boxes.old) × (total.new ≡ total.old) }
-{
-    match held {
-        None => Code::Closed,
-        Some(Object::Live(AnyLive::Line(held))) => windows(&held.live, from, ids, boxes, total),
-        Some(Object::Live(AnyLive::Plane(held))) => windows(&held.live, from, ids, boxes, total),
-        Some(Object::Live(AnyLive::Space(held))) => windows(&held.live, from, ids, boxes, total),
-        Some(_) => Code::OtherKind,
-    }
 }
 
 /// The windows from a place on.

@@ -2,77 +2,15 @@
 
 ghost use Rattle.std.specs.Prelude.{◌≡◌, ◌≢◌, pos};
 ghost use Rattle.rt_handle.specs.Passes.{IsOf, IsSame};
-ghost use Rattle.capi.specs.declared.code.Code.TheVariants.{Done};
-ghost use Rattle.capi.specs.Calls.{Opens, OnScript, OfScript, IsScript};
-ghost use Rattle.capi.specs.Scripts.{IsNewScript, MakesScript, Executes, Finishes, FinishesTelling, HasLength, CopiesOutput, DropsOutput};
-ghost use Rattle.capi.specs.Trees.{MakesNone};
+ghost use Rattle.rt_calls.specs.Calls.{Opens, OnScript, OfScript, IsScript};
+ghost use Rattle.rt_calls.specs.Scripts.{IsNewScript, Executes, FinishesTelling, HasLength, CopiesOutput, DropsOutput};
+ghost use Rattle.rt_calls.specs.Trees.{MakesNone};
 
-use crate::answer::{Answer, hand_back};
-use crate::buffer::copy_to;
-use crate::code::Code;
-use crate::handle::fill;
-use crate::keys::Keys;
-use rt_box::Capacity;
-use rt_bytes::{Sink, Status};
-use rt_handle::{Handle, Object, Pass, Script, Words};
-use rt_shell::{FeedFault, Options, Shell};
+use rt_bytes::Sink;
+use rt_calls::script::{execute, finish_telling, measure, new_script};
+use rt_calls::{Answer, Code, Keys, copy_to, fill, hand_back};
+use rt_handle::{Handle, Object, Pass, Words};
 use std::alloc::Global;
-use std::hash::RandomState;
-use std::mem::replace;
-
-/// A shell without input so far.
-fn new_script(alloc: Global, capacity: u32, keys: &Keys) -> Result<Object, Code>
-    ensures { MakesScript capacity result }
-{
-    let Ok(greatest) = u8::try_from(capacity) else {
-        return Err(Code::BadCapacity);
-    };
-    let Some(capacity) = Capacity::new(greatest) else {
-        return Err(Code::BadCapacity);
-    };
-    let Ok(keys) = RandomState::new(keys) else {
-        return Err(Code::OutOfMemory);
-    };
-    let options = Options {
-        capacity,
-        bail: false,
-        echo: false,
-    };
-    match Shell::new(alloc, keys, &options) {
-        Ok(shell) => Ok(Object::Script(Script {
-            shell: Some(shell),
-            output: Sink::new(alloc),
-        })),
-        Err(_) => Err(Code::OutOfMemory),
-    }
-}
-
-/// Feeds the shell the next bytes of its script.
-fn execute(script: &mut Script, bytes: &[u8]) -> Code
-    ensures { Executes bytes.now script.old script.new result }
-{
-    let Some(shell) = &mut script.shell else {
-        return Code::Ended;
-    };
-    match shell.feed(bytes, &mut script.output) {
-        Ok(_) => Code::Done,
-        Err(FeedFault::Write) => Code::OutOfMemory,
-        Err(FeedFault::TooLong) => Code::TooLong,
-    }
-}
-
-/// Ends the script.
-fn finish(script: &mut Script) -> Result<Status, Code>
-    ensures { Finishes script.old script.new result }
-{
-    let Some(shell) = replace(&mut script.shell, None) else {
-        return Err(Code::Ended);
-    };
-    match shell.finish(&mut script.output) {
-        Ok(status) => Ok(status),
-        Err(_) => Err(Code::OutOfMemory),
-    }
-}
 
 /// Opens a script shell.
 #[unsafe(no_mangle)]
@@ -115,23 +53,6 @@ pub extern "C" fn juicedelta_script_exec(alloc: Global, handle: &mut Handle, byt
     code.number()
 }
 
-fn finish_telling(script: &mut Script, refused: &mut u32) -> Code
-    ensures finished { FinishesTelling refused.new script.old script.new result }
-    ensures kept { result ≢ Done → refused.new ≡ refused.old }
-{
-    match finish(script) {
-        Ok(Status::Clean) => {
-            *refused = 0;
-            Code::Done
-        }
-        Ok(Status::Refused) => {
-            *refused = 1;
-            Code::Done
-        }
-        Err(code) => code,
-    }
-}
-
 /// Ends the script.
 #[unsafe(no_mangle)]
 pub extern "C" fn juicedelta_script_finish(
@@ -151,13 +72,6 @@ pub extern "C" fn juicedelta_script_finish(
     };
     handle.put(object);
     code.number()
-}
-
-fn measure(script: &Script, length: &mut u64) -> Code
-    ensures { HasLength length.new script.now result }
-{
-    *length = script.output.bytes().len() as u64;
-    Code::Done
 }
 
 /// The length of the output.

@@ -1,35 +1,19 @@
 //! The calls on trees.
 
-ghost use Rattle.std.specs.Prelude.{◌≡◌, ◌≢◌, pos, Some};
-ghost use Rattle.capi.specs.Codes.{number_of};
+ghost use Rattle.std.specs.Prelude.{◌≡◌, ◌≢◌, pos};
 ghost use Rattle.rt_handle.specs.Passes.{IsOf, IsSame};
-ghost use Rattle.capi.specs.Calls.{Opens, OnTree, OfTree, IsTree};
-ghost use Rattle.capi.specs.Trees.{IsNew, MakesNoTree, MakesTree, IsOfDump, LoadsNone, OfBox, Inserts, Moves, Removes, Clears};
-ghost use Rattle.capi.specs.Trees.{TellsAxes, Counts, GetsInto, OfWindow, CountsRelated, Searches, SearchesRows, FindsNearestRows, Dumps};
+ghost use Rattle.rt_calls.specs.Calls.{Opens, OnTree, OfTree, IsTree};
+ghost use Rattle.rt_calls.specs.Trees.{IsNew, MakesNoTree, IsOfDump, LoadsNone, OfBox, Inserts, Moves, Removes, Clears};
+ghost use Rattle.rt_calls.specs.Trees.{TellsAxes, Counts, GetsInto, OfWindow, CountsRelated, Searches, SearchesRows, FindsNearestRows, Dumps};
 
-use crate::answer::{Answer, hand_back};
-use crate::code::Code;
-use crate::dump::{dump_line, dump_plane, dump_space};
-use crate::edit::{clear, insert, new_tree, remove, replace};
-use crate::handle::fill;
-use crate::keys::Keys;
-use crate::lending::{AnyTree, tree_in};
-use crate::load::load_dump;
-use crate::query::{count, get, len, nearest, search, search_rows, tell_axes};
+use rt_calls::query::{count, get, len, nearest, search, search_rows, tell_axes};
+use rt_calls::tree::{insert_into, new_object, remove_from, replace_in};
+use rt_calls::{
+    Answer, AnyTree, Code, Keys, clear, dump_line, dump_plane, dump_space, fill, hand_back,
+    load_dump, tree_in,
+};
 use rt_handle::{Handle, Object, Pass, Words};
 use std::alloc::Global;
-
-/// A tree of that many axes without rows.
-fn new_object(alloc: Global, axes: u32, capacity: u32, keys: &Keys) -> Result<Object, Code>
-    ensures { MakesTree axes capacity result }
-{
-    match axes {
-        1 => Ok(Object::Line(new_tree(alloc, capacity, keys)?)),
-        2 => Ok(Object::Plane(new_tree(alloc, capacity, keys)?)),
-        3 => Ok(Object::Space(new_tree(alloc, capacity, keys)?)),
-        _ => Err(Code::BadAxes),
-    }
-}
 
 /// Opens a tree.
 #[unsafe(no_mangle)]
@@ -84,18 +68,6 @@ pub extern "C" fn juicedelta_tree_open_dump(
     }
 }
 
-fn insert_into(object: &mut Object, id: i64, numbers: &[i32]) -> Code
-    ensures { OnTree (Some object.old) (Some object.new)
-        (λ D old. OfBox numbers.now (Inserts id) old.tree) (number_of result) }
-{
-    match object {
-        Object::Line(kept) => insert(&mut kept.tree, id, numbers),
-        Object::Plane(kept) => insert(&mut kept.tree, id, numbers),
-        Object::Space(kept) => insert(&mut kept.tree, id, numbers),
-        _ => Code::OtherKind,
-    }
-}
-
 /// Inserts a row.
 #[unsafe(no_mangle)]
 pub extern "C" fn juicedelta_tree_insert(
@@ -114,18 +86,6 @@ pub extern "C" fn juicedelta_tree_insert(
     code.number()
 }
 
-fn replace_in(object: &mut Object, id: i64, numbers: &[i32]) -> Code
-    ensures { OnTree (Some object.old) (Some object.new)
-        (λ D old. OfBox numbers.now (Moves id) old.tree) (number_of result) }
-{
-    match object {
-        Object::Line(kept) => replace(&mut kept.tree, id, numbers),
-        Object::Plane(kept) => replace(&mut kept.tree, id, numbers),
-        Object::Space(kept) => replace(&mut kept.tree, id, numbers),
-        _ => Code::OtherKind,
-    }
-}
-
 /// Gives a row another box.
 #[unsafe(no_mangle)]
 pub extern "C" fn juicedelta_tree_move(
@@ -142,17 +102,6 @@ pub extern "C" fn juicedelta_tree_move(
     let code = replace_in(&mut object, id, numbers);
     handle.put(object);
     code.number()
-}
-
-fn remove_from(object: &mut Object, id: i64) -> Code
-    ensures { OnTree (Some object.old) (Some object.new) (λ D old. Removes id old.tree) (number_of result) }
-{
-    match object {
-        Object::Line(kept) => remove(&mut kept.tree, id),
-        Object::Plane(kept) => remove(&mut kept.tree, id),
-        Object::Space(kept) => remove(&mut kept.tree, id),
-        _ => Code::OtherKind,
-    }
 }
 
 /// Removes a row.

@@ -1,6 +1,6 @@
 use Rattle.std.proofs.Common.{ap, ◌∙◌}
-use Rattle.capi.specs.Codes.{number_of}
-use Rattle.capi.specs.Live.{TellsChanges}
+use Rattle.rt_calls.specs.Codes.{number_of}
+use Rattle.rt_calls.specs.Live.{TellsChanges}
 use Rattle.capi.proofs.Told.{told_of_live}
 use Rattle.capi.proofs.changes.juicedelta_live_changes.Goals as goal
 

@@ -1,5 +1,5 @@
 use Rattle.std.proofs.Common.{to_z-of_z, ◌∙◌}
-use Rattle.capi.specs.Live.{TellsSeen}
+use Rattle.rt_calls.specs.Live.{TellsSeen}
 use Rattle.capi.proofs.Told.{told_of_live_by_id}
 use Rattle.capi.proofs.changes.juicedelta_live_rows.Goals as goal
 

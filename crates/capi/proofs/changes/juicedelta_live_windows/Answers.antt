@@ -1,5 +1,5 @@
 use Rattle.std.proofs.Common.{◌∙◌}
-use Rattle.capi.specs.Live.{TellsWindows}
+use Rattle.rt_calls.specs.Live.{TellsWindows}
 use Rattle.capi.proofs.Told.{told_of_live}
 use Rattle.capi.proofs.changes.juicedelta_live_windows.Goals as goal
 

@@ -1,7 +1,7 @@
 use Rattle.std.proofs.Common.{◌≡◌, rules, ◌∙◌, None, FitsSigned, w32, to_z-of_z}
 use Rattle.rt_box.specs.Capacity.{IsCapacity}
-use Rattle.capi.specs.Live.{IsLive, IsNewLive}
-use Rattle.capi.specs.Trees.{IsAxes, MakesNoTree}
+use Rattle.rt_calls.specs.Live.{IsLive, IsNewLive}
+use Rattle.rt_calls.specs.Trees.{IsAxes, MakesNoTree}
 use Rattle.capi.proofs.OnTrees.{opened}
 use Rattle.capi.proofs.live.juicedelta_live_open.Goals as goal
 

@@ -1,5 +1,5 @@
 use Rattle.std.proofs.Common.{◌∙◌}
-use Rattle.capi.specs.Many.{FindsNearestMany}
+use Rattle.rt_calls.specs.Many.{FindsNearestMany}
 use Rattle.capi.proofs.Told.{told_of}
 use Rattle.capi.proofs.many.juicedelta_tree_nearest_many.Goals as goal
 

@@ -1,5 +1,5 @@
 use Rattle.std.proofs.Common.{◌∙◌, length}
-use Rattle.capi.specs.Many.{OfWindows, SearchesEach}
+use Rattle.rt_calls.specs.Many.{OfWindows, SearchesEach}
 use Rattle.capi.proofs.Told.{told_of}
 use Rattle.capi.proofs.many.juicedelta_tree_search_many.Goals as goal
 

@@ -1,5 +1,5 @@
 use Rattle.std.proofs.Common.{◌∙◌}
-use Rattle.capi.specs.Near.{FindsRowsNearTo}
+use Rattle.rt_calls.specs.Near.{FindsRowsNearTo}
 use Rattle.capi.proofs.Told.{told_of}
 use Rattle.capi.proofs.near.juicedelta_tree_nearest_to.Goals as goal
 

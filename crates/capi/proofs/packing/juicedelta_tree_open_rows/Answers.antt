@@ -1,7 +1,7 @@
 use Rattle.std.proofs.Common.{◌≡◌, rules, ◌∙◌, None, FitsSigned, w32, to_z-of_z}
-use Rattle.capi.specs.Calls.{IsTree}
-use Rattle.capi.specs.Packing.{IsPacked, MayPack, OpensNoRows}
-use Rattle.capi.specs.Trees.{IsAxes}
+use Rattle.rt_calls.specs.Calls.{IsTree}
+use Rattle.rt_calls.specs.Packing.{IsPacked, MayPack, OpensNoRows}
+use Rattle.rt_calls.specs.Trees.{IsAxes}
 use Rattle.capi.proofs.OnTrees.{opened}
 use Rattle.capi.proofs.packing.juicedelta_tree_open_rows.Goals as goal
 

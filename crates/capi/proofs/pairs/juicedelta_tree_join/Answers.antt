@@ -1,5 +1,5 @@
 use Rattle.std.proofs.Common.{◌∙◌}
-use Rattle.capi.specs.Pairs.{Joins}
+use Rattle.rt_calls.specs.Pairs.{Joins}
 use Rattle.capi.proofs.Told.{told_of_both}
 use Rattle.capi.proofs.pairs.juicedelta_tree_join.Goals as goal
 

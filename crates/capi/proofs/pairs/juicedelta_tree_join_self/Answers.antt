@@ -1,5 +1,5 @@
 use Rattle.std.proofs.Common.{◌∙◌}
-use Rattle.capi.specs.Pairs.{JoinsItself}
+use Rattle.rt_calls.specs.Pairs.{JoinsItself}
 use Rattle.capi.proofs.Told.{told_of}
 use Rattle.capi.proofs.pairs.juicedelta_tree_join_self.Goals as goal
 

@@ -1,8 +1,8 @@
 use Rattle.std.proofs.Common.{◌≡◌, rules, ◌∙◌, None, FitsSigned, w32, to_z-of_z}
 use Rattle.rt_box.specs.Capacity.{IsCapacity}
-use Rattle.capi.specs.Calls.{IsScript}
-use Rattle.capi.specs.Scripts.{IsNewScript}
-use Rattle.capi.specs.Trees.{MakesNone}
+use Rattle.rt_calls.specs.Calls.{IsScript}
+use Rattle.rt_calls.specs.Scripts.{IsNewScript}
+use Rattle.rt_calls.specs.Trees.{MakesNone}
 use Rattle.capi.proofs.OnTrees.{opened}
 use Rattle.capi.proofs.script.juicedelta_script_open.Goals as goal
 

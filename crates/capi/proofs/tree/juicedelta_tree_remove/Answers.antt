@@ -1,8 +1,8 @@
 use Rattle.std.proofs.Common.{ℕ, ℤ, Some, rules, sym, ap, ◌∙◌, FitsSigned, w32, to_z-of_z}
 use Rattle.rt_tree.specs.Lists.{TreeLists}
 use Rattle.rt_handle.specs.declared.object.HeldTree.{HeldTree}
-use Rattle.capi.specs.Trees.{Removes}
-use Rattle.capi.specs.declared.code.Code.{Code}
+use Rattle.rt_calls.specs.Trees.{Removes}
+use Rattle.rt_calls.specs.declared.code.Code.{Code}
 use Rattle.capi.proofs.OnTrees.{on_tree_by_id}
 use Rattle.capi.proofs.tree.juicedelta_tree_remove.Goals as goal
 

@@ -1,6 +1,0 @@
-use Rattle.std.proofs.Common.{◌≡◌}
-use Rattle.capi.specs.Numbers.{pieces}
-use Rattle.capi.proofs.many.points_from.Given as goal
-
-abbrev pub invariant-loop-place : goal.invariant-loop-place
-invariant-loop-place g l = l.points.items ≡ pieces g.row.D l.place l.numbers

@@ -1,8 +1,0 @@
-use Rattle.std.proofs.Common.{◌*◌}
-use Rattle.std.specs.List.{AllZip}
-use Rattle.capi.specs.Numbers.{pieces}
-use Rattle.capi.specs.Windows.{AdmitsPiece}
-use Rattle.capi.proofs.many.windows_from.Given as goal
-
-abbrev pub invariant-loop-place : goal.invariant-loop-place
-invariant-loop-place g l = AllZip (AdmitsPiece g.row.D l.relation) (pieces (2 * g.row.D) l.place l.numbers) l.windows.items

@@ -1,9 +1,0 @@
-use Rattle.std.proofs.Common.{◌≡◌, ◌*◌}
-use Rattle.capi.specs.Numbers.{AreAllOrdered}
-use Rattle.capi.proofs.numbers.first_bad.Given as goal
-
-abbrev pub invariant-loop-place : goal.invariant-loop-place
-invariant-loop-place g l = record {
-  from : l.from ≡ l.place * (2 * g.row.D);
-  ordered : AreAllOrdered g.row.D l.place l.boxes;
-}

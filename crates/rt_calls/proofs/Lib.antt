@@ -1,0 +1,10 @@
+pub mod Dumped
+pub mod Entries
+pub mod Living
+pub mod Loaded
+pub mod Picking
+pub mod Pieces
+pub mod Reaching
+pub mod Rowing
+pub mod Searching
+pub mod Writing
