@@ -1,5 +1,5 @@
 -- Parts joined end to end.
-use Rattle.std.proofs.Common.{◌≡◌, ℕ, ◌+◌, ℤ, List, [], ◌∷◌, ◌++◌, length, arith, append-nil, ap, sym, ◌∙◌}
+use Rattle.std.proofs.Common.{◌≡◌, ℕ, ◌+◌, ℤ, List, [], ◌∷◌, ◌++◌, length, take, slice_range, arith, append-nil, ap, sym, ◌∙◌, subst}
 use Rattle.std.specs.List.{flat_map}
 use Rattle.std.proofs.lemmas.List.{length-append}
 use Rattle.std.proofs.lemmas.List.Concat.{flat_map-append}
@@ -10,7 +10,10 @@ use Rattle.rt_tree.specs.Search.{FindsInAfter}
 use Rattle.rt_tree_walk.specs.declared.searching.Row.{Row}
 use Rattle.rt_tree_many.specs.declared.parts.FoundMany.{FoundMany}
 use Rattle.rt_tree_many.specs.Parts.{starts_from, HasParts, AddsPart, FindsIds, FindsMany}
+use Rattle.rt_tree_many.specs.Answers.{AnswersAt, SpanAnswers}
+use Rattle.rt_tree_many.specs.declared.spans.Span.{Span}
 use Rattle.rt_tree_many.proofs.Lists.{all-zip-push}
+use Rattle.rt_tree_many.proofs.Noted.{take-at, ids-range}
 
 whole : List (List ℤ) → List ℤ
 whole parts = flat_map (λ (part : List ℤ). part) parts
@@ -60,3 +63,13 @@ module _ {D : ℕ} (s : ShadowLists D) where
     has = parts-more so.parts part old new so.has adds;
     finds = all-zip-push (FindsIds s) windows so.parts window part so.finds finds;
   }
+
+  -- what the window at a place finds
+  pub finds-at : (windows : List (List Interval)) (i : ℕ) (found : List ℤ) (span : Span) (old new : FoundMany) →
+      FindsMany s (take i windows) old.ids.items old.starts.items → AnswersAt (SpanAnswers (FindsIds s) found) windows i span →
+      AddsPart (slice_range found span.start span.end) old new → FindsMany s (take (i + 1) windows) new.ids.items new.starts.items
+  finds-at windows i found span old new so at adds =
+      let part = slice_range found span.start span.end in
+      let finds : FindsIds s at.question part = subst (FindsIds s at.question) (ids-range found span at.answers.ordered) at.answers.answers in
+      subst (λ (ws : List (List Interval)). FindsMany s ws new.ids.items new.starts.items) (sym (take-at windows i at.question at.here))
+      (finds-more (take i windows) at.question part old new so finds adds)

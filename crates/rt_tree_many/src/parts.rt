@@ -38,4 +38,13 @@ impl FoundMany {
         }
         Ok(())
     }
+
+    /// Adds an answer: these ids.
+    pub(crate) fn add_part(&mut self, part: &[i64]) -> Result<(), AllocError>
+        ensures { OnOk result (AddsPart part.now self.old self.new) }
+    {
+        let start = self.ids.len();
+        self.starts.push(start)?;
+        self.ids.extend_from_slice(part)
+    }
 }

@@ -1,6 +1,6 @@
-use Rattle.std.proofs.Common.{take}
-use Rattle.rt_tree_many.specs.Parts.{FindsMany}
+use Rattle.rt_tree_many.specs.Answers.{AreNoted, SpanAnswers}
+use Rattle.rt_tree_many.specs.Parts.{FindsIds}
 use Rattle.rt_tree_many.proofs.searching.search_many.Given as goal
 
-abbrev pub invariant-loop-window : goal.invariant-loop-window
-invariant-loop-window g l = FindsMany l.tree.lists (take l.window-index l.windows) l.found.ids.items l.found.starts.items
+abbrev pub invariant-loop-place : goal.invariant-loop-place
+invariant-loop-place g l = AreNoted (SpanAnswers (FindsIds l.tree.lists) l.ids.items) l.windows l.spans.items
