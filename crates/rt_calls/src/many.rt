@@ -18,7 +18,7 @@ use crate::window::related_window;
 use rt_box::Window;
 use rt_handle::Object;
 use rt_tree::Tree;
-use rt_tree_many::{FoundMany, count_many, nearest_many, search_many};
+use rt_tree_many::{FoundMany, count_many, nearest_many, order_by_region, search_many};
 use std::alloc::{AllocError, Global};
 
 /// The window of the boxes that lie so to the box at that place of a list.
@@ -78,6 +78,48 @@ fn points_from<const D: usize>(
     Ok(points)
 }
 
+/// The least corner of the box at that place of a list.
+fn corner_at<const D: usize>(numbers: &[i32], place: usize) -> [i32; D]
+    requires some { 1 ≤ D }
+    requires few { D ≤ 3 }
+    requires room { (place + 1) * (2 * D) ≤ length numbers.now }
+{
+    let from = place * (2 * D);
+    *numbers[from..from + D].as_array::<D>().unwrap()
+}
+
+/// The least corner of each box of a list.
+fn corners_from<const D: usize>(
+    alloc: Global,
+    numbers: &[i32],
+    count: usize,
+) -> Result<Vec<[i32; D]>, AllocError>
+    requires some { 1 ≤ D }
+    requires few { D ≤ 3 }
+    requires matched { length numbers.now ≡ count * (2 * D) }
+{
+    let mut corners = Vec::with_capacity(alloc, count)?;
+    for place in 0..count {
+        corners.push(corner_at(numbers, place))?;
+    }
+    Ok(corners)
+}
+
+/// An order in which to ask about boxes: those that begin in one region of the tree follow each other.
+fn order_of<const D: usize>(
+    alloc: Global,
+    tree: &Tree<D>,
+    numbers: &[i32],
+    count: usize,
+) -> Result<Vec<usize>, AllocError>
+    requires some { 1 ≤ D }
+    requires few { D ≤ 3 }
+    requires matched { length numbers.now ≡ count * (2 * D) }
+{
+    let corners = corners_from(alloc, numbers, count)?;
+    order_by_region(alloc, &tree.bounds(), &corners)
+}
+
 /// Whether a list of numbers has so many of each of so many things, and no more.
 fn are_many(numbers: &[i32], each: usize, count: usize) -> bool
     requires { each ≤ 6 }
@@ -132,10 +174,13 @@ fn search_related<const D: usize>(
         (starts.new ≡ starts.old) × (ids.new ≡ ids.old) × (total.new ≡ total.old) }
 {
     tree.has_boxes();
-    let Ok(windows) = windows_from(alloc, relation, windows, starts.len()) else {
+    let Ok(asked) = windows_from(alloc, relation, windows, starts.len()) else {
         return Code::OutOfMemory;
     };
-    match search_many(tree, alloc, &windows) {
+    let Ok(order) = order_of(alloc, tree, windows, starts.len()) else {
+        return Code::OutOfMemory;
+    };
+    match search_many(tree, alloc, &asked, &order) {
         Ok(found) => give_parts(&found, starts, ids, total),
         Err(_) => Code::OutOfMemory,
     }
@@ -212,10 +257,13 @@ fn count_related<const D: usize>(
     ensures kept { result ≢ Done → counts.new ≡ counts.old }
 {
     tree.has_boxes();
-    let Ok(windows) = windows_from(alloc, relation, windows, counts.len()) else {
+    let Ok(asked) = windows_from(alloc, relation, windows, counts.len()) else {
         return Code::OutOfMemory;
     };
-    match count_many(tree, alloc, &windows) {
+    let Ok(order) = order_of(alloc, tree, windows, counts.len()) else {
+        return Code::OutOfMemory;
+    };
+    match count_many(tree, alloc, &asked, &order) {
         Ok(numbers) => {
             write_counts(&numbers, counts);
             Code::Done
