@@ -16,9 +16,20 @@ sys.path.insert(0, str(kit / "bin"))
 sys.dont_write_bytecode = True
 import rtlib  # noqa: E402
 
+stamp_of, stamps = rtlib.Crate.stamp, {}
+
+
+def stamp(crate):
+    """The crate's stamp, made once: it reads those of the crates below, by each way that leads to them."""
+    if crate.folder not in stamps:
+        stamps[crate.folder] = stamp_of(crate)
+    return stamps[crate.folder]
+
+
+rtlib.Crate.stamp = stamp
 root = os.path.realpath(sys.argv[1])
 os.chdir(root)
 built = {crate: Path(crate.rlib).parent / "stamp" for crate in rtlib.crates_below(root) if os.path.isdir(crate.rlib)}
-if not any(stamp.exists() for stamp in built.values()):
-    for crate, stamp in built.items():
-        stamp.write_text(crate.stamp())
+if not any(file.exists() for file in built.values()):
+    for crate, file in built.items():
+        file.write_text(crate.stamp())
