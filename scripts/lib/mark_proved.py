@@ -20,7 +20,7 @@ stamp_of, stamps = rtlib.Crate.stamp, {}
 
 
 def stamp(crate):
-    """The crate's stamp, made once: it reads those of the crates below, by each way that leads to them."""
+    """The crate's stamp. Each is made once, since a stamp asks for those of the crates below along every way that leads to them."""
     if crate.folder not in stamps:
         stamps[crate.folder] = stamp_of(crate)
     return stamps[crate.folder]
