@@ -104,7 +104,7 @@ pub fn insert_in(live: &mut AnyLive, id: i64, numbers: &[i32], changes: &mut u64
     }
 }
 
-/// Gives a row another box with the box from `min` to `max`.
+/// Gives a row the box from `min` to `max`.
 fn replace_between<const D: usize>(
     live: &mut Live<D>,
     id: i64,
@@ -127,7 +127,7 @@ fn replace_between<const D: usize>(
     }
 }
 
-/// Gives a row another box with the box of these numbers.
+/// Gives a row the box of these numbers.
 fn replace<const D: usize>(live: &mut Live<D>, id: i64, numbers: &[i32], changes: &mut u64) -> Code
     requires some { 1 ≤ D }
     requires few { D ≤ 3 }

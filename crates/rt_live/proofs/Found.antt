@@ -61,14 +61,14 @@ pub same_box-Decides : (a b : List Interval) → Decides (same_box a b) (a ≡ b
 same_box-Decides a b = (same-is a b, λ e. subst (λ (c : List Interval). same_box a c ≡ true) e (same-itself a))
 
 module _ {D : ℕ} where
-  same_row : Row D → Row D → Bool
+  pub same_row : Row D → Row D → Bool
   same_row r q = int_eq r.id q.id && same_box r.rect q.rect
 
-  row-itself : (r : Row D) → same_row r r ≡ true
+  pub row-itself : (r : Row D) → same_row r r ≡ true
   unfolding same_row
   row-itself r = and_from (int_eq r.id r.id) (same_box r.rect r.rect) (equal-ids r.id r.id refl) (same-itself r.rect)
 
-  row-same : (r q : Row D) → same_row r q ≡ true → r ≡ q
+  pub row-same : (r q : Row D) → same_row r q ≡ true → r ≡ q
   unfolding same_row
   row-same r q e =
       let parts = and_parts (int_eq r.id q.id) (same_box r.rect q.rect) e in
@@ -142,7 +142,7 @@ inside-both false false x h = refl
 
 module _ {D : ℕ} where
   -- the box of a row is a box
-  row_is_box : (s : ShadowLists D) → HasBoxes s → (r : Row D) → Contains (rows_of s) r → IsBox D r.rect
+  pub row_is_box : (s : ShadowLists D) → HasBoxes s → (r : Row D) → Contains (rows_of s) r → IsBox D r.rect
   row_is_box s boxes r there =
       let cell = contains-mapped row_in (leaf_cells s.nodes) r there in
       let node = flat_from (λ (n : NodeRow D). cond (is_leaf n) n.cells []) s.nodes cell.0 cell.1 in

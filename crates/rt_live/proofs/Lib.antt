@@ -8,6 +8,7 @@ pub mod Found
 pub mod Kept
 pub mod Telling
 pub mod Enclosing
+pub mod Covering
 pub mod Views
 pub mod Room
 pub mod Following

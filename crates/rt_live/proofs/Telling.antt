@@ -30,7 +30,7 @@ silent_window window id true b e = cc
 silent_window window id false true e = cc
 silent_window window id false false e = refl
 
-silent_untold : (window id : ℤ) (told : Option Kind) → is_some told ≡ false → listed window id told ≡ []
+pub silent_untold : (window id : ℤ) (told : Option Kind) → is_some told ≡ false → listed window id told ≡ []
 silent_untold window id None e = refl
 silent_untold window id (Some kind) e = absurd (true≢false e)
 

@@ -1,6 +1,8 @@
 -- Rows that are found in a list, in any order, and the box around two boxes. No public clause cites this module.
-use Rattle.std.specs.Prelude.{◌≡◌, ℕ, ◌+◌, Bool, true, is_some, not, ◌&&◌, ◌||◌, List, Option, filter, count_by}
+use Rattle.std.specs.Prelude.{◌≡◌, ℕ, ◌+◌, ℤ, Bool, true, is_some, not, ◌&&◌, ◌||◌, List, Option, filter, count_by}
+use Rattle.std.specs.Int.{int_min, int_max}
 use Rattle.rt_box.specs.declared.interval.Interval.{Interval}
+use Rattle.rt_box.specs.Rect.{IsBox}
 use Rattle.rt_check.specs.Shadow.{ShadowLists}
 use Rattle.rt_tree_join.specs.Join.{touch}
 use Rattle.rt_tree_walk.specs.declared.searching.Row.{Row}
@@ -12,6 +14,18 @@ use Rattle.rt_live.specs.Changes.{touches, told_of_window}
 -- what touches one of the boxes touches the hull
 abbrev pub Encloses : Option (List Interval) → Option (List Interval) → List Interval → Type 0
 Encloses was is hull = (other : List Interval) → (touches was other || touches is other) ≡ true → touch hull other ≡ true
+
+-- a window that had the one box and has the other is told of the box of a row
+abbrev pub is_told_of : Option (List Interval) → Option (List Interval) → List Interval → Bool
+is_told_of was is other = is_some (told_of_window (touches was other) (touches is other))
+
+-- the interval between two ends
+abbrev pub between : ℤ → ℤ → Interval
+between end other = record { lo = int_min end other; hi = int_max end other }
+
+-- what a window that had the one box and has the other is told of touches one of two strips
+abbrev pub CoversTold : ℕ → Option (List Interval) → Option (List Interval) → List Interval → List Interval → Type 0
+CoversTold axes was is low high = (other : List Interval) → IsBox axes other → is_told_of was is other ≡ true → (touch low other || touch high other) ≡ true
 
 module _ {D : ℕ} where
   -- the row doesn't touch the box
@@ -28,7 +42,7 @@ module _ {D : ℕ} where
 
   -- a window that had the one box and has the other is told of the row
   abbrev pub is_told : Option (List Interval) → Option (List Interval) → Row D → Bool
-  is_told was is r = is_some (told_of_window (touches was r.rect) (touches is r.rect))
+  is_told was is r = is_told_of was is r.rect
 
   -- the row touches the box
   abbrev pub touches_hull : List Interval → Row D → Bool

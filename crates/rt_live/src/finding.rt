@@ -1,7 +1,7 @@
 //! The rows of a tree that touch a box, or one of two, by rising id.
 //!
-//! Mostly one search of the box around both boxes does (`find_around`, `find_told`). `find_either` searches for each: where the
-//! boxes are far apart, and where memory is short, since it needs room for nothing but the rows that touch one of them.
+//! Mostly one search of the box around both boxes does (`find_around`, `find_told`). `find_either` searches for each: of a window's
+//! two strips, of boxes that are far apart, and where memory is short, since it needs room for no other rows.
 
 ghost use Rattle.std.specs.Prelude.{◌≡◌, ◌+◌, ◌<◌, ◌≤◌, ◌++◌, [], Some, length, vec_capacity, IsOk, OnOk, OnErr};
 ghost use Rattle.std.specs.List.{filter};

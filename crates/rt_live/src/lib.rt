@@ -26,6 +26,7 @@ mod live;
 mod nodes;
 mod plan;
 mod setting;
+mod strips;
 mod touching;
 
 pub use change::{Change, Kind};

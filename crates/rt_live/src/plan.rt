@@ -3,12 +3,13 @@
 ghost use Rattle.std.specs.Prelude.{◌≡◌, ◌+◌, ◌<◌, ◌≤◌, ◌++◌, true, false, length, vec_capacity, IsOk, OnOk, OnErr};
 ghost use Rattle.rt_live.specs.Rows.{rows_by_id};
 ghost use Rattle.rt_live.specs.Changes.{stays, told_each, row_changes, window_changes};
-ghost use Rattle.rt_live.specs.Finding.{Encloses};
+ghost use Rattle.rt_live.specs.Finding.{CoversTold, Encloses};
 ghost use Rattle.rt_live.specs.Room.{around, HasRoomAround, Grows};
 
 use crate::change::{Change, push_told, told_of_row, told_of_window};
 use crate::finding::{Scratch, find_around, find_either, find_told};
 use crate::hull::hull_of;
+use crate::strips::{Strips, strips_between};
 use crate::touching::is_touched;
 use rt_box::Rect;
 use rt_tree::{Row, Tree};
@@ -133,7 +134,33 @@ fn plan_close_window<const D: usize>(
     list_window(changes, scratch.found.as_slice(), window, was, is)
 }
 
-/// Plans what a window is told that gets another box, by one search if the boxes are close. Answers whether it did.
+/// Plans what a window is told that moves along one axis, by a search of each strip: what stays in the window isn't looked at.
+fn plan_strips<const D: usize>(
+    rows: &Tree<D>,
+    strips: &Strips<D>,
+    window: &i64,
+    was: &Option<Rect<D>>,
+    is: &Option<Rect<D>>,
+    scratch: &mut Scratch<D>,
+    changes: &mut Vec<Change>,
+) -> Result<(), AllocError>
+    requires { CoversTold D was.now is.now strips.now.low strips.now.high }
+    ensures told { OnOk result (changes.new.items ≡
+        window_changes (rows_by_id rows.now.lists) window.now was.now is.now) }
+    ensures grows { Grows scratch.old scratch.new }
+    ensures capacity { vec_capacity changes.old ≤ vec_capacity changes.new }
+{
+    // There are one to three axes.
+    strips.low.facts();
+    rows.has_boxes();
+    rows.is_in_shape();
+    find_either(rows, &Some(strips.low), &Some(strips.high), scratch)?;
+    changes.clear();
+    list_window(changes, scratch.found.as_slice(), window, was, is)
+}
+
+/// Plans what a window is told that gets another box, by searches of thin strips, or by one search if the boxes are close.
+/// Answers whether it did.
 fn plan_window_at_once<const D: usize>(
     rows: &Tree<D>,
     window: &i64,
@@ -142,11 +169,15 @@ fn plan_window_at_once<const D: usize>(
     scratch: &mut Scratch<D>,
     changes: &mut Vec<Change>,
 ) -> bool
+    requires { D ≤ 3 }
     ensures told { result ≡ true →
         changes.new.items ≡ window_changes (rows_by_id rows.now.lists) window.now was.now is.now }
     ensures grows { Grows scratch.old scratch.new }
     ensures capacity { vec_capacity changes.old ≤ vec_capacity changes.new }
 {
+    if let Some(strips) = strips_between(was, is) {
+        return plan_strips(rows, &strips, window, was, is, scratch, changes).is_ok();
+    }
     match hull_of(was, is, 0) {
         Some(hull) => plan_close_window(rows, &hull, window, was, is, scratch, changes).is_ok(),
         None => false,
@@ -181,8 +212,8 @@ pub(crate) fn plan_row<const D: usize>(
     list_row(changes, scratch.found.as_slice(), id, was, is)
 }
 
-/// Plans what a window is told that gets another box. Of the rows, those are looked at that touch one of the boxes,
-/// or the box around both if they are close.
+/// Plans what a window is told that gets another box. Of the rows, those are looked at that touch one of two thin strips if it
+/// moves along one axis, the box around both boxes if they are close, or else one of the boxes.
 pub(crate) fn plan_window<const D: usize>(
     rows: &Tree<D>,
     window: &i64,

@@ -2,7 +2,7 @@
 
 ghost use Rattle.std.specs.Prelude.{◌≡◌};
 ghost use Rattle.rt_tree_join.specs.Join.{meet, touch, IsTouching};
-ghost use Rattle.rt_live.specs.Changes.{stays, touches};
+ghost use Rattle.rt_live.specs.Changes.{same_box, stays, touches};
 
 use rt_box::{Interval, Operator, Rect, Window};
 
@@ -54,13 +54,20 @@ pub(crate) fn is_touched<const D: usize>(rect: &Option<Rect<D>>, other: &Rect<D>
     }
 }
 
+/// Whether two boxes are the same.
+pub(crate) fn is_same<const D: usize>(rect: &Rect<D>, other: &Rect<D>) -> bool
+    ensures { result ≡ same_box rect.now other.now }
+{
+    *rect == *other
+}
+
 /// Whether a box is the one that was there.
 pub(crate) fn does_stay<const D: usize>(was: &Option<Rect<D>>, is: &Option<Rect<D>>) -> bool
     ensures { result ≡ stays was.now is.now }
 {
     match (was, is) {
         (None, None) => true,
-        (Some(rect), Some(other)) => *rect == *other,
+        (Some(rect), Some(other)) => is_same(rect, other),
         _ => false,
     }
 }
