@@ -62,7 +62,7 @@ static void live_take(pair *pair, taking edit, int64_t id)
     live_told(pair, code, own, plain);
 }
 
-/* The box of a window, with an end moved a little or as it is; or any. */
+/* The box of a window, with one end or both of an axis moved a little, or as it is; or any. */
 static void a_view(source *from, const pair *pair, int64_t window, int32_t *box)
 {
     static rows windows;
@@ -74,8 +74,11 @@ static void a_view(source *from, const pair *pair, int64_t window, int32_t *box)
     for (size_t at = 0; at < windows.total; at++)
         if (windows.ids[at] == window)
             memcpy(box, windows.boxes + 2 * pair->axes * at, 2 * pair->axes * sizeof *box);
-    uint32_t end = below(from, 2 * pair->axes);
-    box[end] = cut((int64_t)box[end] + below(from, 60) - 30);
+    uint32_t end = below(from, 2 * pair->axes), other = (end + pair->axes) % (2 * pair->axes);
+    int64_t step = (int64_t)below(from, 60) - 30;
+    box[end] = cut((int64_t)box[end] + step);
+    if (below(from, 2) == 0)
+        box[other] = cut((int64_t)box[other] + step);
 }
 
 /* One edit. A window's id is one of `windows`, or rarely any; a row's is any. */

@@ -53,49 +53,48 @@ fn cuts(
     Ok(())
 }
 
-#[test]
-fn cuts_wherever_a_read_ends(rt: HostRuntime) -> Result<(), AllocError> {
+/// Scripts, each with one of its pieces, the only one or the first.
+const SCRIPTS: [(&[u8], &[u8], Ending); 11] = [
     // What stands before a piece is no part of it.
-    cuts(
-        &rt,
+    (
         b" ;\t\n\x0c\r-- x;\n;;/* z; */a b ; c",
         b"a b ;",
         Ending::Whole,
-    )?;
-    cuts(
-        &rt,
+    ),
+    (
         b"SELECT * FROM t -- y;\n; /* z; */ FOO;",
         b"SELECT * FROM t -- y;\n;",
         Ending::Whole,
-    )?;
+    ),
     // A quote that is left open, and quotes and comments that hide a `;`.
-    cuts(
-        &rt,
+    (
         b"INSERT INTO t VALUES(1,0,1,'a;--",
         b"INSERT INTO t VALUES(1,0,1,'a;--",
         Ending::Incomplete,
-    )?;
-    cuts(
-        &rt,
+    ),
+    (
         b"a ';''\";' \"';\" /* ; */ --;'\n;b",
         b"a ';''\";' \"';\" /* ; */ --;'\n;",
         Ending::Whole,
-    )?;
+    ),
     // `/*/` closes no comment, and `**/` does.
-    cuts(&rt, b"a/*/;*/b;c", b"a/*/;*/b;", Ending::Whole)?;
-    cuts(&rt, b"/*/;*/a/**;**/b;c", b"a/**;**/b;", Ending::Whole)?;
+    (b"a/*/;*/b;c", b"a/*/;*/b;", Ending::Whole),
+    (b"/*/;*/a/**;**/b;c", b"a/**;**/b;", Ending::Whole),
     // One `-` or `/` begins a piece.
-    cuts(&rt, b"-;", b"-;", Ending::Whole)?;
-    cuts(&rt, b"--\n/", b"/", Ending::Incomplete)?;
-    cuts(&rt, b"/-/-;", b"/-/-;", Ending::Whole)?;
+    (b"-;", b"-;", Ending::Whole),
+    (b"--\n/", b"/", Ending::Incomplete),
+    (b"/-/-;", b"/-/-;", Ending::Whole),
     // Dot lines end at their line feed, or with the input.
-    cuts(
-        &rt,
-        b" .view 'v; /* -- \nx",
-        b".view 'v; /* -- ",
-        Ending::Whole,
-    )?;
-    cuts(&rt, b".view v;", b".view v;", Ending::Whole)
+    (b" .view 'v; /* -- \nx", b".view 'v; /* -- ", Ending::Whole),
+    (b".view v;", b".view v;", Ending::Whole),
+];
+
+#[test]
+fn cuts_wherever_a_read_ends(rt: HostRuntime) -> Result<(), AllocError> {
+    for (script, text, ending) in SCRIPTS {
+        cuts(&rt, script, text, ending)?;
+    }
+    Ok(())
 }
 
 #[test]

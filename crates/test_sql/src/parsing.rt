@@ -6,15 +6,24 @@ use rt_sql::{Edit, Refusal, Rule, Stmt, Value, parse};
 use rt_sql_cut::{Ending, Piece};
 use std::alloc::Global;
 
-fn answer(alloc: Global, text: &str) -> Result<Stmt, Refusal> {
-    parse(alloc, &Piece::new(text.as_bytes(), Ending::Whole))
-}
-
-fn code(alloc: Global, text: &str) -> u8 {
-    match answer(alloc, text) {
+/// The number of an answer, which is 0 if it is a statement.
+fn code_of(answer: &Result<Stmt, Refusal>) -> u8 {
+    match answer {
         Ok(_) => 0,
         Err(refusal) => refusal.code(),
     }
+}
+
+// A statement is dropped by few functions, and once in each: what it may hold makes each drop long to prove.
+
+/// The number of the answer to a piece.
+fn code_of_piece(alloc: Global, piece: &Piece) -> u8 {
+    let answer = parse(alloc, piece);
+    code_of(&answer)
+}
+
+fn code(alloc: Global, text: &str) -> u8 {
+    code_of_piece(alloc, &Piece::new(text.as_bytes(), Ending::Whole))
 }
 
 #[test]
@@ -91,44 +100,54 @@ fn a_piece_is_refused_in_order(rt: HostRuntime) {
         (Ending::Whole, 4),
     ];
     for (ending, code) in endings.iter() {
-        match parse(rt.alloc(), &Piece::new(b"\xFF;", *ending)) {
-            Ok(_) => assert!(&rt; false),
-            Err(refusal) => assert!(&rt; refusal.code() == *code),
-        }
+        let piece = Piece::new(b"\xFF;", *ending);
+        assert!(&rt; code_of_piece(rt.alloc(), &piece) == *code);
+    }
+}
+
+/// Whether it is a value of the insertion.
+fn is_inserted(value: &Value) -> bool {
+    match value {
+        Value::Null => true,
+        Value::Int(number) => *number == -5,
+        Value::Text(text) => text.as_str() == "it's",
+        Value::Blob(blob) => blob.as_slice() == b"\x00\xFF".as_slice(),
+    }
+}
+
+/// Whether it replaces two rows of a table by these values.
+fn is_replacement(stmt: &Stmt) -> bool {
+    let Stmt::Edit {
+        table,
+        edit: Edit::Insert {
+            rule,
+            columns,
+            rows,
+        },
+    } = stmt
+    else {
+        return false;
+    };
+    let rows = rows.as_slice();
+    let are_values = rows.iter().all(|row| row.as_slice().iter().all(|value| is_inserted(value)));
+    *rule == Rule::Replace
+        && table.as_str() == "T"
+        && columns.is_some()
+        && rows.len() == 2
+        && are_values
+}
+
+/// Whether a text is that statement.
+fn spells_replacement(answer: &Result<Stmt, Refusal>) -> bool {
+    match answer {
+        Ok(stmt) => is_replacement(stmt),
+        Err(_) => false,
     }
 }
 
 #[test]
 fn an_insert_has_its_values(rt: HostRuntime) {
     let text = "REPLACE INTO T(\"a\"\"b\",c) VALUES(-5,'it''s'),(NULL,x'00fF');";
-    match &answer(rt.alloc(), text) {
-        Ok(
-            Stmt::Edit {
-                table,
-                edit: Edit::Insert {
-                    rule,
-                    columns,
-                    rows,
-                },
-            },
-        ) => {
-            assert!(&rt; *rule == Rule::Replace);
-            assert!(&rt; table.as_str() == "T");
-            assert!(&rt; columns.is_some());
-            assert!(&rt; rows.len() == 2);
-            for row in rows.as_slice() {
-                for value in row.as_slice() {
-                    match value {
-                        Value::Null => {}
-                        Value::Int(number) => assert!(&rt; *number == -5),
-                        Value::Text(text) => assert!(&rt; text.as_str() == "it's"),
-                        Value::Blob(blob) => assert!(&rt;
-                            blob.as_slice() == b"\x00\xFF".as_slice()
-                        ),
-                    }
-                }
-            }
-        }
-        _ => assert!(&rt; false),
-    }
+    let answer = parse(rt.alloc(), &Piece::new(text.as_bytes(), Ending::Whole));
+    assert!(&rt; spells_replacement(&answer));
 }

@@ -3,7 +3,7 @@
 //! Statements are compared by what `Debug` prints of them. The lists have them in a shorter spelling, which
 //! `in_full` expands.
 
-use rt_sql::{Refusal, parse};
+use rt_sql::{Refusal, Stmt, parse};
 use rt_sql_cut::{Ending, Piece};
 use std::alloc::{AllocError, Global};
 use std::process::Abort;
@@ -235,10 +235,37 @@ fn in_full(alloc: Global, statement: &str) -> Result<String, AllocError> {
     Ok(full)
 }
 
+/// What `Debug` prints of a statement.
+fn shown(alloc: Global, answer: &Result<Stmt, Refusal>) -> Result<String, Refusal> {
+    match answer {
+        Ok(stmt) => Ok(format!(in alloc; "{stmt:?}")?),
+        Err(refusal) => Err(*refusal),
+    }
+}
+
 /// What `Debug` prints of the statement that the text spells.
 fn debug_text(alloc: Global, text: &str) -> Result<String, Refusal> {
-    let stmt = parse(alloc, &Piece::new(text.as_bytes(), Ending::Whole))?;
-    Ok(format!(in alloc; "{stmt:?}")?)
+    let answer = parse(alloc, &Piece::new(text.as_bytes(), Ending::Whole));
+    shown(alloc, &answer)
+}
+
+/// Whether the text spells the statement of which `Debug` prints this.
+fn spells(alloc: Global, text: &str, full: &str) -> Result<bool, Refusal> {
+    let shown = debug_text(alloc, text)?;
+    Ok(shown.as_str() == full)
+}
+
+/// Whether the text in mixed case spells that statement, with names in that case.
+fn spells_mixed(alloc: Global, text: &str, full: &str) -> Result<bool, Refusal> {
+    let mixed = mix_case(alloc, text)?;
+    let shown = debug_text(alloc, mixed.as_str())?;
+    Ok(shown.as_str().eq_ignore_ascii_case(full))
+}
+
+/// Whether these tokens, with this between them, spell the statement of which `Debug` prints this.
+fn spell(alloc: Global, tokens: &[&str], between: &str, full: &str) -> Result<bool, Refusal> {
+    let text = join(alloc, tokens, between)?;
+    Ok(spells(alloc, text.as_str(), full)? && spells_mixed(alloc, text.as_str(), full)?)
 }
 
 /// Each form is its statement: with spaces between its tokens, in mixed case, and with this between them.
@@ -246,14 +273,10 @@ fn expect(rt: &(impl Abort + AllocGlobal), forms: &[Form], between: &str) -> Res
     let alloc = rt.alloc();
     for (tokens, statement) in forms {
         let full = in_full(alloc, statement)?;
-        let plain = join(alloc, tokens, " ")?;
-        let spaced = join(alloc, tokens, between)?;
-        assert!(rt; debug_text(alloc, plain.as_str())? == full);
-        assert!(rt; debug_text(alloc, spaced.as_str())? == full);
-        let other = debug_text(alloc, mix_case(alloc, plain.as_str())?.as_str())?;
+        assert!(rt; spell(alloc, tokens, " ", full.as_str())?, "{statement}");
         assert!(rt;
-            other.as_str().eq_ignore_ascii_case(full.as_str()),
-            "{other}"
+            spell(alloc, tokens, between, full.as_str())?,
+            "{statement}"
         );
     }
     Ok(())
@@ -269,14 +292,25 @@ fn each_form_is_its_statement(rt: HostRuntime) -> Result<(), Refusal> {
     Ok(())
 }
 
+/// Whether the word is a name between quotes.
+fn is_a_name(alloc: Global, word: &str) -> Result<bool, Refusal> {
+    let text = format!(in alloc; "drop table \"{word}\";")?;
+    let short = format!(in alloc; "Drop {{ table: <{word}>, if_there: false }}")?;
+    let full = in_full(alloc, short.as_str())?;
+    spells(alloc, text.as_str(), full.as_str())
+}
+
+/// Whether the word is refused without quotes.
+fn is_refused(alloc: Global, word: &str) -> Result<bool, Refusal> {
+    let text = format!(in alloc; "drop table {word};")?;
+    let shown = debug_text(alloc, text.as_str());
+    Ok(shown == Err(Refusal::SyntaxError))
+}
+
 /// The word is a name if it is quoted, and only then.
 fn expect_reserved(rt: &(impl Abort + AllocGlobal), word: &str) -> Result<(), Refusal> {
-    let plain = format!(in rt.alloc(); "drop table {word};")?;
-    let quoted = format!(in rt.alloc(); "drop table \"{word}\";")?;
-    let short = format!(in rt.alloc(); "Drop {{ table: <{word}>, if_there: false }}")?;
-    let full = in_full(rt.alloc(), short.as_str())?;
-    assert!(rt; debug_text(rt.alloc(), plain.as_str()) == Err(Refusal::SyntaxError));
-    assert!(rt; debug_text(rt.alloc(), quoted.as_str())? == full);
+    assert!(rt; is_refused(rt.alloc(), word)?, "{word}");
+    assert!(rt; is_a_name(rt.alloc(), word)?, "{word}");
     Ok(())
 }
 

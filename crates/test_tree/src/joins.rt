@@ -9,7 +9,6 @@ use rt_map::join;
 use rt_tree::Tree;
 use std::alloc::Global;
 use std::hash::RandomState;
-use std::process::Abort;
 use std::test::Fail;
 
 /// The tree of the rows with ids from one on, and below the other.
@@ -31,32 +30,39 @@ fn touch(first: &Rect<3>, second: &Rect<3>) -> bool {
     both
 }
 
-/// Joins two trees of rows, each with ids from one on and below the other.
-fn expect_join(
-    rt: &(impl Abort + AllocGlobal),
-    left: &Tree<3>,
-    left_ids: (i64, i64),
-    right: &Tree<3>,
-    right_ids: (i64, i64),
-) -> Result<(), Fail> {
-    let mut wanted = Vec::new(rt.alloc());
-    for first in left_ids.0..left_ids.1 {
-        for second in right_ids.0..right_ids.1 {
+/// Rows by their ids: from the first on, and below the second.
+type Ids = (i64, i64);
+
+/// The pairs of rows that touch, by two loops.
+fn touching_pairs(alloc: Global, left: Ids, right: Ids) -> Result<Vec<(i64, i64)>, Fail> {
+    let mut pairs = Vec::new(alloc);
+    for first in left.0..left.1 {
+        for second in right.0..right.1 {
             if touch(&rect(first)?, &rect(second)?) {
-                wanted.push((first, second))?;
+                pairs.push((first, second))?;
             }
         }
     }
-    let mut found = Vec::new(rt.alloc());
-    for pair in join(rt.alloc(), left, right)?.iter() {
-        found.push((pair.left, pair.right))?;
+    Ok(pairs)
+}
+
+/// The pairs that a join gives, sorted.
+fn joined_pairs(alloc: Global, left: &Tree<3>, right: &Tree<3>) -> Result<Vec<(i64, i64)>, Fail> {
+    let mut pairs = Vec::new(alloc);
+    for pair in join(alloc, left, right)?.iter() {
+        pairs.push((pair.left, pair.right))?;
     }
-    found.sort()?;
-    assert!(rt; found.len() == wanted.len());
-    for (pair, other) in found.iter().zip(wanted.iter()) {
-        assert!(rt; pair.0 == other.0 && pair.1 == other.1);
-    }
-    Ok(())
+    pairs.sort()?;
+    Ok(pairs)
+}
+
+/// Whether a join of two trees gives these pairs.
+fn is_joined(rt: &HostRuntime, left_ids: Ids, right_ids: Ids) -> Result<bool, Fail> {
+    let left = tree_of(rt.alloc(), RandomState::new(rt)?, left_ids.0, left_ids.1)?;
+    let right = tree_of(rt.alloc(), RandomState::new(rt)?, right_ids.0, right_ids.1)?;
+    let found = joined_pairs(rt.alloc(), &left, &right)?;
+    let wanted = touching_pairs(rt.alloc(), left_ids, right_ids)?;
+    Ok(found == wanted)
 }
 
 #[test]
@@ -65,15 +71,15 @@ fn a_join_is_that_of_two_loops(rt: HostRuntime) -> Result<(), Fail> {
     let more = (30, 110);
     let few = (100, 104);
     let none = (0, 0);
-    let first = tree_of(rt.alloc(), RandomState::new(&rt)?, many.0, many.1)?;
-    let second = tree_of(rt.alloc(), RandomState::new(&rt)?, more.0, more.1)?;
-    let small = tree_of(rt.alloc(), RandomState::new(&rt)?, few.0, few.1)?;
-    let empty = tree_of(rt.alloc(), RandomState::new(&rt)?, none.0, none.1)?;
-    expect_join(&rt, &first, many, &first, many)?;
-    expect_join(&rt, &first, many, &second, more)?;
-    expect_join(&rt, &first, many, &small, few)?;
-    expect_join(&rt, &small, few, &second, more)?;
-    expect_join(&rt, &first, many, &empty, none)?;
-    expect_join(&rt, &empty, none, &first, many)?;
+    for (left, right) in [
+        (many, many),
+        (many, more),
+        (many, few),
+        (few, more),
+        (many, none),
+        (none, many),
+    ] {
+        assert!(&rt; is_joined(&rt, left, right)?);
+    }
     Ok(())
 }
