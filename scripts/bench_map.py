@@ -11,7 +11,7 @@ import os
 import subprocess
 import sys
 import tempfile
-from typing import Callable, Dict, NamedTuple
+from typing import Callable, Dict, NamedTuple, Optional
 
 TOP = os.path.join(os.path.dirname(os.path.abspath(__file__)), "..")
 FOLDER = os.path.abspath(sys.argv[1] if len(sys.argv) > 1 else os.path.join(TOP, "lib"))
@@ -22,10 +22,10 @@ Times = Dict[str, float]
 
 
 class Bound(NamedTuple):
-    """A figure of the work, and what it is to be at most."""
+    """A figure of the work, and what it is to be at most, if there is a bound."""
 
     name: str
-    most: float
+    most: Optional[float]
     figure: Callable[[Times, Times], float]
 
 
@@ -55,10 +55,12 @@ BOUNDS = [
     Bound("join, over Boost's search for each row", 0.4, lambda own, boost: own["join"] / boost["asked"]),
     Bound("many windows in a call, over calls", 0.9, lambda own, boost: own["many"] / own["calls"]),
     Bound("four threads' time for a window, over one's", 1 / 3.2, lambda own, boost: own["four_threads"] / own["one_thread"]),
-    Bound("move told to 10,000 windows, over Boost's", 0.35, lambda own, boost: own["told_10000"] / least(boost, "told_10000")),
+    Bound("move told to 10,000 windows, over rstar<51>", 0.35, lambda own, boost: own["told_10000"] / boost["told_10000"]),
+    Bound("the same, over rstar<16>", None, lambda own, boost: own["told_10000"] / boost["small_told_10000"]),
     Bound("the same, ns above a plain move", 1500, lambda own, boost: own["told_10000"] - own["move"]),
-    Bound("move told to 100,000 windows, over Boost's", 0.4, lambda own, boost: own["told_100000"] / least(boost, "told_100000")),
-    Bound("move that all of 1,000 windows see, the same", 1, lambda own, boost: own["crowd"] / least(boost, "crowd")),
+    Bound("move told to 100,000 windows, over rstar<51>", 0.4, lambda own, boost: own["told_100000"] / boost["told_100000"]),
+    Bound("the same, over rstar<16>", None, lambda own, boost: own["told_100000"] / boost["small_told_100000"]),
+    Bound("move that all of 1,000 windows see, over both", 1, lambda own, boost: own["crowd"] / least(boost, "crowd")),
     Bound("move that one window over all sees, the same", 1, lambda own, boost: own["all_seen"] / least(boost, "all_seen")),
     Bound("window that pans, over two searches", 1, lambda own, boost: own["shift"] / own["two_searches"]),
 ]
@@ -106,7 +108,8 @@ def report(best, rows):
             figure = bound.figure(best["juicedelta"], best.get("boost", {}))
         except KeyError:
             continue
-        print(f"{bound.name:46} {figure:8.2f}, at most {bound.most:7.2f}{'' if figure <= bound.most else ', missed'}")
+        wanted = "" if bound.most is None else f", at most {bound.most:7.2f}{'' if figure <= bound.most else ', missed'}"
+        print(f"{bound.name:46} {figure:8.2f}{wanted}")
 
 
 def main():
