@@ -1,5 +1,5 @@
 #!/usr/bin/env python3
-"""bench_map.py [FOLDER]: prints how long the work of a map program takes, and how far each figure is from its bound.
+"""bench_map.py [FOLDER]: prints how long the work of a map program takes, and each figure beside its bound, if it has one.
 
 The work is that of bench/map.cpp: rows loaded at once, windows, nearest rows, moves, joins, many windows in a call, trees that are kept,
 threads, and moves that are told to the windows that see them. Boost's rtree and libspatialindex do what they can of it, if they are
@@ -60,7 +60,7 @@ BOUNDS = [
     Bound("the same, ns above a plain move", 1500, lambda own, boost: own["told_10000"] - own["move"]),
     Bound("move told to 100,000 windows, over rstar<51>", 0.4, lambda own, boost: own["told_100000"] / boost["told_100000"]),
     Bound("the same, over rstar<16>", None, lambda own, boost: own["told_100000"] / boost["small_told_100000"]),
-    Bound("move that all of 1,000 windows see, over both", 1, lambda own, boost: own["crowd"] / least(boost, "crowd")),
+    Bound("move that 1,000 windows see, over the better", 1, lambda own, boost: own["crowd"] / least(boost, "crowd")),
     Bound("move that one window over all sees, the same", 1, lambda own, boost: own["all_seen"] / least(boost, "all_seen")),
     Bound("window that pans, over two searches", 1, lambda own, boost: own["shift"] / own["two_searches"]),
 ]
