@@ -65,14 +65,22 @@ fn is_joined(rt: &HostRuntime, left_ids: Ids, right_ids: Ids) -> Result<bool, Fa
     Ok(found == wanted)
 }
 
+/// Whether a join of one tree with itself gives these pairs.
+fn is_joined_with_itself(rt: &HostRuntime, ids: Ids) -> Result<bool, Fail> {
+    let tree = tree_of(rt.alloc(), RandomState::new(rt)?, ids.0, ids.1)?;
+    let found = joined_pairs(rt.alloc(), &tree, &tree)?;
+    let wanted = touching_pairs(rt.alloc(), ids, ids)?;
+    Ok(found == wanted)
+}
+
 #[test]
 fn a_join_is_that_of_two_loops(rt: HostRuntime) -> Result<(), Fail> {
     let many = (0, 60);
     let more = (30, 110);
     let few = (100, 104);
     let none = (0, 0);
+    assert!(&rt; is_joined_with_itself(&rt, many)?);
     for (left, right) in [
-        (many, many),
         (many, more),
         (many, few),
         (few, more),
