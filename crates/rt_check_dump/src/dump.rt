@@ -14,7 +14,6 @@ use rt_bytes::{ByteWriter, WriteFault, write_parts, write_whole};
 use rt_check::{NodeRow, RawCell, RowEntry, Shadow};
 
 /// A shadow of one, two or three axes.
-#[derive(Drop)]
 pub enum AnyShadow {
     /// One axis.
     One(Shadow<1>),
@@ -22,6 +21,17 @@ pub enum AnyShadow {
     Two(Shadow<2>),
     /// Three axes.
     Three(Shadow<3>),
+}
+
+// By hand, since a derived drop is written out, field by field, wherever such a value ends.
+impl Drop for AnyShadow {
+    fn drop(self) {
+        match self {
+            AnyShadow::One(_) => {}
+            AnyShadow::Two(_) => {}
+            AnyShadow::Three(_) => {}
+        }
+    }
 }
 
 fn write_range<const D: usize, W: ByteWriter>(

@@ -8,7 +8,6 @@ use rt_tree::Tree;
 use std::hash::RandomState;
 
 /// An object that outlives the call that made it.
-#[derive(Drop)]
 pub enum Object {
     /// A script shell.
     Script(Script),
@@ -22,8 +21,20 @@ pub enum Object {
     Live(AnyLive),
 }
 
+// By hand, since a derived drop is written out, field by field, wherever such a value ends.
+impl Drop for Object {
+    fn drop(self) {
+        match self {
+            Object::Script(_) => {}
+            Object::Line(_) => {}
+            Object::Plane(_) => {}
+            Object::Space(_) => {}
+            Object::Live(_) => {}
+        }
+    }
+}
+
 /// A script shell, and what it printed that the caller has not dropped yet.
-#[derive(Drop)]
 pub struct Script {
     /// The shell, until its script has ended.
     pub shell: Option<Shell>,
@@ -31,8 +42,17 @@ pub struct Script {
     pub output: Sink,
 }
 
+// By hand, since a derived drop is written out, field by field, wherever such a value ends.
+impl Drop for Script {
+    fn drop(self) {
+        let Script {
+            shell: _,
+            output: _,
+        } = self;
+    }
+}
+
 /// A tree, and what a new one in its place is made of.
-#[derive(Drop)]
 pub struct HeldTree<const D: usize> {
     /// The tree.
     pub tree: Tree<D>,
@@ -42,8 +62,18 @@ pub struct HeldTree<const D: usize> {
     pub capacity: Capacity,
 }
 
+// By hand, since a derived drop is written out, field by field, wherever such a value ends.
+impl<const D: usize> Drop for HeldTree<D> {
+    fn drop(self) {
+        let HeldTree {
+            tree: _,
+            keys: _,
+            capacity: _,
+        } = self;
+    }
+}
+
 /// Live windows of some number of axes.
-#[derive(Drop)]
 pub enum AnyLive {
     /// Of one axis.
     Line(HeldLive<1>),
@@ -53,11 +83,28 @@ pub enum AnyLive {
     Space(HeldLive<3>),
 }
 
+// By hand, since a derived drop is written out, field by field, wherever such a value ends.
+impl Drop for AnyLive {
+    fn drop(self) {
+        match self {
+            AnyLive::Line(_) => {}
+            AnyLive::Plane(_) => {}
+            AnyLive::Space(_) => {}
+        }
+    }
+}
+
 /// Live windows, and the keys of the hashes of their ids.
-#[derive(Drop)]
 pub struct HeldLive<const D: usize> {
     /// The rows and the windows.
     pub live: Live<D>,
     /// The keys.
     pub keys: RandomState,
+}
+
+// By hand, since a derived drop is written out, field by field, wherever such a value ends.
+impl<const D: usize> Drop for HeldLive<D> {
+    fn drop(self) {
+        let HeldLive { live: _, keys: _ } = self;
+    }
 }

@@ -1,4 +1,5 @@
--- Rows that are found in a list, in any order, and the box around two boxes. No public clause cites this module.
+-- Rows that are found in a list, in any order; the box around two boxes, and the strips between them (own). No public clause
+-- cites this module.
 use Rattle.std.specs.Prelude.{◌≡◌, ℕ, ◌+◌, ℤ, Bool, true, is_some, not, ◌&&◌, ◌||◌, List, Option, filter, count_by}
 use Rattle.std.specs.Int.{int_min, int_max}
 use Rattle.rt_box.specs.declared.interval.Interval.{Interval}
@@ -15,7 +16,7 @@ use Rattle.rt_live.specs.Changes.{touches, told_of_window}
 abbrev pub Encloses : Option (List Interval) → Option (List Interval) → List Interval → Type 0
 Encloses was is hull = (other : List Interval) → (touches was other || touches is other) ≡ true → touch hull other ≡ true
 
--- a window that had the one box and has the other is told of the box of a row
+-- a window that had the one box and has the other is told of a row with this box
 abbrev pub is_told_of : Option (List Interval) → Option (List Interval) → List Interval → Bool
 is_told_of was is other = is_some (told_of_window (touches was other) (touches is other))
 

@@ -35,8 +35,8 @@ fn between(end: i32, other: i32) -> Interval
     }
 }
 
-/// Whether both strips together are at most half as long as the interval around both intervals. Otherwise, one search of the
-/// box around both boxes looks at few more rows.
+/// Whether each strip is at most a quarter as long as the interval around both intervals. Otherwise, one search of the box
+/// around both boxes looks at few more rows.
 fn are_thin(was: &Interval, is: &Interval) -> bool {
     let around = was.hi.max(is.hi).abs_diff(was.lo.min(is.lo));
     let (low, high) = (was.lo.abs_diff(is.lo), was.hi.abs_diff(is.hi));

@@ -7,13 +7,22 @@ use crate::rows::Rows;
 use std::marker::Model;
 
 /// Rows, of each the values that are shown.
-#[derive(Drop)]
 pub struct Shown {
     /// The rows.
     pub rows: Rows,
     /// The places of the columns that are shown, in this order; a place past the last column shows NULL. `None` shows all
     /// columns.
     pub columns: Option<Vec<usize>>,
+}
+
+// By hand, since a derived drop is written out, field by field, wherever such a value ends.
+impl Drop for Shown {
+    fn drop(self) {
+        let Shown {
+            rows: _,
+            columns: _,
+        } = self;
+    }
 }
 
 // Clauses see the list of the rows that are shown.

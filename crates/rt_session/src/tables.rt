@@ -10,10 +10,16 @@ use rt_sql_statement::Name;
 use rt_table::AnyTable;
 
 /// A table under its name.
-#[derive(Drop)]
 pub(crate) struct Named {
     pub(crate) name: Name,
     pub(crate) table: AnyTable,
+}
+
+// By hand, since a derived drop is written out, field by field, wherever such a value ends.
+impl Drop for Named {
+    fn drop(self) {
+        let Named { name: _, table: _ } = self;
+    }
 }
 
 /// Where the table of that name stands. There are few tables, so each is looked at.

@@ -41,7 +41,6 @@ pub enum Flow {
 }
 
 /// Cuts a script, and answers its pieces.
-#[derive(Drop)]
 pub struct Engine {
     alloc: Global,
     cutter: Cutter,
@@ -51,6 +50,20 @@ pub struct Engine {
     // Whether one was refused.
     refused: bool,
     options: Options,
+}
+
+// By hand, since a derived drop is written out, field by field, wherever such a value ends.
+impl Drop for Engine {
+    fn drop(self) {
+        let Engine {
+            alloc: _,
+            cutter: _,
+            session: _,
+            pieces: _,
+            refused: _,
+            options: _,
+        } = self;
+    }
 }
 
 fn answer_to(alloc: Global, session: &mut Session, piece: &Piece<'_>) -> Result<Reply, Refusal>

@@ -4,7 +4,8 @@ use Rattle.std.proofs.lemmas.Bool.Decides.{nat_tests}
 use Rattle.std.proofs.lemmas.List.Folds.{list_any_at}
 use Rattle.std.proofs.lemmas.Str.{IsUtf8-from_is_utf8, is_utf8-from_IsUtf8}
 use Rattle.std.specs.List.{Contains, list_any}
-use Rattle.std.specs.Prelude.{unwrap_or}
+use Rattle.std.specs.Prelude.{◌≢◌, unwrap_or}
+use Rattle.std.specs.Result.{result_err}
 use Rattle.std.specs.Str.{is_utf8}
 use lib.IntN.{pos}
 use Rattle.rt_sql.specs.declared.number.Numbers.TheVariants.{Within64Bits, AnySize}
@@ -22,7 +23,7 @@ use Rattle.rt_sql.specs.Token.{same_word, Text}
 use Rattle.rt_sql.specs.declared.token.Token.TheVariants as token
 use Rattle.rt_sql_cut.specs.Pieces.{PieceText}
 use Rattle.rt_sql.specs.Reading as R
-use Rattle.rt_sql.specs.Reading.{Outcome, Read}
+use Rattle.rt_sql.specs.Reading.{Outcome, Read, Reads}
 use Rattle.rt_sql.specs.Tokens.{PieceTokens}
 use Rattle.rt_sql.proofs.CompleteForms.{complete_whole}
 use Rattle.rt_sql.proofs.Numbers.{fits_signed, fits_from_signed}
@@ -69,6 +70,16 @@ any_from_within b d n w = (n, w.0)
 
 none_some : {X : Type 0} {x : X} → None ≡ Some x → ⊥
 none_some e = cc
+
+-- ---- what a reading's failure says
+
+pub read_whole : (read : Result Stmt Refusal) (outcome : Outcome Stmt) (new : List Token) → result_err read ≡ None → Reads outcome read new → (s : Stmt) × (outcome ≡ Some (s, new))
+read_whole (Ok s) outcome new e reads = (s, reads)
+read_whole (Err f) outcome new e reads = none (sym e)
+
+pub failed : (read : Result Stmt Refusal) (outcome : Outcome Stmt) (new : List Token) (f : Refusal) → result_err read ≡ Some f → f ≢ r.OutOfMemory → Reads outcome read new → outcome ≡ None
+failed (Ok s) outcome new f e other reads = none e
+failed (Err g) outcome new f e other reads = reads (rw (some_same e) other)
 
 -- ---- what a text spells
 

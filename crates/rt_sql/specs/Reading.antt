@@ -513,8 +513,14 @@ unfoldable pub unknown_in : Option Token → Bool
 unknown_in (Some (token.Dot w)) = not (is_command w)
 unknown_in _ = false
 
-unfoldable pub finish : Stmt → Parser Stmt
-finish asked = λ ts. if is_some (first ts) then None else Some (asked, ts)
+unfoldable pub finish : {A : Type 0} → A → Parser A
+finish a = λ ts. if is_some (first ts) then None else Some (a, ts)
+
+-- a semicolon, and no token after it
+abbrev pub end : {A : Type 0} → A → Parser A
+end a = do
+  sign Semicolon
+  finish a
 
 unfoldable pub whole_command : Read → Text → Parser Stmt
 whole_command read w = do
@@ -525,8 +531,7 @@ whole_command read w = do
 unfoldable pub whole_statement : Read → Parser Stmt
 whole_statement read = do
   asked ← statement read
-  sign Semicolon
-  finish asked
+  end asked
 
 abbrev pub whole_of : Read → Option Text → Parser Stmt
 whole_of read (Some w) = λ ts. whole_command read w (rest ts)

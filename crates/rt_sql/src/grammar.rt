@@ -61,28 +61,28 @@ fn statement(alloc: Global, tokens: &mut Tokens<'_>, numbers: Numbers) -> Result
     change(alloc, tokens, numbers)
 }
 
-/// Checks that no token is left.
-fn finish(tokens: &Tokens<'_>) -> Result<(), Refusal>
-    ensures { MatchResult result (λ _. reading.is_left tokens.now ≡ false) (λ _. reading.is_left tokens.now ≡ true) }
+/// What was read, if no token is left. It may be of any type, since to drop a statement takes long code.
+#[tactic(auto, unfolding(crate::specs::Reading::finish))]
+fn finish<T: Drop>(tokens: &Tokens<'_>, read: T) -> Result<T, Refusal>
+    ensures { Reads (reading.finish read tokens.now) result tokens.now }
 {
     if tokens.peek().is_some() {
         return Err(Refusal::SyntaxError);
     }
-    Ok(())
+    Ok(read)
 }
 
-/// Refuses a statement that lacks its end. It stands apart, since to drop a statement takes long code.
-#[cold]
-#[inline(never)]
-fn refuse(_asked: Stmt) -> Result<Stmt, Refusal>
-    ensures { result ≡ Err Refusal.SyntaxError }
+/// What was read, if a semicolon follows and no token is left.
+fn end<T: Drop>(tokens: &mut Tokens<'_>, read: T) -> Result<T, Refusal>
+    ensures { Reads (reading.end read tokens.old) result tokens.new }
 {
-    Err(Refusal::SyntaxError)
+    tokens.expect_sign(Sign::Semicolon)?;
+    finish(tokens, read)
 }
 
 /// A dot line of that word to its end.
 #[inline(never)]
-#[tactic(auto, unfolding(crate::specs::Reading::whole_command, crate::specs::Reading::finish))]
+#[tactic(auto, unfolding(crate::specs::Reading::whole_command))]
 fn whole_command(
     alloc: Global,
     tokens: &mut Tokens<'_>,
@@ -93,13 +93,12 @@ fn whole_command(
 {
     let asked = command(alloc, tokens, numbers, word)?;
     tokens.eat_sign(Sign::Semicolon);
-    finish(tokens)?;
-    Ok(asked)
+    finish(tokens, asked)
 }
 
 /// A statement to its end, with its semicolon.
 #[inline]
-#[tactic(auto, unfolding(crate::specs::Reading::whole_statement, crate::specs::Reading::sign, crate::specs::Reading::finish))]
+#[tactic(auto, unfolding(crate::specs::Reading::whole_statement))]
 fn whole_statement(
     alloc: Global,
     tokens: &mut Tokens<'_>,
@@ -108,13 +107,7 @@ fn whole_statement(
     ensures { Reads (reading.whole_statement (number_by numbers) tokens.old) result tokens.new }
 {
     let asked = statement(alloc, tokens, numbers)?;
-    if !tokens.eat_sign(Sign::Semicolon) {
-        return refuse(asked);
-    }
-    if finish(tokens).is_err() {
-        return refuse(asked);
-    }
-    Ok(asked)
+    end(tokens, asked)
 }
 
 /// The statement that all of the tokens spell.

@@ -51,10 +51,10 @@ fn refusal(alloc: Global, text: &str) -> Refusal
     if is_unknown_command(text) {
         return Refusal::UnknownCommand;
     }
-    match whole(alloc, &mut Tokens::new(text), Numbers::AnySize) {
-        Ok(_) => Refusal::IntegerOutOfRange,
-        Err(Refusal::OutOfMemory) => Refusal::OutOfMemory,
-        Err(_) => Refusal::SyntaxError,
+    match whole(alloc, &mut Tokens::new(text), Numbers::AnySize).err() {
+        None => Refusal::IntegerOutOfRange,
+        Some(Refusal::OutOfMemory) => Refusal::OutOfMemory,
+        Some(_) => Refusal::SyntaxError,
     }
 }
 
@@ -104,13 +104,13 @@ pub fn refused_at(alloc: Global, piece: &Piece<'_>) -> Option<Range<usize>>
     ensures refused { IsSome result → ParsesUnlessMemory piece.now (Err Refusal.SyntaxError) }
     ensures within { IfSome result (λ at. (at.start ≤ at.end) × (at.end ≤ length piece.now.text)) }
 {
-    let Err(Refusal::SyntaxError) = parse(alloc, piece) else {
+    let Some(Refusal::SyntaxError) = parse(alloc, piece).err() else {
         return None;
     };
     let text = as_text(piece.text())?;
     let mut tokens = Tokens::new(text);
-    match whole(alloc, &mut tokens, Numbers::AnySize) {
-        Err(Refusal::SyntaxError) => Some(tokens.next_in(text)),
+    match whole(alloc, &mut tokens, Numbers::AnySize).err() {
+        Some(Refusal::SyntaxError) => Some(tokens.next_in(text)),
         _ => None,
     }
 }

@@ -216,7 +216,6 @@ fn is_gap_byte(byte: u8) -> bool
 /// cutter.finish();
 /// // now `SEL` is ready, which is incomplete
 /// ```
-#[derive(Drop)]
 pub struct Cutter {
     /// The bytes of the piece so far.
     held: Vec<u8>,
@@ -225,6 +224,18 @@ pub struct Cutter {
     place: Place,
     /// The input has ended.
     finished: bool,
+}
+
+// By hand, since a derived drop is written out, field by field, wherever such a value ends.
+impl Drop for Cutter {
+    fn drop(self) {
+        let Cutter {
+            held: _,
+            too_long: _,
+            place: _,
+            finished: _,
+        } = self;
+    }
 }
 
 impl Model for Cutter {

@@ -53,9 +53,15 @@ enum Storage {
 
 /// The name of a table, a column or a view: its text with the case that was written, without
 /// the quotes round it.
-#[derive(Drop)]
 pub struct Name {
     storage: Storage,
+}
+
+// By hand, since a derived drop is written out, field by field, wherever such a value ends.
+impl Drop for Name {
+    fn drop(self) {
+        let Name { storage: _ } = self;
+    }
 }
 
 // By hand, since where the text stands is nobody's business.

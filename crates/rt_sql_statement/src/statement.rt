@@ -30,7 +30,7 @@ pub struct Compare {
 }
 
 /// One part of a condition.
-#[derive(Debug, Drop)]
+#[derive(Debug)]
 pub enum Test {
     /// The comparison holds.
     Compare(Compare),
@@ -40,11 +40,22 @@ pub enum Test {
     IsNotNull(Name),
 }
 
+// By hand, since a derived drop is written out, field by field, wherever such a value ends.
+impl Drop for Test {
+    fn drop(self) {
+        match self {
+            Test::Compare(_) => {}
+            Test::IsNull(_) => {}
+            Test::IsNotNull(_) => {}
+        }
+    }
+}
+
 /// The tests that a row has to pass, all of them.
 pub type Cond = Items<Test>;
 
 /// What an UPDATE gives a column.
-#[derive(Debug, Drop)]
+#[derive(Debug)]
 pub enum Source {
     /// This value.
     Literal(Value),
@@ -56,13 +67,35 @@ pub enum Source {
     Minus(Name, i64),
 }
 
+// By hand, since a derived drop is written out, field by field, wherever such a value ends.
+impl Drop for Source {
+    fn drop(self) {
+        match self {
+            Source::Literal(_) => {}
+            Source::Column(_) => {}
+            Source::Plus(_, _) => {}
+            Source::Minus(_, _) => {}
+        }
+    }
+}
+
 /// A column of a CREATE; an auxiliary one is marked by `+`.
-#[derive(Debug, Drop)]
+#[derive(Debug)]
 pub struct ColumnDef {
     /// The column's name.
     pub name: Name,
     /// Whether the column is auxiliary.
     pub auxiliary: bool,
+}
+
+// By hand, since a derived drop is written out, field by field, wherever such a value ends.
+impl Drop for ColumnDef {
+    fn drop(self) {
+        let ColumnDef {
+            name: _,
+            auxiliary: _,
+        } = self;
+    }
 }
 
 /// What a statement does to the rows of its table. An INSERT without a list of columns names them all.

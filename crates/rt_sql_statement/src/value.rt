@@ -155,7 +155,7 @@ impl Eq for Blob {
 }
 
 /// A value of a row, or one that a statement writes.
-#[derive(Debug, Drop)]
+#[derive(Debug)]
 pub enum Value {
     /// NULL.
     Null,
@@ -165,6 +165,18 @@ pub enum Value {
     Text(Text),
     /// A blob.
     Blob(Blob),
+}
+
+// By hand, since a derived drop is written out, field by field, wherever such a value ends.
+impl Drop for Value {
+    fn drop(self) {
+        match self {
+            Value::Null => {}
+            Value::Int(_) => {}
+            Value::Text(_) => {}
+            Value::Blob(_) => {}
+        }
+    }
 }
 
 impl Value {

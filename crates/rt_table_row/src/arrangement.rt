@@ -75,10 +75,20 @@ enum Places {
 }
 
 /// The columns that an INSERT lists, looked up once, so that no name is compared for a row.
-#[derive(Debug, Drop)]
+#[derive(Debug)]
 pub struct Arrangement {
     width: usize,
     places: Places,
+}
+
+// By hand, since a derived drop is written out, field by field, wherever such a value ends.
+impl Drop for Arrangement {
+    fn drop(self) {
+        let Arrangement {
+            width: _,
+            places: _,
+        } = self;
+    }
 }
 
 impl Model for Arrangement {

@@ -23,12 +23,24 @@ use std::alloc::{AllocError, Global};
 use std::marker::Model;
 
 /// What gives a column its new value. The column that is read is looked up.
-#[derive(Debug, Drop)]
+#[derive(Debug)]
 enum Reading {
     Literal(Value),
     Column(usize),
     Plus(usize, i64),
     Minus(usize, i64),
+}
+
+// By hand, since a derived drop is written out, field by field, wherever such a value ends.
+impl Drop for Reading {
+    fn drop(self) {
+        match self {
+            Reading::Literal(_) => {}
+            Reading::Column(_) => {}
+            Reading::Plus(_, _) => {}
+            Reading::Minus(_, _) => {}
+        }
+    }
 }
 
 /// The columns that are set, in their order.

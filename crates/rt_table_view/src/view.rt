@@ -34,7 +34,6 @@ pub struct Shift {
 }
 
 /// A view: its name, the condition that its rows meet, their ids, and which ids the next plan shifts.
-#[derive(Drop)]
 pub struct Watched {
     /// The name, as it was written when the view was named.
     pub name: Name,
@@ -44,6 +43,18 @@ pub struct Watched {
     pub ids: IndexSet<i64, RandomState>,
     /// The ids that come and leave with the plan that is carried out next.
     pub shifts: Vec<Shift>,
+}
+
+// By hand, since a derived drop is written out, field by field, wherever such a value ends.
+impl Drop for Watched {
+    fn drop(self) {
+        let Watched {
+            name: _,
+            filter: _,
+            ids: _,
+            shifts: _,
+        } = self;
+    }
 }
 
 /// The set of the ids of these rows.

@@ -13,7 +13,6 @@ use std::alloc::Global;
 use std::hash::RandomState;
 
 /// The nodes of a tree, and what goes with them.
-#[derive(Drop)]
 pub struct Arena<const D: usize> {
     /// The nodes by key.
     pub nodes: Slab<Node<D>>,
@@ -27,6 +26,20 @@ pub struct Arena<const D: usize> {
     pub level: u8,
     /// The greatest number of cells in a node.
     pub capacity: Capacity,
+}
+
+// By hand, since a derived drop is written out, field by field, wherever such a value ends.
+impl<const D: usize> Drop for Arena<D> {
+    fn drop(self) {
+        let Arena {
+            nodes: _,
+            leaves: _,
+            pending: _,
+            root: _,
+            level: _,
+            capacity: _,
+        } = self;
+    }
 }
 
 /// What an insertion took.
