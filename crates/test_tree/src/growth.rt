@@ -61,6 +61,40 @@ fn look(
     Ok(())
 }
 
+/// Makes room for twelve more rows, if memory is there, and inserts them.
+fn insert_twelve(
+    rt: &(impl Abort + AllocGlobal),
+    keys: RandomState,
+    tree: &mut Tree<2>,
+    rows: i64,
+) -> Result<(), Fail> {
+    for _ in 0..2 {
+        if tree.spare() < 12 && tree.reserve(12).is_err() {
+            expect_rows(rt, tree, rows);
+        }
+    }
+    for id in rows.wrapping_add(1)..=rows.wrapping_add(12) {
+        insert_reserved(tree, id, &rect(id).ok_or("no box")?)?;
+    }
+    look(rt, keys, tree, rows.wrapping_add(12))
+}
+
+/// Inserts 36 rows, and removes them again.
+fn grow_and_shrink(
+    rt: &(impl Abort + AllocGlobal),
+    keys: RandomState,
+    tree: &mut Tree<2>,
+) -> Result<(), Fail> {
+    for round in 0..3i64 {
+        insert_twelve(rt, keys, tree, round.wrapping_mul(12))?;
+    }
+    for id in (1..=36).rev() {
+        remove(tree, id)?;
+        expect_rows(rt, tree, id.wrapping_sub(1));
+    }
+    look(rt, keys, tree, 0)
+}
+
 #[test]
 fn refused_growth_changes_nothing(rt: HostRuntime) -> Result<(), Fail> {
     let capacity = Capacity::new(5).ok_or("no capacity")?;
@@ -68,21 +102,5 @@ fn refused_growth_changes_nothing(rt: HostRuntime) -> Result<(), Fail> {
     let Ok(mut tree) = Tree::new(rt.alloc(), keys, capacity) else {
         return Ok(());
     };
-    for round in 0..3i64 {
-        let rows = round.wrapping_mul(12);
-        for _ in 0..2 {
-            if tree.spare() < 12 && tree.reserve(12).is_err() {
-                expect_rows(&rt, &tree, rows);
-            }
-        }
-        for id in rows.wrapping_add(1)..=rows.wrapping_add(12) {
-            insert_reserved(&mut tree, id, &rect(id).ok_or("no box")?)?;
-        }
-        look(&rt, keys, &tree, rows.wrapping_add(12))?;
-    }
-    for id in (1..=36).rev() {
-        remove(&mut tree, id)?;
-        expect_rows(&rt, &tree, id.wrapping_sub(1));
-    }
-    look(&rt, keys, &tree, 0)
+    grow_and_shrink(&rt, keys, &mut tree)
 }

@@ -97,13 +97,44 @@ fn tree_of_all(alloc: Global, keys: RandomState) -> Result<Tree<3>, Fail> {
     Ok(tree)
 }
 
+fn expect_nearest_of_each(rt: &(impl Abort + AllocGlobal), tree: &Tree<3>) -> Result<(), Fail> {
+    for k in [0, 1, 7, 149, 150, 200] {
+        expect_nearest(rt, tree, &[4, 5, 6], k)?;
+        expect_nearest(rt, tree, &[i32::MIN, i32::MAX, i32::MIN], k)?;
+        expect_nearest(rt, tree, &[i32::MAX, i32::MAX, i32::MAX], k)?;
+    }
+    Ok(())
+}
+
 #[test]
 fn the_nearest_rows_are_those_of_a_plain_list(rt: HostRuntime) -> Result<(), Fail> {
     let tree = tree_of_all(rt.alloc(), RandomState::new(&rt)?)?;
-    for k in [0, 1, 7, 149, 150, 200] {
-        expect_nearest(&rt, &tree, &[4, 5, 6], k)?;
-        expect_nearest(&rt, &tree, &[i32::MIN, i32::MAX, i32::MIN], k)?;
-        expect_nearest(&rt, &tree, &[i32::MAX, i32::MAX, i32::MAX], k)?;
+    expect_nearest_of_each(&rt, &tree)
+}
+
+/// As many rows as in a plain list begin at the bound or behind it on the first axis, and end by 7 on the second.
+fn expect_count_from(
+    rt: &(impl Abort + AllocGlobal),
+    tree: &Tree<3>,
+    bound: i64,
+) -> Result<(), Fail> {
+    let mut window = Window::<3>::all();
+    window.narrow(0, Operator::Ge, bound);
+    window.narrow(3, Operator::Le, 7);
+    let mut wanted = 0usize;
+    for id in 0..ROWS {
+        let rect = rect(id)?;
+        if i64::from(rect.lo()[0]) >= bound && rect.hi()[1] <= 7 {
+            wanted = wanted.wrapping_add(1);
+        }
+    }
+    assert!(rt; tree.count(rt.alloc(), &window)? == wanted);
+    Ok(())
+}
+
+fn expect_counts(rt: &(impl Abort + AllocGlobal), tree: &Tree<3>) -> Result<(), Fail> {
+    for bound in 0..9 {
+        expect_count_from(rt, tree, bound)?;
     }
     Ok(())
 }
@@ -111,21 +142,7 @@ fn the_nearest_rows_are_those_of_a_plain_list(rt: HostRuntime) -> Result<(), Fai
 #[test]
 fn a_count_is_that_of_a_plain_list(rt: HostRuntime) -> Result<(), Fail> {
     let tree = tree_of_all(rt.alloc(), RandomState::new(&rt)?)?;
-    for bound in 0..9 {
-        let mut window = Window::<3>::all();
-        window.narrow(0, Operator::Ge, bound);
-        window.narrow(3, Operator::Le, 7);
-        let mut wanted = 0usize;
-        for id in 0..ROWS {
-            let rect = rect(id)?;
-            if i64::from(rect.lo()[0]) >= bound && rect.hi()[1] <= 7 {
-                wanted = wanted.wrapping_add(1);
-            }
-        }
-        let count = tree.count(rt.alloc(), &window)?;
-        assert!(rt; count == wanted);
-    }
-    Ok(())
+    expect_counts(&rt, &tree)
 }
 
 /// Whether the comparison holds of the box's coordinate: of `lo` on the first axis, of `hi` on it, of `lo` on the second axis
@@ -164,15 +181,19 @@ fn expect_count(
     Ok(())
 }
 
+fn expect_counts_beyond(rt: &(impl Abort + AllocGlobal), tree: &Tree<3>) -> Result<(), Fail> {
+    for coordinate in 0..6 {
+        for value in [i32::MIN, i32::MIN + 1, 5, i32::MAX - 1, i32::MAX] {
+            expect_count(rt, tree, coordinate, true, value)?;
+            expect_count(rt, tree, coordinate, false, value)?;
+        }
+    }
+    Ok(())
+}
+
 /// All rows lie in some of these windows, and in others the box around them does, but not each row.
 #[test]
 fn a_count_of_most_rows_is_that_of_a_plain_list(rt: HostRuntime) -> Result<(), Fail> {
     let tree = tree_of_all(rt.alloc(), RandomState::new(&rt)?)?;
-    for coordinate in 0..6 {
-        for value in [i32::MIN, i32::MIN + 1, 5, i32::MAX - 1, i32::MAX] {
-            expect_count(&rt, &tree, coordinate, true, value)?;
-            expect_count(&rt, &tree, coordinate, false, value)?;
-        }
-    }
-    Ok(())
+    expect_counts_beyond(&rt, &tree)
 }

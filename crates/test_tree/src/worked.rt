@@ -85,6 +85,29 @@ fn found_from(
     Ok(ids)
 }
 
+/// Removes the rows with these ids.
+fn remove_each(tree: &mut Tree<1>, ids: &[i64]) -> Result<(), Fail> {
+    for id in ids {
+        remove(tree, *id)?;
+    }
+    Ok(())
+}
+
+/// Removes all points of the nine.
+fn remove_nine(
+    rt: &(impl Abort + AllocGlobal),
+    keys: RandomState,
+    tree: &mut Tree<1>,
+) -> Result<(), Fail> {
+    assert!(rt; remove(tree, 1)? == Rect::new([0], [0]).ok_or("no box")?);
+    remove_each(tree, [4, 5].as_slice())?;
+    expect_dump(rt, keys, tree, AFTER_REMOVALS)?;
+    remove_each(tree, [2, 3, 6, 7, 8, 9].as_slice())?;
+    expect_dump(rt, keys, tree, NO_POINTS)?;
+    assert!(rt; (tree.len(), tree.depth(), tree.node_count()) == (0, 1, 1));
+    Ok(())
+}
+
 #[test]
 fn a_point_comes_back_and_splits_its_leaf(rt: HostRuntime) -> Result<(), Fail> {
     let keys = RandomState::new(&rt)?;
@@ -93,17 +116,7 @@ fn a_point_comes_back_and_splits_its_leaf(rt: HostRuntime) -> Result<(), Fail> {
     assert!(rt; (work.placements, work.splits, work.reinsertions) == (2, 1, 1));
     assert!(rt; found_from(&rt, &tree, 10)?.as_slice() == [4, 5, 6].as_slice());
     assert!(rt; tree.get(&99) == None);
-    assert!(rt; remove(&mut tree, 1)? == Rect::new([0], [0]).ok_or("no box")?);
-    for id in [4, 5] {
-        remove(&mut tree, id)?;
-    }
-    expect_dump(&rt, keys, &tree, AFTER_REMOVALS)?;
-    for id in [2, 3, 6, 7, 8, 9] {
-        remove(&mut tree, id)?;
-    }
-    expect_dump(&rt, keys, &tree, NO_POINTS)?;
-    assert!(rt; (tree.len(), tree.depth(), tree.node_count()) == (0, 1, 1));
-    Ok(())
+    remove_nine(&rt, keys, &mut tree)
 }
 
 /// The ids in the leaves, in preorder.
@@ -142,9 +155,9 @@ fn pairs(alloc: Global, count: i32) -> Result<Vec<i32>, Fail> {
     Ok(places)
 }
 
-// The numbers are those of `faults/plain_tree.py`.
+// The numbers of this test and the next are those of `faults/plain_tree.py`.
 #[test]
-fn cells_of_two_levels_and_of_three_are_inserted_again(rt: HostRuntime) -> Result<(), Fail> {
+fn cells_of_three_levels_are_inserted_again(rt: HostRuntime) -> Result<(), Fail> {
     let keys = RandomState::new(&rt)?;
     let (tree, work) = points(rt.alloc(), keys, pairs(rt.alloc(), 9)?.as_slice())?;
     assert!(rt; (work.placements, work.splits, work.reinsertions) == (3, 1, 2));
@@ -156,6 +169,12 @@ fn cells_of_two_levels_and_of_three_are_inserted_again(rt: HostRuntime) -> Resul
             ]
             .as_slice()
     );
+    Ok(())
+}
+
+#[test]
+fn cells_of_four_levels_are_inserted_again(rt: HostRuntime) -> Result<(), Fail> {
+    let keys = RandomState::new(&rt)?;
     let (tree, work) = points(rt.alloc(), keys, pairs(rt.alloc(), 22)?.as_slice())?;
     assert!(rt; (work.placements, work.splits, work.reinsertions) == (4, 2, 3));
     assert!(rt; (tree.depth(), tree.node_count()) == (4, 32));
