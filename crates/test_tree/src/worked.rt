@@ -157,7 +157,7 @@ fn pairs(alloc: Global, count: i32) -> Result<Vec<i32>, Fail> {
 
 // The numbers of this test and the next are those of `faults/plain_tree.py`.
 #[test]
-fn cells_of_three_levels_are_inserted_again(rt: HostRuntime) -> Result<(), Fail> {
+fn cells_of_two_levels_are_inserted_again(rt: HostRuntime) -> Result<(), Fail> {
     let keys = RandomState::new(&rt)?;
     let (tree, work) = points(rt.alloc(), keys, pairs(rt.alloc(), 9)?.as_slice())?;
     assert!(rt; (work.placements, work.splits, work.reinsertions) == (3, 1, 2));
@@ -173,7 +173,7 @@ fn cells_of_three_levels_are_inserted_again(rt: HostRuntime) -> Result<(), Fail>
 }
 
 #[test]
-fn cells_of_four_levels_are_inserted_again(rt: HostRuntime) -> Result<(), Fail> {
+fn cells_of_three_levels_are_inserted_again(rt: HostRuntime) -> Result<(), Fail> {
     let keys = RandomState::new(&rt)?;
     let (tree, work) = points(rt.alloc(), keys, pairs(rt.alloc(), 22)?.as_slice())?;
     assert!(rt; (work.placements, work.splits, work.reinsertions) == (4, 2, 3));
