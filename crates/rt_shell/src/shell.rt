@@ -54,19 +54,13 @@ impl From<FeedFault> for RunFault {
 ///
 /// It holds a piece of the script beside the tables. It is over after a failed write, and with bail after the first
 /// refusal: then it takes and writes nothing more, and answers the same again.
+#[derive(Drop)]
 pub struct Shell {
     engine: Engine,
     // How the last feed went. After anything but `Ok(Flow::Goes)` the shell is over.
     flow: Result<Flow, WriteFault>,
     ghost idle: { is_some (ready_piece engine.cutter) ≡ false },
     ghost few: { engine.pieces ≤ 2 ^ 63 },
-}
-
-// By hand, since a derived drop is written out, field by field, wherever such a value ends.
-impl Drop for Shell {
-    fn drop(self) {
-        let Shell { engine: _, flow: _ } = self;
-    }
 }
 
 impl Shell {
