@@ -5,3 +5,6 @@ pub mod Replaying
 pub mod SameTables
 pub mod TranscriptLemmas
 pub mod Parts
+pub mod Steps
+pub mod Statements
+pub mod Transcripts

@@ -3,3 +3,4 @@ pub mod Replaying
 pub mod ScriptLaws
 pub mod StatementExamples
 pub mod LineExamples
+pub mod DumpLaws

@@ -15,8 +15,8 @@ use Rattle.rt_sql_statement.specs.declared.refusal.Refusal.{Refusal}
 use Rattle.rt_session.specs.Session.{State, Outcome}
 use Rattle.rt_shell.specs.declared.engine.Options.{Options}
 use Rattle.rt_shell.specs.Transcript.{Marks, Progress, start, AnswersParsed, MayGive, after, part_of, Prints}
-use Rattle.rt_laws_dumps.specs.Laws.{TranscriptIsDetermined, TextIsOne, TranscriptSoFarIsDetermined}
-use Rattle.rt_laws_dumps.proofs.Statements.{statements_one}
+use Rattle.rt_laws.specs.DumpLaws.{TranscriptIsDetermined, TextIsOne, TranscriptSoFarIsDetermined}
+use Rattle.rt_laws.proofs.Statements.{statements_one}
 
 parsed_one : (s : State) (parsed : Result Stmt Refusal) (o a : Outcome) → AnswersParsed s parsed o → AnswersParsed s parsed a → o ≡ a
 parsed_one s (Ok statement) o a g h = statements_one s statement o a g h

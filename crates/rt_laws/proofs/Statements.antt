@@ -9,8 +9,8 @@ use Rattle.rt_table_row.specs.Rows.{TableRow}
 use Rattle.rt_table_row.specs.Edits.{Step, Steps, steps_of}
 use Rattle.rt_table.specs.AnyTrees.{Follows, FollowsIfTaken}
 use Rattle.rt_session.specs.Session.{State, NamedTable, table_of, on_table, edit_outcome, answer, no_tree, MayChooseFor, MayChoose}
-use Rattle.rt_laws_dumps.specs.Laws.{StatementsHaveOneAnswer}
-use Rattle.rt_laws_dumps.proofs.Steps.{steps_one}
+use Rattle.rt_laws.specs.DumpLaws.{StatementsHaveOneAnswer}
+use Rattle.rt_laws.proofs.Steps.{steps_one}
 
 follows_one : (rows : List TableRow) (steps : List Step) (old one other : AnyShadow) → Follows rows steps old one → Follows rows steps old other → one ≡ other
 follows_one rows steps (One old) (One one) (One other) g h = ap One (steps_one 1 rows steps old one other g h)

@@ -8,7 +8,7 @@ use Rattle.rt_table_row.specs.Edits.{Step, Leaves, Comes, Becomes, after_step}
 use Rattle.rt_table_store.specs.Trees.{stays, Gains, Loses, Replaces, TakesStep, TakesEach}
 use Rattle.rt_tree_one.proofs.Inserted.{one_answer as insertion}
 use Rattle.rt_tree_one.proofs.Removed.{one_answer as removal}
-use Rattle.rt_laws_dumps.specs.Laws.{StepsHaveOneAnswer}
+use Rattle.rt_laws.specs.DumpLaws.{StepsHaveOneAnswer}
 
 module _ (D : ℕ) where
   gains : (row : TableRow) (old one other : ShadowLists D) → IsInShape one → IsInShape other → Gains row old one → Gains row old other → one ≡ other

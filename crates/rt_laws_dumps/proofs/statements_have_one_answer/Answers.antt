@@ -1,5 +1,0 @@
-use Rattle.rt_laws_dumps.proofs.Statements.{statements_one}
-use Rattle.rt_laws_dumps.proofs.statements_have_one_answer.Goals as goal
-
-pub returns : goal.returns
-returns c = statements_one

@@ -1,5 +1,0 @@
-use Rattle.rt_laws_dumps.proofs.Steps.{steps_one}
-use Rattle.rt_laws_dumps.proofs.steps_have_one_answer.Goals as goal
-
-pub returns : goal.returns
-returns c = steps_one
