@@ -10,8 +10,8 @@ use Rattle.rt_check.specs.Shadow.{ShadowLists}
 use Rattle.rt_check.specs.Conditions.{is_ordered, leaf_cells, times_named, IsSound}
 use Rattle.rt_tree_node.proofs.Counts.{count-cons}
 use Rattle.rt_tree_pack.specs.Packing.{IsFirstRepeated}
-use Rattle.rt_tree_restore.specs.declared.fault.RestoreFault.{RestoreFault}
-use Rattle.rt_tree_restore.specs.declared.fault.RestoreFault.TheVariants.{NoBox, TooMany, Repeated, Memory}
+use Rattle.rt_map.specs.declared.restore_fault.RestoreFault.{RestoreFault}
+use Rattle.rt_map.specs.declared.restore_fault.RestoreFault.TheVariants.{NoBox, TooMany, Repeated, Memory}
 use Rattle.rt_tree_walk.specs.declared.searching.Row.{Row}
 use Rattle.rt_map.specs.Packing.{ids}
 use Rattle.rt_map.specs.Restoring.{IsRestoredOf, HasRowWithoutBox, IsRestoreFaultOf}

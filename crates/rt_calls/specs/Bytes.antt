@@ -3,7 +3,7 @@ use Rattle.std.specs.Prelude.{◌≡◌, ℕ, List, Result, Ok, Err}
 use Rattle.rt_handle.specs.declared.object.HeldTree.{HeldTree}
 use Rattle.rt_handle.specs.declared.object.Object.{Object}
 use Rattle.rt_tree.specs.Lists.{TreeLists}
-use Rattle.rt_tree_bytes.specs.TreeBytes.{tree_bytes}
+use Rattle.rt_map.specs.TreeBytes.{tree_bytes}
 use Rattle.rt_calls.specs.Buffers.{GivesText}
 use Rattle.rt_calls.specs.Calls.{IsTree}
 use Rattle.rt_calls.specs.Trees.{IsAxes}

@@ -8,8 +8,8 @@ use Rattle.rt_check_dump.specs.Faults.{IsTextOf, IsDump}
 use Rattle.rt_handle.specs.declared.object.HeldTree.{HeldTree}
 use Rattle.rt_handle.specs.declared.object.Object.{Object}
 use Rattle.rt_tree.specs.Lists.{rows_of}
-use Rattle.rt_tree_restore.specs.declared.fault.RestoreFault.{RestoreFault}
-use Rattle.rt_tree_restore.specs.declared.fault.RestoreFault.TheVariants.{NoBox, TooMany, Repeated, Memory}
+use Rattle.rt_map.specs.declared.restore_fault.RestoreFault.{RestoreFault}
+use Rattle.rt_map.specs.declared.restore_fault.RestoreFault.TheVariants.{NoBox, TooMany, Repeated, Memory}
 use Rattle.rt_tree_node.specs.Whole.{most_rows_of_a_tree}
 use Rattle.rt_calls.specs.declared.code.Code.{Code}
 use Rattle.rt_calls.specs.declared.code.Code.TheVariants.{BadDump, TreeFull, OutOfMemory}

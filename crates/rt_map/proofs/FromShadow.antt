@@ -14,9 +14,9 @@ use Rattle.rt_tree_place.proofs.Sums.{count-all}
 use Rattle.rt_tree_pack.specs.Packing.{IsFirstRepeated, IsFaultOf}
 use Rattle.rt_tree_pack.specs.declared.fault.PackFault.{PackFault}
 use Rattle.rt_tree_pack.specs.declared.fault.PackFault.TheVariants.{TooMany, Repeated, Memory}
-use Rattle.rt_tree_restore.specs.Restoring.{Restores, fault_of}
-use Rattle.rt_tree_restore.specs.declared.fault.RestoreFault.{RestoreFault}
-use Rattle.rt_tree_restore.specs.declared.fault.RestoreFault.TheVariants.{NoBox, TooMany as AreTooMany, Repeated as IsRepeated, Memory as IsOutOfMemory}
+use Rattle.rt_map.specs.Levels.{Restores, fault_of}
+use Rattle.rt_map.specs.declared.restore_fault.RestoreFault.{RestoreFault}
+use Rattle.rt_map.specs.declared.restore_fault.RestoreFault.TheVariants.{NoBox, TooMany as AreTooMany, Repeated as IsRepeated, Memory as IsOutOfMemory}
 use Rattle.rt_tree_walk.specs.declared.searching.Row.{Row}
 use Rattle.rt_tree.specs.Lists.{rows_of}
 use Rattle.rt_tree.specs.Kept.{IsKeptWith}

@@ -1,3 +1,6 @@
 pub mod Listed
 pub mod FromRows
+pub mod LevelMade
+pub mod Restored
 pub mod FromShadow
+pub mod Written

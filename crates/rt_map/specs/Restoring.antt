@@ -6,8 +6,8 @@ use Rattle.rt_check.specs.Shadow.{ShadowLists}
 use Rattle.rt_check.specs.Conditions.{is_leaf, is_ordered}
 use Rattle.rt_tree_node.specs.Whole.{most_rows_of_a_tree}
 use Rattle.rt_tree_pack.specs.Packing.{IsFirstRepeated}
-use Rattle.rt_tree_restore.specs.declared.fault.RestoreFault.{RestoreFault}
-use Rattle.rt_tree_restore.specs.declared.fault.RestoreFault.TheVariants.{NoBox, TooMany, Repeated, Memory}
+use Rattle.rt_map.specs.declared.restore_fault.RestoreFault.{RestoreFault}
+use Rattle.rt_map.specs.declared.restore_fault.RestoreFault.TheVariants.{NoBox, TooMany, Repeated, Memory}
 use Rattle.rt_tree.specs.Lists.{rows_of}
 use Rattle.rt_map.specs.Packing.{ids, IsPackedOf}
 

@@ -4,9 +4,9 @@ use Rattle.rt_check.specs.Shadow.{ShadowLists}
 use Rattle.rt_tree_node.specs.declared.arena.Arena.{Arena}
 use Rattle.rt_tree_outside.specs.Outside.{outside}
 use Rattle.rt_check.specs.declared.node.NodeRow.{NodeRow}
-use Rattle.rt_tree_bytes.specs.TreeBytes.{tree_bytes}
-use Rattle.rt_tree_restore.specs.declared.fault.RestoreFault.{RestoreFault}
-use Rattle.rt_tree_restore.specs.declared.fault.RestoreFault.TheVariants.{NoBox, Memory}
+use Rattle.rt_map.specs.TreeBytes.{tree_bytes}
+use Rattle.rt_map.specs.declared.restore_fault.RestoreFault.{RestoreFault}
+use Rattle.rt_map.specs.declared.restore_fault.RestoreFault.TheVariants.{NoBox, Memory}
 use Rattle.rt_map.specs.Restoring.{HasUnordered, HasRowWithoutBox, IsRestoredOf}
 use Rattle.rt_tree.specs.Kept.{IsKeptWith}
 

@@ -4,13 +4,15 @@
 //! then compared with the given ones, so nothing has to be known of how they were read.
 
 ghost use Rattle.std.specs.Prelude.{◌≡◌, ◌≤◌, true, IfOk};
-ghost use Rattle.rt_tree_bytes.specs.TreeBytes.{tree_bytes};
+ghost use Rattle.rt_map.specs.TreeBytes.{tree_bytes};
 ghost use Rattle.rt_map.specs.RestoringInside.{IsArenaOfBytes};
 ghost use Rattle.rt_tree.specs.Kept.{IsKeptWith};
 
+use crate::bytes_fault::BytesFault;
+use crate::reading::{Parts, read};
 use crate::restoring::shaped_arena;
+use crate::writing::bytes_of;
 use rt_tree::Tree;
-use rt_tree_bytes::{BytesFault, Parts, bytes_of, read};
 use rt_tree_node::Arena;
 use rt_tree_pack::PackFault;
 use std::alloc::{AllocError, Global};

@@ -8,24 +8,34 @@
 //!   `nearest_to` the rows nearest to a box.
 //! - `join` lists the pairs of rows, one of each of two trees, whose boxes touch, and `join_self` those of one tree.
 //!
-//! Stands on `rt_tree`, `rt_tree_pack`, `rt_tree_restore`, `rt_tree_bytes`, `rt_tree_nearest` and `rt_tree_join`. Tables need
-//! none of it, so the shell doesn't wait for its proof. Definitions: `specs/Packing.antt` (a tree of a list of rows),
-//! `Restoring.antt` (a tree of a shadow), `Join.antt`, `specs/TreeBytes.antt` of `rt_tree_bytes`, and `specs/Nearest.antt` of
-//! `rt_tree_nearest`.
+//! The rows of a shadow or of bytes are packed into nodes of the shapes that it gives (`levels`), and what comes of it is
+//! compared with what was given. With two axes a row takes 24 bytes, and a node two and 24 for the cell that names it.
+//!
+//! Stands on `rt_tree`, `rt_tree_pack`, `rt_tree_nearest` and `rt_tree_join`. Tables need none of it, so the shell doesn't wait
+//! for its proof. Definitions: `specs/Packing.antt` (a tree of a list of rows), `Restoring.antt` (a tree of a shadow),
+//! `TreeBytes.antt`, `Join.antt`, `Levels.antt` and `LevelSteps.antt` (rows packed into given shapes), and
+//! `specs/Nearest.antt` of `rt_tree_nearest`.
 #![tactic(auto)]
 
 mod bytes;
+mod bytes_fault;
+mod level;
+mod levels;
 mod nearby;
 mod packing;
 mod pairs;
+mod reading;
+mod restore_fault;
 mod restoring;
+mod shape;
+mod writing;
 
 pub use bytes::{from_bytes, to_bytes};
+pub use bytes_fault::BytesFault;
 pub use nearby::{nearest, nearest_to, within};
 pub use packing::from_rows;
 pub use pairs::{join, join_self};
+pub use restore_fault::RestoreFault;
 pub use restoring::from_shadow;
-pub use rt_tree_bytes::BytesFault;
 pub use rt_tree_join::Pair;
 pub use rt_tree_pack::PackFault;
-pub use rt_tree_restore::RestoreFault;

@@ -12,14 +12,16 @@ ghost use Rattle.rt_map.specs.Restoring.{IsRestoredOf, IsRestoreFaultOf};
 ghost use Rattle.rt_tree.specs.Kept.{IsKeptWith};
 ghost use Rattle.rt_map.specs.RestoringInside.{LacksRowsIn, LacksRows, IsArenaSeenAs, IsArenaRestoredOf};
 
+use crate::levels::restore;
 use crate::packing::{pack_rows, row_cells};
+use crate::restore_fault::RestoreFault;
+use crate::shape::Shape;
 use rt_box::{Capacity, Rect};
 use rt_check::{NodeRow, RawCell, Shadow};
 use rt_tree::{MOST_ROWS_OF_A_TREE, Tree, bare_arena, nodes_for};
 use rt_tree_node::Arena;
 use rt_tree_outside::is_seen_as;
 use rt_tree_pack::{PackFault, enter};
-use rt_tree_restore::{RestoreFault, Shape, restore};
 use rt_tree_walk::Row;
 use std::alloc::{AllocError, Global};
 use std::hash::RandomState;

@@ -2,6 +2,9 @@
 //!
 //! Each script stands beside what it prints, and beside how many bytes are read and written where an answer ends.
 
+use crate::failing::{FailingReader, FailingWriter};
+use crate::flushes::FlushCounter;
+use crate::partial::{OneByteWriter, UnflushableWriter};
 use rt_box::Capacity;
 use rt_bytes::{OverWrite, RunFault, Sink, SliceReader, Status};
 use rt_check_draw::{Choice, run_draw};
@@ -10,7 +13,6 @@ use rt_shell::{Options, run};
 use std::hash::RandomState;
 use std::process::Abort;
 use std::test::Fail;
-use test_devices::{FailingReader, FailingWriter, FlushCounter, OneByteWriter, UnflushableWriter};
 
 /// Two rows, shown by ascending id.
 const ROWS: Script<'static> = Script {

@@ -2,13 +2,13 @@
 
 ghost use Rattle.std.specs.Prelude.{◌<◌};
 
+use crate::failing::FailingWriter;
 use rt_box::Capacity;
 use rt_bytes::{Sink, Status, WriteFault};
 use rt_shell::{FeedFault, Flow, Options, Shell};
 use std::hash::RandomState;
 use std::process::Abort;
 use std::test::Fail;
-use test_devices::FailingWriter;
 
 /// Its last piece is ended by the end of the script alone.
 const SCRIPT: &[u8] =

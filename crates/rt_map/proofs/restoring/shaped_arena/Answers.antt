@@ -7,7 +7,7 @@ use Rattle.rt_tree_node.specs.declared.cell.Cell.{Cell}
 use Rattle.rt_tree_node.specs.Places.{numbers}
 use Rattle.rt_tree.specs.Bare.{IsBare}
 use Rattle.rt_tree_pack.specs.Packing.{HasEntries, AreEntered, IsFaultOf}
-use Rattle.rt_tree_restore.specs.Restoring.{Restores}
+use Rattle.rt_map.specs.Levels.{Restores}
 use Rattle.rt_map.specs.Packing.{ids}
 use Rattle.rt_map.specs.PackingInside.{cell_of}
 use Rattle.rt_map.proofs.FromRows.{same-ids, still-bare, bare-room}

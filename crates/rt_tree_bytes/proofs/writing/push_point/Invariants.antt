@@ -1,7 +1,0 @@
-use Rattle.std.proofs.Common.{◌≡◌, ◌++◌, take}
-use Rattle.std.specs.List.{flat_map}
-use Rattle.rt_tree_bytes.specs.TreeBytes.{short_bytes}
-use Rattle.rt_tree_bytes.proofs.writing.push_point.Given as goal
-
-abbrev pub invariant-loop-coordinate : goal.invariant-loop-coordinate
-invariant-loop-coordinate g l = l.bytes.items ≡ l.fn.bytes.items ++ flat_map short_bytes (take l.coordinate-index l.point)

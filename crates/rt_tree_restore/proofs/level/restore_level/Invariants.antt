@@ -1,5 +1,0 @@
-use Rattle.rt_tree_restore.specs.Steps.{RestoresUpTo}
-use Rattle.rt_tree_restore.proofs.level.restore_level.Given as goal
-
-abbrev pub invariant-loop-shape : goal.invariant-loop-shape
-invariant-loop-shape g l = RestoresUpTo l.fn.tree l.tree l.level l.cells l.left l.next.items
