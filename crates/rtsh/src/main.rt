@@ -1,6 +1,6 @@
 //! The shell's program: `rtsh run` runs a script, and `rtsh check` says whether a dump is sound.
 //!
-//! - It reads the command line (`rtsh_command`), has the file opened (`rtsh_device`), and hands over to `rt_shell::run`,
+//! - It has the command line read and the file opened (`rtsh_command`), and hands over to `rt_shell::run`,
 //!   `rt_check_report::run_check` or `rt_check_draw::run_draw`, whose contracts say what is written.
 //! - `rtsh_terminal` has what goes to the error output.
 //! - Exit status: 0 if nothing was refused and no problem found (or help was asked for), 1 if something was,
@@ -13,8 +13,7 @@ use rt_bytes::{ByteReader, ByteWriter, RunFault, Status};
 use rt_check_draw::{Axes, Choice, run_draw};
 use rt_check_report::run_check;
 use rt_shell::{Options, run};
-use rtsh_command::{DrawOptions, NoRequest, Request, RunOptions};
-use rtsh_device::{Answers, carry_out};
+use rtsh_command::{Answers, DrawOptions, NoRequest, Request, RunOptions, carry_out};
 use rtsh_terminal::Fault;
 use std::alloc::{AllocError, Global};
 use std::env;

@@ -1,14 +1,21 @@
-//! The command line of `rtsh`.
+//! The command line of `rtsh`, and what its requests read and write: a file, a pipe or a terminal.
 //!
-//! `read` returns what its words ask for, as a `Request`. If they ask for help, or are wrong, it prints the help or what is
-//! wrong, and returns a `NoRequest`. `clap` parses the words. `SCRIPT_HELP` is the help that a terminal prints too.
+//! - `read` returns what the words ask for, as a `Request`. If they ask for help, or are wrong, it prints the help or what is
+//!   wrong, and returns a `NoRequest`. `clap` parses the words.
+//! - `carry_out` opens what the request names, and has it answered: at a terminal with prompts, each answer written at once,
+//!   otherwise from a buffer into a buffer. The error output shows where refused pieces stand, if they are asked for.
+//! - `Answers` is what answers a request: the program gives it, so that all of this is proved beside the shell. So what is
+//!   drawn has a type of its own here, which `rtsh` converts to that of `rt_check_draw`.
 //!
-//! Stands on `rt_box` alone, so that it is proved beside the tree. So it has its own type for what is drawn, which `rtsh`
-//! converts to that of `rt_check_draw`. Only safety and termination are proved.
+//! Stands on `rt_box`, `rtsh_terminal` (what a person sees) and `rt_bytes`. No contract can say what a file or a terminal
+//! gave, so only safety and termination are proved.
 #![tactic(auto)]
+
+mod device;
 
 use clap::error::ErrorKind;
 use clap::{Arg, ArgAction, ArgMatches, Command, Error, value_parser};
+pub use device::{Answers, carry_out};
 use rt_box::Capacity;
 use std::alloc::{AllocError, Global};
 use std::{fs, io};
@@ -53,9 +60,9 @@ pub struct RunOptions {
     /// Each statement is printed before its answer.
     pub echo: bool,
     /// Each answer is written before the next piece is read.
-    pub is_unbuffered: bool,
+    pub(crate) is_unbuffered: bool,
     /// The error output shows where each refused piece stands.
-    pub tells_where: bool,
+    pub(crate) tells_where: bool,
 }
 
 /// What `rtsh draw` draws of a tree.
@@ -76,7 +83,7 @@ const VERSION: &str = "0.1.0";
 const ABOUT: &str = "Tables of boxes, as SQLite's rtree_i32 keeps them: the shell of Juicedelta";
 
 /// What a script may have: for `rtsh run --help`, and for `.help` at a terminal.
-pub const SCRIPT_HELP: &str = "Statements may take several lines, and end with ;
+pub(crate) const SCRIPT_HELP: &str = "Statements may take several lines, and end with ;
   CREATE VIRTUAL TABLE [IF NOT EXISTS] T USING rtree_i32(id, min, max, ..);
   DROP TABLE [IF EXISTS] T;
   INSERT [OR IGNORE | OR REPLACE] INTO T[(COLUMN, ..)] VALUES (VALUE, ..), ..;

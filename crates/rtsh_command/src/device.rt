@@ -1,15 +1,7 @@
-//! What a request of the command line reads and writes: a file, a pipe or a terminal.
-//!
-//! - `carry_out` opens what the request names, and has it answered: at a terminal with prompts, each answer written at once,
-//!   otherwise from a buffer into a buffer. The error output shows where refused pieces stand, if they are asked for.
-//! - `Answers` is what answers a request: the program gives it, so that all of this is proved beside the shell.
-//!
-//! Stands on `rtsh_command` (requests), `rtsh_terminal` (what a person sees) and `rt_bytes`. No contract can say what a file
-//! or a terminal gave, so only safety and termination are proved.
-#![tactic(auto)]
+//! What a request reads, and what its answer is written to: a file, a pipe or a terminal.
 
+use crate::{Request, SCRIPT_HELP};
 use rt_bytes::{ByteReader, ByteWriter, OverRead, OverWrite, RunFault, Status};
-use rtsh_command::{Request, SCRIPT_HELP};
 use rtsh_terminal::{
     Cause, Fault, PromptReader, ReasonKeeper, TraceReader, TraceWriter, Trail, hint_at_dump,
     is_attended,
