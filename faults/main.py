@@ -28,9 +28,9 @@ CALLS = {
 # Tests, their crates, and how they are tried.
 TESTS = [
     ("test_tree", "growth::refused_growth_changes_nothing", tests.growths_refused),
-    ("test_faults", "growth::a_shadow_stays_as_it_was", tests.growths_refused),
-    ("test_faults", "growth::a_dump_is_read_or_memory_is_wanting", tests.growths_refused),
-    ("test_table", "committing::plans_are_carried_out", tests.none_between),
+    ("test_script", "growth::a_shadow_stays_as_it_was", tests.growths_refused),
+    ("test_script", "growth::a_dump_is_read_or_memory_is_wanting", tests.growths_refused),
+    ("test_script", "committing::plans_are_carried_out", tests.none_between),
 ]
 
 

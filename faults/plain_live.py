@@ -1,8 +1,8 @@
 """A plain list of rows and of windows, edit by edit: what each edit tells, from the definitions alone.
 
-It reads the history of crates/test_live/src/history.rt, and says where a line expects something else:
+It reads the history of crates/test_tree/src/history.rt, and says where a line expects something else:
 
-    python3 faults/plain_live.py crates/test_live/src/history.rt
+    python3 faults/plain_live.py crates/test_tree/src/history.rt
 """
 
 import re
@@ -10,9 +10,8 @@ import sys
 
 Box = tuple[tuple[int, int], ...]
 
-STEP = re.compile(
-    r'step\(\s*&?rt,\s*&mut live,\s*Edit::(\w+),\s*(-?\d+),\s*\[([^\]]*)\],\s*\[([^\]]*)\],\s*"([^"]*)",?\s*\)'
-)
+STEP = re.compile(r'\(\s*Edit::(\w+),\s*(-?\d+),\s*\[([^\]]*)\],\s*\[([^\]]*)\],\s*"([^"]*)",?\s*\)')
+COUNT = re.compile(r"HISTORY: \[Step; (\d+)\]")
 
 
 def touch(first: Box, second: Box) -> bool:
@@ -63,8 +62,9 @@ def main() -> int:
         if wanted != told:
             print(f"{kind} {id} [{lo}] [{hi}]: {told!r}, not {wanted!r}")
             wrong += 1
-    print(f"{steps} edits, {wrong} wrong")
-    return 1 if wrong or not steps else 0
+    count = int(COUNT.search(text)[1])
+    print(f"{steps} of {count} edits, {wrong} wrong")
+    return 1 if wrong or steps != count else 0
 
 
 if __name__ == "__main__":

@@ -23,6 +23,7 @@ def script():
     yield "INSERT INTO t VALUES(NULL,0,0);"
     yield "INSERT OR IGNORE INTO t VALUES(5,0,0);"
     yield "INSERT OR REPLACE INTO t VALUES(7,-1,9);"
+    yield "INSERT INTO t VALUES(0,0,0);"
     yield "SELECT * FROM t WHERE a<0;"
     yield f"SELECT id FROM t WHERE id>{MOST_ROWS - 2};"
     yield "SELECT rtreecheck('t');"
@@ -35,7 +36,7 @@ def full_table(program):
     """What is wrong with a table at the limit."""
     statements = list(script())
     blocks = len(range(1, MOST_ROWS - 1, ROWS_AT_ONCE))
-    full = [f"refused {blocks + number} 14: table full" for number in (2, 4, 5)]
+    full = [f"refused {blocks + number} 14: table full" for number in (2, 4, 5, 8)]
     selected = ["7|-1|9", str(MOST_ROWS - 1), str(MOST_ROWS), "ok", str(MOST_ROWS), str(MOST_ROWS + 1)]
     wanted = "".join(line + "\n" for line in [*full, *selected]).encode()
     outcome = program.run(["run"], "\n".join(statements).encode())

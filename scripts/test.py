@@ -28,10 +28,8 @@ import follow  # noqa: E402
 WORKED = cases.cases(CRATES / "test_cases" / "data")
 # The allocation that is refused in each third of them: in most scripts one of the first statement's, and a later one.
 REFUSED_ALLOCATIONS = {40: WORKED[::3], 100: WORKED[1::3]}
-# Tests, by crate, that take too long with run-time checks: make gate runs them on proved code, which has none. The trial of such a
-# crate is stopped SOON; other trials may take longer, since the machine may be busy.
-OF_THE_GATE = {"test_table": {"full::a_full_table_takes_other_rows_in_the_place_of_its_own"}}
-SOON, SECONDS = 20, 300
+# How long a crate's tests may take, since the machine may be busy.
+SECONDS = "300"
 
 
 def tried(name, crate, words):
@@ -61,13 +59,12 @@ def recipes():
 
 def tests_of(crate):
     """Runs a crate's tests."""
-    of_the_gate = OF_THE_GATE.get(crate, set())
-    said = tried(crate, crate, ["--test", "--seconds", str(SOON if of_the_gate else SECONDS)])
+    said = tried(crate, crate, ["--test", "--seconds", SECONDS])
     results = dict(re.findall(r"^test (\S+) \.\.\. (ok|FAILED)$", said, re.M))
     if not re.search(r"^test result: ", said, re.M):
         return 0, ["no result"]
     right = [name for name, result in results.items() if result == "ok"]
-    return len(right), sorted(results.keys() - of_the_gate - set(right))
+    return len(right), sorted(results.keys() - set(right))
 
 
 def of_cases(name, worked, *words, is_right):
@@ -105,7 +102,7 @@ def with_refused(allocation, worked):
 
 
 def with_tests():
-    """The crates that have tests: those of trees and tables, which take longest, come first."""
+    """The crates that have tests: those of trees and scripts, which take longest, come first."""
     found = {file.relative_to(CRATES).parts[0] for file in CRATES.glob("*/src/*.rt") if "#[test]" in file.read_text()}
     return sorted(found, reverse=True)
 

@@ -1,52 +1,55 @@
-//! Counts and nearest rows, held against a plain list.
+//! Counts, nearest rows and joins, held against plain lists.
 //!
 //! The boxes have three axes, and ends of 32 bits among their coordinates; many are equally far from a point.
 
 ghost use Rattle.std.specs.Prelude.{◌<◌};
 
-use crate::rows::insert;
-use rt_box::{Capacity, Operator, Rect, Window};
+use crate::rows::{joined, tree_of};
+use rt_box::{Operator, Rect, Window};
 use rt_map::nearest;
-use rt_tree::Tree;
+use rt_tree::{Row, Tree};
 use std::alloc::Global;
-use std::hash::RandomState;
 use std::process::Abort;
 use std::test::Fail;
 
-/// The number of rows; their ids are 0, 1 and so on.
-const ROWS: i64 = 150;
-
-/// One of nine coordinates, the ends of 32 bits among them.
-fn coordinate(step: i64) -> i32 {
-    match step.rem_euclid(9) {
-        0 => i32::MIN,
-        1 => i32::MAX,
-        other => i32::try_from(other).unwrap_or(0),
-    }
-}
+/// The coordinates that boxes have.
+const COORDINATES: [i32; 9] = [i32::MIN, i32::MAX, 2, 3, 4, 5, 6, 7, 8];
 
 /// The box of the row with that id.
-pub(crate) fn rect(id: i64) -> Result<Rect<3>, Fail> {
+fn box_of(id: u32) -> Result<Rect<3>, Fail> {
     let (x, y, z) = (id, id.wrapping_mul(5), id.wrapping_mul(7));
-    let first = [coordinate(x), coordinate(y), coordinate(z)];
+    let first = [x, y, z];
     let second = [
-        coordinate(y.wrapping_add(x / 9)),
-        coordinate(z.wrapping_add(x / 4)),
-        coordinate(x.wrapping_add(x / 7)),
+        y.wrapping_add(x / 9),
+        z.wrapping_add(x / 4),
+        x.wrapping_add(x / 7),
     ];
-    let lo = [
-        first[0].min(second[0]),
-        first[1].min(second[1]),
-        first[2].min(second[2]),
-    ];
-    let hi = [
-        first[0].max(second[0]),
-        first[1].max(second[1]),
-        first[2].max(second[2]),
-    ];
-    let rect = Rect::new(lo, hi).ok_or("no box")?;
-    Ok(rect)
+    let mut lo = [0; 3];
+    let mut hi = [0; 3];
+    for axis in 0..3 {
+        let from = COORDINATES[(first[axis] % 9) as usize];
+        let to = COORDINATES[(second[axis] % 9) as usize];
+        lo[axis] = from.min(to);
+        hi[axis] = from.max(to);
+    }
+    Ok(Rect::new(lo, hi).ok_or("no box")?)
 }
+
+/// The rows with ids from the first on, and below the second.
+fn rows_between(alloc: Global, ids: (u32, u32)) -> Result<Vec<Row<3>>, Fail> {
+    let mut rows = Vec::new(alloc);
+    for id in ids.0..ids.1 {
+        let rect = box_of(id)?;
+        rows.push(Row {
+            id: i64::from(id),
+            rect,
+        })?;
+    }
+    Ok(rows)
+}
+
+/// The ids of the rows that are counted and found.
+const IDS: (u32, u32) = (0, 150);
 
 /// The squared distance from the point to the nearest point of the box.
 fn distance(rect: &Rect<3>, point: &[i32; 3]) -> u128 {
@@ -61,139 +64,149 @@ fn distance(rect: &Rect<3>, point: &[i32; 3]) -> u128 {
     distance
 }
 
-/// Distances and ids of the `k` nearest rows, from a list of all.
-fn plainly_nearest(alloc: Global, point: &[i32; 3], k: usize) -> Result<Vec<(u128, i64)>, Fail> {
-    let mut rows = Vec::new(alloc);
-    for id in 0..ROWS {
-        rows.push((distance(&rect(id)?, point), id))?;
+/// The rows' distances and ids.
+fn distances(alloc: Global, rows: &[Row<3>], point: &[i32; 3]) -> Result<Vec<(u128, i64)>, Fail> {
+    let mut list = Vec::new(alloc);
+    for row in rows {
+        list.push((distance(&row.rect, point), row.id))?;
     }
-    rows.sort()?;
-    rows.truncate(k);
-    Ok(rows)
+    Ok(list)
 }
 
-fn expect_nearest(
-    rt: &(impl Abort + AllocGlobal),
-    tree: &Tree<3>,
-    point: &[i32; 3],
-    k: usize,
-) -> Result<(), Fail> {
-    let wanted = plainly_nearest(rt.alloc(), point, k)?;
-    let rows = nearest(rt.alloc(), tree, point, k)?;
-    assert!(rt; rows.len() == wanted.len());
-    for (row, (away, id)) in rows.iter().zip(wanted.iter()) {
-        assert!(rt; row.id == *id);
-        assert!(rt; distance(&row.rect, point) == *away);
-    }
-    Ok(())
-}
-
-fn tree_of_all(alloc: Global, keys: RandomState) -> Result<Tree<3>, Fail> {
-    let capacity = Capacity::new(5).ok_or("no capacity")?;
-    let mut tree = Tree::new(alloc, keys, capacity)?;
-    for id in 0..ROWS {
-        insert(&mut tree, id, &rect(id)?)?;
-    }
-    Ok(tree)
-}
-
-fn expect_nearest_of_each(rt: &(impl Abort + AllocGlobal), tree: &Tree<3>) -> Result<(), Fail> {
-    for k in [0, 1, 7, 149, 150, 200] {
-        expect_nearest(rt, tree, &[4, 5, 6], k)?;
-        expect_nearest(rt, tree, &[i32::MIN, i32::MAX, i32::MIN], k)?;
-        expect_nearest(rt, tree, &[i32::MAX, i32::MAX, i32::MAX], k)?;
-    }
-    Ok(())
-}
+const POINTS: [[i32; 3]; 3] = [
+    [4, 5, 6],
+    [i32::MIN, i32::MAX, i32::MIN],
+    [i32::MAX, i32::MAX, i32::MAX],
+];
 
 #[test]
 fn the_nearest_rows_are_those_of_a_plain_list(rt: HostRuntime) -> Result<(), Fail> {
-    let tree = tree_of_all(rt.alloc(), RandomState::new(&rt)?)?;
-    expect_nearest_of_each(&rt, &tree)
-}
-
-/// As many rows as in a plain list begin at the bound or behind it on the first axis, and end by 7 on the second.
-fn expect_count_from(
-    rt: &(impl Abort + AllocGlobal),
-    tree: &Tree<3>,
-    bound: i64,
-) -> Result<(), Fail> {
-    let mut window = Window::<3>::all();
-    window.narrow(0, Operator::Ge, bound);
-    window.narrow(3, Operator::Le, 7);
-    let mut wanted = 0usize;
-    for id in 0..ROWS {
-        let rect = rect(id)?;
-        if i64::from(rect.lo()[0]) >= bound && rect.hi()[1] <= 7 {
-            wanted = wanted.wrapping_add(1);
+    let rows = rows_between(rt.alloc(), IDS)?;
+    let (tree, _) = tree_of(&rt, &rows)?;
+    for point in POINTS {
+        for k in [0, 1, 7, 149, 150, 200] {
+            let found = nearest(rt.alloc(), &tree, &point, k)?;
+            let found = distances(rt.alloc(), &found, &point)?;
+            let mut wanted = distances(rt.alloc(), &rows, &point)?;
+            wanted.sort()?;
+            wanted.truncate(k);
+            assert!(rt; found == wanted, "{k}");
         }
     }
-    assert!(rt; tree.count(rt.alloc(), &window)? == wanted);
     Ok(())
 }
 
-fn expect_counts(rt: &(impl Abort + AllocGlobal), tree: &Tree<3>) -> Result<(), Fail> {
-    for bound in 0..9 {
-        expect_count_from(rt, tree, bound)?;
-    }
-    Ok(())
-}
-
-#[test]
-fn a_count_is_that_of_a_plain_list(rt: HostRuntime) -> Result<(), Fail> {
-    let tree = tree_of_all(rt.alloc(), RandomState::new(&rt)?)?;
-    expect_counts(&rt, &tree)
-}
-
-/// Whether the comparison holds of the box's coordinate: of `lo` on the first axis, of `hi` on it, of `lo` on the second axis
-/// and so on.
-fn keeps(rect: &Rect<3>, coordinate: usize, is_least: bool, value: i32) -> bool
-    requires { coordinate < 6 }
-{
-    let axis = coordinate / 2;
-    let end = if coordinate % 2 == 0 {
-        rect.lo()[axis]
-    } else {
-        rect.hi()[axis]
-    };
-    if is_least { end >= value } else { end <= value }
-}
-
+/// As many rows are counted as in a plain list have a coordinate that is at least or at most the bound, and end by another
+/// on the second axis. The coordinates are `lo` on the first axis, `hi` on it, `lo` on the second axis and so on.
 fn expect_count(
     rt: &(impl Abort + AllocGlobal),
     tree: &Tree<3>,
+    rows: &[Row<3>],
     coordinate: usize,
     is_least: bool,
-    value: i32,
+    bound: i64,
+    end: i64,
 ) -> Result<(), Fail>
     requires { coordinate < 6 }
 {
     let op = if is_least { Operator::Ge } else { Operator::Le };
     let mut window = Window::<3>::all();
-    window.narrow(coordinate, op, i64::from(value));
+    window.narrow(coordinate, op, bound);
+    window.narrow(3, Operator::Le, end);
     let mut wanted = 0usize;
-    for id in 0..ROWS {
-        if keeps(&rect(id)?, coordinate, is_least, value) {
+    for row in rows {
+        let (lo, hi) = (row.rect.lo(), row.rect.hi());
+        let number = i64::from([lo[0], hi[0], lo[1], hi[1], lo[2], hi[2]][coordinate]);
+        let is_kept = if is_least {
+            number >= bound
+        } else {
+            number <= bound
+        };
+        if is_kept && i64::from(hi[1]) <= end {
             wanted = wanted.wrapping_add(1);
         }
     }
-    assert!(rt; tree.count(rt.alloc(), &window)? == wanted);
+    assert!(rt;
+        tree.count(rt.alloc(), &window)? == wanted,
+        "{coordinate} {bound}"
+    );
     Ok(())
 }
 
-fn expect_counts_beyond(rt: &(impl Abort + AllocGlobal), tree: &Tree<3>) -> Result<(), Fail> {
+/// Bounds of a coordinate and of the second axis. By the first five, all rows lie in some windows, and in others the
+/// box around them does, but not each row.
+const BOUNDS: [(i64, i64); 14] = [
+    (-2_147_483_648, i64::MAX),
+    (-2_147_483_647, i64::MAX),
+    (5, i64::MAX),
+    (2_147_483_646, i64::MAX),
+    (2_147_483_647, i64::MAX),
+    (0, 7),
+    (1, 7),
+    (2, 7),
+    (3, 7),
+    (4, 7),
+    (5, 7),
+    (6, 7),
+    (7, 7),
+    (8, 7),
+];
+
+#[test]
+fn a_count_is_that_of_a_plain_list(rt: HostRuntime) -> Result<(), Fail> {
+    let rows = rows_between(rt.alloc(), IDS)?;
+    let (tree, _) = tree_of(&rt, &rows)?;
     for coordinate in 0..6 {
-        for value in [i32::MIN, i32::MIN + 1, 5, i32::MAX - 1, i32::MAX] {
-            expect_count(rt, tree, coordinate, true, value)?;
-            expect_count(rt, tree, coordinate, false, value)?;
+        for (bound, end) in BOUNDS {
+            expect_count(&rt, &tree, &rows, coordinate, true, bound, end)?;
+            expect_count(&rt, &tree, &rows, coordinate, false, bound, end)?;
         }
     }
     Ok(())
 }
 
-/// All rows lie in some of these windows, and in others the box around them does, but not each row.
+/// Whether the boxes have a point in common.
+fn touch(first: &Rect<3>, second: &Rect<3>) -> bool {
+    let mut both = true;
+    for axis in 0..3 {
+        both &= first.lo()[axis] <= second.hi()[axis] && second.lo()[axis] <= first.hi()[axis];
+    }
+    both
+}
+
+/// The pairs of rows that touch, by two loops.
+fn touching(alloc: Global, left: &[Row<3>], right: &[Row<3>]) -> Result<Vec<(i64, i64)>, Fail> {
+    let mut pairs = Vec::new(alloc);
+    for first in left {
+        for second in right {
+            if touch(&first.rect, &second.rect) {
+                pairs.push((first.id, second.id))?;
+            }
+        }
+    }
+    Ok(pairs)
+}
+
+/// The ids of the rows of two trees, which are of equal and of unequal height, or have no rows.
+const JOINED: [((u32, u32), (u32, u32)); 5] = [
+    ((0, 60), (30, 110)),
+    ((0, 60), (100, 104)),
+    ((100, 104), (30, 110)),
+    ((0, 60), (0, 0)),
+    ((0, 0), (0, 60)),
+];
+
 #[test]
-fn a_count_of_most_rows_is_that_of_a_plain_list(rt: HostRuntime) -> Result<(), Fail> {
-    let tree = tree_of_all(rt.alloc(), RandomState::new(&rt)?)?;
-    expect_counts_beyond(&rt, &tree)
+fn a_join_is_that_of_two_loops(rt: HostRuntime) -> Result<(), Fail> {
+    for (left, right) in JOINED {
+        let left = rows_between(rt.alloc(), left)?;
+        let right = rows_between(rt.alloc(), right)?;
+        let (tree, _) = tree_of(&rt, &left)?;
+        let (other, _) = tree_of(&rt, &right)?;
+        let pairs = joined(rt.alloc(), &tree, &other)?;
+        assert!(rt; pairs == touching(rt.alloc(), &left, &right)?);
+        let pairs = joined(rt.alloc(), &tree, &tree)?;
+        assert!(rt; pairs == touching(rt.alloc(), &left, &left)?);
+    }
+    Ok(())
 }

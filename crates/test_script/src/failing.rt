@@ -1,6 +1,6 @@
 //! A reader and a writer that fail at a chosen point.
 //!
-//! The reader fails at one read and goes on after it. The writer takes no further byte once its room is used up.
+//! The reader fails at one read and goes on after it.
 
 ghost use Rattle.std.specs.Prelude.{◌≡◌, ◌+◌, ◌<◌, ◌≤◌, ◌⊎◌, true, false, min, length, IsErr, IfOk, OnOk, OnErr};
 ghost use Rattle.std.specs.Io.{ReadsAtMost, WritesAtMost};
@@ -65,25 +65,31 @@ impl<R: ByteReader> ByteReader for FailingReader<R> {
     }
 }
 
-/// A writer that takes a number of bytes and then fails.
+/// A writer that fails once its room is used up, takes few bytes at a time, or is never flushed.
 #[derive(Drop)]
 pub struct FailingWriter<W> {
     /// The writer inside.
     pub inner: W,
     /// How many bytes more it takes.
     pub room: usize,
+    /// How many bytes it takes at a time.
+    pub step: usize,
+    /// Whether it passes a flush on, which fails otherwise.
+    pub flushes: bool,
     /// How many writes and flushes failed, those of the writer inside counted.
     pub faults: u64,
 }
 
 impl<W: ByteWriter> FailingWriter<W> {
-    /// Takes `room` bytes.
-    pub fn new(inner: W, room: usize) -> FailingWriter<W>
-        ensures { result ≡ record { inner = inner; room = room; faults = 0 } }
+    /// Passes everything on, until a field is changed.
+    pub fn new(inner: W) -> FailingWriter<W>
+        ensures { result.inner ≡ inner }
     {
         FailingWriter {
             inner,
-            room,
+            room: usize::MAX,
+            step: usize::MAX,
+            flushes: true,
             faults: 0,
         }
     }
@@ -103,18 +109,17 @@ impl<W: ByteWriter> ByteWriter for FailingWriter<W> {
         ensures failed { CountsErr self.old.faults self.new.faults result }
         ensures held { IfOk result (λ n. 0 < n → W.flushed self.new.inner ≡ false) }
         ensures room { IfOk result (λ n. self.new.room + n ≡ self.old.room) }
-        ensures passes { OnErr result ((self.old.room ≡ 0)
-            ⊎ (W.faults self.new.inner ≡ one_more (W.faults self.old.inner))) }
+        ensures step { IfOk result (λ n. n ≤ self.old.step) }
     {
         if bytes.is_empty() {
             return Ok(0);
         }
-        if self.room > 0 {
-            let most = bytes.len().min(self.room);
-            if let Ok(count) = self.inner.write(&bytes[..most]) {
-                self.room -= count;
-                return Ok(count);
-            }
+        let most = bytes.len().min(self.room).min(self.step);
+        if most > 0
+            && let Ok(count) = self.inner.write(&bytes[..most])
+        {
+            self.room -= count;
+            return Ok(count);
         }
         self.faults = self.faults.saturating_add(1);
         Err(WriteFault)
@@ -123,11 +128,10 @@ impl<W: ByteWriter> ByteWriter for FailingWriter<W> {
     fn flush(&mut self) -> Result<(), WriteFault>
         ensures bytes { Keeps (W.written self.old.inner) (W.written self.new.inner) }
         ensures failed { CountsErr self.old.faults self.new.faults result }
-        ensures passes { CountsErr (W.faults self.old.inner) (W.faults self.new.inner) result }
         ensures passed { OnOk result (W.flushed self.new.inner ≡ true) }
-        ensures room { self.new.room ≡ self.old.room }
+        ensures fails { self.old.flushes ≡ false → IsErr result × (self.new.inner ≡ self.old.inner) }
     {
-        if self.inner.flush().is_ok() {
+        if self.flushes && self.inner.flush().is_ok() {
             return Ok(());
         }
         self.faults = self.faults.saturating_add(1);
