@@ -14,8 +14,8 @@
 # make deb       packs the same as a Debian package in dist/
 # make fuzz      tries random calls of the libraries beside plain lists, and scripts in parts beside scripts in one piece:
 #                make fuzz SECONDS=N. It needs what make bindings built
-# make bench     prints the times of the R*-tree's choices and of the calls of whole trees; if make built it, of scripts through
-#                bin/rtsh; if make bindings built them, of calls from C and Python; all beside other libraries that are installed
+# make bench     prints the times of the R*-tree's choices; if make built it, of scripts through bin/rtsh; if make bindings built
+#                the libraries, of whole trees and of calls from C and Python; all beside other libraries that are installed
 
 SHELL := /bin/bash
 

@@ -7,11 +7,9 @@
 #include <algorithm>
 #include <cstdlib>
 #include <cstring>
-#include <malloc.h>
 #include <memory>
 #include <string>
 #include <thread>
-#include <unistd.h>
 #include <utility>
 #include <vector>
 
@@ -32,18 +30,6 @@ static int64_t sum_of(const Change *changes, size_t count)
     for (size_t at = 0; at < count; at++)
         sum += 3 * changes[at].window + changes[at].id + changes[at].kind;
     return sum;
-}
-
-// Resident memory in bytes, after what was freed is given back.
-static double resident()
-{
-    malloc_trim(0);
-    long pages = 0, all = 0;
-    FILE *file = std::fopen("/proc/self/statm", "r");
-    if (file == nullptr || std::fscanf(file, "%ld %ld", &all, &pages) != 2)
-        std::exit(1);
-    std::fclose(file);
-    return double(pages) * double(sysconf(_SC_PAGESIZE));
 }
 
 #if defined(PEER_BOOST)

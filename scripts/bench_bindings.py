@@ -1,10 +1,10 @@
 #!/usr/bin/env python3
 """bench_bindings.py [FOLDER]: prints how long calls of the library take.
 
-From C beside the calls from C++ and Rattle, Boost's rstar<51> and libspatialindex; from Python beside python3-rtree and sqlite3. What
-isn't installed is left out, and a line says so. The programs run by turns, three times each, and the least time of a call counts. What
+From C beside the calls from C++, Boost's rstar<51> and libspatialindex; from Python beside python3-rtree and sqlite3. What isn't
+installed is left out, and a line says so. The programs run by turns, three times each, and the least time of a call counts. What
 they found is compared. ROWS gives the number of rows. It needs g++ and the libraries of lib/, which make bindings builds, or of
-FOLDER; the calls from Rattle are those of rt_bench, which scripts/bench builds.
+FOLDER.
 """
 
 import os
@@ -16,11 +16,6 @@ TOP = os.path.join(os.path.dirname(os.path.abspath(__file__)), "..")
 FOLDER = os.path.abspath(sys.argv[1] if len(sys.argv) > 1 else os.path.join(TOP, "lib"))
 ROWS = os.environ.get("ROWS", "100000")
 TURNS = 3
-
-# The places in the line of `rt_bench tree` on uniform rows of the nanoseconds of each call, and of what the counts found.
-RATTLE = os.path.join(TOP, "crates", "rt_bench", "out", "rt_bench")
-PLACES = {"insert": 3, "search_10": 6, "search_1000": 7, "count_1000": 11, "nearest_10": 12, "delete": 4}
-FOUND = {"count_1000": 10}
 
 
 def works(*command, **options):
@@ -34,7 +29,7 @@ def compiled(room, name, *words):
     program = os.path.join(room, name)
     command = ["g++", "-O2", "-std=c++17", "-Ibench", "-Ibindings/c", "bench/calls.cpp", *words, "-o", program]
     if works(*command, cwd=TOP):
-        return [program, ROWS]
+        return [program, "2", "uniform", ROWS]
     print(f"{name} is left out: `{' '.join(command[:-2])}` fails here")
     return None
 
@@ -47,21 +42,10 @@ def python(name, module):
     return None
 
 
-def rattle():
-    if os.path.exists(RATTLE):
-        return [RATTLE, "tree", "2", ROWS]
-    print("rattle is left out: make bench proves and builds rt_bench first")
-    return None
-
-
 def run(command):
-    """The nanoseconds of each kind of call, and its checksum if there is one."""
+    """The nanoseconds of each kind of call, and its checksum."""
     answer = subprocess.run(command, stdout=subprocess.PIPE, check=True, text=True)
-    lines = [line.split() for line in answer.stdout.splitlines()]
-    if command[0] == RATTLE:
-        line = next(line for line in lines if line[1] == "uniform")
-        return {name: (int(line[place]), line[FOUND[name]] if name in FOUND else None) for name, place in PLACES.items()}
-    return {name: (int(time), sum) for name, time, sum in lines}
+    return {name: (round(float(time)), sum) for name, time, sum in map(str.split, answer.stdout.splitlines())}
 
 
 def measure(language, programs):
@@ -75,7 +59,7 @@ def measure(language, programs):
                     sys.exit(f"{name} answers {call} otherwise than before")
                 best[name, call] = (min(time, before[0]), sum)
     names = list(programs)
-    print(f"\n{language}, {ROWS} rows, nanoseconds a call; after the strokes Juicedelta's time from {language} over that")
+    print(f"\n{language}, {ROWS} rows, nanoseconds a call, or bytes a row; after the strokes Juicedelta's time from {language} over that")
     print(f"{'':12}" + "".join(f"{name:>24}" for name in names))
     for call in [call for name, call in best if name == names[0] and call != "left"]:
         own = best[names[0], call][0]
@@ -83,7 +67,7 @@ def measure(language, programs):
         texts = [f"{time[0]} / {own / max(time[0], 1):.2f}" if time else "-" for time in times]
         print(f"{call:12}" + "".join(f"{text:>24}" for text in texts))
     for name, call in best:
-        if (names[0], call) in best and best[name, call][1] not in (None, best[names[0], call][1]):
+        if (names[0], call) in best and best[name, call][1] != best[names[0], call][1]:
             sys.exit(f"{name} answers {call} otherwise than {names[0]}")
 
 
@@ -96,7 +80,6 @@ def main():
         measure("C", {
             "juicedelta": compiled(room, "juicedelta", library),
             "c++": compiled(room, "c++", "-DWRAPPER", "-Ibindings/cpp", library),
-            "rattle": rattle(),
             "boost": compiled(room, "boost", "-DPEER_BOOST"),
             "spatialindex": compiled(room, "spatialindex", "-DPEER_SPATIALINDEX", "-lspatialindex_c", "-lspatialindex"),
         })

@@ -1,17 +1,17 @@
-# Reads the lines of scripts/bench, WHO AXES SHAPE ROWS INSERTION REMOVAL LOOK-UP SEARCH SEARCH BYTES FOUND FOUND, and prints the
-# least of each number; if Boost ran too, Boost's least and the ratio to it.
+# Reads the lines of scripts/bench, WHO AXES SHAPE ROWS CALL NUMBER ANSWER, and prints the least number of each call; if Boost ran
+# too, Boost's least and the ratio to it.
 {
     row = $2 " " $3 " " $4
     if (!(row in known)) { known[row] = ++rows; name[rows] = row }
-    for (k = 5; k <= 10; k++)
-        if (!(($1, row, k) in least) || $k + 0 < least[$1, row, k]) least[$1, row, k] = $k
-    found[$1, row] = $11 " " $12
+    if (!(($1, row, $5) in least) || $6 + 0 < least[$1, row, $5]) least[$1, row, $5] = $6
+    if (!((row, $5) in answer)) answer[row, $5] = $7
+    if ($7 != answer[row, $5]) differ[row] = differ[row] " " $5
 }
 
-function beside(row, k,    text) {
-    text = least["own", row, k]
-    if (("boost", row) in found && least["boost", row, k] != "-")
-        text = sprintf("%s/%s %.2f", text, least["boost", row, k], least["own", row, k] / least["boost", row, k])
+function beside(row, call,    text) {
+    text = least["own", row, call]
+    if (("boost", row, call) in least)
+        text = sprintf("%s/%s %.2f", text, least["boost", row, call], text / least["boost", row, call])
     return text
 }
 
@@ -22,9 +22,10 @@ END {
         if (at == 1)
             printf "%-4s %-9s %8s %18s %17s %8s %22s %22s %15s\n", "axes", "shape", "rows", "insertion", "removal",
                 "look-up", "search of ten", "search of 1 %", "bytes"
-        printf "%-4s %-9s %8s %18s %17s %8s %22s %22s %15s\n", part[1], part[2], part[3], beside(row, 5), beside(row, 6),
-            beside(row, 7), beside(row, 8), beside(row, 9), beside(row, 10)
-        if (("boost", row) in found && found["own", row] != found["boost", row])
-            print "  the rows found differ: " found["own", row] " and Boost's " found["boost", row]
+        printf "%-4s %-9s %8s %18s %17s %8s %22s %22s %15s\n", part[1], part[2], part[3], beside(row, "insert"),
+            beside(row, "delete"), beside(row, "look_up"), beside(row, "search_10"), beside(row, "search_1000"),
+            beside(row, "bytes")
+        if (row in differ)
+            print "  the answers differ:" differ[row]
     }
 }

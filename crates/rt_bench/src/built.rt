@@ -3,16 +3,39 @@
 //! `choices` times nodes of drawn boxes. The nodes here are those that insertions left, filled and overlapping as
 //! in a table.
 
-use crate::tree::{Load, SHAPES, rect_of, rows_of, time_insertions};
+use crate::rows::{SHAPES, Shape, rect_of};
 use rt_box::{Capacity, Rect};
 use rt_check::Shadow;
-use rt_tree::Tree;
+use rt_tree::{MOST_ROWS_OF_A_TREE, Tree};
 use rt_tree_subtree::choose_subtree;
 use std::alloc::{AllocError, Global};
 use std::hash::RandomState;
 use std::io;
 use std::rt::Clock;
 use std::time::Instant;
+
+const ROWS: u64 = 100_000;
+
+/// The tree that insertions of the rows leave.
+fn tree_of(
+    alloc: Global,
+    keys: RandomState,
+    capacity: Capacity,
+    shape: Shape,
+) -> Result<Tree<2>, AllocError> {
+    let mut tree = Tree::new(alloc, keys, capacity)?;
+    for row in 1..=ROWS {
+        let Some(rect) = rect_of(shape, row) else {
+            continue;
+        };
+        let id = row as i64;
+        tree.reserve(1)?;
+        if tree.get(&id).is_none() && tree.len() < MOST_ROWS_OF_A_TREE {
+            let _ = tree.insert(&id, &rect);
+        }
+    }
+    Ok(tree)
+}
 
 /// A node above the leaves: its level, its cells' boxes, and the numbers of its children.
 #[derive(Drop)]
@@ -73,11 +96,11 @@ fn time_choices<R: Clock>(
     rt: &R,
     alloc: Global,
     nodes: &[Above],
-    load: Load,
+    shape: Shape,
 ) -> io::Result<(u128, u64)> {
     let mut due = Vec::new(alloc);
     for next in 1..=20_000 {
-        let Some(rect) = rect_of(load.shape, load.rows.wrapping_add(next), 0) else {
+        let Some(rect) = rect_of(shape, ROWS + next) else {
             continue;
         };
         if let Some(place) = node_for(nodes, &rect) {
@@ -103,16 +126,10 @@ pub fn report(rt: &HostRuntime) -> io::Result<()> {
         return Ok(());
     };
     for (shape, name) in SHAPES {
-        let load = Load {
-            shape,
-            rows: 100_000,
-        };
-        let mut tree = Tree::<2>::new(rt.alloc(), RandomState::new(rt)?, capacity)?;
-        let rows = rows_of(rt.alloc(), load)?;
-        let _ = time_insertions(rt, &mut tree, rows.as_slice())?;
+        let tree = tree_of(rt.alloc(), RandomState::new(rt)?, capacity, shape)?;
         let shadow = tree.shadow(rt.alloc(), RandomState::new(rt)?)?;
         let nodes = nodes_above(rt.alloc(), &shadow)?;
-        let (time, sum) = time_choices(rt, rt.alloc(), nodes.as_slice(), load)?;
+        let (time, sum) = time_choices(rt, rt.alloc(), nodes.as_slice(), shape)?;
         println!(rt; "a built tree, {name}: choice above leaves {time} ns ({sum})")?;
     }
     Ok(())

@@ -1,15 +1,12 @@
-//! Times the calls of the libraries below, in nanoseconds.
+//! Times the choices of the R*-tree, in nanoseconds.
 //!
-//! - `rt_bench choices` prints what each choice of the R*-tree takes, on full nodes in two dimensions and on those of a
-//!   tree that was built.
-//! - `rt_bench tree AXES ROWS` prints what each call on a tree takes, for rows that lie in several ways.
-//!
-//! With other words, or none, it does nothing.
+//! `rt_bench choices` prints what each takes, on full nodes in two dimensions and on those of a tree that was built. With other
+//! words, or none, it does nothing. `bench/` times the calls of whole trees.
 #![tactic(auto)]
 
 mod built;
 mod choices;
-mod tree;
+mod rows;
 
 use std::{env, io};
 
@@ -19,11 +16,6 @@ fn main(rt: HostRuntime) -> io::Result<()> {
         [_, what] if what.as_str() == "choices" => {
             built::report(&rt)?;
             choices::report(&rt)
-        }
-        [_, what, axes, rows] if what.as_str() == "tree" => {
-            let axes = axes.as_str().parse::<u8>().unwrap_or(2);
-            let rows = rows.as_str().parse::<u64>().unwrap_or(10_000);
-            tree::report(&rt, axes, rows)
         }
         _ => Ok(()),
     }
