@@ -3,7 +3,7 @@
 //! Spelling comes first, and `kind_of` takes numbers of any size. Then `node_head`, `raw_cell` and `row_entry`
 //! return `None` if a number is out of range (`specs/Lines.antt`).
 
-ghost use Rattle.std.specs.Prelude.{◌≡◌, ◌≤◌, codes, drop, IfSome, OnSome};
+ghost use Rattle.std.specs.Prelude.{◌≡◌, ◌≤◌, [], ◌∷◌, codes, drop, IfSome, OnSome};
 ghost use Rattle.rt_check_dump.specs.Lines.{are_numbers, words, is_plain, is_parent, is_node, is_cell, kind_of, node_head, row_entry, first_range, ranges_of, raw_cell};
 
 use crate::numbers::{
@@ -127,16 +127,10 @@ pub(crate) fn kind_of(line: &[u8], axes: Option<usize>) -> Option<LineKind>
     None
 }
 
-/// What a node's line says, if its numbers are in range.
-pub(crate) fn node_head(line: &[u8]) -> Option<NodeHead>
-    ensures { result ≡ node_head (words line.now) }
+/// What the words of a node's line say, whatever the kind before them.
+fn head_of(number: &[u8], level: &[u8], parent: &[u8], cells: &[u8]) -> Option<NodeHead>
+    ensures { result ≡ node_head ([] ∷ number.now ∷ level.now ∷ parent.now ∷ cells.now ∷ []) }
 {
-    let mut words = Pieces::new(line, b' ');
-    let _kind = words.next()?;
-    let number = words.next()?;
-    let level = words.next()?;
-    let parent = words.next()?;
-    let cells = words.next()?;
     let number = positive_of(number)?;
     let level = byte_of(level)?;
     let parent = parent_of(parent)?;
@@ -147,6 +141,19 @@ pub(crate) fn node_head(line: &[u8]) -> Option<NodeHead>
         parent,
         cells,
     })
+}
+
+/// What a node's line says, if its numbers are in range.
+pub(crate) fn node_head(line: &[u8]) -> Option<NodeHead>
+    ensures { result ≡ node_head (words line.now) }
+{
+    let mut words = Pieces::new(line, b' ');
+    let _kind = words.next()?;
+    let number = words.next()?;
+    let level = words.next()?;
+    let parent = words.next()?;
+    let cells = words.next()?;
+    head_of(number, level, parent, cells)
 }
 
 /// What a row's line says, if its numbers are in range.

@@ -3,9 +3,9 @@
 //! The counts in the lines before say which kind of line is due. `specs/Reading.antt` defines this reading step by
 //! step, and `specs/Faults.antt` what a dump is and what each fault of a text is.
 
-ghost use Rattle.std.specs.Prelude.{◌≡◌, ◌≤◌, ◌<◌, ◌-◌, ◌^◌, Ok, Err, IfOk, length, if◌then◌else◌};
+ghost use Rattle.std.specs.Prelude.{◌≡◌, ◌≤◌, ◌<◌, ◌-◌, ◌^◌, [], ◌∷◌, Ok, Err, IfOk, IfErr, length, if◌then◌else◌};
 ghost use Rattle.rt_check_dump.specs.Lines.{words, kind_of, node_head, row_entry, raw_cell, axes_of, capacity_of, header_of};
-ghost use Rattle.rt_check_dump.specs.Reading.{due, empty_node, after_head, after_cell, after_row, after_kind, after_line, Gives, is_nothing, is_end, read_rest, fault_at, Reads, start, read_body, read_kind, read_text};
+ghost use Rattle.rt_check_dump.specs.Reading.{due, empty_node, after_head, after_cell, after_row, after_kind, after_line, Gives, is_nothing, is_end, read_rest, fault_at, Reads, IsDumpFaultOf, start, read_body, read_kind, read_text};
 ghost use Rattle.rt_check_dump.specs.Faults.{IsTextOf};
 
 use crate::dump::AnyShadow;
@@ -196,15 +196,17 @@ fn read_end<const D: usize>(
     })
 }
 
-/// Reads the lines after the header.
-fn read_rest<const D: usize>(
-    mut progress: Progress<D>,
+/// Takes the lines up to the last, and returns the number of the line after it. The progress is borrowed, since a
+/// drop of it at each return would be proved at each.
+fn take_rest<const D: usize>(
+    progress: &mut Progress<D>,
     alloc: Global,
     lines: &mut Pieces<'_>,
-) -> Result<Shadow<D>, DumpFault>
+) -> Result<u64, DumpFault>
     requires axes { D ≤ 3 }
     requires short { length lines.old < 2 ^ 64 - 2 }
-    ensures { Reads (read_rest lines.old progress.entry 2) result }
+    ensures ended { IfOk result (λ next. read_rest lines.old progress.old 2 ≡ (if is_nothing lines.new then Ok progress.new.shadow else Err (next, LineFault.BadLine))) }
+    ensures faulty { IfErr result (IsDumpFaultOf (read_rest lines.old progress.old 2)) }
 {
     let mut number = 2u64;
     while let Some(line) = lines.next() {
@@ -214,12 +216,12 @@ fn read_rest<const D: usize>(
                 fault: LineFault::Truncated,
             });
         }
-        let is_end = is_at_end(&progress);
-        if let Err(fault) = take_line(&mut progress, alloc, line) {
+        let is_end = is_at_end(progress);
+        if let Err(fault) = take_line(progress, alloc, line) {
             return Err(fault.at(number));
         }
         if is_end {
-            return read_end(progress.shadow, lines, number + 1);
+            return Ok(number + 1);
         }
         number += 1;
     }
@@ -258,17 +260,16 @@ fn capacity_of(word: &[u8]) -> Option<Capacity>
     Capacity::new(byte_of(word)?)
 }
 
-/// What a header says, if its numbers are in range.
-fn header_of(line: &[u8]) -> Option<Heading>
-    ensures { result ≡ header_of (words line.now) }
+/// What the words of a header say, whatever the kind before them.
+fn heading_of(
+    axes: &[u8],
+    capacity: &[u8],
+    root: &[u8],
+    nodes: &[u8],
+    rows: &[u8],
+) -> Option<Heading>
+    ensures { result ≡ header_of ([] ∷ axes.now ∷ capacity.now ∷ root.now ∷ nodes.now ∷ rows.now ∷ []) }
 {
-    let mut words = Pieces::new(line, b' ');
-    let _kind = words.next()?;
-    let axes = words.next()?;
-    let capacity = words.next()?;
-    let root = words.next()?;
-    let nodes = words.next()?;
-    let rows = words.next()?;
     let axes = axes_of(axes)?;
     let capacity = capacity_of(capacity)?;
     let root = positive_of(root)?;
@@ -281,6 +282,20 @@ fn header_of(line: &[u8]) -> Option<Heading>
         nodes,
         rows,
     })
+}
+
+/// What a header says, if its numbers are in range.
+fn header_of(line: &[u8]) -> Option<Heading>
+    ensures { result ≡ header_of (words line.now) }
+{
+    let mut words = Pieces::new(line, b' ');
+    let _kind = words.next()?;
+    let axes = words.next()?;
+    let capacity = words.next()?;
+    let root = words.next()?;
+    let nodes = words.next()?;
+    let rows = words.next()?;
+    heading_of(axes, capacity, root, nodes, rows)
 }
 
 fn start<const D: usize>(alloc: Global, keys: RandomState, header: &Heading) -> Progress<D>
@@ -297,6 +312,25 @@ fn start<const D: usize>(alloc: Global, keys: RandomState, header: &Heading) -> 
 }
 
 /// Reads the lines after a header.
+fn read_rest<const D: usize>(
+    alloc: Global,
+    keys: RandomState,
+    header: &Heading,
+    lines: &mut Pieces<'_>,
+) -> Result<Shadow<D>, DumpFault>
+    requires some { 1 ≤ D }
+    requires few { D ≤ 3 }
+    requires short { length lines.old < 2 ^ 64 - 2 }
+    ensures { Reads (read_rest lines.old (start D header.now) 2) result }
+{
+    let mut progress = start(alloc, keys, header);
+    match take_rest(&mut progress, alloc, lines) {
+        Ok(next) => read_end(progress.shadow, lines, next),
+        Err(fault) => Err(fault),
+    }
+}
+
+/// Reads the lines after a header, on as many axes as it says.
 fn read_body(
     alloc: Global,
     keys: RandomState,
@@ -307,9 +341,9 @@ fn read_body(
     ensures { Reads (read_body header.now lines.old) result }
 {
     match header.axes {
-        1 => Ok(AnyShadow::One(read_rest(start(alloc, keys, header), alloc, lines)?)),
-        2 => Ok(AnyShadow::Two(read_rest(start(alloc, keys, header), alloc, lines)?)),
-        _ => Ok(AnyShadow::Three(read_rest(start(alloc, keys, header), alloc, lines)?)),
+        1 => read_rest(alloc, keys, header, lines).map(AnyShadow::One),
+        2 => read_rest(alloc, keys, header, lines).map(AnyShadow::Two),
+        _ => read_rest(alloc, keys, header, lines).map(AnyShadow::Three),
     }
 }
 

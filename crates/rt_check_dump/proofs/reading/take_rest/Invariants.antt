@@ -1,6 +1,6 @@
 use Rattle.std.proofs.Common.{◌≡◌, ◌+◌, ◌<◌, ◌^◌, length}
 use Rattle.rt_check_dump.specs.Reading.{read_rest}
-use Rattle.rt_check_dump.proofs.reading.read_rest.Given as goal
+use Rattle.rt_check_dump.proofs.reading.take_rest.Given as goal
 
 -- reading on from here gives what reading all gives
 abbrev pub invariant-loop-line : goal.invariant-loop-line
