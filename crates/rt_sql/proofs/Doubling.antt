@@ -19,10 +19,13 @@ undouble-next q b (c ∷ z) h =
 first-drop : (z : Text) (n : ℕ) → get_or (drop n z) 0 0 ≡ get_or z n 0
 first-drop z n = rw (get_or-drop, add-zero) refl
 
+next_drop : (z : Text) (at : ℕ) → at < length z → drop at z ≡ get_or z at 0 ∷ drop (at + 1) z
+next_drop z at h = drop-cons z at 0 h ∙ ap (λ n. get_or z at 0 ∷ drop n z) (sym (add-one at))
+
 pub pair_goes : (q at : ℕ) (z : Text) → at < length z → (get_or z at 0 ≡ q → at + 1 < length z → get_or z (at + 1) 0 ≡ q → ⊥) → undouble q z ≡ take at z ++ undouble q (drop at z) → undouble q z ≡ take (at + 1) z ++ undouble q (drop (at + 1) z)
 pair_goes q at z h lacks e =
     let x = get_or z at 0 in
-    let is_next : drop at z ≡ x ∷ drop (at + 1) z = drop-cons z at 0 h ∙ ap (λ n. x ∷ drop n z) (sym (add-one at)) in
+    let is_next : drop at z ≡ x ∷ drop (at + 1) z = next_drop z at h in
     let lacks' : x ≡ q → 0 < length (drop (at + 1) z) → get_or (drop (at + 1) z) 0 0 ≡ q → ⊥ =
     λ is_first more is_second. lacks is_first (omega (arith, length-drop (at + 1) z)) (sym (first-drop z (at + 1)) ∙ is_second) in
     e ∙ ap (λ s. take at z ++ s) (ap (undouble q) is_next ∙ undouble-next q x (drop (at + 1) z) lacks')

@@ -2,11 +2,20 @@
 //!
 //! Both calls make a new value: a doubled quote becomes one, and two digits become a byte (`specs/Token.antt`).
 
-ghost use Rattle.std.specs.Prelude.{◌≡◌, ◌<◌, IfOk, IfSome, MatchOption};
+ghost use Rattle.std.specs.Prelude.{◌≡◌, ◌<◌, ◌+◌, ◌*◌, ◌↔◌, length, slice_index, IsTrue, IfOk, IfSome, MatchOption};
 ghost use Rattle.std.specs.String.{string_bytes};
 ghost use Rattle.rt_sql.specs.Token as spec;
 
 use std::alloc::{AllocError, Global};
+
+/// At this place two quotes stand side by side.
+#[inline]
+fn is_pair_at(quote: u8, text: &[u8], at: usize) -> bool
+    requires { at < length text.now }
+    ensures { IsTrue result ↔ spec.IsPairAt quote text.now at }
+{
+    text[at] == quote && at + 1 < text.len() && text[at + 1] == quote
+}
 
 /// The first place of two quotes side by side.
 fn pair_at(quote: u8, text: &[u8]) -> Option<usize>
@@ -15,7 +24,7 @@ fn pair_at(quote: u8, text: &[u8]) -> Option<usize>
 {
     let mut at = 0;
     while at < text.len() {
-        if text[at] == quote && at + 1 < text.len() && text[at + 1] == quote {
+        if is_pair_at(quote, text, at) {
             return Some(at);
         }
         at += 1;
@@ -50,6 +59,15 @@ fn hex_value(digit: u8) -> u8
     }
 }
 
+/// The byte that the two digits from a place on write.
+#[inline]
+fn hex_byte(digits: &[u8], at: usize) -> u8
+    requires { at + 1 < length digits.now }
+    ensures { result ≡ 16 * spec.hex_value (slice_index digits.now at) + spec.hex_value (slice_index digits.now (at + 1)) }
+{
+    16 * hex_value(digits[at]) + hex_value(digits[at + 1])
+}
+
 /// The bytes that pairs of hexadecimal digits write.
 pub fn hex_bytes(alloc: Global, digits: &str) -> Result<Vec<u8>, AllocError>
     ensures { IfOk result (λ bytes. bytes.items ≡ spec.hex_bytes digits.now) }
@@ -58,7 +76,7 @@ pub fn hex_bytes(alloc: Global, digits: &str) -> Result<Vec<u8>, AllocError>
     let mut bytes = Vec::new(alloc);
     let mut at = 0;
     while digits.len() - at >= 2 {
-        bytes.push(16 * hex_value(digits[at]) + hex_value(digits[at + 1]))?;
+        bytes.push(hex_byte(digits, at))?;
         at += 2;
     }
     Ok(bytes)

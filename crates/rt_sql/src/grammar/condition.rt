@@ -2,6 +2,8 @@
 //!
 //! There is no `OR`, no parenthesis and no column on the right of an operator.
 
+ghost use Rattle.std.specs.Prelude.{◌≡◌};
+ghost use Rattle.std.specs.Option.{option_copied};
 ghost use Rattle.rt_sql.specs.Number.{number_by};
 ghost use Rattle.rt_sql.specs.Reading as reading;
 ghost use Rattle.rt_sql.specs.Reading.{Reads};
@@ -14,19 +16,32 @@ use crate::tokens::Tokens;
 use rt_sql_statement::{Compare, Cond, Items, Name, Operator, Refusal, Test, Value};
 use std::alloc::Global;
 
+/// The operator that a token is.
+#[tactic(auto, unfolding(crate::specs::Reading::operator_in))]
+fn operator_in(token: Option<&Token<'_>>) -> Option<Operator>
+    ensures { result ≡ reading.operator_in (option_copied token.entry) }
+{
+    let Some(Token::Sign(sign)) = token else {
+        return None;
+    };
+    match sign {
+        Sign::Equal | Sign::DoubleEqual => Some(Operator::Eq),
+        Sign::LessGreater | Sign::BangEqual => Some(Operator::Ne),
+        Sign::Less => Some(Operator::Lt),
+        Sign::LessOrEqual => Some(Operator::Le),
+        Sign::Greater => Some(Operator::Gt),
+        Sign::GreaterOrEqual => Some(Operator::Ge),
+        _ => None,
+    }
+}
+
 /// An operator of a comparison.
-#[tactic(auto, unfolding(crate::specs::Reading::operator, crate::specs::Reading::operator_in))]
+#[tactic(auto, unfolding(crate::specs::Reading::operator))]
 fn operator(tokens: &mut Tokens<'_>) -> Result<Operator, Refusal>
     ensures { Reads (reading.operator tokens.old) result tokens.new }
 {
-    let op = match tokens.peek() {
-        Some(Token::Sign(Sign::Equal | Sign::DoubleEqual)) => Operator::Eq,
-        Some(Token::Sign(Sign::LessGreater | Sign::BangEqual)) => Operator::Ne,
-        Some(Token::Sign(Sign::Less)) => Operator::Lt,
-        Some(Token::Sign(Sign::LessOrEqual)) => Operator::Le,
-        Some(Token::Sign(Sign::Greater)) => Operator::Gt,
-        Some(Token::Sign(Sign::GreaterOrEqual)) => Operator::Ge,
-        _ => return Err(Refusal::SyntaxError),
+    let Some(op) = operator_in(tokens.peek()) else {
+        return Err(Refusal::SyntaxError);
     };
     tokens.skip();
     Ok(op)

@@ -2,10 +2,10 @@
 //!
 //! Each is read from the word after its verb on; `grammar` looks at the verb.
 
-ghost use Rattle.std.specs.Prelude.{◌≡◌};
+ghost use Rattle.std.specs.Prelude.{◌≡◌, false};
 ghost use Rattle.rt_sql.specs.Number.{number_by};
 ghost use Rattle.rt_sql.specs.Reading as reading;
-ghost use Rattle.rt_sql.specs.Reading.{Reads};
+ghost use Rattle.rt_sql.specs.Reading.{Reads, and_then, pure};
 
 use crate::grammar::condition::condition;
 use crate::grammar::items::{Item, Separator, sequence};
@@ -35,8 +35,22 @@ pub(crate) fn rule(tokens: &mut Tokens<'_>) -> Result<Rule, Refusal>
     Ok(Rule::Abort)
 }
 
+/// The columns that an INSERT lists, from the first on.
+#[tactic(auto, using(crate::proofs::Shorter::name_takes), unfolding(crate::specs::Reading::name_list))]
+fn name_list(
+    alloc: Global,
+    tokens: &mut Tokens<'_>,
+    numbers: Numbers,
+) -> Result<Option<Items<Name>>, Refusal>
+    ensures { Reads (reading.name_list tokens.old) result tokens.new }
+{
+    let names = sequence::<Name>(alloc, tokens, numbers, Separator::Comma)?;
+    tokens.expect_sign(Sign::RightParenthesis)?;
+    Ok(Some(names))
+}
+
 /// The columns that an INSERT lists, if a parenthesis comes next.
-#[tactic(auto, using(crate::proofs::Shorter::name_takes), unfolding(crate::specs::Reading::named_columns, crate::specs::Reading::name_list))]
+#[tactic(auto, unfolding(crate::specs::Reading::named_columns))]
 fn named_columns(
     alloc: Global,
     tokens: &mut Tokens<'_>,
@@ -44,12 +58,11 @@ fn named_columns(
 ) -> Result<Option<Items<Name>>, Refusal>
     ensures { Reads (reading.named_columns tokens.old) result tokens.new }
 {
-    if !tokens.eat_sign(Sign::LeftParenthesis) {
-        return Ok(None);
+    if tokens.eat_sign(Sign::LeftParenthesis) {
+        name_list(alloc, tokens, numbers)
+    } else {
+        Ok(None)
     }
-    let names = sequence::<Name>(alloc, tokens, numbers, Separator::Comma)?;
-    tokens.expect_sign(Sign::RightParenthesis)?;
-    Ok(Some(names))
 }
 
 /// An INSERT from `INTO` on.
@@ -75,32 +88,69 @@ pub(crate) fn insert(
     Ok(Stmt::Edit { table, edit })
 }
 
-/// Whether a value comes next, and no column.
-#[tactic(auto, unfolding(crate::specs::Reading::sees_value, crate::specs::Reading::begins_value))]
-fn sees_value(tokens: &Tokens<'_>) -> bool
-    ensures { result ≡ reading.sees_value tokens.now }
+/// Whether a value begins with that token, and no column.
+#[tactic(auto, unfolding(crate::specs::Reading::begins_value))]
+fn begins_value(token: &Token<'_>) -> bool
+    ensures { result ≡ reading.begins_value token.now }
 {
-    match tokens.peek() {
-        Some(Token::Word(word)) => word.as_str().eq_ignore_ascii_case("NULL"),
-        Some(Token::Digits(_) | Token::Text(_) | Token::Blob(_)) => true,
-        Some(Token::Sign(Sign::Plus | Sign::Minus)) => true,
+    match token {
+        Token::Word(word) => word.as_str().eq_ignore_ascii_case("NULL"),
+        Token::Digits(_) | Token::Text(_) | Token::Blob(_) => true,
+        Token::Sign(sign) => matches!(sign, Sign::Plus | Sign::Minus),
         _ => false,
     }
 }
 
+/// Whether a value comes next, and no column.
+#[tactic(auto, unfolding(crate::specs::Reading::sees_value))]
+fn sees_value(tokens: &Tokens<'_>) -> bool
+    ensures { result ≡ reading.sees_value tokens.now }
+{
+    match tokens.peek() {
+        Some(token) => begins_value(token),
+        None => false,
+    }
+}
+
+/// A column plus a number, from the number on.
+fn plus(tokens: &mut Tokens<'_>, numbers: Numbers, column: Name) -> Result<Source, Refusal>
+    ensures { Reads (and_then (reading.number (number_by numbers) false tokens.old) (λ number. pure (Source.Plus column number))) result tokens.new }
+{
+    let number = digits(tokens, numbers, false)?;
+    Ok(Source::Plus(column, number))
+}
+
+/// A column minus a number, from the number on.
+fn minus(tokens: &mut Tokens<'_>, numbers: Numbers, column: Name) -> Result<Source, Refusal>
+    ensures { Reads (and_then (reading.number (number_by numbers) false tokens.old) (λ number. pure (Source.Minus column number))) result tokens.new }
+{
+    let number = digits(tokens, numbers, false)?;
+    Ok(Source::Minus(column, number))
+}
+
+/// A column minus a number, or the column, from what follows it.
+#[tactic(auto, unfolding(crate::specs::Reading::less_or_same))]
+fn less_or_same(tokens: &mut Tokens<'_>, numbers: Numbers, column: Name) -> Result<Source, Refusal>
+    ensures { Reads (reading.less_or_same (number_by numbers) column tokens.old) result tokens.new }
+{
+    if tokens.eat_sign(Sign::Minus) {
+        minus(tokens, numbers, column)
+    } else {
+        Ok(Source::Column(column))
+    }
+}
+
 /// A source that reads a column: the column, or the column plus or minus a number.
-#[tactic(auto, unfolding(crate::specs::Reading::from_column, crate::specs::Reading::less_or_same))]
+#[tactic(auto, unfolding(crate::specs::Reading::from_column))]
 fn from_column(alloc: Global, tokens: &mut Tokens<'_>, numbers: Numbers) -> Result<Source, Refusal>
     ensures { Reads (reading.from_column (number_by numbers) tokens.old) result tokens.new }
 {
     let column = name(alloc, tokens)?;
     if tokens.eat_sign(Sign::Plus) {
-        return Ok(Source::Plus(column, digits(tokens, numbers, false)?));
+        plus(tokens, numbers, column)
+    } else {
+        less_or_same(tokens, numbers, column)
     }
-    if tokens.eat_sign(Sign::Minus) {
-        return Ok(Source::Minus(column, digits(tokens, numbers, false)?));
-    }
-    Ok(Source::Column(column))
 }
 
 /// What an UPDATE gives a column.
@@ -109,10 +159,24 @@ fn source(alloc: Global, tokens: &mut Tokens<'_>, numbers: Numbers) -> Result<So
     ensures { Reads (reading.a_source (number_by numbers) tokens.old) result tokens.new }
 {
     if sees_value(tokens) {
-        Ok(Source::Literal(Value::read(alloc, tokens, numbers)?))
+        Value::read(alloc, tokens, numbers).map(Source::Literal)
     } else {
         from_column(alloc, tokens, numbers)
     }
+}
+
+/// What that column is given, from `=` on.
+fn set_of(
+    alloc: Global,
+    tokens: &mut Tokens<'_>,
+    numbers: Numbers,
+    column: Name,
+) -> Result<(Name, Source), Refusal>
+    ensures { Reads (and_then (reading.sign Sign.Equal tokens.old) (λ _ left. and_then (reading.a_source (number_by numbers) left) (λ source. pure (column, source)))) result tokens.new }
+{
+    tokens.expect_sign(Sign::Equal)?;
+    let source = source(alloc, tokens, numbers)?;
+    Ok((column, source))
 }
 
 /// A column, `=` and what it is given.
@@ -128,9 +192,7 @@ impl Item for (Name, Source) {
         numbers: Numbers,
     ) -> Result<(Name, Source), Refusal> {
         let column = name(alloc, tokens)?;
-        tokens.expect_sign(Sign::Equal)?;
-        let source = source(alloc, tokens, numbers)?;
-        Ok((column, source))
+        set_of(alloc, tokens, numbers, column)
     }
 }
 

@@ -3,10 +3,11 @@
 //! The first reading takes numbers of 64 bits, and a second one any size: so a number that is too large is told from tokens
 //! that spell nothing.
 
-ghost use Rattle.std.specs.Prelude.{◌≡◌};
+ghost use Rattle.std.specs.Prelude.{◌≡◌, ◌<◌, Some, MatchResult};
 ghost use Rattle.rt_sql.specs.Number.{number_by};
 ghost use Rattle.rt_sql.specs.Reading as reading;
-ghost use Rattle.rt_sql.specs.Reading.{Reads};
+ghost use Rattle.rt_sql.specs.Reading.{Reads, and_then, pure};
+ghost use Rattle.rt_sql.specs.Token as spec;
 
 use crate::grammar::items::{Item, Separator, sequence};
 use crate::literals::{hex_bytes, undouble};
@@ -17,21 +18,40 @@ use crate::word::is_reserved;
 use rt_sql_statement::{Blob, Items, Name, Refusal, Text, Value};
 use std::alloc::Global;
 
+/// The name that this word is, which comes next, unless it is reserved.
+#[tactic(auto, unfolding(crate::specs::Reading::name_in))]
+fn plain_name(alloc: Global, tokens: &mut Tokens<'_>, word: &str) -> Result<Name, Refusal>
+    ensures { Reads (reading.paired (reading.name_in (Some (Token.Word word.now))) (reading.rest tokens.old)) result tokens.new }
+{
+    if is_reserved(word) {
+        return Err(Refusal::SyntaxError);
+    }
+    tokens.skip();
+    Ok(Name::new(alloc, word)?)
+}
+
+/// A name that is written in those quotes.
+fn quoted_name(alloc: Global, quote: u8, quoted: &str) -> Result<Name, Refusal>
+    requires { quote < 128 }
+    ensures { MatchResult result (λ name. name ≡ spec.undouble quote quoted.now) (λ refusal. refusal ≡ Refusal.OutOfMemory) }
+{
+    Ok(Name::from_string(undouble(alloc, quote, quoted)?))
+}
+
 /// A name: a word that isn't reserved, or any text in double quotes.
 #[tactic(auto, unfolding(crate::specs::Reading::name, crate::specs::Reading::name_in))]
 pub(crate) fn name(alloc: Global, tokens: &mut Tokens<'_>) -> Result<Name, Refusal>
     ensures { Reads (reading.name tokens.old) result tokens.new }
 {
     match tokens.peek() {
-        Some(Token::Word(word)) if !is_reserved(word.as_str()) => {
+        Some(Token::Word(word)) => {
             let word = word.as_str();
-            tokens.skip();
-            Ok(Name::new(alloc, word)?)
+            plain_name(alloc, tokens, word)
         }
         Some(Token::Quoted(quoted)) => {
             let quoted = quoted.as_str();
             tokens.skip();
-            Ok(Name::from_string(undouble(alloc, b'"', quoted)?))
+            quoted_name(alloc, b'"', quoted)
         }
         _ => Err(Refusal::SyntaxError),
     }
@@ -79,6 +99,22 @@ fn integer(tokens: &mut Tokens<'_>, numbers: Numbers) -> Result<i64, Refusal>
     digits(tokens, numbers, is_negative)
 }
 
+/// The text that is written in single quotes.
+fn text_value(alloc: Global, quoted: &str) -> Result<Value, Refusal>
+    ensures { MatchResult result (λ value. value ≡ Value.Text (spec.undouble 39 quoted.now)) (λ refusal. refusal ≡ Refusal.OutOfMemory) }
+{
+    let text = undouble(alloc, b'\'', quoted)?;
+    Ok(Value::Text(Text::from_string(text)))
+}
+
+/// The blob that hexadecimal digits write.
+fn blob_value(alloc: Global, digits: &str) -> Result<Value, Refusal>
+    ensures { MatchResult result (λ value. value ≡ Value.Blob (spec.hex_bytes digits.now)) (λ refusal. refusal ≡ Refusal.OutOfMemory) }
+{
+    let bytes = hex_bytes(alloc, digits)?;
+    Ok(Value::Blob(Blob::from_vec(bytes)))
+}
+
 /// A text or a blob.
 #[tactic(auto, unfolding(crate::specs::Reading::literal, crate::specs::Reading::literal_in))]
 fn literal(alloc: Global, tokens: &mut Tokens<'_>) -> Result<Value, Refusal>
@@ -88,14 +124,12 @@ fn literal(alloc: Global, tokens: &mut Tokens<'_>) -> Result<Value, Refusal>
         Some(Token::Text(text)) => {
             let text = text.as_str();
             tokens.skip();
-            let text = undouble(alloc, b'\'', text)?;
-            Ok(Value::Text(Text::from_string(text)))
+            text_value(alloc, text)
         }
         Some(Token::Blob(digits)) => {
             let digits = digits.as_str();
             tokens.skip();
-            let bytes = hex_bytes(alloc, digits)?;
-            Ok(Value::Blob(Blob::from_vec(bytes)))
+            blob_value(alloc, digits)
         }
         _ => Err(Refusal::SyntaxError),
     }
@@ -159,22 +193,31 @@ impl Item for Value {
     }
 }
 
+/// A row from its first value on.
+#[tactic(auto, using(crate::proofs::Shorter::value_takes))]
+fn row(alloc: Global, tokens: &mut Tokens<'_>, numbers: Numbers) -> Result<Items<Value>, Refusal>
+    ensures { Reads (and_then (reading.by_commas (reading.a_value (number_by numbers)) tokens.old) (λ values left.
+        and_then (reading.sign Sign.RightParenthesis left) (λ _. pure values))) result tokens.new }
+{
+    let values = sequence::<Value>(alloc, tokens, numbers, Separator::Comma)?;
+    tokens.expect_sign(Sign::RightParenthesis)?;
+    Ok(values)
+}
+
 /// Values in parentheses: a row.
 impl Item for Items<Value> {
     ghost use Rattle.rt_sql.specs.Reading.{list};
 
     ghost rule = { list };
 
-    #[tactic(auto, using(crate::proofs::Shorter::value_takes), unfolding(crate::specs::Reading::list))]
+    #[tactic(auto, unfolding(crate::specs::Reading::list))]
     fn read(
         alloc: Global,
         tokens: &mut Tokens<'_>,
         numbers: Numbers,
     ) -> Result<Items<Value>, Refusal> {
         tokens.expect_sign(Sign::LeftParenthesis)?;
-        let values = sequence::<Value>(alloc, tokens, numbers, Separator::Comma)?;
-        tokens.expect_sign(Sign::RightParenthesis)?;
-        Ok(values)
+        row(alloc, tokens, numbers)
     }
 }
 
@@ -188,5 +231,5 @@ pub(crate) fn text(alloc: Global, tokens: &mut Tokens<'_>) -> Result<Name, Refus
     };
     let text = text.as_str();
     tokens.skip();
-    Ok(Name::from_string(undouble(alloc, b'\'', text)?))
+    quoted_name(alloc, b'\'', text)
 }
