@@ -12,3 +12,4 @@ pub mod Covering
 pub mod Views
 pub mod Room
 pub mod Following
+pub mod Stepwise

@@ -136,3 +136,20 @@ module _ {D : ℕ} where
       length (by_id (rows_of j.windows.lists)) ≤ length (by_id (rows_of i.windows.lists)) + windows → UsesRoom v (state_of j) rows windows
   inside-uses i j v is rows windows more a b c d =
       subst (λ (u : LiveState D). UsesRoom u (state_of j) rows windows) is (uses-room (state_of i) (state_of j) rows windows a b (tells-more i j more) (searches-more i j more) c d)
+
+  -- no tree and no list has less room
+  pub inside-keeps : (i j : Inside D) (v : LiveState D) (is : state_of i ≡ v) → j.rows.lists ≡ i.rows.lists → j.windows.lists ≡ i.windows.lists →
+      i.rows.spare ≤ j.rows.spare → i.windows.spare ≤ j.windows.spare →
+      vec_capacity i.changes ≤ vec_capacity j.changes → vec_capacity i.planned ≤ vec_capacity j.planned →
+      vec_capacity i.scratch.found ≤ vec_capacity j.scratch.found → vec_capacity i.scratch.last ≤ vec_capacity j.scratch.last →
+      vec_capacity i.scratch.reached ≤ vec_capacity j.scratch.reached → UsesRoom v (state_of j) 0 0
+  inside-keeps i j v is rows windows a b changes planned found last reached =
+      let rows_long = ap (λ (s : ShadowLists D). length (by_id (rows_of s))) rows in
+      let windows_long = ap (λ (s : ShadowLists D). length (by_id (rows_of s))) windows in
+      let more : GrowsInside i j = record {
+        changes = omega (arith, changes, planned);
+        scratch = record { found = found; last = last; reached = reached };
+        rows = ap (λ (s : ShadowLists D). s.capacity) rows;
+        windows = ap (λ (s : ShadowLists D). s.capacity) windows;
+      } in
+      inside-uses i j v is 0 0 more (omega (arith, a)) (omega (arith, b)) (omega (arith, rows_long)) (omega (arith, windows_long))

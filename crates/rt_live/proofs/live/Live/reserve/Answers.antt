@@ -1,11 +1,11 @@
-use Rattle.std.proofs.Common.{◌≡◌, ◌∙◌, ◌+◌, ◌≤◌, length, arith, ap, vec_capacity}
+use Rattle.std.proofs.Common.{◌≡◌, ◌∙◌, ◌+◌, ◌≤◌, length, arith, ap, refl, le_refl, vec_capacity}
 use Rattle.rt_box.specs.Capacity.{least_fill}
 use Rattle.rt_check.specs.Shadow.{ShadowLists}
 use Rattle.rt_tree.specs.Lists.{rows_of}
 use Rattle.rt_live.specs.Rows.{by_id}
 use Rattle.rt_live.specs.LiveInside.{least_of}
 use Rattle.rt_live.specs.declared.live.Live.TheInside.{Inside}
-use Rattle.rt_live.proofs.Room.{more-reached, GrowsInside, inside-uses}
+use Rattle.rt_live.proofs.Room.{more-reached, GrowsInside, inside-uses, inside-keeps}
 use Rattle.rt_live.proofs.live.Live.reserve.Goals as goal
 
 pub returns-clause-room : goal.returns-clause-room
@@ -54,3 +54,58 @@ returns-clause-keeps g c =
     } in
     inside-uses i j c.args.self.now c.self.view_is 0 0 more (omega (arith, c.reserve.ensures.keeps)) (omega (arith, c.reserve-2.ensures.keeps))
     (omega (arith, long_rows)) (omega (arith, long_windows))
+
+-- ---- where a list gets no room, what there was room for stays
+pub returns-in_err-reserve-clause-keeps : goal.returns-in_err-reserve-clause-keeps
+returns-in_err-reserve-clause-keeps g c =
+    let j : Inside g.row.D = record c.self.inside { rows = c.reserve.new.self } in
+    inside-keeps c.self.inside j c.args.self.now c.self.view_is c.reserve.ensures.lists refl c.reserve.ensures.keeps (le_refl _)
+    (le_refl _) (le_refl _) (le_refl _) (le_refl _) (le_refl _)
+
+pub returns-in_err-reserve-2-clause-keeps : goal.returns-in_err-reserve-2-clause-keeps
+returns-in_err-reserve-2-clause-keeps g c =
+    let j : Inside g.row.D = record c.self.inside { rows = c.reserve.new.self; windows = c.reserve-2.new.self } in
+    inside-keeps c.self.inside j c.args.self.now c.self.view_is c.reserve.ensures.lists c.reserve-2.ensures.lists c.reserve.ensures.keeps c.reserve-2.ensures.keeps
+    (le_refl _) (le_refl _) (le_refl _) (le_refl _) (le_refl _)
+
+pub returns-in_err-reserve-3-clause-keeps : goal.returns-in_err-reserve-3-clause-keeps
+returns-in_err-reserve-3-clause-keeps g c =
+    let j : Inside g.row.D = record c.self.inside { rows = c.reserve.new.self; windows = c.reserve-2.new.self; planned = c.reserve-3.new.self } in
+    inside-keeps c.self.inside j c.args.self.now c.self.view_is c.reserve.ensures.lists c.reserve-2.ensures.lists c.reserve.ensures.keeps c.reserve-2.ensures.keeps
+    (le_refl _) c.reserve-3.ensures.capacity (le_refl _) (le_refl _) (le_refl _)
+
+pub returns-in_err-reserve-4-clause-keeps : goal.returns-in_err-reserve-4-clause-keeps
+returns-in_err-reserve-4-clause-keeps g c =
+    let j : Inside g.row.D = record c.self.inside { rows = c.reserve.new.self; windows = c.reserve-2.new.self; planned = c.reserve-3.new.self; changes = c.reserve-4.new.self } in
+    inside-keeps c.self.inside j c.args.self.now c.self.view_is c.reserve.ensures.lists c.reserve-2.ensures.lists c.reserve.ensures.keeps c.reserve-2.ensures.keeps
+    c.reserve-4.ensures.capacity c.reserve-3.ensures.capacity (le_refl _) (le_refl _) (le_refl _)
+
+pub returns-in_err-reserve-5-clause-keeps : goal.returns-in_err-reserve-5-clause-keeps
+returns-in_err-reserve-5-clause-keeps g c =
+    let j : Inside g.row.D = record c.self.inside { rows = c.reserve.new.self; windows = c.reserve-2.new.self; planned = c.reserve-3.new.self; changes = c.reserve-4.new.self; scratch = record c.self.inside.scratch { found = c.reserve-5.new.self } } in
+    inside-keeps c.self.inside j c.args.self.now c.self.view_is c.reserve.ensures.lists c.reserve-2.ensures.lists c.reserve.ensures.keeps c.reserve-2.ensures.keeps
+    c.reserve-4.ensures.capacity c.reserve-3.ensures.capacity c.reserve-5.ensures.capacity (le_refl _) (le_refl _)
+
+pub returns-in_err-reserve-6-clause-keeps : goal.returns-in_err-reserve-6-clause-keeps
+returns-in_err-reserve-6-clause-keeps g c =
+    let j : Inside g.row.D = record c.self.inside { rows = c.reserve.new.self; windows = c.reserve-2.new.self; planned = c.reserve-3.new.self; changes = c.reserve-4.new.self; scratch = record c.self.inside.scratch { found = c.reserve-5.new.self; last = c.reserve-6.new.self } } in
+    inside-keeps c.self.inside j c.args.self.now c.self.view_is c.reserve.ensures.lists c.reserve-2.ensures.lists c.reserve.ensures.keeps c.reserve-2.ensures.keeps
+    c.reserve-4.ensures.capacity c.reserve-3.ensures.capacity c.reserve-5.ensures.capacity c.reserve-6.ensures.capacity (le_refl _)
+
+pub returns-in_err-for_rows-clause-keeps : goal.returns-in_err-for_rows-clause-keeps
+returns-in_err-for_rows-clause-keeps g c =
+    let j : Inside g.row.D = record c.self.inside { rows = c.reserve.new.self; windows = c.reserve-2.new.self; planned = c.reserve-3.new.self; changes = c.reserve-4.new.self; scratch = record c.self.inside.scratch { found = c.reserve-5.new.self; last = c.reserve-6.new.self } } in
+    inside-keeps c.self.inside j c.args.self.now c.self.view_is c.reserve.ensures.lists c.reserve-2.ensures.lists c.reserve.ensures.keeps c.reserve-2.ensures.keeps
+    c.reserve-4.ensures.capacity c.reserve-3.ensures.capacity c.reserve-5.ensures.capacity c.reserve-6.ensures.capacity (le_refl _)
+
+pub returns-in_err-for_windows-clause-keeps : goal.returns-in_err-for_windows-clause-keeps
+returns-in_err-for_windows-clause-keeps g c =
+    let j : Inside g.row.D = record c.self.inside { rows = c.reserve.new.self; windows = c.reserve-2.new.self; planned = c.reserve-3.new.self; changes = c.reserve-4.new.self; scratch = record c.self.inside.scratch { found = c.reserve-5.new.self; last = c.reserve-6.new.self } } in
+    inside-keeps c.self.inside j c.args.self.now c.self.view_is c.reserve.ensures.lists c.reserve-2.ensures.lists c.reserve.ensures.keeps c.reserve-2.ensures.keeps
+    c.reserve-4.ensures.capacity c.reserve-3.ensures.capacity c.reserve-5.ensures.capacity c.reserve-6.ensures.capacity (le_refl _)
+
+pub returns-in_err-reserve-7-clause-keeps : goal.returns-in_err-reserve-7-clause-keeps
+returns-in_err-reserve-7-clause-keeps g c =
+    let j : Inside g.row.D = record c.self.inside { rows = c.reserve.new.self; windows = c.reserve-2.new.self; planned = c.reserve-3.new.self; changes = c.reserve-4.new.self; scratch = record c.self.inside.scratch { found = c.reserve-5.new.self; last = c.reserve-6.new.self; reached = c.reserve-7.new.self } } in
+    inside-keeps c.self.inside j c.args.self.now c.self.view_is c.reserve.ensures.lists c.reserve-2.ensures.lists c.reserve.ensures.keeps c.reserve-2.ensures.keeps
+    c.reserve-4.ensures.capacity c.reserve-3.ensures.capacity c.reserve-5.ensures.capacity c.reserve-6.ensures.capacity c.reserve-7.ensures.capacity
