@@ -1,4 +1,4 @@
-use Rattle.std.proofs.Common.{◌≡◌, ◌+◌, ◌<◌, ◌∷◌, ◌++◌, [], take, length, true, false, arith, rules, ap, ◌∙◌, sym, subst}
+use Rattle.std.proofs.Common.{◌≡◌, ◌+◌, ◌<◌, ◌∷◌, ◌++◌, [], take, length, true, false, arith, rules, ap, ◌∙◌, sym, subst, falls, le_antisymm}
 use Rattle.std.specs.List.{All}
 use Rattle.std.proofs.lemmas.List.{take_more, take_all}
 use Rattle.std.proofs.lemmas.List.Elements.{All-push}
@@ -43,3 +43,18 @@ pub returns-clause-boxes : goal.returns-clause-boxes
 returns-clause-boxes g c =
     let rows = c.args.rows.now in
     subst (All (λ (x : Cell g.row.D). IsBox g.row.D x.rect)) (take_all c.loop-at.at rows (omega (arith, c.loop-at-test.false))) c.loop-at.invariant.boxes
+
+pub offset_bounds-rows-at : goal.offset_bounds-rows-at
+offset_bounds-rows-at g c = c.loop-at.auto.at-end
+
+pub bounds-rows-at : goal.bounds-rows-at
+bounds-rows-at g c = c.loop-at-test.true
+
+pub loop-at-smaller : goal.loop-at-smaller
+loop-at-smaller g c = falls (length c.args.rows.now) c.loop-at.at c.loop-at-test.true
+
+pub returns-clause-entries : goal.returns-clause-entries
+returns-clause-entries g c = subst (HasEntries c.loop-at.leaves) (take_all c.loop-at.at c.args.rows.now c.loop-at-test.false) c.loop-at.invariant.entries
+
+pub returns-clause-len : goal.returns-clause-len
+returns-clause-len g c = c.loop-at.invariant.len ∙ le_antisymm c.loop-at.auto.at-end c.loop-at-test.false

@@ -1,6 +1,6 @@
-use Rattle.std.proofs.Common.{◌≡◌, ◌≢◌, ◌+◌, ◌<◌, ◌≤◌, [], ◌∷◌, ◌++◌, take, length, IsSome, length-append, arith, rules, ap, ◌∙◌, sym, subst}
+use Rattle.std.proofs.Common.{◌≡◌, ◌≢◌, ◌+◌, ◌<◌, ◌≤◌, [], ◌∷◌, ◌++◌, take, length, IsSome, length-append, arith, rules, ap, ◌∙◌, sym, subst, falls, lit<}
 use Rattle.std.specs.Ordering.{int_eq}
-use Rattle.std.proofs.lemmas.List.{take_more, length-take-le}
+use Rattle.std.proofs.lemmas.List.{take_more, take_all, length-take-le}
 use Rattle.indexmap.specs.IndexMap.{get as leaf_of}
 use Rattle.slab.specs.Slab.{get, ContainsKey}
 use Rattle.rt_box.specs.Capacity.{most_cells}
@@ -36,7 +36,7 @@ attach-requires g c =
     still-named s t key c.args.level cells (take i cells) i cell so_far c.requires.named within c.cell-item.is in
     let child : 1 ≤ c.args.level → ContainsKey t.nodes (key_of cell) = λ some. (named some).0 in
     let apart : 1 ≤ c.args.level → key_of cell ≢ key = λ some. (named some).1 in
-    search rules
+    (lit< tt, (search rules, (present, (room, (row, (child, apart))))))
 
 pub loop-cell-preserved : goal.loop-cell-preserved
 loop-cell-preserved g c =
@@ -52,3 +52,15 @@ loop-cell-preserved g c =
     subst (λ cs. Fills s c.attach.new.tree c.args.key c.args.level cs) (sym next)
     (fills-more s t c.attach.new.tree c.args.key c.args.level (take i cells) cell first.0 so_far first.1 c.attach.ensures
     (still-named s t c.args.key c.args.level cells (take i cells) i cell so_far c.requires.named within c.cell-item.is))
+
+pub offset_bounds-cells-cell-index : goal.offset_bounds-cells-cell-index
+offset_bounds-cells-cell-index g c = c.loop-cell.auto.cell-index-end
+
+pub bounds-cells-cell-index : goal.bounds-cells-cell-index
+bounds-cells-cell-index g c = c.loop-cell-test.true
+
+pub loop-cell-smaller : goal.loop-cell-smaller
+loop-cell-smaller g c = falls (length c.args.cells.now) c.loop-cell.cell-index c.loop-cell-test.true
+
+pub returns : goal.returns
+returns g c = subst (Fills c.args.tree.now c.loop-cell.tree c.args.key c.args.level) (take_all c.loop-cell.cell-index c.args.cells.now c.loop-cell-test.false) c.loop-cell.invariant

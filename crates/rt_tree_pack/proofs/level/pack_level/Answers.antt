@@ -1,11 +1,12 @@
-use Rattle.std.proofs.Common.{◌≡◌, ℕ, ◌≤◌, ◌++◌, List, take, drop, length, arith, rules, ap, ◌∙◌, sym, subst}
+use Rattle.std.proofs.Common.{◌≡◌, ℕ, ◌<◌, ◌≤◌, ◌++◌, List, take, drop, length, arith, rules, ap, ◌∙◌, sym, subst}
 use Rattle.std.proofs.lemmas.List.{take-append-drop, length-take-le}
+use Rattle.std.proofs.lemmas.Result.{IfOk-from_err}
 use Rattle.slab.specs.Slab.{HasRoomFor}
 use Rattle.rt_tree_node.specs.declared.arena.Arena.{Arena}
 use Rattle.rt_tree_node.specs.declared.cell.Cell.{Cell}
 use Rattle.rt_tree_place.proofs.Few.{least-two}
 use Rattle.rt_tree_pack.specs.Steps.{IsRun, MayPack, PacksUpTo}
-use Rattle.rt_tree_pack.proofs.Levels.{may-pack, room-for_node, packs-more}
+use Rattle.rt_tree_pack.proofs.Levels.{may-pack, packs-none, room-for_node, packs-more}
 use Rattle.rt_tree_pack.proofs.level.pack_level.Goals as goal
 
 module _ {D : ℕ} (s t : Arena D) (level k : ℕ) (cells left run rest next : List (Cell D)) (front : run ≡ take k left) (back : rest ≡ drop k left)
@@ -21,6 +22,12 @@ module _ {D : ℕ} (s t : Arena D) (level k : ℕ) (cells left run rest next : L
       let long : length run ≡ k = ap length front ∙ length-take-le k left within in
       subst (λ n. IsRun s.capacity n (length run)) (ap length (sym joined))
       (subst (λ j. IsRun s.capacity (length left) j) (sym long) (subst (λ m. IsRun m (length left) k) (ap (λ v. v.capacity) so_far.frame) is))
+
+positive : (n m : ℕ) → n ≡ m → 5 ≤ m → 0 < n
+positive n m is low = omega arith
+
+pub nonzero_div-cells : goal.nonzero_div-cells
+nonzero_div-cells g c = positive c.greatest.result c.args.tree.now.capacity c.greatest.ensures.value c.greatest.ensures.valid.0
 
 pub pack_node-cell-requires : goal.pack_node-cell-requires
 pack_node-cell-requires g c =
@@ -56,3 +63,18 @@ loop-left-preserved g c =
     let shape = cut-run s t c.args.level c.run_length.result c.args.cells.now left run rest next c.split_at.ensures.front c.split_at.ensures.back inv is is.within in
     subst (λ ns. PacksUpTo s u c.args.level c.args.cells.now rest ns) (sym c.in_ok-push.ensures.items)
     (packs-more s t c.args.level c.args.cells.now run rest next so_far u c.pack_node-cell.result c.pack_node-cell.ensures shape)
+
+pub loop-left-init : goal.loop-left-init
+loop-left-init g c =
+    let s = c.args.tree.now in
+    let cells = c.args.cells.now in
+    subst (λ ns. PacksUpTo s s c.args.level cells cells ns) (sym c.in_ok-next.ensures.items) (packs-none s c.args.level cells c.requires.below c.requires.many)
+
+pub split_at-requires : goal.split_at-requires
+split_at-requires g c = c.run_length.ensures.within
+
+pub returns-in_err-next : goal.returns-in_err-next
+returns-in_err-next g c = IfOk-from_err _ _ c.from_residual.ensures.0
+
+pub returns-in_err-push : goal.returns-in_err-push
+returns-in_err-push g c = IfOk-from_err _ _ c.from_residual-in_err-push.ensures.0
