@@ -3,9 +3,9 @@
 //! The counts in the lines before say which kind of line is due. `specs/Reading.antt` defines this reading step by
 //! step, and `specs/Faults.antt` what a dump is and what each fault of a text is.
 
-ghost use Rattle.std.specs.Prelude.{◌≡◌, ◌≤◌, ◌<◌, ◌-◌, ◌^◌, [], ◌∷◌, Ok, Err, IfOk, IfErr, length, if◌then◌else◌};
+ghost use Rattle.std.specs.Prelude.{◌≡◌, ◌≤◌, ◌<◌, ◌-◌, ◌^◌, [], ◌∷◌, Ok, Err, IfOk, IfErr, length};
 ghost use Rattle.rt_check_dump.specs.Lines.{words, kind_of, node_head, row_entry, raw_cell, axes_of, capacity_of, header_of};
-ghost use Rattle.rt_check_dump.specs.Reading.{due, empty_node, after_head, after_cell, after_row, after_kind, after_line, Gives, is_nothing, is_end, read_rest, fault_at, Reads, IsDumpFaultOf, start, read_body, read_kind, read_text};
+ghost use Rattle.rt_check_dump.specs.Reading.{due, empty_node, after_head, after_cell, after_row, after_kind, after_line, Gives, is_nothing, is_end, after_last, read_rest, ReadsUpTo, fault_at, Reads, IsDumpFaultOf, start, read_body, read_kind, read_text};
 ghost use Rattle.rt_check_dump.specs.Faults.{IsTextOf};
 
 use crate::dump::AnyShadow;
@@ -185,7 +185,7 @@ fn read_end<const D: usize>(
     lines: &mut Pieces<'_>,
     line: u64,
 ) -> Result<Shadow<D>, DumpFault>
-    ensures { Reads (if is_nothing lines.old then Ok shadow.entry else Err (line, LineFault.BadLine)) result }
+    ensures { Reads (after_last shadow.entry line lines.old) result }
 {
     if is_nothing(lines) {
         return Ok(shadow);
@@ -205,7 +205,7 @@ fn take_rest<const D: usize>(
 ) -> Result<u64, DumpFault>
     requires axes { D ≤ 3 }
     requires short { length lines.old < 2 ^ 64 - 2 }
-    ensures ended { IfOk result (λ next. read_rest lines.old progress.old 2 ≡ (if is_nothing lines.new then Ok progress.new.shadow else Err (next, LineFault.BadLine))) }
+    ensures ended { IfOk result (ReadsUpTo lines.old progress.old lines.new progress.new) }
     ensures faulty { IfErr result (IsDumpFaultOf (read_rest lines.old progress.old 2)) }
 {
     let mut number = 2u64;

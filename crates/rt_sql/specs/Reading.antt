@@ -1,6 +1,6 @@
 -- Statements read from a list of tokens, as functions (own): the value and the tokens after it, or none if the tokens spell
 -- no such thing.
-use Rattle.std.specs.Prelude.{◌≡◌, ◌≢◌, ◌<◌, ℕ, zero, suc, Bool, true, false, not, List, [], ◌∷◌, ◌++◌, length, Option, Some, None, Result, Ok, Err, if◌then◌else◌, codes, ◌&&◌, ◌||◌}
+use Rattle.std.specs.Prelude.{◌≡◌, ◌≢◌, ◌<◌, ℕ, zero, suc, Bool, true, false, not, List, [], ◌∷◌, ◌++◌, length, Option, Some, None, Result, Ok, Err, MatchResult, if◌then◌else◌, codes, ◌&&◌, ◌||◌}
 use lib.IntN.{ℤ}
 use Rattle.std.specs.Option.{is_some}
 use denote.Enum.Bare.{sameb}
@@ -112,6 +112,10 @@ abbrev pub Reads : {A : Type 0} → Outcome A → Result A Refusal → List Toke
 Reads outcome (Ok a) new = outcome ≡ Some (a, new)
 Reads outcome (Err e) new = e ≢ OutOfMemory → outcome ≡ None
 
+-- what a function that makes a value ensures: that value, unless memory fails
+abbrev pub Makes : {A : Type 0} → A → Result A Refusal → Type 0
+Makes value result = MatchResult result (λ made. made ≡ value) (λ refusal. refusal ≡ OutOfMemory)
+
 -- ---- names and values
 
 unfoldable pub name_in : Option Token → Option Text
@@ -121,6 +125,10 @@ name_in _ = None
 
 unfoldable pub name : Parser Text
 name = from_first name_in
+
+-- the name that a word is, which comes next
+abbrev pub word_name : Text → Parser Text
+word_name word = λ ts. paired (name_in (Some (token.Word word))) (rest ts)
 
 abbrev pub Read : Type 0
 Read = Bool → Text → Option ℤ
@@ -198,12 +206,17 @@ sequence_by separator item = sequence (sees separator) item
 abbrev pub TakesTokens : {A : Type 0} → Parser A → Type 0
 TakesTokens {A} item = (ts : List Token) (a : A) (left : List Token) → item ts ≡ Some (a, left) → length left < length ts
 
-unfoldable pub list : Read → Parser (List Value)
-list read = do
-  sign LeftParenthesis
+-- a row from its first value on
+abbrev pub row_values : Read → Parser (List Value)
+row_values read = do
   values ← by_commas (a_value read)
   sign RightParenthesis
   pure values
+
+unfoldable pub list : Read → Parser (List Value)
+list read = do
+  sign LeftParenthesis
+  row_values read
 
 -- ---- columns
 
@@ -371,26 +384,42 @@ begins_value _ = false
 unfoldable pub sees_value : List Token → Bool
 sees_value ts = passes begins_value (first ts)
 
+-- that column plus a number, and minus one, from the number on
+abbrev pub plus_number : Read → Text → Parser Source
+plus_number read column = do
+  n ← number read false
+  pure (source.Plus column n)
+
+abbrev pub minus_number : Read → Text → Parser Source
+minus_number read column = do
+  n ← number read false
+  pure (source.Minus column n)
+
 unfoldable pub less_or_same : Read → Text → Parser Source
 less_or_same read column = do
   is_minus ← eat_sign Minus
-  if is_minus then (do n ← number read false; pure (source.Minus column n)) else pure (source.Column column)
+  if is_minus then minus_number read column else pure (source.Column column)
 
 unfoldable pub from_column : Read → Parser Source
 from_column read = do
   column ← name
   is_plus ← eat_sign Plus
-  if is_plus then (do n ← number read false; pure (source.Plus column n)) else less_or_same read column
+  if is_plus then plus_number read column else less_or_same read column
 
 unfoldable pub a_source : Read → Parser Source
 a_source read = λ ts. if sees_value ts then (do v ← a_value read; pure (source.Literal v)) ts else from_column read ts
 
-unfoldable pub set : Read → Parser (Text × Source)
-set read = do
-  column ← name
+-- what that column is given, from `=` on
+abbrev pub set_to : Read → Text → Parser (Text × Source)
+set_to read column = do
   sign Equal
   from ← a_source read
   pure (column, from)
+
+unfoldable pub set : Read → Parser (Text × Source)
+set read = do
+  column ← name
+  set_to read column
 
 unfoldable pub update : Read → Parser Stmt
 update read = do

@@ -43,11 +43,14 @@ UndoublesAt quote text at = undouble quote text ≡ take (at + 1) text ++ undoub
 abbrev pub hex_value : ℕ → ℕ
 hex_value b = if is_ascii_digit b then b - 48 else (if is_in_range 97 102 b then b - 87 else (if is_in_range 65 70 b then b - 55 else 0))
 
+abbrev pub hex_byte : ℕ → ℕ → ℕ
+hex_byte high low = 16 * hex_value high + hex_value low
+
 -- the bytes that pairs of hexadecimal digits write
 abbrev pub hex_bytes : Text → List ℕ
 hex_bytes [] = []
 hex_bytes (high ∷ []) = []
-hex_bytes (high ∷ low ∷ z) = (16 * hex_value high + hex_value low) ∷ hex_bytes z
+hex_bytes (high ∷ low ∷ z) = hex_byte high low ∷ hex_bytes z
 
 -- a byte that a comment of a line goes on over
 unfoldable pub is_in_line : ℕ → Bool

@@ -2,7 +2,7 @@
 //!
 //! Both calls make a new value: a doubled quote becomes one, and two digits become a byte (`specs/Token.antt`).
 
-ghost use Rattle.std.specs.Prelude.{◌≡◌, ◌<◌, ◌+◌, ◌*◌, ◌↔◌, length, slice_index, IsTrue, IfOk, IfSome, MatchOption};
+ghost use Rattle.std.specs.Prelude.{◌≡◌, ◌<◌, ◌+◌, ◌↔◌, length, slice_index, IsTrue, IfOk, IfSome, MatchOption};
 ghost use Rattle.std.specs.String.{string_bytes};
 ghost use Rattle.rt_sql.specs.Token as spec;
 
@@ -63,7 +63,7 @@ fn hex_value(digit: u8) -> u8
 #[inline]
 fn hex_byte(digits: &[u8], at: usize) -> u8
     requires { at + 1 < length digits.now }
-    ensures { result ≡ 16 * spec.hex_value (slice_index digits.now at) + spec.hex_value (slice_index digits.now (at + 1)) }
+    ensures { result ≡ spec.hex_byte (slice_index digits.now at) (slice_index digits.now (at + 1)) }
 {
     16 * hex_value(digits[at]) + hex_value(digits[at + 1])
 }

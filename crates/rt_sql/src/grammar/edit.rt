@@ -5,7 +5,7 @@
 ghost use Rattle.std.specs.Prelude.{◌≡◌, false};
 ghost use Rattle.rt_sql.specs.Number.{number_by};
 ghost use Rattle.rt_sql.specs.Reading as reading;
-ghost use Rattle.rt_sql.specs.Reading.{Reads, and_then, pure};
+ghost use Rattle.rt_sql.specs.Reading.{Reads};
 
 use crate::grammar::condition::condition;
 use crate::grammar::items::{Item, Separator, sequence};
@@ -114,7 +114,7 @@ fn sees_value(tokens: &Tokens<'_>) -> bool
 
 /// A column plus a number, from the number on.
 fn plus(tokens: &mut Tokens<'_>, numbers: Numbers, column: Name) -> Result<Source, Refusal>
-    ensures { Reads (and_then (reading.number (number_by numbers) false tokens.old) (λ number. pure (Source.Plus column number))) result tokens.new }
+    ensures { Reads (reading.plus_number (number_by numbers) column tokens.old) result tokens.new }
 {
     let number = digits(tokens, numbers, false)?;
     Ok(Source::Plus(column, number))
@@ -122,7 +122,7 @@ fn plus(tokens: &mut Tokens<'_>, numbers: Numbers, column: Name) -> Result<Sourc
 
 /// A column minus a number, from the number on.
 fn minus(tokens: &mut Tokens<'_>, numbers: Numbers, column: Name) -> Result<Source, Refusal>
-    ensures { Reads (and_then (reading.number (number_by numbers) false tokens.old) (λ number. pure (Source.Minus column number))) result tokens.new }
+    ensures { Reads (reading.minus_number (number_by numbers) column tokens.old) result tokens.new }
 {
     let number = digits(tokens, numbers, false)?;
     Ok(Source::Minus(column, number))
@@ -172,7 +172,7 @@ fn set_of(
     numbers: Numbers,
     column: Name,
 ) -> Result<(Name, Source), Refusal>
-    ensures { Reads (and_then (reading.sign Sign.Equal tokens.old) (λ _ left. and_then (reading.a_source (number_by numbers) left) (λ source. pure (column, source)))) result tokens.new }
+    ensures { Reads (reading.set_to (number_by numbers) column tokens.old) result tokens.new }
 {
     tokens.expect_sign(Sign::Equal)?;
     let source = source(alloc, tokens, numbers)?;

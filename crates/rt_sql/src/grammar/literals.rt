@@ -3,10 +3,10 @@
 //! The first reading takes numbers of 64 bits, and a second one any size: so a number that is too large is told from tokens
 //! that spell nothing.
 
-ghost use Rattle.std.specs.Prelude.{◌≡◌, ◌<◌, Some, MatchResult};
+ghost use Rattle.std.specs.Prelude.{◌≡◌, ◌<◌};
 ghost use Rattle.rt_sql.specs.Number.{number_by};
 ghost use Rattle.rt_sql.specs.Reading as reading;
-ghost use Rattle.rt_sql.specs.Reading.{Reads, and_then, pure};
+ghost use Rattle.rt_sql.specs.Reading.{Makes, Reads};
 ghost use Rattle.rt_sql.specs.Token as spec;
 
 use crate::grammar::items::{Item, Separator, sequence};
@@ -21,7 +21,7 @@ use std::alloc::Global;
 /// The name that this word is, which comes next, unless it is reserved.
 #[tactic(auto, unfolding(crate::specs::Reading::name_in))]
 fn plain_name(alloc: Global, tokens: &mut Tokens<'_>, word: &str) -> Result<Name, Refusal>
-    ensures { Reads (reading.paired (reading.name_in (Some (Token.Word word.now))) (reading.rest tokens.old)) result tokens.new }
+    ensures { Reads (reading.word_name word.now tokens.old) result tokens.new }
 {
     if is_reserved(word) {
         return Err(Refusal::SyntaxError);
@@ -33,7 +33,7 @@ fn plain_name(alloc: Global, tokens: &mut Tokens<'_>, word: &str) -> Result<Name
 /// A name that is written in those quotes.
 fn quoted_name(alloc: Global, quote: u8, quoted: &str) -> Result<Name, Refusal>
     requires { quote < 128 }
-    ensures { MatchResult result (λ name. name ≡ spec.undouble quote quoted.now) (λ refusal. refusal ≡ Refusal.OutOfMemory) }
+    ensures { Makes (spec.undouble quote quoted.now) result }
 {
     Ok(Name::from_string(undouble(alloc, quote, quoted)?))
 }
@@ -101,7 +101,7 @@ fn integer(tokens: &mut Tokens<'_>, numbers: Numbers) -> Result<i64, Refusal>
 
 /// The text that is written in single quotes.
 fn text_value(alloc: Global, quoted: &str) -> Result<Value, Refusal>
-    ensures { MatchResult result (λ value. value ≡ Value.Text (spec.undouble 39 quoted.now)) (λ refusal. refusal ≡ Refusal.OutOfMemory) }
+    ensures { Makes (Value.Text (spec.undouble 39 quoted.now)) result }
 {
     let text = undouble(alloc, b'\'', quoted)?;
     Ok(Value::Text(Text::from_string(text)))
@@ -109,7 +109,7 @@ fn text_value(alloc: Global, quoted: &str) -> Result<Value, Refusal>
 
 /// The blob that hexadecimal digits write.
 fn blob_value(alloc: Global, digits: &str) -> Result<Value, Refusal>
-    ensures { MatchResult result (λ value. value ≡ Value.Blob (spec.hex_bytes digits.now)) (λ refusal. refusal ≡ Refusal.OutOfMemory) }
+    ensures { Makes (Value.Blob (spec.hex_bytes digits.now)) result }
 {
     let bytes = hex_bytes(alloc, digits)?;
     Ok(Value::Blob(Blob::from_vec(bytes)))
@@ -196,8 +196,7 @@ impl Item for Value {
 /// A row from its first value on.
 #[tactic(auto, using(crate::proofs::Shorter::value_takes))]
 fn row(alloc: Global, tokens: &mut Tokens<'_>, numbers: Numbers) -> Result<Items<Value>, Refusal>
-    ensures { Reads (and_then (reading.by_commas (reading.a_value (number_by numbers)) tokens.old) (λ values left.
-        and_then (reading.sign Sign.RightParenthesis left) (λ _. pure values))) result tokens.new }
+    ensures { Reads (reading.row_values (number_by numbers) tokens.old) result tokens.new }
 {
     let values = sequence::<Value>(alloc, tokens, numbers, Separator::Comma)?;
     tokens.expect_sign(Sign::RightParenthesis)?;
