@@ -64,10 +64,6 @@ unfoldable pub rest : List Token → List Token
 rest [] = []
 rest (t ∷ ts) = ts
 
--- a token is left
-abbrev pub is_left : List Token → Bool
-is_left ts = is_some (first ts)
-
 unfoldable pub is_sign : Sign → Token → Bool
 is_sign sign (token.Sign s) = sameb the_type s sign
 is_sign sign _ = false
