@@ -8,3 +8,4 @@ pub mod RowLists
 pub mod Names
 pub mod Same
 pub mod Filling
+pub mod Stepwise
