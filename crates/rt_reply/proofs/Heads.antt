@@ -1,10 +1,13 @@
 -- Changes of views: each is a head with its row.
-use Rattle.std.proofs.Common.{◌≡◌, ℕ, zero, suc, ◌<◌, List, [], ◌∷◌, ◌++◌, length, get_or, refl, ap, arith, ◌∙◌}
+use Rattle.std.proofs.Common.{◌≡◌, ℕ, zero, suc, ◌<◌, List, [], ◌∷◌, ◌++◌, length, get_or, refl, ap, arith, length-append, ◌∙◌}
 use Rattle.rt_sql_statement.specs.declared.value.Value.{Value}
 use Rattle.rt_table_row.specs.RowLists.{Lists}
 use Rattle.rt_table_row.specs.Views.{ViewChange}
 use Rattle.rt_reply.specs.declared.changes.Head.{Head}
 use Rattle.rt_reply.specs.Changes.{change, with_rows}
+
+pub rows-push : (heads : List Head) (rows : Lists) (head : Head) (row : List Value) → length heads ≡ length rows → length (heads ++ head ∷ []) ≡ length (rows ++ row ∷ [])
+rows-push heads rows head row same = omega (arith, length-append heads (head ∷ []), length-append rows (row ∷ []))
 
 pub length-with_rows : (heads : List Head) (rows : Lists) → length heads ≡ length rows → length (with_rows heads rows) ≡ length heads
 length-with_rows [] rows same = refl
