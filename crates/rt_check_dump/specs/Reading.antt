@@ -99,7 +99,7 @@ abbrev pub at_line : {P S : Type 0} → ℕ → Result P LineFault → (P → Re
 at_line n (Err fault) next = Err (n, fault)
 at_line n (Ok p) next = next p
 
--- what is read with the last line: the shadow, if nothing is left but the text's end, or else a fault of line n, the next
+-- what the last line gives: the shadow, if only the text's end is left; else a fault of the next line, which is line n
 abbrev pub after_last : {S : Type 0} → S → ℕ → List (List ℕ) → Result S (ℕ × LineFault)
 after_last shadow n ls = if is_nothing ls then Ok shadow else Err (n, BadLine)
 
@@ -111,9 +111,9 @@ read_rest (l ∷ m ∷ ms) p n =
     at_line n (after_line p l) (λ q.
     if is_end (due p) then after_last q.shadow (n + 1) (m ∷ ms) else read_rest (m ∷ ms) q (n + 1))
 
--- the lines up to the last are read, and those are left; the next is line n
+-- the last line was read: what reading gives is decided by the shadow so far and by the lines left, the first of them line n
 abbrev pub ReadsUpTo : {D : ℕ} → List (List ℕ) → Progress D → List (List ℕ) → Progress D → ℕ → Type 0
-ReadsUpTo lines progress left read n = read_rest lines progress 2 ≡ after_last read.shadow n left
+ReadsUpTo lines start left end n = read_rest lines start 2 ≡ after_last end.shadow n left
 
 -- the fault of a text of which that line isn't taken
 abbrev pub fault_at : ℕ → StepFault → DumpFault
