@@ -2,6 +2,7 @@ pub mod Boxes
 pub mod Counting
 pub mod Below
 pub mod Once
+pub mod Bits
 pub mod Turns
 pub mod Within
 pub mod Ordered
