@@ -1,38 +1,25 @@
 -- What a branch stands for: the rows below its node.
-use Rattle.std.proofs.Common.{◌≡◌, ℕ, zero, suc, ◌<◌, ◌≤◌, ℤ, List, [], ◌∷◌, ◌++◌, length, map, get_or, Contains, Option, Some, None, unwrap_or, nat_eq, append-nil, arith, refl, ap, sym, ◌∙◌, subst, inl, inr}
-use Rattle.std.specs.List.{All, count_by, sum_by, flat_map}
-use Rattle.std.specs.Ordering.{int_eq}
+use Rattle.std.proofs.Common.{◌≡◌, ℕ, suc, ◌≤◌, List, [], ◌∷◌, ◌++◌, map, get_or, Some, unwrap_or, refl, ap, sym, ◌∙◌, subst}
+use Rattle.std.specs.List.{All, flat_map}
 use Rattle.std.specs.declared.cmp.Reverse.{Reverse}
-use Rattle.std.proofs.lemmas.Bool.{cases_lt}
-use Rattle.std.proofs.lemmas.Option.{none-some, same_Some}
-use Rattle.std.proofs.lemmas.List.{get_or_past}
 use Rattle.std.proofs.lemmas.List.Concat.{flat_map-append}
-use Rattle.std.proofs.lemmas.List.Elements.{All-nil, All-head, All-tail, All-append, All-map, All-same, All-weaker, All-contains, Contains-get_or}
-use Rattle.std.proofs.Math.Path.{fun_ext}
-use Rattle.std.proofs.lemmas.List.Sums.{count_by-le-length, sum_by-cons}
-use Rattle.indexmap.specs.IndexMap.{get as leaf_of}
-use Rattle.slab.specs.Slab.{Slab, get}
+use Rattle.std.proofs.lemmas.List.Elements.{All-head, All-tail, All-map, All-same, All-weaker, Contains-get_or}
+use Rattle.slab.specs.Slab.{Slab}
 use Rattle.rt_box.specs.declared.interval.Interval.{Interval}
 use Rattle.rt_box.specs.Rect.{Holds}
-use Rattle.rt_box.proofs.Holding.{Holds_trans}
 use Rattle.rt_tree_node.specs.declared.arena.Arena.{Arena}
 use Rattle.rt_tree_node.specs.declared.cell.Cell.{Cell}
 use Rattle.rt_tree_node.specs.Node.{NodeCells}
-use Rattle.rt_tree_node.specs.Places.{key_of, cells_at, leaf_cells_of, leaf_cells_at, level_at, hull_at, times_listed}
-use Rattle.rt_tree_node.proofs.Places.{leaf-at_leaf, leaf-at_inner}
+use Rattle.rt_tree_node.specs.Places.{key_of, cells_at, level_at, hull_at}
+use Rattle.rt_tree_node.proofs.Places.{leaf-at_inner}
 use Rattle.rt_tree_walk.specs.declared.searching.Row.{Row}
-use Rattle.rt_tree_walk.specs.Search.{times, row_of}
-use Rattle.rt_tree_walk.specs.Preorder.{keys_in, tree_keys}
-use Rattle.rt_tree_node.proofs.Sums.{upto}
-use Rattle.rt_tree_walk.proofs.Totals.{times-one, sum-listed, sum-listed_le}
-use Rattle.rt_tree_walk.proofs.Judging.{count-mapped}
-use Rattle.rt_tree_walk.proofs.Reaching.{hull-contained}
+use Rattle.rt_tree_walk.specs.Search.{row_of}
+use Rattle.rt_tree_walk.specs.Preorder.{keys_in}
 use Rattle.rt_tree_walk.proofs.Progress.{IsSettled}
-use Rattle.rt_tree_walk.proofs.Listed.{levels-below, listed-there, listed-once, contained-from_times}
+use Rattle.rt_tree_walk.proofs.Listed.{levels-below}
 use Rattle.rt_tree_nearest.proofs.Distances.{distance-le}
 use Rattle.rt_tree_walk.proofs.Below.{leaf_rows, rows_under, child-hull, held-below}
 use Rattle.rt_tree_nearest.specs.declared.candidate.Branch.{Branch}
-use Rattle.rt_tree_walk.specs.Rows.{rows_in}
 use Rattle.rt_tree_nearest.specs.Nearest.{box_distance}
 use Rattle.rt_tree_nearest.specs.Candidates.{queued}
 

@@ -12,3 +12,4 @@ pub mod Points
 pub mod Narrowed
 pub mod Aimed
 pub mod Picks
+pub mod LowestBit

@@ -5,6 +5,7 @@ use lib.Count.{count_trailing_zeros}
 use Rattle.std.specs.List.Sorted.{IsPermutation}
 use Rattle.std.specs.BinaryHeap.{IsHeap, heap_items}
 use Rattle.std.proofs.lemmas.List.Sorted.{IsPermutation-refl}
+use Rattle.std.proofs.lemmas.Result.{IfOk-from_err}
 use Rattle.std.specs.declared.cmp.Reverse.{Reverse}
 use Rattle.rt_tree_node.specs.declared.cell.Cell.{Cell}
 use Rattle.rt_tree_walk.specs.Visits.{picked}
@@ -13,6 +14,7 @@ use Rattle.rt_tree_nearest.specs.declared.candidate.Branch.{Branch}
 use Rattle.rt_tree_nearest.specs.Nearest.{box_distance}
 use Rattle.rt_tree_nearest.specs.Candidates.{queued, is_near, compare_branches}
 use Rattle.rt_tree_nearest.proofs.Picks.{picked-near, all-fit}
+use Rattle.rt_tree_nearest.proofs.LowestBit.{without-lower}
 use Rattle.rt_tree_nearest.proofs.Queueing.{queue-near, queue-far, queue-end}
 use Rattle.rt_tree_nearest.proofs.browse.push_children.Goals as goal
 use Rattle.rt_tree_nearest.proofs.browse.push_children.Goals.{then-branch-most+in_ok-push, else-branch-most}
@@ -91,3 +93,9 @@ returns g c =
       fits = all-fit q c.requires.aimed cells c.near_cells-rest.ensures.boxes;
       order = c.loop-rest.invariant.order;
     }
+
+pub loop-rest-smaller : goal.loop-rest-smaller
+loop-rest-smaller g c = without-lower c.loop-rest.rest c.loop-rest-test.true
+
+pub returns-in_err-push : goal.returns-in_err-push
+returns-in_err-push g c = IfOk-from_err _ _ c.from_residual.ensures.0

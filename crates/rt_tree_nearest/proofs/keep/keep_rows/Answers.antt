@@ -1,4 +1,4 @@
-use Rattle.std.proofs.Common.{rules, ◌≡◌, ℕ, ◌-◌, ◌<◌, ◌++◌, [], ◌∷◌, List, length, map, append-nil, append_assoc, arith, ap, sym, ◌∙◌, subst}
+use Rattle.std.proofs.Common.{rules, ◌≡◌, ℕ, ◌-◌, ◌<◌, ◌++◌, [], ◌∷◌, List, length, map, append-nil, append_assoc, arith, refl, ap, sym, ◌∙◌, subst}
 use Rattle.std.specs.Int.Bits.{bit_and}
 use lib.Bits.{and_le_r}
 use lib.Count.{count_trailing_zeros}
@@ -6,8 +6,10 @@ use Rattle.rt_tree_node.specs.declared.cell.Cell.{Cell}
 use Rattle.rt_tree_walk.specs.Visits.{picked}
 use Rattle.rt_tree_walk.proofs.Picked.{picked-first, picked-none}
 use Rattle.rt_tree_nearest.specs.declared.candidate.Candidate.{Candidate}
-use Rattle.rt_tree_nearest.specs.Candidates.{candidate_of, items_in, Keeps}
-use Rattle.rt_tree_nearest.proofs.Keeping.{keeps-then}
+use Rattle.rt_tree_nearest.specs.Candidates.{candidate_of, items_in, IsKeptIn, Keeps}
+use Rattle.std.proofs.lemmas.Result.{IfOk-from_err}
+use Rattle.rt_tree_nearest.proofs.LowestBit.{without-lower}
+use Rattle.rt_tree_nearest.proofs.Keeping.{keeps-none, keeps-then}
 use Rattle.rt_tree_nearest.proofs.Picks.{keeps-picked}
 use Rattle.rt_tree_nearest.proofs.keep.keep_rows.Goals as goal
 
@@ -54,3 +56,25 @@ returns g c =
           (subst (λ (cs : List (Candidate g.row.D)). Keeps q cs (items_in c.args.kept.now) (items_in c.loop-rest.kept)) seen so.keeps.keeps);
       shape = so.keeps.shape;
     }
+
+pub loop-rest-init : goal.loop-rest-init
+loop-rest-init g c =
+    let q = c.args.query.now in
+    record {
+      below = c.near_cells-rest.ensures.below;
+      seen = [];
+      all = refl;
+      keeps = record { keeps = keeps-none q (items_in c.args.kept.now) c.requires.kept.rows; shape = c.requires.kept.shape };
+    }
+
+pub loop-rest-smaller : goal.loop-rest-smaller
+loop-rest-smaller g c = without-lower c.loop-rest.rest c.loop-rest-test.true
+
+pub keep-requires : goal.keep-requires
+keep-requires g c =
+    let so = c.loop-rest.invariant.keeps in
+    let kept : IsKeptIn c.args.query.now c.loop-rest.kept = record { rows = so.keeps.kept; shape = so.shape } in
+    search rules
+
+pub returns-in_err-keep : goal.returns-in_err-keep
+returns-in_err-keep g c = IfOk-from_err _ _ c.from_residual.ensures.0
