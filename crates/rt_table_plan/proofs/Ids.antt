@@ -1,5 +1,6 @@
 -- Which ids have rows.
-use Rattle.std.proofs.Common.{◌≡◌, ℕ, ℤ, Bool, List, [], ◌∷◌, map, filter, Option, None, Ok, refl}
+use Rattle.std.proofs.Common.{◌≡◌, ℕ, ◌+◌, ◌<◌, ℤ, Bool, List, [], ◌∷◌, ◌++◌, map, filter, take, length, get_or, Option, None, Ok, refl, sym, ap, ◌∙◌}
+use Rattle.std.proofs.lemmas.List.{map-append, map_more}
 use Rattle.rt_sql_statement.specs.declared.statement.Test.{Test}
 use Rattle.rt_table_row.specs.Columns.{Columns}
 use Rattle.rt_table_row.specs.Conditions.{holds}
@@ -27,3 +28,12 @@ pub deletes : (D : ℕ) (columns : Columns) (rows : List TableRow) (cond : List 
     steps ≡ map (λ (row : Row D). Leaves row.id) (map leaf_row (filter (admits filter_) rows)) → delete columns rows cond ≡ Ok steps
 deletes D columns rows cond filter_ steps is steps_are =
     rw (is.known, steps_are, leaving_rows D, filter_same (admits filter_) (holds columns cond) rows is.same)
+
+-- a row more
+pub leaves-more : {D : ℕ} {S : Type 0} (f : S → Step) (rows : List (Row D)) (steps : List S) (i : ℕ) (row : Row D) (step : S) → i < length rows → row ≡ get_or rows i row
+    → f step ≡ Leaves row.id → map f steps ≡ map (λ (r : Row D). Leaves r.id) (take i rows)
+    → map f (steps ++ step ∷ []) ≡ map (λ (r : Row D). Leaves r.id) (take (i + 1) rows)
+leaves-more {D} f rows steps i row step within here is so_far =
+    map-append f steps (step ∷ []) ∙ ap (λ (ss : List Step). ss ++ f step ∷ []) so_far
+    ∙ ap (λ (s : Step). map (λ (r : Row D). Leaves r.id) (take i rows) ++ s ∷ []) (is ∙ ap (λ (r : Row D). Leaves r.id) here)
+    ∙ sym (map_more (λ (r : Row D). Leaves r.id) rows i row within)
