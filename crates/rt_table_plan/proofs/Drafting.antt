@@ -102,6 +102,17 @@ knows_more rows touched more done next step knows is each = λ id.
     ∙ after_there rows touched (outcome rows done) step id knows
     ∙ sym (ap (λ (t : Option Bool). option_map_or (λ (there : Bool). there) t (has_id rows id)) (each id))
 
+steps_and-none : (steps : Steps) → steps_and [] steps ≡ steps
+steps_and-none (Ok steps) = refl
+steps_and-none (Err refusal) = refl
+
+-- before the first step
+pub begun : (whole : List TableRow → Steps) (rows : List TableRow) (done : List Step) → done ≡ [] → whole rows ≡ steps_and done (whole (outcome rows done))
+begun whole rows done none = subst (λ (steps : List Step). whole rows ≡ steps_and steps (whole (outcome rows steps))) (sym none) (sym (steps_and-none (whole rows)))
+
+pub knows_begun : (rows : List TableRow) (touched : ℤ → Option Bool) (done : List Step) → ((id : ℤ) → touched id ≡ None) → done ≡ [] → Knows rows touched (outcome rows done)
+knows_begun rows touched done untouched none = subst (λ (steps : List Step). Knows rows touched (outcome rows steps)) (sym none) (knows_none rows touched untouched)
+
 -- ---- UPDATE
 
 pub left_some : {X Y : Type 0} (f : X → Option Y) (found : List X) (i : ℕ) (d : X) (y : Y) → i < length found → f (get_or found i d) ≡ Some y →

@@ -1,13 +1,31 @@
-use Rattle.std.proofs.Common.{arith, ◌≡◌, Ok, ◌+◌, ◌<◌, [], ◌∷◌, map, length, drop, append-nil, sym, ap, ◌∙◌}
+use Rattle.std.proofs.Common.{arith, ◌≡◌, ℕ, List, Ok, ◌+◌, ◌-◌, ◌<◌, [], ◌∷◌, map, length, drop, append-nil, sym, ap, subst, ◌∙◌}
 use Rattle.std.proofs.lemmas.List.{at_drop_all}
 use Rattle.std.proofs.lemmas.Result.{err_from_is_err_and}
 use Rattle.rt_table_row.specs.Arrangements.{row_values}
-use Rattle.rt_table_row.specs.Edits.{outcome, put_all, steps_and}
+use Rattle.rt_table_row.specs.Rows.{TableRow}
+use Rattle.rt_table_row.specs.Edits.{Step, most_rows, outcome, put_all, steps_and}
 use Rattle.rt_table_row.specs.Entries.{step_of}
+use Rattle.rt_table_plan.specs.Counts.{Counts}
 use Rattle.rt_table_plan.specs.Drafts.{known_of, step_given}
-use Rattle.rt_table_plan.proofs.Drafting.{knows_more}
+use Rattle.rt_table_plan.proofs.Drafting.{begun, knows_begun, knows_more}
 use Rattle.rt_table_plan.proofs.Putting.{put_more, put_refused, put_fits, counts_step, left_more}
 use Rattle.rt_table_plan.proofs.insert.all_steps.Goals as goal
+
+pub loop-list-init : goal.loop-list-init
+loop-list-init g c =
+    let rows = c.args.store.now.rows in
+    let f = row_values c.args.arrangement.now in
+    let none : map step_of c.new-draft.result.steps.items ≡ [] = ap (map step_of) c.new-draft.ensures.steps in
+    record {
+      knows = knows_begun rows (known_of c.new-draft.result) (map step_of c.new-draft.result.steps.items) c.new-draft.ensures.known none;
+      counts = subst (λ (steps : List Step). Counts (outcome rows steps) c.new-count.result.largest c.new-count.result.room) (sym none)
+          (record {
+            rising = c.facts.ensures.rising;
+            largest_is = c.new-count.ensures.largest ∙ c.largest.ensures;
+            room_is = c.new-count.ensures.room ∙ ap (λ (n : ℕ). most_rows - n) c.len.ensures;
+          });
+      rest = begun (λ (now : List TableRow). put_all g.row.D c.args.rule now (map f c.args.lists.now)) rows (map step_of c.new-draft.result.steps.items) none;
+    }
 
 pub returns-in_err-step : goal.returns-in_err-step
 returns-in_err-step g c =

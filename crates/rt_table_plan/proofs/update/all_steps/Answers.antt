@@ -1,13 +1,14 @@
-use Rattle.std.proofs.Common.{◌≡◌, arith, ◌+◌, ◌<◌, Some, map, length, drop, rules, sym, subst}
+use Rattle.std.proofs.Common.{◌≡◌, arith, ◌+◌, ◌<◌, List, [], Some, map, length, drop, rules, sym, ap, subst}
 use Rattle.std.specs.List.{filter_map}
 use Rattle.std.proofs.lemmas.List.{at_drop_all}
 use Rattle.std.proofs.lemmas.Result.{err_from_is_err_and}
 use Rattle.rt_tree_walk.specs.declared.searching.Row.{Row}
+use Rattle.rt_table_row.specs.Rows.{TableRow}
 use Rattle.rt_table_row.specs.Edits.{outcome}
 use Rattle.rt_table_row.specs.Entries.{step_of, view_row}
 use Rattle.rt_table_store.specs.Picking.{Stands}
 use Rattle.rt_table_plan.specs.Drafts.{known_of, row_of, set_all}
-use Rattle.rt_table_plan.proofs.Drafting.{knows_more, left_some, set_more, set_refused, set_all_done}
+use Rattle.rt_table_plan.proofs.Drafting.{begun, knows_begun, knows_more, left_some, set_more, set_refused, set_all_done}
 use Rattle.rt_table_plan.proofs.update.all_steps.Goals as goal
 
 pub view-requires : goal.view-requires
@@ -21,6 +22,15 @@ view-requires g c = (
     ),
   ),
 )
+
+pub loop-row-init : goal.loop-row-init
+loop-row-init g c =
+    let rows = c.args.store.now.rows in
+    let none : map step_of c.new-draft.result.steps.items ≡ [] = ap (map step_of) c.new-draft.ensures.steps in
+    record {
+      knows = knows_begun rows (known_of c.new-draft.result) (map step_of c.new-draft.result.steps.items) c.new-draft.ensures.known none;
+      rest = begun (λ (now : List TableRow). set_all g.row.D c.args.settings.now now (filter_map (row_of rows) c.args.rows.now)) rows (map step_of c.new-draft.result.steps.items) none;
+    }
 
 pub returns-in_err-step : goal.returns-in_err-step
 returns-in_err-step g c =
