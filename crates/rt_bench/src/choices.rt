@@ -125,18 +125,24 @@ fn time_outliers<R: Clock>(rt: &R, shape: Shape, capacity: Capacity) -> io::Resu
     Ok((start.elapsed(rt)?.as_nanos() / u128::from(ROUNDS), sum))
 }
 
+/// Prints what a call took on nodes of that shape, and the sum of what was chosen.
+fn tell(rt: &HostRuntime, shape: &str, call: &str, timed: (u128, u64)) -> io::Result<()> {
+    let (time, sum) = timed;
+    println!(rt; "{shape}: {call} {time} ns ({sum})")
+}
+
 fn report_shape(rt: &HostRuntime, name: &str, shape: Shape) -> io::Result<()> {
-    let (above, sum) = time_choices(rt, shape, true, shape.size)?;
-    println!(rt; "{name}: choice above leaves {above} ns ({sum})")?;
-    let (point, sum) = time_choices(rt, shape, true, 0)?;
-    println!(rt; "{name}: choice for a point {point} ns ({sum})")?;
-    let (elsewhere, sum) = time_choices(rt, shape, false, shape.size)?;
-    println!(rt; "{name}: choice elsewhere {elsewhere} ns ({sum})")?;
+    let above = time_choices(rt, shape, true, shape.size)?;
+    tell(rt, name, "choice above leaves", above)?;
+    let point = time_choices(rt, shape, true, 0)?;
+    tell(rt, name, "choice for a point", point)?;
+    let elsewhere = time_choices(rt, shape, false, shape.size)?;
+    tell(rt, name, "choice elsewhere", elsewhere)?;
     if let Some(capacity) = Capacity::new(51) {
-        let (split, sum) = time_splits(rt, shape, capacity)?;
-        println!(rt; "{name}: split {split} ns ({sum})")?;
-        let (outliers, sum) = time_outliers(rt, shape, capacity)?;
-        println!(rt; "{name}: farthest {outliers} ns ({sum})")?;
+        let split = time_splits(rt, shape, capacity)?;
+        tell(rt, name, "split", split)?;
+        let outliers = time_outliers(rt, shape, capacity)?;
+        tell(rt, name, "farthest", outliers)?;
     }
     Ok(())
 }
