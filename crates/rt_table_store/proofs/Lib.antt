@@ -18,3 +18,4 @@ pub mod Admitted
 pub mod Found
 pub mod Windows
 pub mod Bare
+pub mod Passing
