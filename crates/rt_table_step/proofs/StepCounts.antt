@@ -1,7 +1,9 @@
 -- The room that a plan takes, counted step by step.
 use Rattle.std.proofs.Common.{◌≡◌, ℕ, ◌+◌, ◌<◌, ◌≤◌, Bool, true, false, List, [], ◌∷◌, ◌++◌, map, take, length, get_or, sym, ap, ◌∙◌, arith}
 use Rattle.std.specs.Prelude.{if◌then◌else◌, ◌==◌}
+use Rattle.std.proofs.lemmas.Grind.{common_steps}
 use Rattle.std.proofs.lemmas.List.{take_more, map-append}
+use Rattle.rt_sql_statement.specs.declared.value.Value.{Value}
 use Rattle.rt_table_row.specs.Edits.{Step, Leaves, Comes, Becomes}
 use Rattle.rt_table_step.specs.Steps.{inserts, inserts_all, auxiliary_rows_of, auxiliary_rows_all}
 
@@ -37,3 +39,11 @@ inserts_more f xs i x within here = ap inserts_all (steps_more f xs i x within h
 
 pub auxiliary_rows_more : {X : Type 0} (f : X → Step) (xs : List X) (i : ℕ) (x : X) → i < length xs → x ≡ get_or xs i x → auxiliary_rows_all (map f (take (i + 1) xs)) ≡ auxiliary_rows_all (map f (take i xs)) + auxiliary_rows_of (f x)
 auxiliary_rows_more f xs i x within here = ap auxiliary_rows_all (steps_more f xs i x within here) ∙ auxiliary_rows_last (map f (take i xs)) (f x)
+
+-- what is left once a row has its place
+pub auxiliary_left : (values : List Value) (old new : ℕ) → old ≤ new + 1 → (values ≡ [] → old ≤ new) → old ≤ new + (if length values == 0 then 0 else 1)
+auxiliary_left values old new one none = grind (arith, common_steps)
+
+-- what is left behind the first step is room for the later ones
+pub rest_fits : (first rest old new : ℕ) → first + rest ≤ old → old ≤ new + first → rest ≤ new
+rest_fits first rest old new enough left = omega arith
