@@ -120,16 +120,27 @@ fn time_choices<R: Clock>(
     Ok((time / (due.len() as u128).max(1), sum))
 }
 
+/// The tree of rows of that shape, as it is seen from outside.
+fn shadow_of(rt: &HostRuntime, capacity: Capacity, shape: Shape) -> io::Result<Shadow<2>> {
+    let (keys, other_keys) = (RandomState::new(rt)?, RandomState::new(rt)?);
+    let tree = tree_of(rt.alloc(), keys, capacity, shape)?;
+    Ok(tree.shadow(rt.alloc(), other_keys)?)
+}
+
+/// The nanoseconds of a choice above the leaves in a tree of 100,000 rows, and the sum of what was chosen.
+fn time_built(rt: &HostRuntime, capacity: Capacity, shape: Shape) -> io::Result<(u128, u64)> {
+    let shadow = shadow_of(rt, capacity, shape)?;
+    let nodes = nodes_above(rt.alloc(), &shadow)?;
+    time_choices(rt, rt.alloc(), nodes.as_slice(), shape)
+}
+
 /// Prints the nanoseconds of a choice above the leaves in trees of 100,000 rows, for the boxes that come next.
 pub fn report(rt: &HostRuntime) -> io::Result<()> {
     let Some(capacity) = Capacity::new(51) else {
         return Ok(());
     };
     for (shape, name) in SHAPES {
-        let tree = tree_of(rt.alloc(), RandomState::new(rt)?, capacity, shape)?;
-        let shadow = tree.shadow(rt.alloc(), RandomState::new(rt)?)?;
-        let nodes = nodes_above(rt.alloc(), &shadow)?;
-        let (time, sum) = time_choices(rt, rt.alloc(), nodes.as_slice(), shape)?;
+        let (time, sum) = time_built(rt, capacity, shape)?;
         println!(rt; "a built tree, {name}: choice above leaves {time} ns ({sum})")?;
     }
     Ok(())
