@@ -4,7 +4,7 @@
 rattle writes a file as it ends each part of a function's proof, so what its thread used from one file to the next is what that part
 took. `Lts` is the part that tells what is borrowed: it grows with a function's calls and exits times its variables. `Proof` has the
 goals that tactics find, and `Answers` those that the crate proves. What out/ keeps isn't checked again: to see all, remove
-crates/NAME/out first. FLAGS are those of `rt check`. It needs rt and strace.
+crates/NAME/out first. FLAGS are those of `rt check`, which gets one job unless they say how many. It needs rt and strace.
 """
 
 import os
@@ -78,7 +78,8 @@ def main():
         words = ["strace", "-f", "-ttt", "-s", "400", "-e", "trace=write", "-e", "signal=none", "-o", trace]
         watcher = threading.Thread(target=used.watch)
         watcher.start()
-        status = subprocess.run([*words, "rt", "check", "--jobs", "1", *sys.argv[2:]], cwd=folder).returncode
+        jobs = [] if "--jobs" in sys.argv else ["--jobs", "1"]
+        status = subprocess.run([*words, "rt", "check", *jobs, *sys.argv[2:]], cwd=folder).returncode
         used.ended.set()
         watcher.join()
         with open(trace, errors="replace") as lines:
