@@ -20,7 +20,7 @@ use Rattle.rt_tree_walk.proofs.Progress.{IsSettled}
 use Rattle.rt_tree_node.proofs.Counts.{count-cons}
 use Rattle.rt_tree.specs.Kept.{IsKeptWith}
 use Rattle.rt_map.specs.Packing.{ids}
-use Rattle.rt_map.specs.PackingInside.{cell_of, IsArenaOf}
+use Rattle.rt_map.specs.PackingInside.{cell_of, IsReadyFor, IsArenaOf}
 use Rattle.rt_tree.proofs.Rows.{rows-counted}
 use Rattle.rt_tree.proofs.Shape.{nodes-long, entries-long}
 
@@ -57,15 +57,16 @@ module _ {D : ℕ} where
   }
 
   -- the nodes after packing
-  pub arena-of : (capacity : ℕ) (rows : List (Row D)) (t u : Arena D) → 1 ≤ D → D ≤ 3 → IsBare t → t.capacity ≡ capacity → length rows ≤ most_rows_of_a_tree →
-      HasRoom t (length rows) → 1152 ≤ vec_capacity t.pending → index_map_len t.leaves ≡ length rows → Packs t u (map cell_of rows) → IsArenaOf u capacity rows
-  arena-of capacity rows t u some few bare is most room pending_room ids_are packs =
+  pub arena-of : (capacity : ℕ) (rows : List (Row D)) (t u : Arena D) → 1 ≤ D → D ≤ 3 → length rows ≤ most_rows_of_a_tree → IsReadyFor t capacity (map cell_of rows) →
+      Packs t u (map cell_of rows) → IsArenaOf u capacity rows
+  arena-of capacity rows t u some few most ready packs =
       let long : length (map cell_of rows) ≡ length rows = length-map rows cell_of in
-      let idle = ap (λ p. p.items) packs.pending ∙ bare.idle in
+      let room : HasRoom t (length rows) = subst (HasRoom t) long ready.room in
+      let idle = ap (λ p. p.items) packs.pending ∙ ready.bare.idle in
       let s : IsSettled u = record { whole = packs.whole; none = idle } in
       let counted : row_count u ≡ length rows = omega (arith, packs.rows_are (λ c. true), count-all (map cell_of rows), long) in
       let same_room = packs.room in
-      let leaves : index_map_len u.leaves ≡ length rows = packs.ids.len ∙ ids_are in
+      let leaves : index_map_len u.leaves ≡ length rows = packs.ids.len ∙ ready.entries ∙ long in
       record {
         kept = record {
           some = some;
@@ -81,13 +82,13 @@ module _ {D : ℕ} where
             keys = omega (arith, same_room, room.keys);
           });
           leaves_room = omega arith;
-          pending_room = omega (arith, ap vec_capacity packs.pending, pending_room);
+          pending_room = omega (arith, ap vec_capacity packs.pending, ready.pending_room);
         };
         packed = record {
           rows_are = λ test. rows-counted u s test ∙ packs.rows_are (λ c. test (row_of c)) ∙ same-count test rows;
           entries = entries-long u ∙ leaves;
-          nodes = subst (λ m. length (outside u).nodes ≤ most_packed_nodes m (length rows)) (packs.capacity ∙ is)
+          nodes = subst (λ m. length (outside u).nodes ≤ most_packed_nodes m (length rows)) (packs.capacity ∙ ready.capacity_is)
               (subst (λ n. length (outside u).nodes ≤ most_packed_nodes u.capacity n) long (omega (arith, nodes-long u s, packs.nodes)));
-          capacity_is = packs.capacity ∙ is;
+          capacity_is = packs.capacity ∙ ready.capacity_is;
         };
       }

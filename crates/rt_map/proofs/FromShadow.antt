@@ -1,6 +1,5 @@
 -- A tree that is made of a shadow.
-use Rattle.std.proofs.Common.{◌≡◌, ℕ, ◌-◌, ◌+◌, ◌*◌, ◌≤◌, true, List, length, map, Contains, Err, Result, Ok, vec_capacity, arith, ap, ◌∙◌, sym, subst}
-use Rattle.std.specs.Result.{IfErr, IsErrAnd}
+use Rattle.std.proofs.Common.{◌≡◌, ℕ, ◌-◌, ◌+◌, ◌*◌, ◌≤◌, true, List, length, map, Contains, vec_capacity, arith, ap, ◌∙◌, sym, subst}
 use Rattle.std.proofs.lemmas.List.{length-map}
 use Rattle.indexmap.specs.IndexMap.{index_map_len}
 use Rattle.rt_box.specs.Capacity.{least_fill}
@@ -9,7 +8,6 @@ use Rattle.rt_check.specs.Conditions.{is_leaf}
 use Rattle.rt_check.specs.Shadow.{ShadowLists}
 use Rattle.rt_tree_node.specs.declared.arena.Arena.{Arena}
 use Rattle.rt_tree_node.specs.Whole.{row_count, most_rows_of_a_tree, HasRoom}
-use Rattle.rt_tree.specs.Bare.{IsBare}
 use Rattle.rt_tree_place.proofs.Sums.{count-all}
 use Rattle.rt_tree_pack.specs.Packing.{IsFirstRepeated, IsFaultOf}
 use Rattle.rt_tree_pack.specs.declared.fault.PackFault.{PackFault}
@@ -21,25 +19,21 @@ use Rattle.rt_tree_walk.specs.declared.searching.Row.{Row}
 use Rattle.rt_tree.specs.Lists.{rows_of}
 use Rattle.rt_tree.specs.Kept.{IsKeptWith}
 use Rattle.rt_map.specs.Packing.{ids}
-use Rattle.rt_map.specs.PackingInside.{cell_of}
+use Rattle.rt_map.specs.PackingInside.{cell_of, IsReadyFor}
 use Rattle.rt_map.specs.Restoring.{IsRestoreFaultOf}
 use Rattle.rt_map.specs.RestoringInside.{LacksRowsIn, LacksRows}
 
--- what holds of a fault holds of an `Err` of it
-pub err-of : {A E : Type 0} (r : Result A E) (e : E) (P : E → Type 0) → IsErrAnd r (λ f. f ≡ e) → P e → IfErr r P
-err-of (Ok x) e P is holds = absurd is
-err-of (Err f) e P is holds = subst P (sym is) holds
-
 module _ {D : ℕ} where
   -- the nodes after restoring
-  pub restored-kept : (rows : List (Row D)) (t u : Arena D) → 1 ≤ D → D ≤ 3 → IsBare t → length rows ≤ most_rows_of_a_tree → HasRoom t (length rows) →
-      1152 ≤ vec_capacity t.pending → index_map_len t.leaves ≡ length rows → Restores t u (map cell_of rows) → IsKeptWith u 0
-  restored-kept rows t u some few bare most room pending_room ids_are made =
+  pub restored-kept : (capacity : ℕ) (rows : List (Row D)) (t u : Arena D) → 1 ≤ D → D ≤ 3 → length rows ≤ most_rows_of_a_tree → IsReadyFor t capacity (map cell_of rows) →
+      Restores t u (map cell_of rows) → IsKeptWith u 0
+  restored-kept capacity rows t u some few most ready made =
       let long : length (map cell_of rows) ≡ length rows = length-map rows cell_of in
-      let idle = ap (λ p. p.items) made.pending ∙ bare.idle in
+      let room : HasRoom t (length rows) = subst (HasRoom t) long ready.room in
+      let idle = ap (λ p. p.items) made.pending ∙ ready.bare.idle in
       let counted : row_count u ≡ length rows = omega (arith, made.rows_are (λ c. true), count-all (map cell_of rows), long) in
       let same_room = made.room in
-      let leaves : index_map_len u.leaves ≡ length rows = made.ids.len ∙ ids_are in
+      let leaves : index_map_len u.leaves ≡ length rows = made.ids.len ∙ ready.entries ∙ long in
       record {
         some = some;
         few = few;
@@ -54,7 +48,7 @@ module _ {D : ℕ} where
           keys = omega (arith, same_room, room.keys);
         });
         leaves_room = omega arith;
-        pending_room = omega (arith, ap vec_capacity made.pending, pending_room);
+        pending_room = omega (arith, ap vec_capacity made.pending, ready.pending_room);
       }
 
   -- a fault of the rows is one of the shadow that has them

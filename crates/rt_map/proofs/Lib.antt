@@ -1,6 +1,7 @@
+pub mod Faults
 pub mod Listed
 pub mod FromRows
-pub mod LevelMade
+pub mod PackedLevel
 pub mod Restored
 pub mod FromShadow
 pub mod Written

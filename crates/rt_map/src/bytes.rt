@@ -10,7 +10,7 @@ ghost use Rattle.rt_tree.specs.Kept.{IsKeptWith};
 
 use crate::bytes_fault::BytesFault;
 use crate::reading::{Parts, read};
-use crate::restoring::shaped_arena;
+use crate::restore::shaped_arena;
 use crate::writing::bytes_of;
 use rt_tree::Tree;
 use rt_tree_node::Arena;

@@ -8,8 +8,9 @@
 //!   `nearest_to` the rows nearest to a box.
 //! - `join` lists the pairs of rows, one of each of two trees, whose boxes touch, and `join_self` those of one tree.
 //!
-//! The rows of a shadow or of bytes are packed into nodes of the shapes that it gives (`levels`), and what comes of it is
-//! compared with what was given. With two axes a row takes 24 bytes, and a node two and 24 for the cell that names it.
+//! A shadow says what shapes its nodes have, and so do bytes. The rows are packed into nodes of these shapes (`restore`), and
+//! the tree is compared with the shadow or the bytes. With two axes a row takes 24 bytes, and a node two and 24 for the cell
+//! that names it.
 //!
 //! Stands on `rt_tree`, `rt_tree_pack`, `rt_tree_nearest` and `rt_tree_join`. Tables need none of it, so the shell doesn't wait
 //! for its proof. Definitions: `specs/Packing.antt` (a tree of a list of rows), `Restoring.antt` (a tree of a shadow),
@@ -19,14 +20,14 @@
 
 mod bytes;
 mod bytes_fault;
-mod level;
-mod levels;
 mod nearby;
 mod packing;
 mod pairs;
 mod reading;
+mod restore;
 mod restore_fault;
-mod restoring;
+mod restore_level;
+mod shadows;
 mod shape;
 mod writing;
 
@@ -36,6 +37,6 @@ pub use nearby::{nearest, nearest_to, within};
 pub use packing::from_rows;
 pub use pairs::{join, join_self};
 pub use restore_fault::RestoreFault;
-pub use restoring::from_shadow;
 pub use rt_tree_join::Pair;
 pub use rt_tree_pack::PackFault;
+pub use shadows::from_shadow;

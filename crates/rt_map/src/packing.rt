@@ -1,9 +1,11 @@
 //! A tree that is made of a list of rows.
 
-ghost use Rattle.std.specs.Prelude.{◌≡◌, ◌≤◌, map, IfOk, IfErr};
+ghost use Rattle.std.specs.Prelude.{◌≡◌, ◌≤◌, length, map, IfOk, IfErr};
+ghost use Rattle.rt_tree_node.specs.Places.{numbers};
+ghost use Rattle.rt_tree_node.specs.Whole.{most_rows_of_a_tree};
 ghost use Rattle.rt_tree_pack.specs.Packing.{IsFaultOf};
 ghost use Rattle.rt_map.specs.Packing.{ids, IsPackedOf};
-ghost use Rattle.rt_map.specs.PackingInside.{cell_of, IsArenaOf};
+ghost use Rattle.rt_map.specs.PackingInside.{cell_of, IsReadyFor, IsArenaOf};
 
 use rt_box::Capacity;
 use rt_tree::{MOST_ROWS_OF_A_TREE, Row, Tree, bare_arena, nodes_for};
@@ -36,6 +38,26 @@ pub(crate) fn row_cells<const D: usize>(
     Ok(cells)
 }
 
+/// The nodes of a tree without rows that is ready for these: there is room for them, and each of their ids has an entry.
+pub(crate) fn ready_arena<const D: usize>(
+    alloc: Global,
+    keys: RandomState,
+    capacity: Capacity,
+    cells: &[Cell<D>],
+) -> Result<Arena<D>, PackFault>
+    requires some { 1 ≤ D }
+    requires few { D ≤ 3 }
+    requires most { length cells.now ≤ most_rows_of_a_tree }
+    ensures arena { IfOk result (λ arena. IsReadyFor arena capacity cells.now) }
+    ensures fault { IfErr result (λ fault. IsFaultOf (numbers cells.now) fault) }
+{
+    let mut arena = bare_arena(alloc, keys, capacity, nodes_for(capacity, cells.len()))?;
+    arena.leaves.reserve(cells.len())?;
+    let root = arena.root;
+    enter(&mut arena.leaves, cells, root)?;
+    Ok(arena)
+}
+
 /// The nodes of a tree that is made of these rows.
 pub(crate) fn pack_rows<const D: usize>(
     alloc: Global,
@@ -52,10 +74,7 @@ pub(crate) fn pack_rows<const D: usize>(
         return Err(PackFault::TooMany);
     }
     let cells = row_cells(alloc, rows)?;
-    let mut arena = bare_arena(alloc, keys, capacity, nodes_for(capacity, rows.len()))?;
-    arena.leaves.reserve(rows.len())?;
-    let root = arena.root;
-    enter(&mut arena.leaves, &cells, root)?;
+    let mut arena = ready_arena(alloc, keys, capacity, &cells)?;
     pack(alloc, &mut arena, cells)?;
     Ok(arena)
 }

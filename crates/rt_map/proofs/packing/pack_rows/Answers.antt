@@ -1,54 +1,54 @@
-use Rattle.std.proofs.Common.{◌≡◌, ◌≤◌, Result, Ok, Err, length, arith, refl, rules, ap, ◌∙◌, sym, subst}
-use Rattle.std.specs.Result.{IfErr, IsErrAnd}
-use Rattle.std.specs.List.{All}
+use Rattle.std.proofs.Common.{◌≡◌, ◌≤◌, length, arith, rules, ap, ◌∙◌, subst}
 use Rattle.std.proofs.lemmas.List.{length-map}
-use Rattle.rt_box.specs.Rect.{IsBox}
-use Rattle.rt_tree_node.specs.declared.arena.Arena.{Arena}
-use Rattle.rt_tree_node.specs.declared.cell.Cell.{Cell}
+use Rattle.std.proofs.lemmas.Result.{IfOk-from_err}
 use Rattle.rt_tree_node.specs.Places.{numbers}
 use Rattle.rt_tree_node.specs.Whole.{HasRoom, most_rows_of_a_tree}
 use Rattle.rt_tree.specs.Bare.{IsBare}
-use Rattle.rt_tree_pack.specs.Packing.{HasEntries, AreEntered, Packs, IsFaultOf}
+use Rattle.rt_tree_pack.specs.Packing.{AreEntered, Packs, IsFaultOf}
 use Rattle.rt_map.specs.Packing.{ids}
-use Rattle.rt_map.specs.PackingInside.{cell_of}
-use Rattle.rt_map.proofs.FromRows.{same-ids, still-bare, bare-room, arena-of}
+use Rattle.rt_map.specs.PackingInside.{cell_of, IsReadyFor}
+use Rattle.rt_map.proofs.FromRows.{same-ids, arena-of}
+use Rattle.rt_map.proofs.Faults.{err-of, no-memory}
 use Rattle.rt_map.proofs.packing.pack_rows.Goals as goal
 
--- what holds of a fault holds of an `Err` of it
-err-of : {A E : Type 0} (r : Result A E) (e : E) (P : E → Type 0) → IsErrAnd r (λ f. f ≡ e) → P e → IfErr r P
-err-of (Ok x) e P is holds = absurd is
-err-of (Err f) e P is holds = subst P (sym is) holds
+pub returns-in_err-cells-clause-arena : goal.returns-in_err-cells-clause-arena
+returns-in_err-cells-clause-arena g c = IfOk-from_err _ _ c.from_residual.ensures.0
 
-pub returns-in_err-enter-clause-fault : goal.returns-in_err-enter-clause-fault
-returns-in_err-enter-clause-fault g c =
+pub returns-in_err-cells-clause-fault : goal.returns-in_err-cells-clause-fault
+returns-in_err-cells-clause-fault g c = no-memory c.from_residual.result (ids c.args.rows.now) c.from_residual.ensures.1
+
+pub returns-in_err-arena-clause-arena : goal.returns-in_err-arena-clause-arena
+returns-in_err-arena-clause-arena g c = IfOk-from_err _ _ c.from_residual-in_err-arena.ensures.0
+
+pub returns-in_err-arena-clause-fault : goal.returns-in_err-arena-clause-fault
+returns-in_err-arena-clause-fault g c =
     let same : numbers c.deref.result.now ≡ ids c.args.rows.now = ap numbers (c.deref.ensures.value ∙ c.in_ok-cells.ensures) ∙ same-ids c.args.rows.now in
-    let fault : IsFaultOf (ids c.args.rows.now) c.in_err-enter.field-0.0 = subst (λ is. IsFaultOf is c.in_err-enter.field-0.0) same c.in_err-enter.ensures.repeated in
-    err-of c.from_residual-in_err-enter.result c.in_err-enter.field-0.0 (IsFaultOf (ids c.args.rows.now)) c.from_residual-in_err-enter.ensures.1 fault
+    let fault : IsFaultOf (ids c.args.rows.now) c.in_err-arena.field-0.0 = subst (λ is. IsFaultOf is c.in_err-arena.field-0.0) same c.in_err-arena.ensures.fault in
+    err-of c.from_residual-in_err-arena.result c.in_err-arena.field-0.0 (IsFaultOf (ids c.args.rows.now)) c.from_residual-in_err-arena.ensures.1 fault
+
+pub returns-in_err-pack-clause-arena : goal.returns-in_err-pack-clause-arena
+returns-in_err-pack-clause-arena g c = IfOk-from_err _ _ c.from_residual-in_err-pack.ensures.0
+
+pub returns-in_err-pack-clause-fault : goal.returns-in_err-pack-clause-fault
+returns-in_err-pack-clause-fault g c = no-memory c.from_residual-in_err-pack.result (ids c.args.rows.now) c.from_residual-in_err-pack.ensures.1
 
 pub pack-requires : goal.pack-requires
 pack-requires g c =
     let few = c.requires.few in
     let t = c.in_ok-arena.arena in
-    let made = c.in_ok-arena.ensures in
-    let u : Arena g.row.D = record t { leaves = c.enter.new.leaves } in
     let items = c.in_ok-cells.cells.items in
     let long : length items ≡ length c.args.rows.now = ap length c.in_ok-cells.ensures ∙ length-map c.args.rows.now cell_of in
-    let bare : IsBare u = still-bare t u refl made.bare in
-    let entered : AreEntered u items = record {
-      boxes = subst (All (λ (q : Cell g.row.D). IsBox g.row.D q.rect)) c.deref.ensures.value c.in_ok-enter.ensures.boxes;
-      ids = subst (HasEntries c.enter.new.leaves) c.deref.ensures.value c.in_ok-enter.ensures.entries;
-    } in
+    let ready : IsReadyFor t c.args.capacity items = subst (IsReadyFor t c.args.capacity) c.deref.ensures.value c.in_ok-arena.ensures.arena in
+    let bare : IsBare t = ready.bare in
+    let entered : AreEntered t items = ready.entered in
     let most : length items ≤ most_rows_of_a_tree = omega (arith, long, c.if-rows-gt-MOST_ROWS_OF_A_TREE.false) in
-    let room : HasRoom u (length items) = subst (HasRoom u) (sym long) (bare-room u c.args.capacity (length c.args.rows.now) c.nodes_for.result made.capacity c.nodes_for.ensures made.room made.keys) in
+    let room : HasRoom t (length items) = ready.room in
     search rules
 
 pub returns-clause-arena : goal.returns-clause-arena
 returns-clause-arena g c =
     let t = c.in_ok-arena.arena in
-    let made = c.in_ok-arena.ensures in
-    let u : Arena g.row.D = record t { leaves = c.enter.new.leaves } in
     let rows = c.args.rows.now in
-    arena-of c.args.capacity rows u c.pack.new.tree c.requires.some c.requires.few (still-bare t u refl made.bare) made.capacity (omega (arith, c.if-rows-gt-MOST_ROWS_OF_A_TREE.false))
-    (bare-room u c.args.capacity (length rows) c.nodes_for.result made.capacity c.nodes_for.ensures made.room made.keys) made.pending_room
-    (c.in_ok-enter.ensures.len ∙ ap length (c.deref.ensures.value ∙ c.in_ok-cells.ensures) ∙ length-map rows cell_of)
-    (subst (Packs u c.pack.new.tree) c.in_ok-cells.ensures c.in_ok-pack.ensures)
+    arena-of c.args.capacity rows t c.pack.new.tree c.requires.some c.requires.few (omega (arith, c.if-rows-gt-MOST_ROWS_OF_A_TREE.false))
+    (subst (IsReadyFor t c.args.capacity) (c.deref.ensures.value ∙ c.in_ok-cells.ensures) c.in_ok-arena.ensures.arena)
+    (subst (Packs t c.pack.new.tree) c.in_ok-cells.ensures c.in_ok-pack.ensures)

@@ -8,6 +8,7 @@ use Rattle.rt_tree_walk.proofs.Progress.{IsSettled}
 use Rattle.rt_tree_outside.proofs.Numbered.{keys-within, known-nodes}
 use Rattle.rt_map.specs.TreeBytes.{head_bytes}
 use Rattle.rt_map.proofs.Written.{written}
+use Rattle.std.proofs.lemmas.Result.{IfOk-from_err}
 use Rattle.rt_map.proofs.writing.bytes_of.Goals as goal
 
 pub number_keys-requires-clause-within : goal.number_keys-requires-clause-within
@@ -42,3 +43,15 @@ returns g c =
     written t s numbers same c.as_slice-3.result.now c.as_slice-2.result.now c.push_head.new.bytes.items c.push_nodes.new.bytes.items
     c.as_slice-3.ensures.value (c.as_slice-2.ensures.value ∙ order)
     (c.in_ok-push_head.ensures ∙ ap (λ (xs : List ℕ). xs ++ head_bytes g.row.D t.capacity) c.new-bytes.ensures.items) c.in_ok-push_nodes.ensures
+
+pub returns-in_err-order : goal.returns-in_err-order
+returns-in_err-order g c = IfOk-from_err _ _ c.from_residual.ensures.0
+
+pub returns-in_err-numbers : goal.returns-in_err-numbers
+returns-in_err-numbers g c = IfOk-from_err _ _ c.from_residual-in_err-numbers.ensures.0
+
+pub returns-in_err-push_head : goal.returns-in_err-push_head
+returns-in_err-push_head g c = IfOk-from_err _ _ c.from_residual-in_err-push_head.ensures.0
+
+pub returns-in_err-push_nodes : goal.returns-in_err-push_nodes
+returns-in_err-push_nodes g c = IfOk-from_err _ _ c.from_residual-in_err-push_nodes.ensures.0

@@ -9,19 +9,18 @@ ghost use Rattle.rt_tree_pack.specs.Packing.{IsFaultOf};
 ghost use Rattle.rt_map.specs.Packing.{ids};
 ghost use Rattle.rt_tree.specs.Lists.{row_in, rows_of};
 ghost use Rattle.rt_map.specs.Restoring.{IsRestoredOf, IsRestoreFaultOf};
-ghost use Rattle.rt_tree.specs.Kept.{IsKeptWith};
 ghost use Rattle.rt_map.specs.RestoringInside.{LacksRowsIn, LacksRows, IsArenaSeenAs, IsArenaRestoredOf};
 
-use crate::levels::restore;
-use crate::packing::{pack_rows, row_cells};
+use crate::packing::pack_rows;
+use crate::restore::shaped_arena;
 use crate::restore_fault::RestoreFault;
 use crate::shape::Shape;
-use rt_box::{Capacity, Rect};
+use rt_box::Rect;
 use rt_check::{NodeRow, RawCell, Shadow};
-use rt_tree::{MOST_ROWS_OF_A_TREE, Tree, bare_arena, nodes_for};
+use rt_tree::Tree;
 use rt_tree_node::Arena;
 use rt_tree_outside::is_seen_as;
-use rt_tree_pack::{PackFault, enter};
+use rt_tree_pack::PackFault;
 use rt_tree_walk::Row;
 use std::alloc::{AllocError, Global};
 use std::hash::RandomState;
@@ -98,34 +97,6 @@ fn shapes_of<const D: usize>(alloc: Global, shadow: &Shadow<D>) -> Result<Vec<Sh
         })?;
     }
     Ok(shapes)
-}
-
-/// The nodes of a tree with these rows, in nodes of these shapes; none if the rows don't fit.
-pub(crate) fn shaped_arena<const D: usize>(
-    alloc: Global,
-    keys: RandomState,
-    capacity: Capacity,
-    shapes: &[Shape],
-    rows: &[Row<D>],
-) -> Result<Option<Arena<D>>, PackFault>
-    requires some { 1 ≤ D }
-    requires few { D ≤ 3 }
-    ensures arena { IfOk result (λ found. IfSome found (λ arena. IsKeptWith arena 0)) }
-    ensures fault { IfErr result (λ fault. IsFaultOf (ids rows.now) fault) }
-{
-    if rows.len() > MOST_ROWS_OF_A_TREE {
-        return Err(PackFault::TooMany);
-    }
-    let cells = row_cells(alloc, rows)?;
-    let mut arena = bare_arena(alloc, keys, capacity, nodes_for(capacity, rows.len()))?;
-    arena.leaves.reserve(rows.len())?;
-    let root = arena.root;
-    enter(&mut arena.leaves, &cells, root)?;
-    let done = restore(alloc, &mut arena, shapes, cells)?;
-    if !done {
-        return Ok(None);
-    }
-    Ok(Some(arena))
 }
 
 /// The nodes of the tree that is the shadow, if its rows make that tree in nodes of its shapes.

@@ -2,7 +2,7 @@ use Rattle.std.proofs.Common.{List, ap, ◌∙◌}
 use Rattle.rt_box.specs.declared.interval.Interval.{Interval}
 use Rattle.rt_tree_walk.specs.declared.searching.Row.{Row}
 use Rattle.rt_tree.proofs.Boxed.{ordered-zip, box-back}
-use Rattle.rt_map.proofs.restoring.cell_row.Goals as goal
+use Rattle.rt_map.proofs.shadows.cell_row.Goals as goal
 
 pub returns-in-Some-clause-row : goal.returns-in-Some-clause-row
 returns-in-Some-clause-row g c =

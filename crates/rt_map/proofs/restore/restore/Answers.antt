@@ -5,7 +5,8 @@ use Rattle.rt_tree_node.specs.Places.{cells_at}
 use Rattle.rt_tree_pack.specs.Steps.{MayFill, IsBelowRoot, Fills}
 use Rattle.rt_map.specs.LevelSteps.{FitsRoot, RestoresUpTo}
 use Rattle.rt_map.proofs.Restored.{below-none, root-present, below-root, lifted-room, below-more, may-fill, none-yet, restored}
-use Rattle.rt_map.proofs.levels.restore.Goals as goal
+use Rattle.std.proofs.lemmas.Result.{IfOk-from_err}
+use Rattle.rt_map.proofs.restore.restore.Goals as goal
 
 pub loop-tree-init : goal.loop-tree-init
 loop-tree-init g c = below-none c.args.tree.now c.args.rows.items c.requires.bare c.requires.entered
@@ -66,3 +67,6 @@ returns g c = λ done.
     let fits : FitsRoot t (length items) = subst (FitsRoot t) (c.len.ensures ∙ c.loop-tree.cells.ok.0) (c.fits_root-fits.ensures c.if-not-fits.false) in
     restored s t c.args.rows.items items c.loop-tree.invariant fits c.fill.new.tree
     (subst (λ xs. Fills t c.fill.new.tree t.root t.level xs) c.deref-2.ensures.value c.fill.ensures) c.requires.bare.idle
+
+pub returns-in_err-next : goal.returns-in_err-next
+returns-in_err-next g c = IfOk-from_err _ _ c.from_residual.ensures.0

@@ -5,17 +5,24 @@
 //! levels stand among them in their order, and that tree comes again. If some number doesn't fit, no tree is made. That the
 //! tree is whole and has the rows is proved; whether it is the one that was meant, the caller tests.
 
-ghost use Rattle.std.specs.Prelude.{◌≡◌, ◌^◌, ◌<◌, ◌≤◌, true, IfOk};
+ghost use Rattle.std.specs.Prelude.{◌≡◌, ◌^◌, ◌<◌, ◌≤◌, true, IfOk, IfErr, IfSome};
 ghost use Rattle.rt_tree.specs.Bare.{IsBare};
-ghost use Rattle.rt_tree_pack.specs.Packing.{AreEntered};
+ghost use Rattle.rt_tree.specs.Kept.{IsKeptWith};
+ghost use Rattle.rt_tree_pack.specs.Packing.{AreEntered, IsFaultOf};
+ghost use Rattle.rt_map.specs.Packing.{ids};
 ghost use Rattle.rt_map.specs.Levels.{Restores};
 ghost use Rattle.rt_map.specs.LevelSteps.{FitsRoot};
 
-use crate::level::restore_level;
+use crate::packing::{ready_arena, row_cells};
+use crate::restore_level::restore_level;
 use crate::shape::Shape;
+use rt_box::Capacity;
+use rt_tree::MOST_ROWS_OF_A_TREE;
 use rt_tree_node::{Arena, Cell};
-use rt_tree_pack::{fill, lift_root};
+use rt_tree_pack::{PackFault, fill, lift_root};
+use rt_tree_walk::Row;
 use std::alloc::{AllocError, Global};
+use std::hash::RandomState;
 
 /// Whether the root may have that many cells.
 fn fits_root<const D: usize>(tree: &Arena<D>, count: usize) -> bool
@@ -41,7 +48,7 @@ fn root_level(shapes: &[Shape]) -> u8
 /// # Errors
 ///
 /// `AllocError` if no memory is left. The tree is then out of shape.
-pub(crate) fn restore<const D: usize>(
+fn restore<const D: usize>(
     alloc: Global,
     tree: &mut Arena<D>,
     shapes: &[Shape],
@@ -70,4 +77,29 @@ pub(crate) fn restore<const D: usize>(
     let (root, level) = (tree.root, tree.level);
     fill(tree, root, level, &cells);
     Ok(true)
+}
+
+/// The nodes of a tree with these rows, in nodes of these shapes; none if the rows don't fit.
+pub(crate) fn shaped_arena<const D: usize>(
+    alloc: Global,
+    keys: RandomState,
+    capacity: Capacity,
+    shapes: &[Shape],
+    rows: &[Row<D>],
+) -> Result<Option<Arena<D>>, PackFault>
+    requires some { 1 ≤ D }
+    requires few { D ≤ 3 }
+    ensures arena { IfOk result (λ found. IfSome found (λ arena. IsKeptWith arena 0)) }
+    ensures fault { IfErr result (λ fault. IsFaultOf (ids rows.now) fault) }
+{
+    if rows.len() > MOST_ROWS_OF_A_TREE {
+        return Err(PackFault::TooMany);
+    }
+    let cells = row_cells(alloc, rows)?;
+    let mut arena = ready_arena(alloc, keys, capacity, &cells)?;
+    let done = restore(alloc, &mut arena, shapes, cells)?;
+    if !done {
+        return Ok(None);
+    }
+    Ok(Some(arena))
 }
