@@ -134,14 +134,20 @@ fn time_built(rt: &HostRuntime, capacity: Capacity, shape: Shape) -> io::Result<
     time_choices(rt, rt.alloc(), nodes.as_slice(), shape)
 }
 
+/// Prints what a choice took in the tree of rows of that shape, and the sum of what was chosen.
+fn tell(rt: &HostRuntime, shape: &str, timed: (u128, u64)) -> io::Result<()> {
+    let (time, sum) = timed;
+    println!(rt; "a built tree, {shape}: choice above leaves {time} ns ({sum})")
+}
+
 /// Prints the nanoseconds of a choice above the leaves in trees of 100,000 rows, for the boxes that come next.
 pub fn report(rt: &HostRuntime) -> io::Result<()> {
     let Some(capacity) = Capacity::new(51) else {
         return Ok(());
     };
     for (shape, name) in SHAPES {
-        let (time, sum) = time_built(rt, capacity, shape)?;
-        println!(rt; "a built tree, {name}: choice above leaves {time} ns ({sum})")?;
+        let timed = time_built(rt, capacity, shape)?;
+        tell(rt, name, timed)?;
     }
     Ok(())
 }
