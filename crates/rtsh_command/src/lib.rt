@@ -184,17 +184,15 @@ fn hint_at_run(rt: &HostRuntime, words: &[String], kind: ErrorKind) {
 
 /// The program's command.
 fn program<'a>(alloc: Global) -> Result<Command<'a>, AllocError> {
-    Ok(
-        Command::new(alloc, "rtsh")
-            .version(VERSION)
-            .about(ABOUT)
-            .after_help(STATUS_HELP)
-            .subcommand_required(true)
-            .arg_required_else_help(true)
-            .subcommand(run(alloc)?)?
-            .subcommand(check(alloc)?)?
-            .subcommand(draw(alloc)?)?,
-    )
+    Command::new(alloc, "rtsh")
+        .version(VERSION)
+        .about(ABOUT)
+        .after_help(STATUS_HELP)
+        .subcommand_required(true)
+        .arg_required_else_help(true)
+        .subcommand(run(alloc)?)?
+        .subcommand(check(alloc)?)?
+        .subcommand(draw(alloc)?)
 }
 
 /// An option without a value, `--NAME`.
@@ -227,44 +225,40 @@ fn run<'a>(alloc: Global) -> Result<Command<'a>, AllocError> {
     )
     .value_parser(value_parser!(u8).range(5..=51))
     .default_value("51");
-    Ok(
-        Command::new(alloc, "run")
-            .about("Runs a script, and prints what it gives")
-            .after_help(SCRIPT_HELP)
-            .arg(capacity)?
-            .arg(flag(alloc, "bail", "Ends after the first refusal"))?
-            .arg(flag(
-                alloc,
-                "echo",
-                "Prints each statement and dot line before its answer",
-            ))?
-            .arg(flag(
-                alloc,
-                "unbuffered",
-                "Writes each answer before the next statement is read, into a pipe too",
-            ))?
-            .arg(flag(
-                alloc,
-                "where",
-                "Shows on the error output the line of each refused statement, and the word where its syntax fails; a terminal there shows them anyway, unless the script is typed",
-            ))?
-            .arg(file(
-                alloc,
-                "The script; without it, or with `-`, standard input is read",
-            ))?,
-    )
+    Command::new(alloc, "run")
+        .about("Runs a script, and prints what it gives")
+        .after_help(SCRIPT_HELP)
+        .arg(capacity)?
+        .arg(flag(alloc, "bail", "Ends after the first refusal"))?
+        .arg(flag(
+            alloc,
+            "echo",
+            "Prints each statement and dot line before its answer",
+        ))?
+        .arg(flag(
+            alloc,
+            "unbuffered",
+            "Writes each answer before the next statement is read, into a pipe too",
+        ))?
+        .arg(flag(
+            alloc,
+            "where",
+            "Shows on the error output the line of each refused statement, and the word where its syntax fails; a terminal there shows them anyway, unless the script is typed",
+        ))?
+        .arg(file(
+            alloc,
+            "The script; without it, or with `-`, standard input is read",
+        ))
 }
 
 fn check<'a>(alloc: Global) -> Result<Command<'a>, AllocError> {
-    Ok(
-        Command::new(alloc, "check")
-            .about("Says of a dump of a tree whether it is sound, or what is wrong in it")
-            .after_help(CHECK_HELP)
-            .arg(file(
-                alloc,
-                "The dump; without it, or with `-`, standard input is read",
-            ))?,
-    )
+    Command::new(alloc, "check")
+        .about("Says of a dump of a tree whether it is sound, or what is wrong in it")
+        .after_help(CHECK_HELP)
+        .arg(file(
+            alloc,
+            "The dump; without it, or with `-`, standard input is read",
+        ))
 }
 
 fn draw<'a>(alloc: Global) -> Result<Command<'a>, AllocError> {
@@ -283,22 +277,20 @@ fn draw<'a>(alloc: Global) -> Result<Command<'a>, AllocError> {
     )
     .value_delimiter('-')
     .value_parser(value_parser!(u8));
-    Ok(
-        Command::new(alloc, "draw")
-            .about("Draws the tree of a dump, as an SVG")
-            .after_help(DRAW_HELP)
-            .arg(axes)?
-            .arg(levels)?
-            .arg(flag(
-                alloc,
-                "all",
-                "Draws the cells of leaves however many boxes there are",
-            ))?
-            .arg(file(
-                alloc,
-                "The dump; without it, or with `-`, standard input is read",
-            ))?,
-    )
+    Command::new(alloc, "draw")
+        .about("Draws the tree of a dump, as an SVG")
+        .after_help(DRAW_HELP)
+        .arg(axes)?
+        .arg(levels)?
+        .arg(flag(
+            alloc,
+            "all",
+            "Draws the cells of leaves however many boxes there are",
+        ))?
+        .arg(file(
+            alloc,
+            "The dump; without it, or with `-`, standard input is read",
+        ))
 }
 
 /// What the parsed command line asks for.
