@@ -25,6 +25,9 @@ zipped_more R width count xs ys new y here pushed has =
     subst (λ l. AllZip R (pieces width (count + 1) xs) l) (sym pushed)
     (subst (λ ps. AllZip R ps (ys ++ y ∷ [])) (sym (pieces_more width count xs)) (all_zipped_more R (pieces width count xs) ys (piece_at width xs count) y has here))
 
+pub zipped_none : {Y : Type 0} (R : List ℤ → Y → Type 0) (ys : List Y) → ys ≡ [] → AllZip R [] ys
+zipped_none R ys none = subst (λ l. AllZip R [] l) (sym none) tt
+
 -- what belongs to what belongs to it
 pub zipped_on : {X Y Z : Type 0} (P : X → Y → Type 0) (Q : Y → Z → Type 0) (R : X → Z → Type 0) → ((x : X) (y : Y) (z : Z) → P x y → Q y z → R x z) →
     (xs : List X) (ys : List Y) (zs : List Z) → AllZip P xs ys → AllZip Q ys zs → AllZip R xs zs

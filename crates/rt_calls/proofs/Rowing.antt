@@ -7,7 +7,7 @@ use Rattle.std.proofs.lemmas.Bool.Decides.{Decides-int_eq}
 use Rattle.std.proofs.lemmas.List.Folds.{list_any_at}
 use Rattle.std.proofs.Math.Seq.{take-add}
 use Rattle.std.proofs.lemmas.List.{length-append, map-append, take_more, flat_map_more}
-use Rattle.std.proofs.lemmas.List.Elements.{All-push, All-take, All-drop}
+use Rattle.std.proofs.lemmas.List.Elements.{All-nil, All-push, All-take, All-drop}
 use Rattle.rt_box.specs.declared.interval.Interval.{Interval}
 use Rattle.rt_box.specs.Rect.{IsBox}
 use Rattle.rt_check.specs.Shadow.{ShadowLists}
@@ -32,6 +32,11 @@ module _ {D : ℕ} where
         boxes_pushed rows row ∙ ap (λ l. l ++ numbers_of row.rect) has.1 ∙ ap (λ l. take from numbers ++ l) numbers_are ∙ sym (take-add from (2 * D) numbers),
         All-push (λ (r : Row D). IsBox D r.rect) rows row has.2 box,
       )
+
+  -- no row so far
+  pub rows_none : (ids numbers : List ℤ) (rows : List (Row D)) → rows ≡ [] → AreRows (take 0 ids) (take 0 numbers) rows
+  rows_none ids numbers rows none =
+      subst (λ (l : List (Row D)). AreRows (take 0 ids) (take 0 numbers) l) (sym none) (refl, refl, All-nil (λ (r : Row D). IsBox D r.rect))
 
 -- the rows of a tree with given ids, their boxes written one after another
 module _ {D : ℕ} (s : ShadowLists D) where

@@ -1,5 +1,5 @@
 -- Numbers written into a buffer one by one.
-use Rattle.std.proofs.Common.{◌≡◌, ℕ, ◌+◌, ◌*◌, ◌<◌, ℤ, pos, List, [], ◌∷◌, ◌++◌, length, get_or, set, take, drop, arith, sym, ap, ◌∙◌}
+use Rattle.std.proofs.Common.{◌≡◌, ℕ, ◌+◌, ◌*◌, ◌<◌, ◌≤◌, Fits, w64, ℤ, pos, List, [], ◌∷◌, ◌++◌, length, get_or, set, take, drop, arith, sym, ap, subst, ◌∙◌, mul-le-mul_right}
 use Rattle.std.proofs.lemmas.List.{append_assoc, length-append, take_more, take_more_set, drop-set-lt, drop-drop, flat_map_more}
 use Rattle.rt_tree_walk.specs.declared.searching.Row.{Row}
 use Rattle.rt_calls.specs.Numbers.{numbers_of, box_numbers}
@@ -41,3 +41,24 @@ boxes_more rows k d row within is =
 -- one more time
 pub times_more : (i n : ℕ) → (i + 1) * n ≡ i * n + n
 times_more i n = omega arith
+
+-- Pieces of one width that fill a list: there is room for each, and none is behind the last. Stated over numbers, so that no goal of
+-- the code is a search over all that is known there.
+pub none_yet : (width : ℕ) → 0 ≡ 0 * width
+none_yet width = omega arith
+
+pub piece_within : (i n width size : ℕ) → size ≡ n * width → i < n → (i + 1) * width ≤ size
+piece_within i n width size long low =
+    let more : i + 1 ≤ n = omega arith in
+    subst (λ (s : ℕ). (i + 1) * width ≤ s) (sym long) (mul-le-mul_right width more)
+
+pub from_within : (i n width from size : ℕ) → from ≡ i * width → size ≡ n * width → i < n → from + width ≤ size
+from_within i n width from size is long low =
+    subst (λ (f : ℕ). f + width ≤ size) (sym is) (subst (λ (k : ℕ). k ≤ size) (times_more i width) (piece_within i n width size long low))
+
+pub none_behind : (i n width from size : ℕ) → from ≡ i * width → size ≡ n * width → n ≤ i → size ≤ from
+none_behind i n width from size is long end =
+    subst (λ (f : ℕ). size ≤ f) (sym is) (subst (λ (s : ℕ). s ≤ i * width) (sym long) (mul-le-mul_right width end))
+
+pub twice_fits : (axes : ℕ) → axes ≤ 3 → Fits w64 (2 * axes)
+twice_fits axes few = record { fits = omega arith }

@@ -3,7 +3,7 @@
 ghost use Rattle.std.specs.Prelude.{◌≡◌, ◌≢◌, ◌≤◌, length, option_map};
 ghost use Rattle.rt_calls.specs.Buffers.{Copies};
 ghost use Rattle.rt_calls.specs.Codes.{number_of};
-ghost use Rattle.rt_calls.specs.Live.{OfLive, number_of_kind, windows_of, changed_ids, kinds_of, GivesChanges};
+ghost use Rattle.rt_calls.specs.Live.{OfAxes, OfLive, number_of_kind, windows_of, changed_ids, kinds_of, GivesChanges};
 ghost use Rattle.rt_calls.specs.Live.{TellsChanges, TellsSeen, TellsWindows};
 ghost use Rattle.rt_calls.specs.declared.code.Code.TheVariants.{Done, BufferTooSmall};
 
@@ -82,6 +82,26 @@ fn changes<const D: usize>(
     give_changes(live.changes(), windows, ids, kinds, total)
 }
 
+/// The same of any number of axes.
+fn changes_any(
+    live: &AnyLive,
+    windows: &mut [i64],
+    ids: &mut [i64],
+    kinds: &mut [u8],
+    total: &mut u64,
+) -> Code
+    ensures told { OfAxes live.now (λ D. TellsChanges windows.old windows.new
+        ids.old ids.new kinds.old kinds.new total.new) result }
+    ensures kept { result ≢ Done → result ≢ BufferTooSmall →
+        (windows.new ≡ windows.old) × (ids.new ≡ ids.old) × (kinds.new ≡ kinds.old) × (total.new ≡ total.old) }
+{
+    match live {
+        AnyLive::Line(held) => changes(&held.live, windows, ids, kinds, total),
+        AnyLive::Plane(held) => changes(&held.live, windows, ids, kinds, total),
+        AnyLive::Space(held) => changes(&held.live, windows, ids, kinds, total),
+    }
+}
+
 /// The same of what a handle holds.
 pub fn changes_in(
     held: Option<&Object>,
@@ -98,9 +118,7 @@ pub fn changes_in(
 {
     match held {
         None => Code::Closed,
-        Some(Object::Live(AnyLive::Line(held))) => changes(&held.live, windows, ids, kinds, total),
-        Some(Object::Live(AnyLive::Plane(held))) => changes(&held.live, windows, ids, kinds, total),
-        Some(Object::Live(AnyLive::Space(held))) => changes(&held.live, windows, ids, kinds, total),
+        Some(Object::Live(live)) => changes_any(live, windows, ids, kinds, total),
         Some(_) => Code::OtherKind,
     }
 }
@@ -120,6 +138,18 @@ fn seen<const D: usize>(live: &Live<D>, window: i64, ids: &mut [i64], total: &mu
     }
 }
 
+/// The same of any number of axes.
+fn seen_any(live: &AnyLive, window: i64, ids: &mut [i64], total: &mut u64) -> Code
+    ensures told { OfAxes live.now (λ D. TellsSeen window ids.old ids.new total.new) result }
+    ensures kept { result ≢ Done → result ≢ BufferTooSmall → (ids.new ≡ ids.old) × (total.new ≡ total.old) }
+{
+    match live {
+        AnyLive::Line(held) => seen(&held.live, window, ids, total),
+        AnyLive::Plane(held) => seen(&held.live, window, ids, total),
+        AnyLive::Space(held) => seen(&held.live, window, ids, total),
+    }
+}
+
 /// The same of what a handle holds.
 pub fn seen_in(held: Option<&Object>, window: i64, ids: &mut [i64], total: &mut u64) -> Code
     ensures told { OfLive (option_map (λ object. object.now) held.entry)
@@ -128,9 +158,7 @@ pub fn seen_in(held: Option<&Object>, window: i64, ids: &mut [i64], total: &mut 
 {
     match held {
         None => Code::Closed,
-        Some(Object::Live(AnyLive::Line(held))) => seen(&held.live, window, ids, total),
-        Some(Object::Live(AnyLive::Plane(held))) => seen(&held.live, window, ids, total),
-        Some(Object::Live(AnyLive::Space(held))) => seen(&held.live, window, ids, total),
+        Some(Object::Live(live)) => seen_any(live, window, ids, total),
         Some(_) => Code::OtherKind,
     }
 }
@@ -153,6 +181,24 @@ fn windows<const D: usize>(
     rows(tree, from, ids, boxes, total)
 }
 
+/// The same of any number of axes.
+fn windows_any(
+    live: &AnyLive,
+    from: u64,
+    ids: &mut [i64],
+    boxes: &mut [i32],
+    total: &mut u64,
+) -> Code
+    ensures told { OfAxes live.now (λ D. TellsWindows from ids.old ids.new boxes.old boxes.new total.new) result }
+    ensures kept { result ≢ Done → (ids.new ≡ ids.old) × (boxes.new ≡ boxes.old) × (total.new ≡ total.old) }
+{
+    match live {
+        AnyLive::Line(held) => windows(&held.live, from, ids, boxes, total),
+        AnyLive::Plane(held) => windows(&held.live, from, ids, boxes, total),
+        AnyLive::Space(held) => windows(&held.live, from, ids, boxes, total),
+    }
+}
+
 /// The same of what a handle holds.
 pub fn windows_in(
     held: Option<&Object>,
@@ -167,9 +213,7 @@ pub fn windows_in(
 {
     match held {
         None => Code::Closed,
-        Some(Object::Live(AnyLive::Line(held))) => windows(&held.live, from, ids, boxes, total),
-        Some(Object::Live(AnyLive::Plane(held))) => windows(&held.live, from, ids, boxes, total),
-        Some(Object::Live(AnyLive::Space(held))) => windows(&held.live, from, ids, boxes, total),
+        Some(Object::Live(live)) => windows_any(live, from, ids, boxes, total),
         Some(_) => Code::OtherKind,
     }
 }
