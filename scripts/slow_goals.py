@@ -75,7 +75,7 @@ def main():
     used, of = Used(folder), defaultdict(Counter)
     with tempfile.TemporaryDirectory() as room:
         trace = os.path.join(room, "trace")
-        words = ["strace", "-f", "-ttt", "-s", "400", "-e", "trace=write", "-e", "signal=none", "-o", trace]
+        words = ["strace", "-f", "--seccomp-bpf", "-ttt", "-s", "400", "-e", "trace=write", "-e", "signal=none", "-o", trace]
         watcher = threading.Thread(target=used.watch)
         watcher.start()
         jobs = [] if "--jobs" in sys.argv else ["--jobs", "1"]
