@@ -1,10 +1,14 @@
 #!/usr/bin/env python3
 """slow_goals.py NAME [FLAGS..]: runs `rt check` in crates/NAME, and prints which functions took most processor time, by parts.
+slow_goals.py --kept NAME: prints which goals took most steps of the last `rt check` there. They are the same on each machine.
 
 rattle writes a file as it ends each part of a function's proof, so what its thread used from one file to the next is what that part
 took. `Lts` is the part that tells what is borrowed: it grows with a function's calls and exits times its variables. `Proof` has the
 goals that tactics find, and `Answers` those that the crate proves. What out/ keeps isn't checked again: to see all, remove
 crates/NAME/out first. FLAGS are those of `rt check`, which gets one job unless they say how many. It needs rt and strace.
+
+The steps are read from what a check keeps, so nothing is run. They leave out `Lts`. A goal may stand there several times, once for each
+text that was checked: the least counts.
 """
 
 import os
@@ -21,6 +25,7 @@ from pathlib import Path
 CRATES = Path(__file__).resolve().parent.parent / "crates"
 SHOWN = 30
 EVERY = 0.05
+GOAL = re.compile(rb'"name":"([^"]+)".*?"phases":\[([\d,]+)\]')
 PART = re.compile(r"(\d+)\s+(\d+\.\d+) (?:.*?--@ module (\S+?)\\n)?")
 
 
@@ -68,7 +73,22 @@ def parts(trace, used):
             before[found[1]] = by
 
 
+def kept_goals(folder):
+    """The goals whose proofs a check kept, the dearest first: millions of steps, and the goal's module and name."""
+    least = {}
+    for file in folder.glob("out/incremental/*/records/*.decls.oantt"):
+        module = file.name.split("-proofs.", 1)[-1].removesuffix(".decls.oantt")
+        for name, phases in GOAL.findall(file.read_bytes()):
+            steps, goal = sum(map(int, phases.split(b","))), f"{module} {name.decode()}"
+            least[goal] = min(steps, least.get(goal, steps))
+    return sorted(((steps / 1e6, goal) for goal, steps in least.items()), reverse=True)
+
+
 def main():
+    if len(sys.argv) == 3 and sys.argv[1] == "--kept":
+        for steps, goal in kept_goals(CRATES / sys.argv[2])[:SHOWN]:
+            print(f"{steps:6.1f} million steps  {goal}")
+        return 0
     if len(sys.argv) < 2 or not (CRATES / sys.argv[1]).is_dir():
         sys.exit(__doc__)
     folder = CRATES / sys.argv[1]
