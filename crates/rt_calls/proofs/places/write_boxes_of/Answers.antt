@@ -1,8 +1,8 @@
-use Rattle.std.proofs.Common.{◌≡◌, ◌+◌, ◌*◌, length, drop, sym, ap, ◌∙◌, rules, FitsSigned, w64, to_z-of_z, pos, slice_index_or}
+use Rattle.std.proofs.Common.{◌≡◌, ◌+◌, ◌*◌, length, drop, refl, sym, ap, ◌∙◌, le_trans, Fits-le, rules, FitsSigned, w64, to_z-of_z, pos, slice_index_or}
 use Rattle.std.proofs.lemmas.List.{drop-drop}
 use Rattle.rt_calls.specs.Numbers.{numbers_of}
 use Rattle.rt_calls.proofs.Rowing.{written_more}
-use Rattle.rt_calls.proofs.Writing.{times_more}
+use Rattle.rt_calls.proofs.Writing.{times_more, from_within}
 use Rattle.rt_calls.proofs.places.write_boxes_of.Goals as goal
 
 pub loop-at-preserved : goal.loop-at-preserved
@@ -21,3 +21,8 @@ loop-at-preserved g c =
       back = ap (λ n. drop n after) (sym step) ∙ c.write_box.ensures.written.1 ∙ sym (drop-drop (length numbers) place before)
           ∙ ap (drop (length numbers)) c.loop-at.invariant.back ∙ drop-drop (length numbers) place c.args.boxes.now ∙ ap (λ n. drop n c.args.boxes.now) step;
     }
+
+pub overflow_add-place : goal.overflow_add-place
+overflow_add-place g c =
+    let within = from_within c.loop-at.at (length c.args.ids.now) (2 * g.row.D) _ _ c.loop-at.invariant.place refl c.loop-at-test.true in
+    Fits-le (le_trans within c.requires.room) (record { fits = c.well_formed.1.1.0.0 })
