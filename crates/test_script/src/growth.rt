@@ -8,6 +8,7 @@ use rt_check::{Items, NodeRow, RawCell, RowEntry, Shadow, ShadowFault, check};
 use rt_check_dump::{AnyShadow, DumpFault, read_dump, write_dump};
 use std::alloc::Global;
 use std::hash::RandomState;
+use std::process::Abort;
 use std::test::Fail;
 
 /// A root over two leaves of three points.
@@ -88,22 +89,32 @@ fn text_of(alloc: Global, shadow: &AnyShadow) -> Vec<u8> {
     sink.into_bytes()
 }
 
+/// Adds a part, a second time if memory is refused to the first, which leaves the shadow as it was.
+fn expect_added(rt: &(impl AllocGlobal + Abort), shadow: &mut Shadow<1>, number: i64, part: Part) {
+    let before = state(shadow, number);
+    if let Err(fault) = add(rt.alloc(), shadow, number, part) {
+        assert!(rt; (fault, state(shadow, number)) == (ShadowFault::Memory, before));
+        assert!(rt; add(rt.alloc(), shadow, number, part) == Ok(()));
+    }
+}
+
+/// Whether a check finds no problem, a second one if memory is refused to the first.
+fn is_sound(alloc: Global, shadow: &Shadow<1>) -> bool {
+    let mut problems = check(alloc, shadow);
+    if problems.is_err() {
+        problems = check(alloc, shadow);
+    }
+    problems.is_ok_and(|problems| problems.is_empty())
+}
+
 #[test]
 fn a_shadow_stays_as_it_was(rt: HostRuntime) -> Result<(), Fail> {
     let capacity = Capacity::new(5).ok_or("no capacity")?;
     let mut shadow = Shadow::<1>::new(rt.alloc(), RandomState::new(&rt)?, capacity, 1);
-    for (number, part) in PARTS {
-        let before = state(&shadow, number);
-        if let Err(fault) = add(rt.alloc(), &mut shadow, number, part) {
-            assert!(rt; (fault, state(&shadow, number)) == (ShadowFault::Memory, before));
-            assert!(rt; add(rt.alloc(), &mut shadow, number, part) == Ok(()));
-        }
+    for (number, part) in &PARTS {
+        expect_added(&rt, &mut shadow, *number, *part);
     }
-    let mut problems = check(rt.alloc(), &shadow);
-    if problems.is_err() {
-        problems = check(rt.alloc(), &shadow);
-    }
-    assert!(rt; problems.is_ok_and(|problems| problems.is_empty()));
+    assert!(rt; is_sound(rt.alloc(), &shadow));
     assert!(rt; shadow.add_row(RowEntry { id: 6, leaf: 2 }) == Err(ShadowFault::Twice));
     assert!(rt; text_of(rt.alloc(), &AnyShadow::One(shadow)).as_slice() == DUMP);
     Ok(())

@@ -80,9 +80,9 @@ fn code_of(alloc: Global, text: &[u8], ending: Ending) -> u8 {
 
 #[test]
 fn each_text_has_its_number(rt: HostRuntime) {
-    for (code, text) in TEXTS {
+    for (code, text) in &TEXTS {
         assert!(rt;
-            code_of(rt.alloc(), text.as_bytes(), Ending::Whole) == code,
+            code_of(rt.alloc(), text.as_bytes(), Ending::Whole) == *code,
             "{text}"
         );
     }

@@ -169,19 +169,25 @@ fn each_form_is_its_statement(rt: HostRuntime) -> Result<(), Refusal> {
     expect(&rt, &DOT_LINES, "/* ; ' */\t /**/")
 }
 
+/// Whether a word is no name of a table.
+fn is_reserved(alloc: Global, word: &str) -> Result<bool, Refusal> {
+    let text = format!(in alloc; "drop table {word};")?;
+    Ok(debug_text(alloc, text.as_bytes(), Ending::Whole) == Err(Refusal::SyntaxError))
+}
+
+/// Whether a word in double quotes is a name of a table.
+fn is_a_name_in_quotes(alloc: Global, word: &str) -> Result<bool, Refusal> {
+    let text = format!(in alloc; "drop table \"{word}\";")?;
+    let full = format!(in alloc; "Drop {{ table: Name {{ text: \"{word}\" }}, if_there: false }}")?;
+    Ok(debug_text(alloc, text.as_bytes(), Ending::Whole) == Ok(full))
+}
+
 #[test]
 fn a_reserved_word_is_a_name_only_in_quotes(rt: HostRuntime) -> Result<(), Refusal> {
-    let alloc = rt.alloc();
-    for word in RESERVED {
-        let bare = format!(in alloc; "drop table {word};")?;
-        let quoted = format!(in alloc; "drop table \"{word}\";")?;
-        let full = format!(in alloc;
-            "Drop {{ table: Name {{ text: \"{word}\" }}, if_there: false }}"
-        )?;
-        let is_refused = debug_text(alloc, bare.as_bytes(), Ending::Whole)
-            == Err(Refusal::SyntaxError);
-        let is_a_name = debug_text(alloc, quoted.as_bytes(), Ending::Whole) == Ok(full);
-        assert!(rt; (is_refused, is_a_name) == (true, true), "{word}");
+    for word in &RESERVED {
+        let is_reserved = is_reserved(rt.alloc(), word)?;
+        let is_a_name = is_a_name_in_quotes(rt.alloc(), word)?;
+        assert!(rt; (is_reserved, is_a_name) == (true, true), "{word}");
     }
     Ok(())
 }
