@@ -1,14 +1,14 @@
 #!/usr/bin/env python3
 """slow_goals.py NAME [FLAGS..]: runs `rt check` in crates/NAME, and prints which functions took most processor time, by parts.
-slow_goals.py --kept NAME: prints which goals took most steps of the last `rt check` there. They are the same on each machine.
+slow_goals.py --kept NAME: prints which goals took the prover most steps, which are the same on each machine.
 
 rattle writes a file as it ends each part of a function's proof, so what its thread used from one file to the next is what that part
 took. `Lts` is the part that tells what is borrowed: it grows with a function's calls and exits times its variables. `Proof` has the
 goals that tactics find, and `Answers` those that the crate proves. What out/ keeps isn't checked again: to see all, remove
 crates/NAME/out first. FLAGS are those of `rt check`, which gets one job unless they say how many. It needs rt and strace.
 
-The steps are read from what a check keeps, so nothing is run. They leave out `Lts`. A goal may stand there several times, once for each
-text that was checked: the least counts.
+The steps are read from what `rt check` kept in out/, so nothing is run. They leave out `Lts`. If a goal was proved several times, the
+least number counts; a goal that is no longer in the text may still be listed.
 """
 
 import os
@@ -86,7 +86,10 @@ def kept_goals(folder):
 
 def main():
     if len(sys.argv) == 3 and sys.argv[1] == "--kept":
-        for steps, goal in kept_goals(CRATES / sys.argv[2])[:SHOWN]:
+        goals = kept_goals(CRATES / sys.argv[2])
+        if not goals:
+            sys.exit(f"crates/{sys.argv[2]} keeps no work of a check: run rt check there")
+        for steps, goal in goals[:SHOWN]:
             print(f"{steps:6.1f} million steps  {goal}")
         return 0
     if len(sys.argv) < 2 or not (CRATES / sys.argv[1]).is_dir():
@@ -96,7 +99,7 @@ def main():
     with tempfile.TemporaryDirectory() as room:
         trace = os.path.join(room, "trace")
         words = ["strace", "-f", "--seccomp-bpf", "-ttt", "-s", "400", "-e", "trace=write", "-e", "signal=none", "-o", trace]
-        watcher = threading.Thread(target=used.watch)
+        watcher = threading.Thread(target=used.watch, daemon=True)
         watcher.start()
         jobs = [] if "--jobs" in sys.argv else ["--jobs", "1"]
         status = subprocess.run([*words, "rt", "check", *jobs, *sys.argv[2:]], cwd=folder).returncode

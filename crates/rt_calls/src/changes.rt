@@ -82,7 +82,7 @@ fn changes<const D: usize>(
     give_changes(live.changes(), windows, ids, kinds, total)
 }
 
-/// The same of any number of axes.
+/// Writes the last changes of live windows on any number of axes.
 fn changes_any(
     live: &AnyLive,
     windows: &mut [i64],
@@ -138,7 +138,7 @@ fn seen<const D: usize>(live: &Live<D>, window: i64, ids: &mut [i64], total: &mu
     }
 }
 
-/// The same of any number of axes.
+/// Writes the ids of the rows that a window sees, on any number of axes.
 fn seen_any(live: &AnyLive, window: i64, ids: &mut [i64], total: &mut u64) -> Code
     ensures told { OfAxes live.now (λ D. TellsSeen window ids.old ids.new total.new) result }
     ensures kept { result ≢ Done → result ≢ BufferTooSmall → (ids.new ≡ ids.old) × (total.new ≡ total.old) }
@@ -181,7 +181,7 @@ fn windows<const D: usize>(
     rows(tree, from, ids, boxes, total)
 }
 
-/// The same of any number of axes.
+/// Writes the windows from the place on, on any number of axes.
 fn windows_any(
     live: &AnyLive,
     from: u64,

@@ -122,7 +122,7 @@ name_in _ = None
 unfoldable pub name : Parser Text
 name = from_first name_in
 
--- the name that a word is, which comes next
+-- the next token, that word, read as a name
 abbrev pub word_name : Text → Parser Text
 word_name word = λ ts. paired (name_in (Some (token.Word word))) (rest ts)
 
@@ -380,12 +380,13 @@ begins_value _ = false
 unfoldable pub sees_value : List Token → Bool
 sees_value ts = passes begins_value (first ts)
 
--- that column plus a number, and minus one, from the number on
+-- that column plus a number, read from the number on
 abbrev pub plus_number : Read → Text → Parser Source
 plus_number read column = do
   n ← number read false
   pure (source.Plus column n)
 
+-- that column minus a number, read from the number on
 abbrev pub minus_number : Read → Text → Parser Source
 minus_number read column = do
   n ← number read false

@@ -43,6 +43,7 @@ UndoublesAt quote text at = undouble quote text ≡ take (at + 1) text ++ undoub
 abbrev pub hex_value : ℕ → ℕ
 hex_value b = if is_ascii_digit b then b - 48 else (if is_in_range 97 102 b then b - 87 else (if is_in_range 65 70 b then b - 55 else 0))
 
+-- the byte that two hexadecimal digits write
 abbrev pub hex_byte : ℕ → ℕ → ℕ
 hex_byte high low = 16 * hex_value high + hex_value low
 
