@@ -9,4 +9,5 @@ pub mod Inside
 pub mod Placed
 pub mod Reordered
 pub mod Removed
+pub mod Fitting
 pub mod Moved

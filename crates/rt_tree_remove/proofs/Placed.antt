@@ -1,9 +1,8 @@
 -- Pending cells, placed by a removal.
-use Rattle.std.proofs.Common.{◌≡◌, ℕ, ◌-◌, ◌*◌, ◌<◌, ◌≤◌, Bool, false, nat_eq, eq-eqb, arith, refl, ap, ◌∙◌, sym, inl, inr}
+use Rattle.std.proofs.Common.{◌≡◌, ℕ, ◌<◌, Bool, false, nat_eq, eq-eqb, arith, refl, ◌∙◌, sym, inl, inr}
 use Rattle.std.proofs.lemmas.Bool.{true≢false, cases_lt}
-use Rattle.rt_box.specs.Capacity.{least_fill}
 use Rattle.rt_tree_node.specs.declared.arena.Arena.{Arena}
-use Rattle.rt_tree_node.specs.Whole.{IsWhole, HasRoom}
+use Rattle.rt_tree_node.specs.Whole.{IsWhole}
 use Rattle.rt_tree_remove.specs.Steps.{SettlesInTurn, Places}
 
 -- a list that isn't empty has an element

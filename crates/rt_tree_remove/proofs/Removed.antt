@@ -1,5 +1,5 @@
 -- A removal, from its steps.
-use Rattle.std.proofs.Common.{◌≡◌, ◌≢◌, ℕ, zero, suc, ◌+◌, ◌-◌, ◌*◌, ◌<◌, ◌≤◌, Bool, true, false, cond, ℤ, List, [], ◌∷◌, length, map, drop, reverse, get_or, Option, Some, None, is_some, vec_len, vec_capacity, arith, refl, ap, sym, subst, ◌∙◌}
+use Rattle.std.proofs.Common.{◌≡◌, ◌≢◌, ℕ, zero, suc, ◌+◌, ◌-◌, ◌*◌, ◌<◌, ◌≤◌, Bool, true, false, ℤ, List, [], ◌∷◌, length, reverse, get_or, Option, Some, None, is_some, vec_len, vec_capacity, arith, refl, ap, sym, subst, ◌∙◌}
 use Rattle.std.specs.List.{remove}
 use Rattle.std.specs.Ordering.{int_eq}
 use Rattle.std.specs.Option.{option_map_or}
@@ -17,7 +17,6 @@ use Rattle.rt_tree_node.specs.declared.cell.Cell.{Cell}
 use Rattle.rt_tree_node.specs.Node.{NodeCells}
 use Rattle.rt_tree_node.specs.Homes.{KeepsIds}
 use Rattle.rt_tree_node.specs.Sound.{IsLinked, IsFitted, HasHomes}
-use Rattle.std.specs.Map.{lookup}
 use Rattle.rt_tree_node.specs.Places.{numbers, cells_of, cells_at, level_at, parent_at, count_rows}
 use Rattle.rt_tree_place.specs.Path.{KeepsShape}
 use Rattle.rt_tree_node.specs.Whole.{IsWhole, IsBranched, HasRoom, row_count}

@@ -79,6 +79,10 @@ module _ {D : ℕ} where
     pub most : length (cells_at t.nodes key) ≤ t.capacity
     pub branched : key ≢ t.root → 2 ≤ length (cells_at t.nodes t.root)
 
+  -- the same with some map of leaves, which needn't be the tree's own
+  abbrev pub IsSoundButForMap : Arena D → ℕ → Type 0
+  IsSoundButForMap t key = (other : Arena D) × IsSoundBut record t { leaves = other.leaves } key
+
   -- the rows stay, in the tree or pending, and the root, the map of leaves and the room
   pub record KeepsHomes (old new : Arena D) : Type 0 where
     pub rows : (test : Cell D → Bool) →
@@ -165,6 +169,18 @@ module _ {D : ℕ} where
     pub pending : IsRoomy old leaf → new.pending.items ≡ old.pending.items
     pub shape : IsRoomy old leaf → (k : ℕ) → KeepsShape old.nodes new.nodes (way_up old.nodes old.level leaf) k
 
+  -- the steps up from the leaf so far, with each map of leaves that the old tree is sound with; only nodes changed
+  pub record IsFitting (old t : Arena D) (leaf key : ℕ) : Type 0 where
+    pub rest : t ≡ record old { nodes = t.nodes }
+    pub climbing : (other : Arena D) → IsSoundBut record old { leaves = other.leaves } leaf →
+        IsClimbing record old { leaves = other.leaves } record t { leaves = other.leaves } leaf key
+
+  -- only nodes changed, and with each map of leaves that the old tree is sound with, the boxes above the leaf are fitted
+  pub record FitsAbove (old new : Arena D) (leaf : ℕ) : Type 0 where
+    pub rest : new ≡ record old { nodes = new.nodes }
+    pub condenses : (other : Arena D) → IsSoundBut record old { leaves = other.leaves } leaf →
+        Condenses record old { leaves = other.leaves } record new { leaves = other.leaves } leaf
+
   -- the root left the slab, and its child has no parent; all other nodes are the same
   pub record LosesRoot (old new : Slab (NodeCells D)) (root child : ℕ) : Type 0 where
     pub gone : get new root ≡ None
@@ -201,10 +217,9 @@ module _ {D : ℕ} where
     pub home : leaf_of int_eq t.leaves id ≡ Some location.leaf
     pub cell : slice_get (cells_at t.nodes location.leaf) location.at ≡ Some record { number = id; rect = location.rect }
 
-  -- a removal of the row leaves all else as it is: its leaf has a cell to spare, and its box lies inside the leaf's
-  pub record MovesAlone (t : Arena D) (location : Location D) : Type 0 where
-    pub spare : least_fill t.capacity < length (cells_at t.nodes location.leaf)
-    pub inside : LiesInsideNode t.nodes location.leaf location.rect
+  -- no other row moves if this one is removed: its leaf has a cell to spare
+  abbrev pub MovesAlone : Arena D → Location D → Type 0
+  MovesAlone t location = least_fill t.capacity < length (cells_at t.nodes location.leaf)
 
   -- the row with the id left its leaf, and its id the map of leaves
   pub record Takes (old new : Arena D) (id : ℤ) (leaf at : ℕ) (rect : List Interval) : Type 0 where

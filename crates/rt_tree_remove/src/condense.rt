@@ -6,7 +6,7 @@
 ghost use Rattle.std.specs.Prelude.{◌≡◌, ◌-◌, ◌*◌, ◌^◌, ◌≤◌, Some, true, vec_capacity};
 ghost use Rattle.rt_box.specs.Capacity.{least_fill};
 ghost use Rattle.rt_tree_node.specs.Places.{level_at, parent_at};
-ghost use Rattle.rt_tree_remove.specs.Steps.{IsSoundBut, LiesInside, LiesInsideNode, HasLeastWhereInside, IsCondensed, EndsCondensed, Condenses};
+ghost use Rattle.rt_tree_remove.specs.Steps.{IsSoundBut, IsSoundButForMap, LiesInside, LiesInsideNode, HasLeastWhereInside, IsCondensed, EndsCondensed, Condenses};
 
 use crate::climb::climb;
 use rt_box::Rect;
@@ -42,7 +42,7 @@ fn lies_inside<const D: usize>(outer: &Rect<D>, inner: &Rect<D>) -> bool
 
 /// Whether the box touches no side of the leaf's box.
 pub(crate) fn lies_inside_leaf<const D: usize>(tree: &Arena<D>, leaf: Key, rect: &Rect<D>) -> bool
-    requires but { IsSoundBut tree.now leaf }
+    requires but { IsSoundButForMap tree.now leaf }
     requires keys { tree.now.nodes.capacity ≤ 2 ^ 62 }
     ensures { result ≡ true → LiesInsideNode tree.now.nodes leaf rect.now }
 {

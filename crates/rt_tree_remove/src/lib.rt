@@ -13,6 +13,7 @@
 mod child;
 mod climb;
 mod condense;
+mod fit;
 mod give_way;
 mod location;
 mod place;

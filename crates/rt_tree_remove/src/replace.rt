@@ -1,37 +1,34 @@
 //! The replacement of a row by one that keeps its id.
 //!
-//! The row is removed and inserted again (`specs/Replacement.antt`). If its removal leaves all else as it is, its id keeps its
+//! The row is removed and inserted again (`specs/Replacement.antt`). If no other row moves when it is removed, its id keeps its
 //! entry in the map of leaves meanwhile: nothing is taken out of the map and put in again.
 
-ghost use Rattle.std.specs.Prelude.{◌≡◌, ◌+◌, ◌-◌, ◌*◌, ◌^◌, ◌<◌, ◌≤◌, [], true, vec_capacity};
+ghost use Rattle.std.specs.Prelude.{◌≡◌, ◌+◌, ◌-◌, ◌*◌, ◌^◌, ◌≤◌, [], true, vec_capacity};
 ghost use Rattle.indexmap.specs.IndexMap.{spare};
 ghost use Rattle.rt_box.specs.Capacity.{least_fill};
 ghost use Rattle.rt_tree_node.specs.Whole.{IsWhole, IsBranched, HasRoom, row_count, most_rows_of_a_tree};
-ghost use Rattle.rt_tree_remove.specs.Steps.{IsSoundBut, IsLocationOf, MovesAlone};
+ghost use Rattle.slab.specs.Slab.{ContainsKey};
+ghost use Rattle.rt_tree_remove.specs.Steps.{IsLocationOf, MovesAlone};
 ghost use Rattle.rt_tree_remove.specs.Replacement.{Replaces};
 
-use crate::condense::lies_inside_leaf;
+use crate::fit::fit_above;
 use crate::location::Location;
 use crate::remove::remove_found;
 use rt_box::Rect;
 use rt_tree_node::{Arena, leaves_facts, node_at, remove_cell};
 use rt_tree_place::{insert_row, push_row, settle};
 
-/// Whether the removal of the row leaves all else as it is. Most rows lie inside their leaf's box, and most leaves have a cell
-/// to spare.
+/// Whether no other row moves if this one is removed. Most leaves have a cell to spare.
 fn moves_alone<const D: usize>(tree: &Arena<D>, location: &Location<D>) -> bool
-    requires but { IsSoundBut tree.now location.now.leaf }
-    requires keys { tree.now.nodes.capacity ≤ 2 ^ 62 }
+    requires few { D ≤ 3 }
+    requires present { ContainsKey tree.now.nodes location.now.leaf }
     ensures { result ≡ true → MovesAlone tree.now location.now }
 {
-    if node_at(&tree.nodes, location.leaf).len() <= tree.capacity.least() {
-        return false;
-    }
-    lies_inside_leaf(tree, location.leaf, &location.rect)
+    node_at(&tree.nodes, location.leaf).len() > tree.capacity.least()
 }
 
-/// Moves a row whose removal leaves all else as it is: its cell leaves the leaf, is pending with the other box, and is
-/// placed.
+/// Moves a row whose removal moves no other: its cell leaves the leaf, the boxes above are fitted, and the cell is pending with
+/// the other box, and is placed.
 fn move_row<const D: usize>(tree: &mut Arena<D>, id: &i64, location: &Location<D>, rect: &Rect<D>)
     requires whole { IsWhole tree.old }
     requires branched { IsBranched tree.old }
@@ -46,6 +43,7 @@ fn move_row<const D: usize>(tree: &mut Arena<D>, id: &i64, location: &Location<D
     leaves_facts(&tree.leaves);
     rect.facts();
     remove_cell(&mut tree.nodes, location.leaf, location.at);
+    fit_above(tree, location.leaf, &location.rect);
     push_row(&mut tree.pending, id, rect);
     let _ = settle(tree, 0);
 }

@@ -2,6 +2,7 @@ use Rattle.std.proofs.Common.{◌≡◌, ℕ, suc, ◌<◌, ◌≤◌, ◌∙◌
 use Rattle.std.proofs.lemmas.List.{get_or_default}
 use Rattle.std.proofs.lemmas.List.Elements.{All-weaker}
 use Rattle.slab.specs.Slab.{ContainsKey}
+use Rattle.rt_tree_node.specs.declared.arena.Arena.{Arena}
 use Rattle.rt_tree_node.specs.Places.{key_of, cells_at, times_named, parent_at, parent_of, no_cell}
 use Rattle.rt_tree_node.specs.Sound.{NamesChild}
 use Rattle.rt_tree_place.specs.Steps.{IsNamedAt as IsNumberedAt}
@@ -12,15 +13,15 @@ use Rattle.rt_tree_remove.proofs.condense.lies_inside_leaf.Goals as goal
 
 pub node_at-requires : goal.node_at-requires
 node_at-requires g c =
-    let but = c.requires.but in
+    let but = c.requires.but.1 in
     let few : g.row.D ≤ 3 = but.axes in
     let here : ContainsKey c.args.tree.now.nodes c.args.leaf = key-there c.args.tree.now.nodes c.args.leaf but.level but.here in
     search rules
 
 pub box_above-requires : goal.box_above-requires
 box_above-requires g c =
-    let t = c.args.tree.now in
-    let but = c.requires.but in
+    let t : Arena g.row.D = record c.args.tree.now { leaves = c.requires.but.0.leaves } in
+    let but = c.requires.but.1 in
     let parent = c.in-Some.parent in
     let few : g.row.D ≤ 3 = but.axes in
     let keys = c.requires.keys in

@@ -2,6 +2,7 @@ use Rattle.std.proofs.Common.{◌≤◌, length, arith, ap, rules}
 use Rattle.slab.specs.Slab.{ContainsKey}
 use Rattle.rt_box.specs.Capacity.{least_fill}
 use Rattle.rt_tree_node.specs.Places.{cells_of, cells_at}
+use Rattle.rt_tree_remove.specs.Steps.{IsSoundButForMap}
 use Rattle.rt_tree_remove.proofs.Climbs.{key-there}
 use Rattle.rt_tree_remove.proofs.condense.stays_condensed.Goals as goal
 
@@ -14,6 +15,12 @@ node_at-requires g c =
 
 pub len-requires : goal.len-requires
 len-requires g c = let few : g.row.D ≤ 3 = c.requires.but.axes in search rules
+
+pub lies_inside_leaf-requires : goal.lies_inside_leaf-requires
+lies_inside_leaf-requires g c =
+    let few : g.row.D ≤ 3 = c.requires.but.axes in
+    let but : IsSoundButForMap c.args.tree.now c.args.leaf = (c.args.tree.now, c.requires.but) in
+    search rules
 
 pub returns : goal.returns
 returns g c lies =
