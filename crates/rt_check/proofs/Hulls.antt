@@ -1,8 +1,8 @@
 -- Lemmas on the hull of cells: to hold it is to hold each of them.
-use Rattle.std.proofs.Common.{◌≡◌, ℕ, zero, suc, ◌+◌, ◌<◌, ◌&&◌, ◌||◌, ℤ, pos, List, [], ◌∷◌, Bool, true, false, cond, ◌++◌, take, get_or, refl, sym, ◌∙◌, ap, subst, arith, inl, inr, Option, None, Some, length}
+use Rattle.std.proofs.Common.{◌≡◌, ℕ, zero, suc, ◌+◌, ◌<◌, ◌&&◌, ◌||◌, ℤ, pos, List, [], ◌∷◌, Bool, true, false, ◌++◌, take, get_or, refl, sym, ◌∙◌, ap, subst, arith, inl, inr, Option, None, Some, length}
 use Rattle.std.specs.Prelude.{int_le, fold, slice_get, position, ◌==◌}
 use Rattle.std.specs.Int.{int_min, int_max}
-use Rattle.std.specs.List.{list_any, list_all, AllZip}
+use Rattle.std.specs.List.{list_any, list_all}
 use Rattle.std.specs.Ordering.{int_eq}
 use Rattle.std.specs.Option.{option_map_or}
 use Rattle.std.proofs.lemmas.Int.{ints}

@@ -3,3 +3,4 @@ pub mod Axes
 pub mod Listing
 pub mod Tallies
 pub mod Hulls
+pub mod Places

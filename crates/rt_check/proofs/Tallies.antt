@@ -16,7 +16,7 @@ use Rattle.rt_check.specs.declared.tally.Named.TheVariants.{Nodes, Rows}
 use Rattle.rt_check.proofs.Known.{same_number}
 
 -- two numbers that differ do so either way round
-differ-back : (x y : ℤ) → int_eq x y ≡ false → int_eq y x ≡ false
+pub differ-back : (x y : ℤ) → int_eq x y ≡ false → int_eq y x ≡ false
 differ-back x y e =
     let same : (b : Bool) → int_eq y x ≡ b → int_eq y x ≡ false = elim [
       | true ↦ λ h. let swapped : int_eq y y ≡ false = subst (λ (z : ℤ). int_eq z y ≡ false) (sym (same_number y x h)) e in
@@ -28,7 +28,7 @@ differ-back x y e =
     same (int_eq y x) refl
 
 -- a number that differs from all differs from each
-differs-at : (k : ℤ) (ks : List ℤ) (at : ℕ) (d : ℤ) → AllByRecursion (λ y. int_eq k y ≡ false) ks → at < length ks → int_eq k (get_or ks at d) ≡ false
+pub differs-at : (k : ℤ) (ks : List ℤ) (at : ℕ) (d : ℤ) → AllByRecursion (λ y. int_eq k y ≡ false) ks → at < length ks → int_eq k (get_or ks at d) ≡ false
 differs-at k [] at d all within = let none : ⊥ = omega arith in absurd none
 differs-at k (x ∷ xs) zero d all within = all.0
 differs-at k (x ∷ xs) (suc at) d all within = let inside : at < length xs = omega (arith, within) in differs-at k xs at d all.1 inside

@@ -13,6 +13,7 @@
 mod checker;
 mod conditions;
 mod fits;
+mod index;
 mod node;
 mod problem;
 mod shadow;

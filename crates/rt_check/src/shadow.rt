@@ -8,6 +8,7 @@ ghost use Rattle.std.specs.Option.{option_copied};
 ghost use Rattle.std.specs.List.{IsDistinct};
 ghost use Rattle.std.specs.Ordering.{int_eq};
 
+use crate::index::index_of;
 use crate::node::{NodeRow, RawCell, RowEntry};
 use indexmap::IndexSet;
 use rt_box::Capacity;
@@ -185,14 +186,14 @@ impl<const D: usize> Shadow<D> {
     pub(crate) fn place_of(&self, number: i64) -> Option<usize>
         ensures { result ≡ position (int_eq number) (numbers_of self.now.nodes) }
     {
-        self.numbers.get_index_of(&number)
+        index_of(&self.numbers, &number)
     }
 
     /// The node of that number, if it is listed.
     pub fn node(&self, number: i64) -> Option<&NodeRow<D>>
         ensures { option_copied result ≡ node_of self.now.nodes number }
     {
-        match self.numbers.get_index_of(&number) {
+        match index_of(&self.numbers, &number) {
             Some(at) => item_at(self.nodes.as_slice(), at),
             None => None,
         }
@@ -202,7 +203,7 @@ impl<const D: usize> Shadow<D> {
     pub fn row(&self, id: i64) -> Option<&RowEntry>
         ensures { option_copied result ≡ entry_of self.now.rows id }
     {
-        match self.ids.get_index_of(&id) {
+        match index_of(&self.ids, &id) {
             Some(at) => item_at(self.rows.as_slice(), at),
             None => None,
         }

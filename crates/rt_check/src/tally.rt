@@ -3,11 +3,10 @@
 //! A count stops at 2, since the conditions only ask whether it is 1 (`specs/Tally.antt`).
 
 ghost use Rattle.std.specs.Prelude.{◌≡◌, ◌∷◌, [], ◌++◌, List, length, IfOk};
-ghost use Rattle.std.specs.Ordering.{int_eq};
-ghost use Rattle.indexmap.specs.IndexSet.{IsUnique};
 ghost use Rattle.rt_check.specs.declared.node.RawCell.{RawCell as Cell};
 ghost use Rattle.rt_check.specs.Tally.{tallies, tallies_of};
 
+use crate::index::{are_distinct, index_of};
 use crate::node::RawCell;
 use crate::shadow::Shadow;
 use indexmap::IndexSet;
@@ -36,14 +35,6 @@ impl Named {
     }
 }
 
-/// A law: no number stands twice in a set. The call does nothing.
-fn are_distinct(numbers: &IndexSet<i64, RandomState>)
-    ensures { IsUnique int_eq numbers.now }
-{
-    // The contract of `len` says so.
-    let _ = numbers.len();
-}
-
 /// Counts one cell more.
 fn count_cell<const D: usize>(
     counts: &mut [u8],
@@ -55,7 +46,7 @@ fn count_cell<const D: usize>(
         → counts.new ≡ tallies numbers.now.keys (cells ++ cell.now ∷ []) }
 {
     are_distinct(numbers);
-    if let Some(at) = numbers.get_index_of(&cell.number) {
+    if let Some(at) = index_of(numbers, &cell.number) {
         counts[at] = counts[at].saturating_add(1).min(2);
     }
 }

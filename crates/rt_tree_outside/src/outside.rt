@@ -15,7 +15,7 @@ ghost use Rattle.rt_tree_outside.specs.Outside.{noted, cell_number, cell_row, no
 use crate::preorder::{number_keys, preorder};
 use indexmap::IndexMap;
 use rt_check::{Items, NodeRow, RawCell, RowEntry, Shadow};
-use rt_tree_node::{Arena, Cell, Key, Node, node_at};
+use rt_tree_node::{Arena, Cell, Key, Node, find_leaf, node_at};
 use std::alloc::{AllocError, Global};
 use std::hash::RandomState;
 
@@ -176,8 +176,8 @@ pub(crate) fn row_entry(
     requires small { All (λ n. n < 2 ^ 63) numbers.now }
     ensures { result ≡ row_entry (noted numbers.now) (leaf_of int_eq leaves.now) id.now }
 {
-    let leaf = match leaves.get(id) {
-        Some(key) => number_at(numbers, *key),
+    let leaf = match find_leaf(leaves, id) {
+        Some((_, key)) => number_at(numbers, key),
         None => 0,
     };
     RowEntry { id: *id, leaf }

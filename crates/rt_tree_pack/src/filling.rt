@@ -6,8 +6,47 @@ ghost use Rattle.rt_box.specs.Capacity.{most_cells};
 ghost use Rattle.rt_tree_node.specs.Places.{cells_at};
 ghost use Rattle.rt_tree_pack.specs.Steps.{MayFill, Fills};
 
+use indexmap::IndexMap;
 use rt_tree_node::{Arena, Cell, Key, Pending};
 use rt_tree_place::attach;
+use std::hash::RandomState;
+
+/// What was seen of entries. Nothing reads it, but without it the compiler would leave the looks out.
+#[derive(Drop)]
+struct Looks {
+    seen: i64,
+}
+
+impl Looks {
+    /// Looks at the places in which ids that count up have their entries. The entry of each row is written next, and the waits
+    /// for their memory overlap here.
+    #[inline(never)]
+    fn look<const D: usize>(
+        &mut self,
+        leaves: &IndexMap<i64, Key, RandomState>,
+        cells: &[Cell<D>],
+    ) {
+        for cell in cells {
+            let place = cell.number.unsigned_abs() as usize;
+            if let Some((id, _)) = leaves.get_index(place) {
+                self.seen = self.seen.wrapping_add(*id);
+            }
+        }
+    }
+}
+
+/// Looks at the entries of cells that are rows.
+fn look_at_entries<const D: usize>(
+    leaves: &IndexMap<i64, Key, RandomState>,
+    level: u8,
+    cells: &[Cell<D>],
+) {
+    if level > 0 {
+        return;
+    }
+    let mut looks = Looks { seen: 0 };
+    looks.look(leaves, cells);
+}
 
 /// Appends cells to a node of their level.
 pub fn fill<const D: usize>(tree: &mut Arena<D>, key: Key, level: u8, cells: &[Cell<D>])
@@ -17,6 +56,7 @@ pub fn fill<const D: usize>(tree: &mut Arena<D>, key: Key, level: u8, cells: &[C
     requires named { MayFill tree.old key level cells.now }
     ensures { Fills tree.old tree.new key level cells.now }
 {
+    look_at_entries(&tree.leaves, level, cells);
     for cell in cells {
         attach(tree, key, &Pending { level, cell: *cell });
     }

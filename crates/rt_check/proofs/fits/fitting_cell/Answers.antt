@@ -1,4 +1,4 @@
-use Rattle.std.proofs.Common.{◌≡◌, ◌<◌, sym, ◌∙◌, length, arith, rules, w32, take, drop, ◌-◌}
+use Rattle.std.proofs.Common.{◌<◌, ◌∙◌, length, arith, rules, w32, take, drop, ◌-◌}
 use Rattle.std.proofs.Math.Facts.{to_z-of_z}
 use Rattle.std.proofs.lemmas.List.{length-set}
 use Rattle.std.specs.Int.RustNames.{FitsSigned}
