@@ -2,7 +2,7 @@
 
 Prints a line of nanoseconds of the processor and a checksum for each kind of call: `load`, a row, makes a tree of arrays of ids and
 boxes, or of what the library takes in their place; `many`, a window, finds the ids of the rows that each window touches in one call,
-if there is such a call; `calls` does so in a call each; `threads` in a call of each of four threads, in time by the clock. What is only
+if there is such a call; `calls` does so in a call each; `shared` in one call that four threads share, in time by the clock. What is only
 another form of the input is made before the time is taken.
 """
 
@@ -11,7 +11,6 @@ import random
 import sys
 import time
 import warnings
-from concurrent.futures import ThreadPoolExecutor
 
 SPAN = 1_000_000
 
@@ -30,15 +29,12 @@ class Juicedelta:
     def calls(self, tree):
         return [id for box in self.each for id in tree.intersection(box)]
 
-    def threads(self, tree):
-        size = -(-len(self.each) // 4) * 4
-        parts = [self.windows[begin : begin + size] for begin in range(0, len(self.windows), size)]
-        with ThreadPoolExecutor(4) as pool:
-            return sum((found.ids for found in pool.map(tree.intersection_many, parts)), array.array("q"))
+    def shared(self, tree):
+        return tree.intersection_many(self.windows, workers=4).ids
 
 
 class Shapely:
-    threads = None
+    shared = None
 
     def __init__(self, rows, windows):
         import shapely
@@ -66,7 +62,7 @@ class Shapely:
 
 
 class Rtree:
-    many = threads = None  # The version of Debian 12 has no such call.
+    many = shared = None  # The version of Debian 12 has no such call.
 
     def __init__(self, rows, windows):
         from rtree.index import Index
@@ -109,7 +105,7 @@ def main():
     )
 
     def timed(name, call, count, *words):
-        clock = time.perf_counter_ns if name == "threads" else time.process_time_ns
+        clock = time.perf_counter_ns if name == "shared" else time.process_time_ns
         begun = clock()
         answer = call(*words)
         taken = clock() - begun
@@ -117,7 +113,7 @@ def main():
         return answer
 
     tree = timed("load", library.load, rows)
-    for name in ("many", "calls", "threads"):
+    for name in ("many", "calls", "shared"):
         if getattr(library, name):
             timed(name, getattr(library, name), windows, tree)
 

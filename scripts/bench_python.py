@@ -31,7 +31,7 @@ BOUNDS = [
     Bound("rows at once, over rtree's", 0.1, ("juicedelta", "load"), ("rtree", "load")),
     Bound("windows in a call, over shapely's", 0.3, ("juicedelta", "many"), ("shapely", "many")),
     Bound("windows in a call, over rtree's", 0.02, ("juicedelta", "many"), ("rtree", "many")),
-    Bound("windows in a call, over a call each", 0.1, ("juicedelta", "many"), ("juicedelta", "calls")),
+    Bound("windows in a call of four workers, over calls", 0.1, ("juicedelta", "shared"), ("juicedelta", "calls")),
 ]
 
 
@@ -67,7 +67,7 @@ def main():
     best = measure(commands)
     print(f"\nPython, {ROWS} rows and {WINDOWS} windows of about ten: nanoseconds a row or a window")
     print(f"{'':16}" + "".join(f"{name:>14}" for name in commands))
-    for call in ("load", "many", "calls", "threads"):
+    for call in ("load", "many", "calls", "shared"):
         print(f"{call:16}" + "".join(f"{best.get((name, call), '-'):>14}" for name in commands))
     print()
     for bound in BOUNDS:

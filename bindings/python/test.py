@@ -292,6 +292,24 @@ def test_codes():
     assert len(tree) == 0
 
 
+def test_workers():
+    """Threads that share windows or points find what one finds, each in its place."""
+    for dimension in (1, 2, 3):
+        ids, rows = range(3000), [tuple((7919 * id + 31 * axis) % 5003 + end for end in (0, 9) for axis in range(dimension)) for id in range(3000)]
+        tree, windows, points = RTree.from_rows(ids, rows, dimension), rows + rows[:999], [row[:dimension] for row in rows]
+        found, counts, near = tree.intersection_many(windows), tree.count_many(windows, "within"), tree.nearest_many(points, 2)
+        for workers in (1, 2, 3, 4, 50, -1):
+            assert tree.intersection_many(windows, workers=workers) == found
+            assert tree.count_many(windows, "within", workers) == counts and tree.nearest_many(points, 2, workers) == near
+        assert [len(found.ids), len(counts), len(near.starts)] == [sum(tree.count_many(windows)), 3999, 3001]
+        for call in (tree.intersection_many, tree.count_many, tree.nearest_many):
+            for workers in (0, -2, 1.0, True, None):
+                raised(ValueError, "workers is", lambda: call([], workers=workers))
+            assert len(call([], workers=4)) == len(call([]))
+        odd = array.array("i", [0] * (2 * dimension * 4000 + 1))
+        assert refused(lambda: tree.intersection_many(odd, workers=4)) == 14
+
+
 def test_numbers():
     """Ids and coordinates are whole numbers in range, of Python, of NumPy, or of another class."""
     tree, box = RTree(), (0, 0, 1, 1)
@@ -767,7 +785,7 @@ def main(words):
         for capacity in (5, 51):
             test_random(dimension, capacity, 3000)
             test_live(dimension, capacity, 1000)
-    for test in (test_codes, test_live_codes, test_numbers, test_options, test_order, test_threads, test_live_threads, test_signals):
+    for test in (test_codes, test_live_codes, test_workers, test_numbers, test_options, test_order, test_threads, test_live_threads, test_signals):
         test()
     assert Item(1, (0, 1)) == (1, (0, 1))
     if words == ["trees"]:

@@ -31,6 +31,7 @@ from ._errors import BUFFER_TOO_SMALL, EMPTY, accept, error_at
 from ._form import Form
 from ._grid import Grid
 from ._owner import Guard, Owner, capacity_of, whole
+from ._spread import Many, joined, parts_for, side_by_side
 from ._sqlite import all_or_nothing, create, find, parts_of, quoted, replace_rows, table_of
 
 Relation = Literal["touches", "within", "holds"]
@@ -44,13 +45,6 @@ class Item(NamedTuple("Item", [("id", int), ("bbox", Tuple[Any, ...])])):
     """A row of a tree: equal to another with the same id and box. `object` is what was inserted with it, or None."""
 
     object: Any = None
-
-
-class Many(NamedTuple):
-    """What many windows or points find: the ids of place i are `ids[starts[i] : starts[i + 1]]`."""
-
-    ids: array.array[int]
-    starts: array.array[int]
 
 
 class Pairs(NamedTuple):
@@ -135,17 +129,26 @@ class ManyReads(Owner):
         accept(code)
         return form.unpacked(numbers)
 
-    def intersection_many(self, boxes: Any, relation: Relation = "touches") -> Many:
-        """The ids of the rows that each window finds, as `intersection`, `contains` or `covering`."""
-        form, number = self._form, relation_of(relation)
-        windows = form.list_of_boxes(boxes)
-        return self._many(tree_search_many, windows, form.width, 4 * len(windows), number, *_list(windows))
+    def intersection_many(self, boxes: Any, relation: Relation = "touches", workers: SupportsIndex = 1) -> Many:
+        """The ids of the rows that each window finds, as `intersection`, `contains` or `covering`.
 
-    def nearest_many(self, points: Any, num_results: SupportsIndex = 1) -> Many:
-        """The ids of the rows nearest to each point, the nearest first."""
-        form, most = self._form, min(max(whole(num_results, "num_results"), 0), len(self))
-        numbers = form.list_of_points(points)
-        return self._many(tree_nearest_many, numbers, form.axes, most * len(numbers) // form.axes, *_list(numbers), most)
+        As many threads as `workers` share the windows if they are many: -1 stands for a thread a processor.
+        """
+        width, number = self._form.width, relation_of(relation)
+
+        def found(windows: array.array[int]) -> Many:
+            return self._many(tree_search_many, windows, width, 4 * len(windows), number, *_list(windows))
+
+        return joined(side_by_side(found, parts_for(self._form.list_of_boxes(boxes), width, workers)))
+
+    def nearest_many(self, points: Any, num_results: SupportsIndex = 1, workers: SupportsIndex = 1) -> Many:
+        """The ids of the rows nearest to each point, the nearest first. For `workers` see `intersection_many`."""
+        axes, most = self._form.axes, min(max(whole(num_results, "num_results"), 0), len(self))
+
+        def found(numbers: array.array[int]) -> Many:
+            return self._many(tree_nearest_many, numbers, axes, most * len(numbers) // axes, *_list(numbers), most)
+
+        return joined(side_by_side(found, parts_for(self._form.list_of_points(points), axes, workers)))
 
     def _many(self, call: Call, given: array.array[int], width: int, room: int, *words: object) -> Many:
         count, total = len(given) // width, ctypes.c_uint64()
@@ -159,13 +162,19 @@ class ManyReads(Owner):
         starts[count] = room
         return Many(ids, starts)
 
-    def count_many(self, boxes: Any, relation: Relation = "touches") -> array.array[int]:
-        """How many rows each window finds."""
-        form, number = self._form, relation_of(relation)
-        windows = form.list_of_boxes(boxes)
-        counts = zeros("q", len(windows) // form.width)
-        accept(self._guard.read(tree_count_many, self._at, number, *_list(windows), at(counts), len(counts)))
-        return counts
+    def count_many(
+        self, boxes: Any, relation: Relation = "touches", workers: SupportsIndex = 1
+    ) -> array.array[int]:
+        """How many rows each window finds. For `workers` see `intersection_many`."""
+        width, number = self._form.width, relation_of(relation)
+
+        def counted(windows: array.array[int]) -> array.array[int]:
+            counts = zeros("q", len(windows) // width)
+            accept(self._guard.read(tree_count_many, self._at, number, *_list(windows), at(counts), len(counts)))
+            return counts
+
+        counts = side_by_side(counted, parts_for(self._form.list_of_boxes(boxes), width, workers))
+        return sum(counts[1:], counts[0])
 
     def join(self, other: Optional[ManyReads] = None) -> Pairs:
         """Each pair of rows, one of this tree and one of the other, whose boxes touch, once, in no stated order.
