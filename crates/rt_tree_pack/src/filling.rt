@@ -14,7 +14,7 @@ use std::hash::RandomState;
 /// What was seen of entries. Nothing reads it, but without it the compiler would leave the looks out.
 #[derive(Drop)]
 struct Looks {
-    seen: i64,
+    seen: u64,
 }
 
 impl Looks {
@@ -28,8 +28,10 @@ impl Looks {
     ) {
         for cell in cells {
             let place = cell.number.unsigned_abs() as usize;
-            if let Some((id, _)) = leaves.get_index(place) {
-                self.seen = self.seen.wrapping_add(*id);
+            if let Some((id, leaf)) = leaves.get_index(place) {
+                // Ids and leaves are two arrays.
+                let seen = id.unsigned_abs().wrapping_add(leaf.index() as u64);
+                self.seen = self.seen.wrapping_add(seen);
             }
         }
     }
