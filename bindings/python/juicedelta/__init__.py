@@ -14,9 +14,10 @@ __license__ = "Apache-2.0"
 from ._errors import BadValue, JuicedeltaError, MissingId, NoMemory, StatementRefused
 from ._grid import Grid
 from ._live import Kind, Live, WindowChange
-from ._many import Columns, Item, Many, Pairs, Relation
+from ._many import Columns, Item, Pairs, Relation
 from ._script import Change, Value
 from ._shells import Shell
+from ._spread import Many
 from ._trees import RTree
 
 __all__ = [

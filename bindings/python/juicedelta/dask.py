@@ -16,7 +16,8 @@ from typing import Any, Dict, Iterable, Iterator, List, NamedTuple, Optional, Se
 from ._buffers import array_of, zeros
 from ._errors import ID_TAKEN, error_of
 from ._form import Form
-from ._many import Columns, Many, Pairs
+from ._many import Columns, Pairs
+from ._spread import Many
 from ._trees import RTree
 
 Box = Tuple[int, ...]
