@@ -224,7 +224,7 @@ impl<const D: usize> Table<D> {
         Ok(())
     }
 
-    /// The plan of an edit. The table stays.
+    /// The plan of an edit, with what the table has. The table stays.
     ///
     /// # Errors
     ///
@@ -366,7 +366,7 @@ impl<const D: usize> Table<D> {
         check(self.alloc, &shadow)
     }
 
-    /// The tree from outside.
+    /// The tree from outside, with the allocator and the keys that the table has.
     ///
     /// # Errors
     ///

@@ -61,7 +61,8 @@ fn is_set(sets: &[(Name, Source)], name: &Name) -> bool
     sets.iter().any(|set| name.is_same(&set.0))
 }
 
-/// Whether the name is among those of the sets.
+/// Whether the name is among those of the sets: `is_set`, told of a list of names. That `any` goes through the sets is proved
+/// there, for itself.
 fn is_among(sets: &[(Name, Source)], name: &Name) -> bool
     ensures { result ≡ has_name (set_names sets.now) name.now }
 {

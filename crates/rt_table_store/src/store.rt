@@ -212,7 +212,7 @@ impl<const D: usize> Store<D> {
         self.largest.get()
     }
 
-    /// The tree from outside. Look-ups in it hash by `keys`.
+    /// The tree from outside, told as the store's: no one else has the tree itself. Look-ups in it hash by `keys`.
     ///
     /// # Errors
     ///
