@@ -179,7 +179,7 @@ pub extern "C" fn juicedelta_live_unwatch(
     code.number()
 }
 
-/// Makes room for so many more rows and windows, and for edits that make so many changes.
+/// Makes room for `rows` and `windows` more, and for edits that make `changes` changes.
 #[unsafe(no_mangle)]
 pub extern "C" fn juicedelta_live_reserve(
     alloc: Global,

@@ -134,7 +134,7 @@ module _ {D : ℕ} where
   WithBox numbers says old new code =
       Sized (length numbers) (2 * D) (says (take D numbers) (drop D numbers) old new code) ((code ≡ BadLength) × Stays old new)
 
-  -- there is room for so many more rows and windows, and for so many changes; or no memory is left
+  -- there is room for these numbers of rows, windows and changes more; or no memory is left
   abbrev pub Reserves : ℕ → ℕ → ℕ → LiveState D → LiveState D → Code → Type 0
   Reserves rows windows changes old new Done =
       Stays old new × (rows ≤ new.row_room) × (windows ≤ new.window_room) × (changes ≤ new.change_room)

@@ -47,7 +47,7 @@ module _ {D : ℕ} where
   CountsEach counts new_counts relation windows tree OutOfMemory = new_counts ≡ counts
   CountsEach counts new_counts relation windows tree code = ⊥
 
-  -- of the number of a relation and the numbers of so many windows the call says this; or the number is that of no relation; or they
+  -- of the number of a relation and the numbers of n windows the call says this; or the number is that of no relation; or they
   -- are more or fewer than the tree's axes ask for
   abbrev pub OfEachRelation : Option Relation → ℕ → List ℤ → (Relation → List ℤ → TreeLists D → Code → Type 0) → TreeLists D → Code → Type 0
   OfEachRelation None count numbers says tree code = code ≡ BadRelation

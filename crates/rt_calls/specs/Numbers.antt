@@ -25,12 +25,12 @@ AreOrdered axes box = AllZip ◌≤ℤ◌ (take axes box) (drop axes box)
 abbrev pub piece_at : ℕ → List ℤ → ℕ → List ℤ
 piece_at width xs place = take width (drop (place * width) xs)
 
--- so many pieces of it
+-- n pieces of it
 abbrev pub pieces : ℕ → ℕ → List ℤ → List (List ℤ)
 pieces width zero xs = []
 pieces width (suc count) xs = take width xs ∷ pieces width count (drop width xs)
 
--- each of so many boxes is such
+-- each of n boxes is such
 abbrev pub AreAllOrdered : ℕ → ℕ → List ℤ → Type 0
 AreAllOrdered axes count numbers = (place : ℕ) → place < count → AreOrdered axes (piece_at (2 * axes) numbers place)
 

@@ -120,7 +120,7 @@ fn order_of<const D: usize>(
     order_by_region(alloc, &tree.bounds(), &corners)
 }
 
-/// Whether a list of numbers has so many of each of so many things, and no more.
+/// Whether a list has `each` numbers for each of `count` things, and no more.
 fn are_many(numbers: &[i32], each: usize, count: usize) -> bool
     requires { each ≤ 6 }
     ensures { IsTrue result ↔ (length numbers.now ≡ count * each) }
@@ -316,7 +316,7 @@ pub fn count_each_in(
     }
 }
 
-/// Searches for the rows nearest to each of so many points.
+/// Searches for the rows nearest to each of n points.
 fn nearest_to_points<const D: usize>(
     alloc: Global,
     tree: &Tree<D>,

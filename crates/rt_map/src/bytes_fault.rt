@@ -6,7 +6,7 @@ use thiserror::Error;
 /// Why bytes make no tree.
 #[derive(Clone, Copy, PartialEq, Eq, Debug, Error)]
 pub enum BytesFault {
-    /// They are not the bytes of a tree of so many axes.
+    /// They are not the bytes of a tree of that number of axes.
     #[error("not the bytes of a tree")]
     Bad,
     /// They have more rows than a tree may have.

@@ -55,7 +55,7 @@ fn read_row<const D: usize>(cell: &[u8]) -> Option<Row<D>>
     })
 }
 
-/// Appends the rows of a leaf's cells, each of which has so many bytes.
+/// Appends the rows of a leaf's cells, each of which has `width` bytes.
 fn read_rows<const D: usize>(
     rows: &mut Vec<Row<D>>,
     cells: &[u8],

@@ -12,7 +12,7 @@ use Rattle.rt_sql_statement.specs.declared.refusal.Refusal.TheVariants.{NoSuchVi
 use Rattle.rt_table_row.specs.Rows.{values_of}
 use Rattle.rt_table_row.specs.Conditions.{holds, picked}
 use Rattle.rt_table_row.specs.Filters.{admits}
-use Rattle.rt_table_row.specs.Tables.{TableLists, view, viewed, is_view}
+use Rattle.rt_table_row.specs.Tables.{TableLists, view, view_outcome, is_view}
 use Rattle.rt_table_view.specs.declared.view.Watched.{Watched}
 use Rattle.rt_table_view.specs.Watching.{view_of, IsKept}
 use Rattle.rt_table_view.proofs.Looking.{find_mapped}
@@ -39,12 +39,12 @@ none_found p (x ∷ xs) none = none_first (p x) (list_any p xs) x (find p xs) no
 
 pub no_view : (lists : TableLists) (name : List ℕ) (views : List Watched) → lists.views ≡ map view_of views → position (λ (w : Watched). is_view name (view_of w)) views ≡ None → view lists name ≡ Err NoSuchView
 no_view lists name views same none =
-    ap (viewed lists) (ap (find (is_view name)) same ∙ none_found (is_view name) (map view_of views) (any_mapped (is_view name) view_of views ∙ not_placed (λ (w : Watched). is_view name (view_of w)) views none))
+    ap (view_outcome lists) (ap (find (is_view name)) same ∙ none_found (is_view name) (map view_of views) (any_mapped (is_view name) view_of views ∙ not_placed (λ (w : Watched). is_view name (view_of w)) views none))
 
 pub view_shown : (lists : TableLists) (name : List ℕ) (views : List Watched) (at : ℕ) (w : Watched) → lists.views ≡ map view_of views → position (λ (w : Watched). is_view name (view_of w)) views ≡ Some at
     → w ≡ get_or views at w → IsKept lists.columns lists.rows w → (values : List (List Value)) → values ≡ map values_of (filter (admits w.filter) lists.rows) → Shows (view lists name) values
 view_shown lists name views at w same placed read kept values shown = (
   picked lists.columns w.filter.cond lists.rows,
-  ap (viewed lists) (ap (find (is_view name)) same ∙ found_view (is_view name) view_of views at w placed read),
+  ap (view_outcome lists) (ap (find (is_view name)) same ∙ found_view (is_view name) view_of views at w placed read),
   shown ∙ ap (map values_of) (filter_agree (admits w.filter) (holds lists.columns w.filter.cond) kept.filter_is.same lists.rows),
 )

@@ -6,8 +6,8 @@ use Rattle.rt_table.specs.declared.table.Table.TheInside.{Inside}
 use Rattle.rt_table.specs.Held.{Held}
 use Rattle.rt_table_view.specs.Watching.{view_of, awaited_of, IsKept}
 
-abbrev pub held : {D : _} → Inside D → Held D
-held t = record {
+abbrev pub contents : {D : _} → Inside D → Held D
+contents t = record {
   lists = record { columns = t.columns; rows = t.store.rows; views = map view_of t.views.items };
   tree = t.store.tree;
   room = t.store.room;

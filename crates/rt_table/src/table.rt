@@ -73,9 +73,9 @@ impl<const D: usize> Model for Table<D> {
 
     ghost Value = { Held D };
 
-    ghost use Rattle.rt_table.specs.TableInside.{held, IsWhole};
+    ghost use Rattle.rt_table.specs.TableInside.{contents, IsWhole};
 
-    ghost view = { held };
+    ghost view = { contents };
 
     ghost invariant = { IsWhole D };
 }

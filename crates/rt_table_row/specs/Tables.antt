@@ -46,10 +46,10 @@ abbrev pub unwatch : TableLists → List ℕ → Result TableLists Refusal
 unwatch t name =
     if has_view t name then Ok (record t { views = filter (λ view. not (is_view name view)) t.views }) else Err NoSuchView
 
-abbrev pub viewed : TableLists → Option View → Result (List TableRow) Refusal
-viewed t None = Err NoSuchView
-viewed t (Some view) = Ok (picked t.columns view.cond t.rows)
+abbrev pub view_outcome : TableLists → Option View → Result (List TableRow) Refusal
+view_outcome t None = Err NoSuchView
+view_outcome t (Some view) = Ok (picked t.columns view.cond t.rows)
 
 -- the rows of a view, as they are now
 abbrev pub view : TableLists → List ℕ → Result (List TableRow) Refusal
-view t name = viewed t (find (is_view name) t.views)
+view t name = view_outcome t (find (is_view name) t.views)

@@ -45,7 +45,7 @@ const STATEMENTS: [(&str, Option<Reached>); 16] = [
     ),
 ];
 
-/// Whether just the rows of these ids were found, in so many nodes.
+/// Whether just the rows of these ids were found, in that number of nodes.
 fn is_found(found: &Found<Rows>, reached: Option<Reached>) -> bool {
     let (Rows::One(rows), Some((ids, visited))) = (&found.rows, reached) else {
         return false;

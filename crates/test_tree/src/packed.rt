@@ -27,7 +27,7 @@ fn hashed(alloc: Global, before: u64, shadow: AnyShadow) -> u64 {
     hash
 }
 
-/// The tree of so many rows, with the ids 1, 2 and so on.
+/// The tree of `count` rows, with the ids 1, 2 and so on.
 fn packed<const D: usize>(
     alloc: Global,
     keys: RandomState,

@@ -4,7 +4,7 @@ use Rattle.rt_table_row.specs.Entries.{row_of}
 use Rattle.rt_table_row.specs.Rows.{TableRow}
 use Rattle.rt_table_view.specs.Watching.{IsKept, view_of}
 use Rattle.rt_table.specs.Held.{Held}
-use Rattle.rt_table.specs.TableInside.{held}
+use Rattle.rt_table.specs.TableInside.{contents}
 use Rattle.rt_table.proofs.Leaving.{none_mapped, left-rows, left-tree}
 use Rattle.rt_table.proofs.table.Table.take.Goals as goal
 
@@ -25,7 +25,7 @@ pub returns-clause-lists : goal.returns-clause-lists
 returns-clause-lists g c =
     let i = c.self.inside in
     rw (← c.self.view_is) (
-    ap (λ (rows : List TableRow). record (held i).lists { rows = rows })
+    ap (λ (rows : List TableRow). record (contents i).lists { rows = rows })
     (left-rows row_of c.args.id.now i.store c.take.new.self c.take.result c.take.ensures.row c.take.ensures.none c.take.ensures.rows)
     )
 

@@ -4,7 +4,7 @@ use Rattle.rt_sql_statement.specs.Name.{same_name}
 use Rattle.rt_table_row.specs.Tables.{has_view}
 use Rattle.rt_table_view.specs.Watching.{IsKept}
 use Rattle.rt_table.specs.Held.{Held}
-use Rattle.rt_table.specs.TableInside.{held}
+use Rattle.rt_table.specs.TableInside.{contents}
 use Rattle.rt_table.proofs.Viewing.{unwatched_of}
 use Rattle.rt_table.proofs.table.Table.unwatch.Goals as goal
 
@@ -19,5 +19,5 @@ invariant_of-self g c = record {
 
 pub returns-clause-ok : goal.returns-clause-ok
 returns-clause-ok g c =
-    let there : has_view (held c.self.inside).lists c.args.name.now ≡ true = subst (λ (h : Held g.row.D). has_view h.lists c.args.name.now ≡ true) (sym c.self.view_is) (sym c.if-not-has_view.ensures) in
-    rw (← c.self.view_is) (unwatched_of (held c.self.inside).lists c.args.name.now c.self.inside.views.items c.forget.new.views.items refl c.forget.ensures there)
+    let there : has_view (contents c.self.inside).lists c.args.name.now ≡ true = subst (λ (h : Held g.row.D). has_view h.lists c.args.name.now ≡ true) (sym c.self.view_is) (sym c.if-not-has_view.ensures) in
+    rw (← c.self.view_is) (unwatched_of (contents c.self.inside).lists c.args.name.now c.self.inside.views.items c.forget.new.views.items refl c.forget.ensures there)

@@ -3,7 +3,7 @@ use Rattle.std.specs.Prelude.{position}
 use Rattle.std.proofs.lemmas.List.Quantifiers.{position-Some}
 use Rattle.rt_table_row.specs.Tables.{is_view}
 use Rattle.rt_table_view.specs.declared.view.Watched.{Watched}
-use Rattle.rt_table.specs.TableInside.{held}
+use Rattle.rt_table.specs.TableInside.{contents}
 use Rattle.rt_table_view.specs.Watching.{view_of, IsKept}
 use Rattle.rt_table.proofs.Showing.{no_view, view_shown}
 use Rattle.rt_table.proofs.table.Table.view.Goals as goal
@@ -11,7 +11,7 @@ use Rattle.rt_table.proofs.table.Table.view.Goals as goal
 pub returns-in_default-clause-err : goal.returns-in_default-clause-err
 returns-in_default-clause-err g c =
     let none : position (λ (w : Watched). is_view c.args.name.now (view_of w)) c.self.inside.views.items ≡ None = rw c.as_slice.ensures.value at (sym c.in_default.ensures) in
-    rw (← c.self.view_is) (inl (no_view (held c.self.inside).lists c.args.name.now c.self.inside.views.items refl none))
+    rw (← c.self.view_is) (inl (no_view (contents c.self.inside).lists c.args.name.now c.self.inside.views.items refl none))
 
 pub returns-clause-ok : goal.returns-clause-ok
 returns-clause-ok g c =
@@ -19,4 +19,4 @@ returns-clause-ok g c =
     let within = (position-Some (λ (w : Watched). is_view c.args.name.now (view_of w)) c.self.inside.views.items c.in-Some.at c.index.result.now placed).0 in
     let kept : IsKept c.self.inside.columns c.self.inside.store.rows c.index.result.now =
     subst (λ (w : Watched). IsKept c.self.inside.columns c.self.inside.store.rows w) (sym c.index.ensures) (c.self.invariant.kept c.in-Some.at c.index.result.now within) in
-    rw (← c.self.view_is) (view_shown (held c.self.inside).lists c.args.name.now c.self.inside.views.items c.in-Some.at c.index.result.now refl placed c.index.ensures kept _ c.in_ok-rows.ensures)
+    rw (← c.self.view_is) (view_shown (contents c.self.inside).lists c.args.name.now c.self.inside.views.items c.in-Some.at c.index.result.now refl placed c.index.ensures kept _ c.in_ok-rows.ensures)
