@@ -36,7 +36,7 @@ static int by_id(const void *left, const void *right)
     return (a > b) - (a < b);
 }
 
-/* Makes room for so many ids. */
+/* Makes room for that many ids. */
 static void grow(found *at, size_t room)
 {
     free(at->ids);

@@ -118,7 +118,7 @@ def paths(node: Node, *above: Node) -> Iterator[tuple[Node, ...]]:
 
 
 def runs(cells: Sequence[Cell], capacity: int) -> Iterator[list[Cell]]:
-    """The cells of each node: all that it can have, but not so many that too few are left for the last one."""
+    """The cells of each node: all that it can have, unless too few are then left for the last one."""
     while cells:
         left = len(cells)
         first = left if left <= capacity else min(capacity, left - 2 * capacity // 5)

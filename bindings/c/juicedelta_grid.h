@@ -74,7 +74,7 @@ static inline int juicedelta_grid_point(const juicedelta_grid *grid, uint32_t ax
     return 0;
 }
 
-/* The floats of the number at each of so many places, of a point or of boxes one after another. */
+/* The floats of the number at each of that many places, of a point or of boxes one after another. */
 static inline void juicedelta_grid_floats(const juicedelta_grid *grid, uint32_t axes, const int32_t *from, uint64_t length,
                                           double *to)
 {

@@ -376,7 +376,7 @@ static int are_no_parts(const parts *parts)
         && is_untouched(parts->counts, 0, sizeof parts->counts) && is_untouched(parts->ids, 0, sizeof parts->ids);
 }
 
-/* Sorts the ids of each of so many windows. */
+/* Sorts the ids of each of that many windows. */
 static void sort_parts(parts *parts, size_t count)
 {
     for (size_t at = 0; at < count; at++) {

@@ -258,7 +258,7 @@ static void refuse_all(juicedelta_handle *handle, int32_t code)
     refuse_live(handle, code);
 }
 
-/* A tree of so many axes refuses each wrong length of a box and of a point, before it looks at the box or the id. */
+/* A tree of that many axes refuses each wrong length of a box and of a point, before it looks at the box or the id. */
 static void refuse_lengths(juicedelta_handle *tree, size_t axes)
 {
     outputs to;
@@ -386,7 +386,7 @@ static void open_codes(void)
     CHECK(juicedelta_close(&tree) == JUICEDELTA_CLOSED);
 }
 
-/* The codes of a tree with so many axes, with nothing changed. */
+/* The codes of a tree with that many axes, with nothing changed. */
 static void tree_codes(uint32_t axes)
 {
     juicedelta_handle tree = {0}, shell = {0};
@@ -443,7 +443,7 @@ static void tree_codes(uint32_t axes)
 
 /* ---- Live windows ------------------------------------------------------------------------------------------------ */
 
-/* Live windows of so many axes refuse each wrong length of a box, before they look at the box or the id, and of lists. */
+/* Live windows of that many axes refuse each wrong length of a box, before they look at the box or the id, and of lists. */
 static void refuse_live_lengths(juicedelta_handle *live, size_t axes)
 {
     outputs to;
@@ -508,7 +508,7 @@ static void live_codes(uint32_t axes)
     refuse_all(&live, JUICEDELTA_CLOSED);
 }
 
-/* The last edit told so many changes, and these, as `3-7` for `row 7 left window 3`, `+` came and `=` moved. */
+/* The last edit told that many changes, and these, as `3-7` for `row 7 left window 3`, `+` came and `=` moved. */
 static void told(const juicedelta_handle *live, uint64_t count, const char *wanted)
 {
     int64_t windows[8], ids[8];
@@ -737,7 +737,7 @@ static void all_random(int calls)
     }
 }
 
-/* So many random edits on each number of axes, and reads between them: few windows and many, at two capacities. */
+/* That many random edits on each number of axes, and reads between them: few windows and many, at two capacities. */
 static void all_live(long edits)
 {
     static const uint32_t windows[] = {3, 40, IDS};
@@ -795,7 +795,7 @@ static uint64_t count_of(const juicedelta_handle *tree, uint32_t relation, int32
     return total;
 }
 
-/* So many rows come, a fifth of them move, they are found, and half of them go. */
+/* That many rows come, a fifth of them move, they are found, and half of them go. */
 static void many(int32_t rows)
 {
     juicedelta_handle tree = {0};

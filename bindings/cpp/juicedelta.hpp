@@ -172,7 +172,7 @@ public:
         if (!is_over)
             own.bytes = std::move(bytes);
     }
-    // Makes these bytes more than so many, unless that is too much to keep.
+    // Makes these bytes more than that many, unless that is too much to keep.
     static void widen(std::vector<std::byte> &bytes, std::size_t needed) noexcept
     {
         constexpr std::size_t most = 1 << 20;
@@ -486,7 +486,7 @@ private:
             return call(handle(), static_cast<std::uint32_t>(relation), numbers(window), 2 * D, to...);
         };
     }
-    // The first rows, at most so many, that a call writes.
+    // The first rows, at most that many, that a call writes.
     template <class Call> std::vector<Row<D>> first_rows(std::size_t most, Call call) const
     {
         const std::size_t rows = std::min(most, size());

@@ -49,7 +49,7 @@ class Drawn:
 
 
 def parts_of(plain, parts):
-    """The rows in so many partitions, in each form that one has."""
+    """The rows in that many partitions, in each form that one has."""
     dicts = [dict(list(plain.items())[k::parts]) for k in range(parts)]
     forms = [
         Reader, lambda it: (list(it), list(it.values())),

@@ -55,12 +55,12 @@ def _of_items(values: Iterable[Any], code: str, name: str, width: int) -> "array
 
 
 def numpy_for(length: int) -> Any:
-    """NumPy, if the program uses it and so many numbers are worth its while. It answers what Python does number by number."""
+    """NumPy, if the program uses it and there are enough numbers to be worth its while. It answers what Python does number by number."""
     return sys.modules.get("numpy") if length >= 100 else None
 
 
 def zeros(code: str, length: int) -> "array.array[int]":
-    """An array of so many zeros; its memory isn't NULL."""
+    """An array of that many zeros; its memory isn't NULL."""
     numbers = array.array(code, [0])
     return numbers * length if length else numbers[:0]
 

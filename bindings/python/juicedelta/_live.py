@@ -48,7 +48,7 @@ _change: Callable[..., Any] = partial(tuple.__new__, WindowChange)
 
 
 class _Told:
-    """Memory for so many changes, and for how many there are."""
+    """Memory for that many changes, and for how many there are."""
 
     __slots__ = ("room", "windows", "ids", "kinds", "count", "to", "there")
 

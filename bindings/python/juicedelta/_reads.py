@@ -237,7 +237,7 @@ class Reads(ManyReads):
             room *= 4
 
     def _found_items(self, memory: Memory, room: int, form: Form) -> Iterator[Item]:
-        """The rows that a call wrote: ids, and behind room for so many of them boxes, of a word for each axis."""
+        """The rows that a call wrote: ids, and behind room for that many of them boxes, of a word for each axis."""
         boxes = memory.cells[room : room + form.axes * memory.cells[memory.length]]
         return self._items(ids_in(memory), form.boxes(boxes))
 

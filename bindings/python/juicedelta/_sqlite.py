@@ -239,7 +239,7 @@ def _are_whole(column: Sequence[Any]) -> bool:
 
 
 class _Nodes:
-    """The nodes of a table, from its rows upwards: a blob of so many bytes each, and the parent of each but the root."""
+    """The nodes of a table, from its rows upwards: a blob of that many bytes each, and the parent of each but the root."""
 
     def __init__(self, room: int, axes: int) -> None:
         self.room, self.axes = room, axes

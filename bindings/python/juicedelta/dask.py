@@ -21,7 +21,7 @@ from ._spread import Many
 from ._trees import RTree
 
 Box = Tuple[int, ...]
-_SAMPLE = 1000  # So many rows of each partition say where the tiles lie.
+_SAMPLE = 1000  # Rows of each partition, which say where the tiles lie.
 
 
 class Plane:
@@ -45,7 +45,7 @@ class Plane:
         cls, client: Any, partitions: Iterable[Any], tiles: SupportsIndex = 16, dimension: SupportsIndex = 2,
         capacity: SupportsIndex = 51
     ) -> Plane:
-        """A plane of about so many tiles, cut sort-tile-recursively by a sample of the rows.
+        """A plane of about that many tiles, cut sort-tile-recursively by a sample of the rows.
 
         A partition is a pair of ids and boxes, as `RTree.from_rows` takes them, a future of one, or a function that a
         worker calls for one. A partition that can't be read is a ValueError with its place, and an id that comes twice a

@@ -113,7 +113,7 @@ impl Found {
         let (windows, total) = (self.words.0.as_ptr(), self.total);
         let ids = windows.wrapping_add(self.room);
         let kinds = ids.wrapping_add(self.room).cast::<u8>();
-        // SAFETY: the call wrote so many of each there.
+        // SAFETY: the call wrote that many of each there.
         let (windows, ids, kinds) = unsafe {
             (
                 slice::from_raw_parts(windows, total),
@@ -131,7 +131,7 @@ impl Found {
     pub fn rows<const D: usize>(self) -> Result<Vec<Row<D>>, Error> {
         let (ids, total) = (self.words.0.as_ptr(), self.total);
         let rects = ids.wrapping_add(self.room).cast::<Rect<D>>();
-        // SAFETY: the call wrote so many ids there, and so many boxes, which have D words each.
+        // SAFETY: the call wrote that many ids there, and that many boxes, which have D words each.
         let (ids, rects) = unsafe { (slice::from_raw_parts(ids, total), slice::from_raw_parts(rects, total)) };
         let mut rows = room_for(total)?;
         rows.extend(ids.iter().zip(rects).map(|(&id, &rect)| Row { id, rect }));

@@ -105,7 +105,7 @@ impl<const D: usize> Live<D> {
     /// # Ok::<(), juicedelta::Error>(())
     /// ```
     pub fn insert(&mut self, id: i64, rect: &Rect<D>) -> Result<Vec<Change>, Error> {
-        // SAFETY: a box has so many numbers, here and below.
+        // SAFETY: a box has that many numbers, here and below.
         self.edit(|handle, count| unsafe { calls::juicedelta_live_insert(handle, id, numbers(rect), 2 * D, count) })
     }
 
@@ -211,7 +211,7 @@ impl<const D: usize> Live<D> {
     /// ```
     pub fn changes(&self) -> Result<Vec<Change>, Error> {
         let handle = &self.0 .0;
-        // SAFETY: there is room for so many windows, ids and kinds.
+        // SAFETY: there is room for that many windows, ids and kinds.
         let changes = |windows: *mut i64, room, ids, kinds, total: &mut _| unsafe {
             calls::juicedelta_live_changes(handle, windows, room, ids, room, kinds, room, total)
         };
@@ -230,7 +230,7 @@ impl<const D: usize> Live<D> {
     /// ```
     pub fn rows(&self, window: i64) -> Result<Vec<i64>, Error> {
         let handle = &self.0 .0;
-        // SAFETY: there is room for so many ids.
+        // SAFETY: there is room for that many ids.
         let rows =
             |ids, room, _, total: &mut _| unsafe { calls::juicedelta_live_rows(handle, window, ids, room, total) };
         Found::by(1, rows)?.ids()
@@ -247,7 +247,7 @@ impl<const D: usize> Live<D> {
     /// ```
     pub fn windows(&self) -> Result<Vec<Row<D>>, Error> {
         let handle = &self.0 .0;
-        // SAFETY: there is room for so many ids, and for as many boxes.
+        // SAFETY: there is room for that many ids, and for as many boxes.
         let windows = |ids, room: usize, rects, total: &mut u64| unsafe {
             let code = calls::juicedelta_live_windows(handle, 0, ids, room, rects, 2 * D * room, total);
             // Lists that are too short are filled all the same.

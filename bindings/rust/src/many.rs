@@ -37,7 +37,7 @@ impl Many {
             room = total as usize;
             if answer != Err(Error::BufferTooSmall) {
                 answer?;
-                // SAFETY: the call wrote a start for each place, and so many ids.
+                // SAFETY: the call wrote a start for each place, and that many ids.
                 unsafe {
                     starts.set_len(places);
                     ids.set_len(room);

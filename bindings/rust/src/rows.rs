@@ -102,7 +102,7 @@ impl<const D: usize> Iterator for Iter<'_, D> {
     fn next(&mut self) -> Option<Row<D>> {
         if self.part.len() == 0 {
             let place = self.place as u64;
-            // SAFETY: there is room for so many ids, and for as many boxes.
+            // SAFETY: there is room for that many ids, and for as many boxes.
             let read = |ids, room, rects, total: &mut _| unsafe {
                 let code = calls::juicedelta_tree_rows(&self.tree.0, place, ids, room, rects, 2 * D * room, total);
                 *total = (room as u64).min(total.saturating_sub(place));

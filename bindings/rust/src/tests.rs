@@ -489,7 +489,7 @@ fn shells() -> Result<(), Error> {
     Ok(())
 }
 
-// But `Ended` and `OutOfMemory`, and `TreeFull`: no machine of a test has memory for so many rows. The methods have no way to
+// But `Ended` and `OutOfMemory`, and `TreeFull`: no machine of a test has memory for that many rows. The methods have no way to
 // most of these, so they are tried below them.
 #[test]
 fn codes() -> Result<(), Error> {

@@ -12,7 +12,7 @@ use crate::{check, Error, Iter, Many, Rect, Relation, Row, RowsError};
 #[derive(Clone, Copy, Debug)]
 pub struct Axes<const D: usize>;
 
-/// That a tree may have so many axes: one, two or three.
+/// That a tree may have that many axes: one, two or three.
 ///
 /// ```compile_fail
 /// let _ = juicedelta::Tree::<4>::new();
@@ -145,7 +145,7 @@ where
     /// assert_eq!(Tree::<1>::from_bytes(b"no tree").unwrap_err(), Error::BadBytes);
     /// ```
     pub fn from_bytes(bytes: &[u8]) -> Result<Self, Error> {
-        // SAFETY: so many bytes are there.
+        // SAFETY: that many bytes are there.
         let open = |new: &mut _, first, second| unsafe {
             calls::juicedelta_tree_open_bytes(new, D as u32, bytes.as_ptr(), bytes.len(), first, second)
         };
@@ -169,7 +169,7 @@ impl<const D: usize> Tree<D> {
     /// # Ok::<(), juicedelta::Error>(())
     /// ```
     pub fn insert(&mut self, id: i64, rect: &Rect<D>) -> Result<(), Error> {
-        // SAFETY: a box has so many numbers, here and below.
+        // SAFETY: a box has that many numbers, here and below.
         check(unsafe { calls::juicedelta_tree_insert(&mut self.0, id, numbers(rect), Self::NUMBERS) })
     }
 
@@ -329,7 +329,7 @@ impl<const D: usize> Tree<D> {
     pub fn count_many(&self, relation: Relation, windows: &[Rect<D>]) -> Result<Vec<u64>, Error> {
         let (mut counts, relation) = (room_for(windows.len())?, relation as u32);
         let (front, length) = (windows.as_ptr().cast(), Self::NUMBERS * windows.len());
-        // SAFETY: the windows have so many numbers; there is room for a count of each, and the call writes all of them.
+        // SAFETY: the windows have that many numbers; there is room for a count of each, and the call writes all of them.
         unsafe {
             let (to, room) = (counts.as_mut_ptr(), windows.len());
             check(calls::juicedelta_tree_count_many(&self.0, relation, front, length, to, room))?;
@@ -359,7 +359,7 @@ impl<const D: usize> Tree<D> {
     /// # Ok::<(), juicedelta::Error>(())
     /// ```
     pub fn search_where(&self, relation: Relation, window: &Rect<D>) -> Result<Vec<i64>, Error> {
-        // SAFETY: there is room for so many ids.
+        // SAFETY: there is room for that many ids.
         let search = |ids, room, _, total: &mut _| unsafe {
             calls::juicedelta_tree_search(&self.0, relation as u32, numbers(window), Self::NUMBERS, ids, room, total)
         };
@@ -378,7 +378,7 @@ impl<const D: usize> Tree<D> {
     pub fn search_many(&self, relation: Relation, windows: &[Rect<D>]) -> Result<Many, Error> {
         let (places, relation) = (windows.len(), relation as u32);
         let (front, length) = (windows.as_ptr().cast(), Self::NUMBERS * places);
-        // SAFETY: the windows have so many numbers; there is room for a start of each, and for so many ids.
+        // SAFETY: the windows have that many numbers; there is room for a start of each, and for that many ids.
         Many::by(places, 16 * places, |starts, ids, room, total| unsafe {
             calls::juicedelta_tree_search_many(&self.0, relation, front, length, starts, places, ids, room, total)
         })
@@ -406,7 +406,7 @@ impl<const D: usize> Tree<D> {
     /// ```
     pub fn search_rows_where(&self, relation: Relation, window: &Rect<D>) -> Result<Vec<Row<D>>, Error> {
         let (relation, at, length) = (relation as u32, numbers(window), Self::NUMBERS);
-        // SAFETY: there is room for so many ids, and for as many boxes.
+        // SAFETY: there is room for that many ids, and for as many boxes.
         let search = |ids, room, rects, total: &mut _| unsafe {
             calls::juicedelta_tree_search_rows(&self.0, relation, at, length, ids, room, rects, length * room, total)
         };
@@ -459,7 +459,7 @@ impl<const D: usize> Tree<D> {
     pub fn nearest_many(&self, points: &[[i32; D]], most: usize) -> Result<Many, Error> {
         let (places, each) = (points.len(), most.min(self.len()));
         let (front, length, k) = (points.as_ptr().cast(), D * places, each as u64);
-        // SAFETY: the points have so many numbers; there is room for a start of each, and for so many ids.
+        // SAFETY: the points have that many numbers; there is room for a start of each, and for that many ids.
         Many::by(places, each * places, |starts, ids, room, total| unsafe {
             calls::juicedelta_tree_nearest_many(&self.0, front, length, k, starts, places, ids, room, total)
         })
@@ -498,7 +498,7 @@ impl<const D: usize> Tree<D> {
     /// # Ok::<(), juicedelta::Error>(())
     /// ```
     pub fn join(&self, other: &Self) -> Result<Vec<(i64, i64)>, Error> {
-        // SAFETY: there is room for so many ids on each side.
+        // SAFETY: there is room for that many ids on each side.
         pairs(self.len(), |left, right, room, total| unsafe {
             calls::juicedelta_tree_join(&self.0, &other.0, left, room, right, room, total)
         })
@@ -528,7 +528,7 @@ impl<const D: usize> Tree<D> {
     /// # Ok::<(), juicedelta::Error>(())
     /// ```
     pub fn dump(&self) -> Result<Vec<u8>, Error> {
-        // SAFETY: there is room for so many bytes.
+        // SAFETY: there is room for that many bytes.
         bytes(|text, room, total| unsafe { calls::juicedelta_tree_dump(&self.0, text, room, total) })
     }
 
@@ -541,7 +541,7 @@ impl<const D: usize> Tree<D> {
     /// # Ok::<(), juicedelta::Error>(())
     /// ```
     pub fn to_bytes(&self) -> Result<Vec<u8>, Error> {
-        // SAFETY: there is room for so many bytes.
+        // SAFETY: there is room for that many bytes.
         bytes(|text, room, total| unsafe { calls::juicedelta_tree_to_bytes(&self.0, text, room, total) })
     }
 }
@@ -612,7 +612,7 @@ fn pairs(mut room: usize, join: impl Fn(*mut i64, *mut i64, usize, &mut u64) -> 
         room = total as usize;
         if answer != Err(Error::BufferTooSmall) {
             answer?;
-            // SAFETY: the call wrote so many ids on each side.
+            // SAFETY: the call wrote that many ids on each side.
             unsafe {
                 left.set_len(room);
                 right.set_len(room);
