@@ -132,7 +132,8 @@ class ManyReads(Owner):
     def intersection_many(self, boxes: Any, relation: Relation = "touches", workers: SupportsIndex = 1) -> Many:
         """The ids of the rows that each window finds, as `intersection`, `contains` or `covering`.
 
-        As many threads as `workers` share the windows if they are many: -1 stands for a thread a processor.
+        If there are many windows, `workers` threads share them; -1 stands for a thread for each processor. A write of
+        another thread may then come between their shares.
         """
         width, number = self._form.width, relation_of(relation)
 

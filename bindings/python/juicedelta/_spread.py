@@ -51,7 +51,7 @@ def joined(answers: Sequence[Many]) -> Many:
 
 
 def _raised(numbers: array.array[int], by: int) -> array.array[int]:
-    """Each number and `by`. All are added at once, as digits of 64 bits: none is as large as to carry into the next."""
+    """Each number and `by`. All are added at once, as digits of 64 bits: no sum carries into the next digit."""
     ones = array.array("q", [1]) * len(numbers)
     sums = int.from_bytes(numbers.tobytes(), sys.byteorder) + by * int.from_bytes(ones.tobytes(), sys.byteorder)
     return array.array("q", sums.to_bytes(8 * len(numbers), sys.byteorder))
