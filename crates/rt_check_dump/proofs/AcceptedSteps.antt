@@ -1,5 +1,5 @@
 -- Lemmas on a dump that is read line by line: a shadow and the counts of what is to come stand for a
--- front of a text, and each line that is accepted adds itself to it.
+-- beginning of a text, and each line that is accepted adds itself to it.
 use Rattle.std.proofs.Common.{◌≡◌, ℕ, suc, ◌+◌, ◌-◌, ◌<◌, List, [], ◌∷◌, ◌++◌, Bool, true, false, cond, Option, Some, None, refl, sym, ◌∙◌, ap, length, arith, codes, flat_map, append_assoc, append-nil, length-append}
 use Rattle.std.specs.Prelude.{nat_lt, slice_get, slice_set}
 use Rattle.std.specs.Option.{option_map_or}
@@ -66,7 +66,7 @@ module _ {D : ℕ} where
   counted_header s nodes rows =
       line (codes "rtree") (decimal D ∷ decimal s.capacity ∷ signed_decimal s.root ∷ decimal nodes ∷ decimal rows ∷ [])
 
-  -- the front of a text that is read so far
+  -- the beginning of a text, which is read so far
   abbrev pub so_far : Progress D → List ℕ
   so_far p =
       counted_header p.shadow (length p.shadow.nodes + p.nodes) (length p.shadow.rows + p.rows)

@@ -1,4 +1,4 @@
--- Numbers that a list lacks: for each count there are so many, as small as the list is short.
+-- Numbers that a list lacks: for each count there are that many, from 1 on, which fit their type.
 use Rattle.std.proofs.Common.{◌≡◌, ℕ, zero, suc, ◌+◌, ◌<◌, ◌≤◌, ◌^◌, ℤ, pos, List, [], ◌∷◌, ◌++◌, Bool, true, false, not, ◌||◌, cond, refl, sym, subst, ◌∙◌, ap, length, arith, append_assoc, append-nil}
 use Rattle.std.specs.List.{All, filter, list_any, IsDistinct, AllByRecursion}
 use Rattle.std.specs.Ordering.{int_eq}
@@ -76,7 +76,7 @@ pub record IsNumber (z : ℤ) : Type 0 where
   pub long : IsLong z
   pub positive : IsPositive z
 
--- so many more numbers
+-- that many more numbers
 pub record More (k : ℕ) (xs : List ℤ) : Type 0 where
   pub numbers : List ℤ
   pub count : length numbers ≡ k

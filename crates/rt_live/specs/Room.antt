@@ -21,7 +21,7 @@ module _ {D : ℕ} where
   abbrev pub around : Option (List Interval) → Option (List Interval) → List (Row D) → ℕ
   around was is rows = count_by (λ r. touches was r.rect || touches is r.rect) rows
 
-  -- there is room for so many more rows and windows, and then for edits that look at so many windows, or rows
+  -- there is room for that many more rows and windows, and then for edits that look at that many windows, or rows
   pub record HasRoom (state : LiveState D) (rows windows changes : ℕ) : Type 0 where
     pub rows_fit : rows ≤ state.row_room
     pub windows_fit : windows ≤ state.window_room
@@ -29,7 +29,7 @@ module _ {D : ℕ} where
     pub rows_reached : length state.lists.rows + rows < state.search_room
     pub windows_reached : length state.lists.windows + windows < state.search_room
 
-  -- room for so many rows and windows was used up at most: whatever there was room for beside them, there still is
+  -- room for that many rows and windows was used up at most: whatever there was room for beside them, there still is
   abbrev pub UsesRoom : LiveState D → LiveState D → ℕ → ℕ → Type 0
   UsesRoom old new rows windows = (r w c : ℕ) → HasRoom old (r + rows) (w + windows) c → HasRoom new r w c
 

@@ -5,7 +5,7 @@ use Rattle.std.specs.List.{flat_map}
 use Rattle.rt_bytes.specs.Bytes.{WritesAll, WritesPrefix, Writes}
 use Rattle.rt_bytes.proofs.Writing.{WritesAll-part, WritesPrefix-part, WritesPrefix-after, WritesPrefix-more, Writes-failed}
 
--- all of xs is written and then a front of ys, with zs to come
+-- all of xs is written and then a prefix of ys, with zs to come
 pub Writes-middle : {T E : Type 0} (a b c : Option (List ℕ)) (f g h : ℕ) (r : Result T E) (xs ys zs all : List ℕ) → xs ++ ys ++ zs ≡ all
     → IsErr r → WritesAll a b f g xs → WritesPrefix b c g h ys → Writes a c f h r all
 Writes-middle a b c f g h r xs ys zs all e failed p q =
@@ -27,7 +27,7 @@ module _ {X : Type 0} (bytes_of : X → List ℕ) where
   WritesAll-item a b c f g h items i x within is p q =
       WritesAll-part bytes_of a b c f g h items i x within p (subst (λ (y : X). WritesAll b c g h (bytes_of y)) is q)
 
-  -- the items before i are written, and a front of item i
+  -- the items before i are written, and a prefix of item i
   pub WritesPrefix-item : (a b c : Option (List ℕ)) (f g h : ℕ) (items : List X) (i : ℕ) (x : X) → i < length items → x ≡ get_or items i x
       → WritesAll a b f g (flat_map bytes_of (take i items)) → WritesPrefix b c g h (bytes_of x)
       → WritesPrefix a c f h (flat_map bytes_of items)

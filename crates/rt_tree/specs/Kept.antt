@@ -5,7 +5,7 @@ use Rattle.rt_tree_node.specs.declared.arena.Arena.{Arena}
 use Rattle.rt_tree_node.specs.Whole.{IsWhole, IsBranched, HasRoom, row_count, most_rows_of_a_tree}
 
 module _ {D : ℕ} where
-  -- the nodes are sound and no cell is pending; there is room for the rows and for so many more
+  -- the nodes are sound and no cell is pending; there is room for the rows and for that many more
   pub record IsKeptWith (t : Arena D) (more : ℕ) : Type 0 where
     pub some : 1 ≤ D
     pub few : D ≤ 3

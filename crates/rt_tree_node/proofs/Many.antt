@@ -39,7 +39,7 @@ All-unmapped P f [] all = λ k d within. absurd (omega arith)
 All-unmapped P f (x ∷ xs) all = All-cons (λ y. P (f y)) x xs (All-head P (f x) (map f xs) all) (All-unmapped P f xs (All-tail P (f x) (map f xs) all))
 
 module _ {D : ℕ} where
-  -- the slab with so many cells more in a node
+  -- the slab with one cell more in a node
   with_more : Slab (NodeCells D) → ℕ → NodeCells D → Cell D → Slab (NodeCells D)
   with_more a k n c = with_value a k (record n { cells = n.cells ++ c ∷ [] })
 
@@ -64,7 +64,7 @@ module _ {D : ℕ} where
       let whole : List (Cell D) → Option (NodeCells D) = λ cells. Some (record n { cells = cells }) in
       same-at (λ s. s) a b k n (record n { cells = n.cells ++ [] }) has u (ap whole (append-nil n.cells)) x
 
-  -- the same slab but for how it is laid out
+  -- two slabs that have the same nodes, however they are laid out
   pub linked-same : (p q : Slab (NodeCells D)) (r l : ℕ) (ws : List (Pending D)) → ((x : ℕ) → get q x ≡ get p x) → IsLinked p r l ws → IsLinked q r l ws
   linked-same p q r l ws same linked =
       let lv = λ (x : ℕ). ap level_of (same x) in

@@ -209,7 +209,7 @@ module _ {D : ℕ} (E : ℕ → Type 0) (decide : (x : ℕ) → E x ⊎ (E x →
       let last = rows-joined test ws (suc n.level) (c ∷ []) in
       omega (arith, one, two, three, four, last)
 
-  -- nodes that were there have their levels, and but for the one that was split their cells
+  -- nodes that were there have their levels, and their cells except the one that was split
   kept-level : (x : ℕ) → level_at done.kept x ≡ level_at old.nodes x
   kept-level = same-at level_of old.nodes done.kept key n (record n { cells = first }) has done.keeps.updates refl
 

@@ -67,7 +67,7 @@ module _ {D : ℕ} (t : Arena D) (key parent level : ℕ) (sound : IsSound t (So
         homes = sound.homes;
       }
 
--- what is whole is so but for any node
+-- what is whole is sound, whichever node is excepted
 whole-but : {D : ℕ} (t : Arena D) (key : ℕ) → IsWhole t → IsSound t (Some key)
 whole-but t key whole =
     let fitted = whole.fitted in

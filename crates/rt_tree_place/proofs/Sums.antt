@@ -138,7 +138,7 @@ module _ {X : Type 0} (number : X → ℕ) where
   below-le f xs few zero = omega (arith, below-none xs)
   below-le f xs few (suc n) = omega (arith, below-more n xs, few n, below-le f xs few n)
 
-  -- where each number is had by so many elements at most, there are no more elements than that
+  -- the elements with number k are at most f k, so all of them are at most the sum of f
   pub length-few : (f : ℕ → ℕ) (n : ℕ) (xs : List X) → ((k : ℕ) → times_of k xs ≤ f k) → ((k : ℕ) → n ≤ k → f k ≡ 0) → length xs ≤ upto f n
   length-few f n xs few past =
       omega (arith, below-all n xs (λ k h. omega (arith, few k, past k h)), below-le f xs few n)

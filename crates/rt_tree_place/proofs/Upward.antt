@@ -20,7 +20,7 @@ module _ {D : ℕ} (a : Slab (NodeCells D)) (children : (key l : ℕ) → level_
   path-last (suc l) key leaf path leads =
       subst (λ ks. Contains ks leaf) (sym leads.5) (Contains-cons key leaf leads.2 (path-last l (key_of leads.1) leaf leads.2 leads.6))
 
-  -- but for the first, the parents of the nodes on the path are on it
+  -- the parent of each node on the path is on the path, except the first node's
   pub path-upward : (l key leaf : ℕ) (path : List ℕ) → LeadsTo a 0 l key rect leaf path → level_at a key ≡ Some l →
       (k p : ℕ) → Contains path k → parent_at a k ≡ Some p → (k ≡ key) ⊎ Contains path p
   path-upward zero key leaf path leads here k p on up = elim (Contains-cons_cases key k [] (subst (λ ks. Contains ks k) leads.1 on)) [

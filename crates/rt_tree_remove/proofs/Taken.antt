@@ -82,7 +82,7 @@ module _ {D : ℕ} (t : Arena D) (id : ℤ) (leaf : ℕ) (whole : IsWhole t) (id
       let up = parent-named t.nodes t.root t.level t.pending.items linked leaf 0 leaf-level away none in
       let high = linked.levels up.0 1 up.2 in branched (omega arith)
 
-  -- a whole tree is sound but for the leaf, too
+  -- a whole tree is sound also if the leaf is excepted
   pub whole-but : IsBranched t → IsSoundBut t leaf
   whole-but branched = record {
     axes = few-axes;

@@ -264,7 +264,7 @@ module _ {D : ℕ} where
     pub is : rows ≡ old ++ more
     pub so : Progress t window keys more visited
 
-  -- the visit, but for the rows that stood there before
+  -- the same visit, after other rows that stood there before
   visits-behind : (a : Slab (NodeCells D)) (window : List Interval) (key : ℕ) (rows rows1 front : List (Row D)) (keys keys1 : List ℕ)
       (went : Visits a window key rows rows1 keys keys1) → Visits a window key front (front ++ went.rows_are.more) keys keys1
   visits-behind a window key rows rows1 front keys keys1 went = record {

@@ -103,7 +103,7 @@ module _ (f : ℕ → ℕ) where
   part-same xs once all zero = omega (arith, part-none xs)
   part-same xs once all (suc n) = omega (arith, part-more n xs, part-same xs once all n, scaled-same (times n xs) (f n) (once n) (all n))
 
-  -- f is summed over the keys below n where each of them is listed once, but for some at which f is 0
+  -- f is summed over the keys below n where each of them is listed once, except some at which f is 0
   pub sum-listed : (n : ℕ) (xs : List ℕ) → ((k : ℕ) → n ≤ k → f k ≡ 0) → ((k : ℕ) → times k xs ≤ 1) → ((k : ℕ) → 0 < f k → 0 < times k xs) →
       sum_by f xs ≡ upto f n
   sum-listed n xs past once all = sym (part-whole n xs past) ∙ part-same xs once all n
