@@ -5,8 +5,8 @@ use Rattle.std.specs.Int.{int_min, int_max}
 use Rattle.std.proofs.lemmas.Bool.{and_from, and_parts, true≢false}
 use Rattle.std.proofs.lemmas.Int.{ints, clamps}
 use Rattle.rt_box.specs.declared.interval.Interval.{Interval}
-use Rattle.rt_box.specs.Interval.{cover}
-use Rattle.rt_box.specs.Rect.{union_box}
+use Rattle.rt_box.specs.Interval.{cover, Covers}
+use Rattle.rt_box.specs.Rect.{union_box, Holds}
 use Rattle.rt_tree_walk.proofs.Ints.{int_le-true, int_le-from}
 use Rattle.rt_tree_join.specs.Join.{meet, touch}
 use Rattle.rt_live.specs.Finding.{Encloses}
@@ -46,6 +46,25 @@ second-touches (i ∷ a) (j ∷ b) [] long e = absurd (true≢false (sym e))
 second-touches (i ∷ a) (j ∷ b) (k ∷ other) long e =
     let parts = and_parts (meet j k) (touch b other) e in
     and_from (meet (cover i j) k) (touch (union_box a b) other) (second-meets i j k parts.0) (second-touches a b other (omega (arith, long)) parts.1)
+
+held-meets : (i j k : Interval) → Covers i j → meet j k ≡ true → meet i k ≡ true
+held-meets i j k covers e =
+    let parts = and_parts (int_le j.lo k.hi) (int_le k.lo j.hi) e in
+    let lo = int_le-true j.lo k.hi parts.0 in
+    let hi = int_le-true k.lo j.hi parts.1 in
+    and_from (int_le i.lo k.hi) (int_le k.lo i.hi)
+    (int_le-from i.lo k.hi (omega (arith, ints, covers, lo)))
+    (int_le-from k.lo i.hi (omega (arith, ints, covers, hi)))
+
+-- what touches a box touches each box that holds it
+pub held-touches : (a b other : List Interval) → Holds a b → touch b other ≡ true → touch a other ≡ true
+held-touches [] [] other holds e = e
+held-touches [] (j ∷ b) other holds e = absurd holds
+held-touches (i ∷ a) [] other holds e = absurd holds
+held-touches (i ∷ a) (j ∷ b) [] holds e = absurd (true≢false (sym e))
+held-touches (i ∷ a) (j ∷ b) (k ∷ other) holds e =
+    let parts = and_parts (meet j k) (touch b other) e in
+    and_from (meet i k) (touch a other) (held-meets i j k holds.0 parts.0) (held-touches a b other holds.1 parts.1)
 
 one-is : (x y : Bool) → (x || y) ≡ true → (x ≡ true) ⊎ (y ≡ true)
 one-is true y e = inl refl

@@ -1,5 +1,5 @@
 -- Where there is room for what is found and told, and how much of it an edit uses up.
-use Rattle.std.proofs.Common.{◌≡◌, ℕ, zero, suc, ◌+◌, ◌<◌, ◌≤◌, Bool, true, false, cond, ◌||◌, not, ℤ, List, [], ◌∷◌, length, Option, None, Some, Result, Ok, Err, is_ok, IsOk, IsErr, OnErr, arith, refl, ap, sym, ◌∙◌, subst, inl, inr, vec_capacity}
+use Rattle.std.proofs.Common.{◌≡◌, ℕ, zero, suc, ◌+◌, ◌<◌, ◌≤◌, Bool, true, false, cond, ◌||◌, not, ℤ, List, [], ◌∷◌, length, Option, None, Some, Result, Ok, Err, is_ok, IsOk, IsErr, OnOk, OnErr, arith, refl, ap, sym, ◌∙◌, subst, inl, inr, vec_capacity}
 use Rattle.std.specs.Prelude.{◌*◌, ◌/◌, ◌-◌, int_lt, filter, min}
 use Rattle.std.specs.List.{count_by}
 use Rattle.std.specs.Ordering.{int_eq}
@@ -36,6 +36,10 @@ err-without (Err y) e p = p
 
 pub err-not-ok : {T E : Type 0} (r : Result T E) (y : E) → r ≡ Err y → IsOk r → ⊥
 err-not-ok r y e ok = let bad : false ≡ true = sym (ap is_ok e) ∙ ok in let none : ⊥ = cc in none
+
+pub when-ok : {T E P : Type 0} (r : Result T E) → OnOk r P → IsOk r → P
+when-ok (Ok x) h ok = h
+when-ok (Err y) h ok = absurd (let none : ⊥ = cc in none)
 
 -- ---- the nodes that a search reaches
 pub below-product : (rows reached most nodes : ℕ) → rows < reached * most → nodes ≤ 1 + rows / most → nodes ≤ reached

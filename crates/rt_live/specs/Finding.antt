@@ -1,6 +1,6 @@
 -- Rows that are found in a list, in any order; the box around two boxes, and the strips between them (own). No public clause
 -- cites this module.
-use Rattle.std.specs.Prelude.{◌≡◌, ℕ, ◌+◌, ℤ, Bool, true, is_some, not, ◌&&◌, ◌||◌, List, Option, filter, count_by}
+use Rattle.std.specs.Prelude.{◌≡◌, ℕ, ◌+◌, ℤ, Bool, true, is_some, not, ◌&&◌, ◌||◌, IfSome, List, Option, filter, count_by}
 use Rattle.std.specs.Int.{int_min, int_max}
 use Rattle.rt_box.specs.declared.interval.Interval.{Interval}
 use Rattle.rt_box.specs.Rect.{IsBox}
@@ -48,6 +48,10 @@ module _ {D : ℕ} where
   -- the row touches the box
   abbrev pub touches_hull : List Interval → Row D → Bool
   touches_hull hull r = touch hull r.rect
+
+  -- if a box is noted, these are the rows of a tree that touch it, by rising id
+  abbrev pub IsNear : ShadowLists D → Option (List Interval) → List (Row D) → Type 0
+  IsNear s near rows = IfSome near (λ hull. rows ≡ filter (touches_hull hull) (rows_by_id s))
 
   -- the rows that pass were appended: as many more pass any other test
   pub record Appends (rows : List (Row D)) (pass : Row D → Bool) (old new : List (Row D)) : Type 0 where

@@ -3,6 +3,7 @@ use Rattle.std.specs.Prelude.{ℕ, ◌-◌, ◌*◌, ◌≤◌, min, vec_capacit
 use Rattle.rt_box.specs.Capacity.{least_fill}
 use Rattle.rt_tree.specs.Lists.{rows_of}
 use Rattle.rt_live.specs.Rows.{by_id}
+use Rattle.rt_live.specs.Finding.{IsNear}
 use Rattle.rt_live.specs.Live.{LiveState}
 use Rattle.rt_live.specs.declared.live.Live.TheInside.{Inside}
 
@@ -20,7 +21,8 @@ state_of l = record {
   search_room = vec_capacity l.scratch.reached * (least_of l - 1);
 }
 
--- there are one to three axes
-pub record HasAxes (D : ℕ) (l : Inside D) : Type 0 where
+-- there are one to three axes; if a box is noted, the windows that touch it were found last
+pub record IsLive (D : ℕ) (l : Inside D) : Type 0 where
   pub some : 1 ≤ D
   pub few : D ≤ 3
+  pub near : IsNear l.windows.lists l.near l.scratch.last.items

@@ -1,6 +1,9 @@
 //! The box around two boxes: where they are close, one search of it takes the place of a search for each of them.
 
-ghost use Rattle.std.specs.Prelude.{Some, IfSome};
+ghost use Rattle.std.specs.Prelude.{◌≡◌, List, Some, IfSome, true};
+ghost use Rattle.rt_box.specs.declared.interval.Interval.{Interval};
+ghost use Rattle.rt_tree_join.specs.Join.{touch};
+ghost use Rattle.rt_live.specs.Changes.{touches};
 ghost use Rattle.rt_live.specs.Finding.{Encloses};
 
 use rt_box::{Interval, Rect};
@@ -55,6 +58,27 @@ pub(crate) fn hull_of<const D: usize>(
         (None, Some(rect)) => Some(*rect),
         (None, None) => None,
     }
+}
+
+/// Whether a box, if it is there, lies in another.
+fn holds<const D: usize>(hull: &Rect<D>, rect: &Option<Rect<D>>) -> bool
+    ensures { result ≡ true → (other : List Interval) → touches rect.now other ≡ true → touch hull.now other ≡ true }
+{
+    match rect {
+        Some(rect) => hull.contains(rect),
+        None => true,
+    }
+}
+
+/// Whether two boxes, if they are there, lie in another.
+pub(crate) fn encloses<const D: usize>(
+    hull: &Rect<D>,
+    was: &Option<Rect<D>>,
+    is: &Option<Rect<D>>,
+) -> bool
+    ensures { result ≡ true → Encloses was.now is.now hull.now }
+{
+    holds(hull, was) && holds(hull, is)
 }
 
 /// The shortest side of a box.

@@ -23,6 +23,7 @@ mod fault;
 mod finding;
 mod hull;
 mod live;
+mod near;
 mod nodes;
 mod plan;
 mod setting;

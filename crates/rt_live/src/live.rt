@@ -36,6 +36,8 @@ pub struct Live<const D: usize> {
     scratch: Scratch<D>,
     // A lower bound of the windows' sides: the shortest side since there last was no window.
     least: u32,
+    // A box, if the windows that were found last are those that touch it.
+    near: Option<Rect<D>>,
     alloc: Global,
 }
 
@@ -49,6 +51,7 @@ impl<const D: usize> Drop for Live<D> {
             planned: _,
             scratch: _,
             least: _,
+            near: _,
             alloc: _,
         } = self;
     }
@@ -60,11 +63,11 @@ impl<const D: usize> Model for Live<D> {
 
     ghost Value = { LiveState D };
 
-    ghost use Rattle.rt_live.specs.LiveInside.{state_of, HasAxes};
+    ghost use Rattle.rt_live.specs.LiveInside.{state_of, IsLive};
 
     ghost view = { state_of };
 
-    ghost invariant = { HasAxes D };
+    ghost invariant = { IsLive D };
 }
 
 /// Lists for searches.
@@ -108,6 +111,7 @@ impl<const D: usize> Live<D> {
             planned: Vec::new(alloc),
             scratch: empty_scratch(alloc),
             least: u32::MAX,
+            near: None,
             alloc,
         })
     }
@@ -222,6 +226,7 @@ impl<const D: usize> Live<D> {
             id,
             was,
             is,
+            &mut self.near,
             &mut self.scratch,
             &mut self.planned,
         )?;
@@ -245,6 +250,7 @@ impl<const D: usize> Live<D> {
             HasRoom self.old 0 0 (around was.now is.now self.old.lists.rows) → IsOk result }
         ensures uses { UsesRoom self.old self.new 0 (used is.now) }
     {
+        self.near = None;
         if does_stay(was, is) {
             self.changes.clear();
             return Ok(());

@@ -1,14 +1,16 @@
 //! What an edit tells, listed before anything changes.
 
 ghost use Rattle.std.specs.Prelude.{◌≡◌, ◌+◌, ◌<◌, ◌≤◌, ◌++◌, true, false, length, vec_capacity, IsOk, OnOk, OnErr};
+ghost use Rattle.rt_check.specs.Shadow.{ShadowLists};
 ghost use Rattle.rt_live.specs.Rows.{rows_by_id};
 ghost use Rattle.rt_live.specs.Changes.{stays, told_each, row_changes, window_changes};
-ghost use Rattle.rt_live.specs.Finding.{CoversTold, Encloses};
+ghost use Rattle.rt_live.specs.Finding.{CoversTold, Encloses, IsNear};
 ghost use Rattle.rt_live.specs.Room.{around, HasRoomAround, Grows};
 
 use crate::change::{Change, push_told, told_of_row, told_of_window};
-use crate::finding::{Scratch, find_around, find_either, find_told};
-use crate::hull::hull_of;
+use crate::finding::{Scratch, find_either, find_told};
+use crate::hull::{encloses, hull_of};
+use crate::near::find_near;
 use crate::strips::{Strips, strips_between};
 use crate::touching::is_touched;
 use rt_box::Rect;
@@ -66,49 +68,27 @@ fn list_window<const D: usize>(
     Ok(())
 }
 
-/// Plans what the windows are told of a row that gets another box, by one search of the box around both boxes.
-fn plan_close_row<const D: usize>(
-    windows: &Tree<D>,
-    hull: &Rect<D>,
+/// Plans what the windows are told of a row that gets another box, if both boxes lie in the one that is noted, whose windows are
+/// found already. Answers whether it did.
+fn plan_near_row<const D: usize>(
+    found: &[Row<D>],
+    near: &Option<Rect<D>>,
     id: &i64,
     was: &Option<Rect<D>>,
     is: &Option<Rect<D>>,
-    scratch: &mut Scratch<D>,
-    changes: &mut Vec<Change>,
-) -> Result<(), AllocError>
-    requires moves { stays was.now is.now ≡ false }
-    requires hull { Encloses was.now is.now hull.now }
-    ensures told { OnOk result (changes.new.items ≡ row_changes (rows_by_id windows.now.lists) id.now was.now is.now) }
-    ensures grows { Grows scratch.old scratch.new }
-    ensures capacity { vec_capacity changes.old ≤ vec_capacity changes.new }
-{
-    // There are one to three axes.
-    hull.facts();
-    find_around(windows, hull, scratch)?;
-    changes.clear();
-    list_row(changes, scratch.last.as_slice(), id, was, is)
-}
-
-/// Plans what the windows are told of a row that gets another box, by one search if the boxes are close. Answers whether it
-/// did. No window is shorter than `least` on any axis.
-fn plan_row_at_once<const D: usize>(
-    windows: &Tree<D>,
-    least: u32,
-    id: &i64,
-    was: &Option<Rect<D>>,
-    is: &Option<Rect<D>>,
-    scratch: &mut Scratch<D>,
     changes: &mut Vec<Change>,
 ) -> bool
     requires { stays was.now is.now ≡ false }
-    ensures told { result ≡ true →
-        changes.new.items ≡ row_changes (rows_by_id windows.now.lists) id.now was.now is.now }
-    ensures grows { Grows scratch.old scratch.new }
+    ensures told { (s : ShadowLists D) → IsNear s near.now found.now → result ≡ true →
+        changes.new.items ≡ row_changes (rows_by_id s) id.now was.now is.now }
     ensures capacity { vec_capacity changes.old ≤ vec_capacity changes.new }
 {
-    match hull_of(was, is, least) {
-        Some(hull) => plan_close_row(windows, &hull, id, was, is, scratch, changes).is_ok(),
-        None => false,
+    match near {
+        Some(hull) if encloses(hull, was, is) => {
+            changes.clear();
+            list_row(changes, found, id, was, is).is_ok()
+        }
+        _ => false,
     }
 }
 
@@ -185,27 +165,35 @@ fn plan_window_at_once<const D: usize>(
 }
 
 /// Plans what the windows are told of a row that gets another box. Of the windows, those are looked at that touch one of
-/// the boxes, or the box around both if they are close.
+/// the boxes, or the box around both if they are close; those that touch `near` are found already.
 pub(crate) fn plan_row<const D: usize>(
     windows: &Tree<D>,
     least: u32,
     id: &i64,
     was: &Option<Rect<D>>,
     is: &Option<Rect<D>>,
+    near: &mut Option<Rect<D>>,
     scratch: &mut Scratch<D>,
     changes: &mut Vec<Change>,
 ) -> Result<(), AllocError>
     requires few { D ≤ 3 }
+    requires near { IsNear windows.now.lists near.old scratch.old.last.items }
     requires moves { stays was.now is.now ≡ false }
     ensures told { OnOk result (changes.new.items ≡ row_changes (rows_by_id windows.now.lists) id.now was.now is.now) }
     ensures succeeds { HasRoomAround windows.now.lists was.now is.now scratch.old →
         around was.now is.now (rows_by_id windows.now.lists) ≤ vec_capacity changes.old → IsOk result }
+    ensures near { IsNear windows.now.lists near.new scratch.new.last.items }
     ensures grows { Grows scratch.old scratch.new }
     ensures capacity { vec_capacity changes.old ≤ vec_capacity changes.new }
 {
-    if plan_row_at_once(windows, least, id, was, is, scratch, changes) {
+    if plan_near_row(scratch.last.as_slice(), near, id, was, is, changes) {
         return Ok(());
     }
+    find_near(windows, least, was, is, near, scratch);
+    if plan_near_row(scratch.last.as_slice(), near, id, was, is, changes) {
+        return Ok(());
+    }
+    *near = None;
     // Where no memory is left, there may be room for the windows around the two boxes alone.
     find_either(windows, was, is, scratch)?;
     changes.clear();

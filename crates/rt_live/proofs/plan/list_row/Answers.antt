@@ -1,4 +1,4 @@
-use Rattle.std.proofs.Common.{◌≡◌, ◌∙◌, ◌++◌, ℤ, Option, List, rules, FitsSigned, w64, to_z-of_z, length, vec_capacity, ap, ap₂, sym, le_trans, le_of_eq}
+use Rattle.std.proofs.Common.{◌∙◌, ◌++◌, ℤ, Option, List, rules, FitsSigned, w64, to_z-of_z, length, vec_capacity, ap, ap₂, sym, le_trans, le_of_eq}
 use Rattle.rt_tree_walk.specs.declared.searching.Row.{Row}
 use Rattle.rt_live.specs.Changes.{touches, told_of_row, listed}
 use Rattle.rt_live.specs.declared.change.Change.{Change}

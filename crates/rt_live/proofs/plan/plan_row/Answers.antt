@@ -18,17 +18,17 @@ returns-clause-told g c =
     let was = c.args.was.now in
     let is = c.args.is.now in
     on_ok_weaker c.list_row.result
-    (λ (told : c.list_row.new.changes.items ≡ c.clear.new.self.items ++ told_each c.as_slice.result.now id was is).
+    (λ (told : c.list_row.new.changes.items ≡ c.clear.new.self.items ++ told_each c.as_slice-3.result.now id was is).
     told
-    ∙ ap (λ (changes : List Change). changes ++ told_each c.as_slice.result.now id was is) c.clear.ensures.items
-    ∙ ap (λ (found : List (Row g.row.D)). told_each found id was is) (c.as_slice.ensures.value ∙ c.in_ok-find_either.ensures.rows)
+    ∙ ap (λ (changes : List Change). changes ++ told_each c.as_slice-3.result.now id was is) c.clear.ensures.items
+    ∙ ap (λ (found : List (Row g.row.D)). told_each found id was is) (c.as_slice-3.ensures.value ∙ c.in_ok-find_either.ensures.rows)
     ∙ told-found rows id was is
     ∙ sym (row_changes-told rows id was is c.requires.moves))
     c.list_row.ensures.told
 
 pub returns-in_err-find_either-clause-succeeds : goal.returns-in_err-find_either-clause-succeeds
 returns-in_err-find_either-clause-succeeds g c = λ room fits. absurd (err-not-ok c.find_either.result _ c.in_err-find_either.was (c.find_either.ensures.succeeds
-    (room-grows c.args.windows.now.lists c.args.was.now c.args.is.now c.args.scratch.now c.plan_row_at_once.new.scratch c.plan_row_at_once.ensures.grows room)))
+    (room-grows c.args.windows.now.lists c.args.was.now c.args.is.now c.args.scratch.now c.find_near.new.scratch c.find_near.ensures.grows room)))
 
 pub returns-clause-succeeds : goal.returns-clause-succeeds
 returns-clause-succeeds g c = λ room fits.
@@ -41,6 +41,7 @@ returns-clause-succeeds g c = λ room fits.
       long,
       ap length c.clear.ensures.items,
       c.clear.ensures.capacity,
-      c.plan_row_at_once.ensures.capacity,
-      ap length (c.as_slice.ensures.value ∙ c.in_ok-find_either.ensures.rows),
+      c.plan_near_row.ensures.capacity,
+      c.plan_near_row-2.ensures.capacity,
+      ap length (c.as_slice-3.ensures.value ∙ c.in_ok-find_either.ensures.rows),
     ))
