@@ -419,13 +419,22 @@ template <class Any> struct Told {
     // The windows with these numbers are there too; then rows move and go back.
     void moves(uint64_t first, uint64_t past, const char *move, const char *back)
     {
-        const uint64_t some = rows / 10;
-        auto at_row = [&](uint64_t turn) { return turn * 7919 % rows; };
-        auto moved = [&](uint64_t row) { Box box = all.boxes[row]; return box.min[0] += 30, box.max[0] += 30, box; };
+        // The moves stand in a list, as they come to a program. So neither side waits for the list that rows are drawn from.
+        struct Move {
+            int64_t id;
+            Box there, back;
+        };
+        std::vector<Move> fed;
+        for (uint64_t turn = 0; turn < rows / 10; turn++) {
+            const uint64_t row = turn * 7919 % rows;
+            Box there = all.boxes[row];
+            there.min[0] += 30, there.max[0] += 30;
+            fed.push_back({all.ids[row], there, all.boxes[row]});
+        }
         for (uint64_t window = first; window < past; window++)
             live.watch(int64_t(window), screen(rows, window, 0));
-        timed(move, some, [&](uint64_t at) { uint64_t row = at_row(at); return live.move(all.ids[row], moved(row)); });
-        timed(back, some, [&](uint64_t at) { uint64_t row = at_row(at); return live.move(all.ids[row], all.boxes[row]); });
+        timed(move, fed.size(), [&](uint64_t at) { return live.move(fed[at].id, fed[at].there); });
+        timed(back, fed.size(), [&](uint64_t at) { return live.move(fed[at].id, fed[at].back); });
     }
     // So many windows pan, beside two searches for each.
     void pans(uint64_t windows)
