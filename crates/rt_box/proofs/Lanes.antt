@@ -1,5 +1,5 @@
 -- Lemmas on numbers that are compared at once, each in a lane.
-use Rattle.std.proofs.Common.{◌≡◌, ℕ, ◌+◌, ◌-◌, ◌*◌, ◌/◌, ◌%◌, ◌^◌, ◌≤◌, ◌≤ℤ◌, ◌↔◌, eqb, cond, IsTrue, Bool, true, false, not, ◌||◌, ℤ, pos, negsuc, get_or, List, [], ◌∷◌, map, bit_or, arith, refl, ap, ap₂, sym, subst, ◌∙◌, w32, FitsSigned, to_z, of_z}
+use Rattle.std.proofs.Common.{◌≡◌, ℕ, ◌+◌, ◌-◌, ◌*◌, ◌/◌, ◌%◌, ◌^◌, ◌≤◌, ◌≤ℤ◌, ◌↔◌, eqb, cond, rules, IsTrue, Bool, true, false, not, ◌||◌, ℤ, pos, negsuc, get_or, List, [], ◌∷◌, map, bit_or, arith, refl, ap, ap₂, sym, subst, ◌∙◌, w8, w32, FitsSigned, to_z, of_z}
 use Rattle.std.proofs.lemmas.Bool.{true≢false, not-true, not-false, not_from_true, not_from_false, eqb-true, eq-eqb}
 use Rattle.std.proofs.lemmas.Int.{ints}
 use Rattle.std.specs.Int.Signed.{lt_z}
@@ -36,28 +36,39 @@ abbrev held : ℤ → ℤ
 held z = to_z w32 (of_z w32 z)
 
 -- ---- four bits
+-- a bit for each of four elements, which is set where a property holds
+Tells-bits : {X : Type 0} (P : X → Type 0) (a b c d : X) (p q r s : ℕ) → p ≤ 1 → q ≤ 1 → r ≤ 1 → s ≤ 1 →
+    (p ≡ 1 ↔ P a) → (q ≡ 1 ↔ P b) → (r ≡ 1 ↔ P c) → (s ≡ 1 ↔ P d) →
+    Tells P (a ∷ b ∷ c ∷ d ∷ []) ((p + 2 * (q + 2 * (r + 2 * (s + 2 * 0)))) % 2 ^ 64)
+Tells-bits P a b c d p q r s p1 q1 r1 s1 first second third fourth =
+    let bits = (p + 2 * (q + 2 * (r + 2 * (s + 2 * 0)))) % 2 ^ 64 in
+    let t : bits % 2 ≡ p = omega (arith, p1, q1, r1, s1) in
+    let u : bits / 2 % 2 ≡ q = omega (arith, p1, q1, r1, s1) in
+    let v : bits / 2 / 2 % 2 ≡ r = omega (arith, p1, q1, r1, s1) in
+    let w : bits / 2 / 2 / 2 % 2 ≡ s = omega (arith, p1, q1, r1, s1) in (
+      (λ o. first.0 (sym t ∙ o), λ h. t ∙ first.1 h),
+      (
+        (λ o. second.0 (sym u ∙ o), λ h. u ∙ second.1 h),
+        (
+          (λ o. third.0 (sym v ∙ o), λ h. v ∙ third.1 h),
+          ((λ o. fourth.0 (sym w ∙ o), λ h. w ∙ fourth.1 h), omega (arith, p1, q1, r1, s1)),
+        ),
+      ),
+    )
+
 -- bits that stand for what a property doesn't hold of, taken from the four lowest bits, leave those that it holds of
 Tells-others : {X : Type 0} (P : X → Type 0) (a b c d : X) (p q r s : ℕ) → p ≤ 1 → q ≤ 1 → r ≤ 1 → s ≤ 1 →
     (p ≡ 0 ↔ P a) → (q ≡ 0 ↔ P b) → (r ≡ 0 ↔ P c) → (s ≡ 0 ↔ P d) →
     Tells P (a ∷ b ∷ c ∷ d ∷ []) (15 - (p + 2 * (q + 2 * (r + 2 * (s + 2 * 0)))) % 2 ^ 64)
 Tells-others P a b c d p q r s p1 q1 r1 s1 first second third fourth =
-    let bits = 15 - (p + 2 * (q + 2 * (r + 2 * (s + 2 * 0)))) % 2 ^ 64 in
-    let t : bits % 2 ≡ 1 - p = omega (arith, p1, q1, r1, s1) in
-    let u : bits / 2 % 2 ≡ 1 - q = omega (arith, p1, q1, r1, s1) in
-    let v : bits / 2 / 2 % 2 ≡ 1 - r = omega (arith, p1, q1, r1, s1) in
-    let w : bits / 2 / 2 / 2 % 2 ≡ 1 - s = omega (arith, p1, q1, r1, s1) in (
-      (λ o. first.0 (omega (arith, o, t, p1)), λ h. omega (arith, t, first.1 h)),
-      (
-        (λ o. second.0 (omega (arith, o, u, q1)), λ h. omega (arith, u, second.1 h)),
-        (
-          (λ o. third.0 (omega (arith, o, v, r1)), λ h. omega (arith, v, third.1 h)),
-          (
-            (λ o. fourth.0 (omega (arith, o, w, s1)), λ h. omega (arith, w, fourth.1 h)),
-            omega (arith, p1, q1, r1, s1),
-          ),
-        ),
-      ),
-    )
+    let others = (1 - p + 2 * (1 - q + 2 * (1 - r + 2 * (1 - s + 2 * 0)))) % 2 ^ 64 in
+    let is : others ≡ 15 - (p + 2 * (q + 2 * (r + 2 * (s + 2 * 0)))) % 2 ^ 64 = omega (arith, p1, q1, r1, s1) in
+    subst (Tells P (a ∷ b ∷ c ∷ d ∷ [])) is
+    (Tells-bits P a b c d (1 - p) (1 - q) (1 - r) (1 - s) (omega arith) (omega arith) (omega arith) (omega arith)
+    ((λ o. first.0 (omega (arith, o, p1))), (λ h. omega (arith, first.1 h)))
+    ((λ o. second.0 (omega (arith, o, q1))), (λ h. omega (arith, second.1 h)))
+    ((λ o. third.0 (omega (arith, o, r1))), (λ h. omega (arith, third.1 h)))
+    ((λ o. fourth.0 (omega (arith, o, s1))), (λ h. omega (arith, fourth.1 h))))
 
 -- ---- four sides, each number in a lane
 -- the lanes of a comparison that holds everywhere or nowhere
@@ -141,25 +152,6 @@ told_four e a b c d in_lo in_hi in_a in_b in_c in_d =
     (refused-zero e a in_lo in_hi in_a) (refused-zero e b in_lo in_hi in_b) (refused-zero e c in_lo in_hi in_c) (refused-zero e d in_lo in_hi in_d)
 
 -- ---- masks
--- a mask's lane as a number of 32 bits, and what one of two lanes gives
-abbrev of_lane : Bool → ℕ
-of_lane s = cond (top 31 (of_z w32 (lane s))) (2 ^ 32 - 1) 0
-
-abbrev lane_or : Bool → Bool → ℤ
-lane_or s t = to_z w32 (cond (lt_z (to_z w32 (bit_or (of_z w32 (to_z w32 (of_lane s))) (of_z w32 (to_z w32 (of_lane t))))) (pos 0)) (2 ^ 32 - 1) 0)
-
-lane_or_is : (s t : Bool) → lane_or s t ≡ lane (s || t)
-lane_or_is true true = refl
-lane_or_is true false = refl
-lane_or_is false true = refl
-lane_or_is false false = refl
-
-abbrev pub halves_as_made : Bool → Bool → Bool → Bool → Bool → Bool → Bool → Bool → List ℤ
-halves_as_made s t u v w x y z = lane_or s t ∷ lane_or u v ∷ lane_or w x ∷ lane_or y z ∷ []
-
-pub halves_are : (s t u v w x y z : Bool) → halves_as_made s t u v w x y z ≡ mask (s || t) (u || v) (w || x) (y || z)
-halves_are s t u v w x y z = rw (lane_or_is s t, lane_or_is u v, lane_or_is w x, lane_or_is y z) refl
-
 abbrev is_negative : ℤ → Bool
 is_negative (pos n) = false
 is_negative (negsuc n) = true
@@ -203,10 +195,6 @@ handed_clear lanes are =
     let same : handed lanes ≡ lanes = handed_mask s t u v lanes is ∙ sym is in
     ((λ h. sym same ∙ h), (λ h. same ∙ h))
 
--- the bits of the lanes that aren't set
-abbrev pub clear_bits : List ℤ → ℕ
-clear_bits lanes = 15 - mask_l (map (top 31) (map (of_z w32) lanes)) % 2 ^ 64
-
 -- the bit of a lane
 abbrev bit_of : Bool → ℕ
 bit_of s = cond (top 31 (of_z w32 (lane s))) 1 0
@@ -223,18 +211,97 @@ bit_of-clear : (s : Bool) → s ≡ false → bit_of s ≡ 0
 bit_of-clear true e = absurd (true≢false e)
 bit_of-clear false e = refl
 
-pub lanes_fit : (s t u v : Bool) (lanes : List ℤ) → lanes ≡ mask s t u v → mask_l (map (top 31) (map (of_z w32) lanes)) % 2 ^ 64 ≤ 15
-lanes_fit s t u v lanes is =
-    let low : (bit_of s + 2 * (bit_of t + 2 * (bit_of u + 2 * (bit_of v + 2 * 0)))) % 2 ^ 64 ≤ 15 = omega (arith, bit_of-le s, bit_of-le t, bit_of-le u, bit_of-le v) in
-    subst (λ l. mask_l (map (top 31) (map (of_z w32) l)) % 2 ^ 64 ≤ 15) (sym is) low
+-- ---- four masks, each lane narrowed to a byte
+-- the mask that says whether a mask's lane is negative, and what it gives as a byte
+abbrev negative : Bool → ℤ
+negative s = to_z w32 (cond (lt_z (to_z w32 (cond (lt_z (to_z w32 (cond (top 31 (of_z w32 (lane s))) (2 ^ 32 - 1) 0)) (pos 0)) (2 ^ 32 - 1) 0)) (pos 0)) (2 ^ 32 - 1) 0)
 
-pub told_clear : {X : Type 0} (P : X → Type 0) (a b c d : X) (s t u v : Bool) (lanes : List ℤ) → lanes ≡ mask s t u v →
-    (s ≡ false ↔ P a) → (t ≡ false ↔ P b) → (u ≡ false ↔ P c) → (v ≡ false ↔ P d) → Tells P (a ∷ b ∷ c ∷ d ∷ []) (clear_bits lanes)
-told_clear P a b c d s t u v lanes is first second third fourth =
-    subst (λ l. Tells P (a ∷ b ∷ c ∷ d ∷ []) (clear_bits l)) (sym is)
-    (Tells-others P a b c d (bit_of s) (bit_of t) (bit_of u) (bit_of v) (bit_of-le s) (bit_of-le t) (bit_of-le u) (bit_of-le v)
-    ((λ e. first.0 (bit_of-zero s e)), (λ h. bit_of-clear s (first.1 h))) ((λ e. second.0 (bit_of-zero t e)), (λ h. bit_of-clear t (second.1 h)))
-    ((λ e. third.0 (bit_of-zero u e)), (λ h. bit_of-clear u (third.1 h))) ((λ e. fourth.0 (bit_of-zero v e)), (λ h. bit_of-clear v (fourth.1 h))))
+abbrev byte_made : Bool → ℕ
+byte_made s = cond (top 7 (of_z w8 (negative s))) 255 0
+
+byte_made-le : (s : Bool) → byte_made s ≤ 255
+byte_made-le true = omega arith
+byte_made-le false = omega arith
+
+-- the number that begins with the four bytes of a mask, the lowest first
+abbrev pub number_made : Bool → Bool → Bool → Bool → ℕ → ℕ
+number_made s t u v rest = byte_made s + 256 * (byte_made t + 256 * (byte_made u + 256 * (byte_made v + 256 * rest)))
+
+abbrev word_made : Bool → Bool → Bool → Bool → ℕ
+word_made s t u v = number_made s t u v 0
+
+-- the lowest word of such a number is that of the four bytes
+low_word : (s t u v : Bool) (rest : ℕ) → (number_made s t u v rest % 2 ^ 32 ≡ word_made s t u v) × (number_made s t u v rest / 2 ^ 32 ≡ rest)
+low_word s t u v rest =
+    let p = byte_made-le s in
+    let q = byte_made-le t in
+    let r = byte_made-le u in
+    let o = byte_made-le v in
+    (omega (arith, p, q, r, o), omega (arith, p, q, r, o))
+
+-- the bit of a word, which is set if the word is 0
+abbrev zero_bit : ℕ → ℕ
+zero_bit n = cond (top 31 (cond (eqb n 0) (2 ^ 32 - 1) 0)) 1 0
+
+zero_bit_is : (s t u v : Bool) → zero_bit (word_made s t u v) ≡ cond ((s || t) || (u || v)) 0 1
+zero_bit_is true true true true = refl
+zero_bit_is true true true false = refl
+zero_bit_is true true false true = refl
+zero_bit_is true true false false = refl
+zero_bit_is true false true true = refl
+zero_bit_is true false true false = refl
+zero_bit_is true false false true = refl
+zero_bit_is true false false false = refl
+zero_bit_is false true true true = refl
+zero_bit_is false true true false = refl
+zero_bit_is false true false true = refl
+zero_bit_is false true false false = refl
+zero_bit_is false false true true = refl
+zero_bit_is false false true false = refl
+zero_bit_is false false false true = refl
+zero_bit_is false false false false = refl
+
+cleared : (set : Bool) (bit : ℕ) → bit ≡ cond set 0 1 → (bit ≤ 1) × (bit ≡ 1 ↔ set ≡ false)
+cleared true bit is = (omega (arith, is), ((λ o. absurd (omega (arith, is, o))), (λ e. absurd (true≢false e))))
+cleared false bit is = (omega (arith, is), ((λ o. refl), (λ e. is)))
+
+-- the bits of four words that are 0
+abbrev pub zero_bits : ℕ → ℕ
+zero_bits n = (zero_bit (n % 2 ^ 32) + 2 * (zero_bit (n / 2 ^ 32 % 2 ^ 32)
+    + 2 * (zero_bit (n / 2 ^ 32 / 2 ^ 32 % 2 ^ 32) + 2 * (zero_bit (n / 2 ^ 32 / 2 ^ 32 / 2 ^ 32 % 2 ^ 32) + 2 * 0)))) % 2 ^ 64
+
+pub told_clear : (s t u v w x y z l m n o p q r i : Bool) →
+    Tells IsClear (mask s t u v ∷ mask w x y z ∷ mask l m n o ∷ mask p q r i ∷ [])
+    (zero_bits (number_made s t u v (number_made w x y z (number_made l m n o (number_made p q r i 0)))))
+told_clear s t u v w x y z l m n o p q r i =
+    let first = clear_is s t u v (mask s t u v) refl in
+    let second = clear_is w x y z (mask w x y z) refl in
+    let third = clear_is l m n o (mask l m n o) refl in
+    let fourth = clear_is p q r i (mask p q r i) refl in
+    let last = number_made p q r i 0 in
+    let back = number_made l m n o last in
+    let others = number_made w x y z back in
+    let all = number_made s t u v others in
+    let one = low_word s t u v others in
+    let two = low_word w x y z back in
+    let three = low_word l m n o last in
+    let four = low_word p q r i 0 in
+    let e = cleared ((s || t) || (u || v)) (zero_bit (all % 2 ^ 32)) (ap zero_bit one.0 ∙ zero_bit_is s t u v) in
+    let f = cleared ((w || x) || (y || z)) (zero_bit (all / 2 ^ 32 % 2 ^ 32)) (ap (λ k. zero_bit (k % 2 ^ 32)) one.1 ∙ ap zero_bit two.0 ∙ zero_bit_is w x y z) in
+    let g = cleared ((l || m) || (n || o)) (zero_bit (all / 2 ^ 32 / 2 ^ 32 % 2 ^ 32))
+    (ap (λ k. zero_bit (k / 2 ^ 32 % 2 ^ 32)) one.1 ∙ ap (λ k. zero_bit (k % 2 ^ 32)) two.1 ∙ ap zero_bit three.0 ∙ zero_bit_is l m n o) in
+    let h = cleared ((p || q) || (r || i)) (zero_bit (all / 2 ^ 32 / 2 ^ 32 / 2 ^ 32 % 2 ^ 32))
+    (ap (λ k. zero_bit (k / 2 ^ 32 / 2 ^ 32 % 2 ^ 32)) one.1 ∙ ap (λ k. zero_bit (k / 2 ^ 32 % 2 ^ 32)) two.1 ∙ ap (λ k. zero_bit (k % 2 ^ 32)) three.1
+    ∙ ap zero_bit four.0 ∙ zero_bit_is p q r i) in
+    Tells-bits IsClear (mask s t u v) (mask w x y z) (mask l m n o) (mask p q r i) (zero_bit (all % 2 ^ 32)) (zero_bit (all / 2 ^ 32 % 2 ^ 32)) (zero_bit (all / 2 ^ 32 / 2 ^ 32 % 2 ^ 32))
+    (zero_bit (all / 2 ^ 32 / 2 ^ 32 / 2 ^ 32 % 2 ^ 32)) e.0 f.0 g.0 h.0
+    ((λ k. first.0 (e.1.0 k)), (λ k. e.1.1 (first.1 k))) ((λ k. second.0 (f.1.0 k)), (λ k. f.1.1 (second.1 k)))
+    ((λ k. third.0 (g.1.0 k)), (λ k. g.1.1 (third.1 k))) ((λ k. fourth.0 (h.1.0 k)), (λ k. h.1.1 (fourth.1 k)))
+
+-- a lane that a comparison gives fits a byte
+pub set_fits : (s : Bool) → FitsSigned w8 (to_z w32 (cond s (2 ^ 32 - 1) 0))
+set_fits true = search rules
+set_fits false = search rules
 
 -- ---- numbers outside their intervals
 -- the comparisons of a number with an interval's ends, which came to their lanes from others

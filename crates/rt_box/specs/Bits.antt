@@ -1,5 +1,5 @@
 -- Numbers whose bits tell of the elements of a list, and masks of four lanes (own).
-use Rattle.std.specs.Prelude.{◌≡◌, ℕ, ◌%◌, ◌/◌, ◌↔◌, ℤ, pos, negsuc, Bool, false, ◌||◌, if◌then◌else◌, List, [], ◌∷◌}
+use Rattle.std.specs.Prelude.{◌≡◌, ℕ, ◌%◌, ◌/◌, ◌↔◌, ℤ, pos, negsuc, Bool, false, if◌then◌else◌, List, [], ◌∷◌}
 
 module _ {X : Type 0} where
   -- the lowest bit tells whether the first element has the property, and the other bits tell of the others
@@ -21,7 +21,3 @@ AreLanes lanes = (s t u v : Bool) × (lanes ≡ mask s t u v)
 -- no lane is set
 abbrev pub IsClear : List ℤ → Type 0
 IsClear lanes = lanes ≡ mask false false false false
-
--- each lane is set exactly if one of two neighbours was
-abbrev pub Halves : List ℤ → List ℤ → List ℤ → Type 0
-Halves first second halves = (s t u v w x y z : Bool) → first ≡ mask s t u v → second ≡ mask w x y z → halves ≡ mask (s || t) (u || v) (w || x) (y || z)

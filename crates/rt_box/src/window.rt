@@ -5,7 +5,7 @@
 
 ghost use Rattle.std.specs.Prelude.{◌≡◌, ◌+◌, ◌*◌, ◌<◌, ◌≤◌, ◌↔◌, IsTrue, All, [], ◌∷◌, take, drop, length};
 ghost use Rattle.rt_box.specs.declared.interval.Interval.{Interval};
-ghost use Rattle.rt_box.specs.Bits.{Tells, AreLanes, IsClear, Halves};
+ghost use Rattle.rt_box.specs.Bits.{Tells, AreLanes, IsClear};
 ghost use Rattle.rt_box.specs.Ends.{AdmitsSide, AdmitsAxis, AreAround, Reaches, HasCore};
 ghost use Rattle.rt_box.specs.Rect.{IsBox};
 ghost use Rattle.rt_box.specs.Window.{IsUnlimited, IsAround, Narrows, Admits, MayHold, IsReach, IsCore};
@@ -133,15 +133,6 @@ fn refused_ends<const D: usize>(
     numbers.simd_lt(least) | numbers.simd_gt(greatest)
 }
 
-/// A lane for each two neighbours of two masks, which is set if one of them is.
-#[inline]
-fn halved(first: mask32x4, second: mask32x4) -> mask32x4
-    ensures { Halves first second result }
-{
-    let (lanes, neighbours) = first.to_simd().deinterleave(second.to_simd());
-    (lanes | neighbours).simd_lt(i32x4::splat(0))
-}
-
 /// Which of four masks have no lane set: a bit for each, and the first one's is the lowest.
 #[inline]
 fn tell_clear(a: mask32x4, b: mask32x4, c: mask32x4, d: mask32x4) -> u64
@@ -151,7 +142,18 @@ fn tell_clear(a: mask32x4, b: mask32x4, c: mask32x4, d: mask32x4) -> u64
     requires d { AreLanes d }
     ensures { Tells IsClear (a ∷ b ∷ c ∷ d ∷ []) result }
 {
-    15 - halved(halved(a, b), halved(c, d)).to_bitmask()
+    // Each lane becomes a byte, and the four bytes of a mask one number, which is 0 if no lane is set. The compiler joins two
+    // vectors and narrows their lanes in one instruction, since it knows that all bits of a lane are alike.
+    let front = a.to_simd().shuffle(b.to_simd(), [0, 1, 2, 3, 4, 5, 6, 7]);
+    let back = c.to_simd().shuffle(d.to_simd(), [0, 1, 2, 3, 4, 5, 6, 7]);
+    let lanes = front.shuffle(back, [0, 1, 2, 3, 4, 5, 6, 7, 8, 9, 10, 11, 12, 13, 14, 15]);
+    let bytes = lanes
+        .simd_lt(i32x16::splat(0))
+        .cast::<i8>()
+        .select(u8x16::splat(255), u8x16::splat(0));
+    u32x4::from_le_bytes(bytes)
+        .simd_eq(u32x4::splat(0))
+        .to_bitmask()
 }
 
 /// What a search asks of each coordinate of a box: an interval of 32-bit numbers, which may be empty.
