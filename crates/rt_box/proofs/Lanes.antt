@@ -1,14 +1,14 @@
 -- Lemmas on numbers that are compared at once, each in a lane.
-use Rattle.std.proofs.Common.{◌≡◌, ℕ, ◌+◌, ◌-◌, ◌*◌, ◌/◌, ◌%◌, ◌^◌, ◌≤◌, ◌≤ℤ◌, ◌↔◌, eqb, cond, rules, IsTrue, Bool, true, false, not, ◌||◌, ℤ, pos, negsuc, get_or, List, [], ◌∷◌, map, bit_or, arith, refl, ap, ap₂, sym, subst, ◌∙◌, w8, w32, FitsSigned, to_z, of_z}
+use Rattle.std.proofs.Common.{◌≡◌, ℕ, ◌+◌, ◌-◌, ◌*◌, ◌/◌, ◌%◌, ◌^◌, ◌≤◌, ◌≤ℤ◌, ◌<ℤ◌, ◌+ℤ◌, ◌-ℤ◌, ◌↔◌, eqb, cond, rules, IsTrue, Bool, true, false, not, ◌||◌, ℤ, pos, negsuc, get_or, List, [], ◌∷◌, map, bit_or, arith, refl, ap, ap₂, sym, subst, ◌∙◌, w8, w32, FitsSigned, to_z, of_z}
 use Rattle.std.proofs.lemmas.Bool.{true≢false, not-true, not-false, not_from_true, not_from_false, eqb-true, eq-eqb}
-use Rattle.std.proofs.lemmas.Int.{ints}
+use Rattle.std.proofs.lemmas.Int.{ints, to_z-of_z, by_lt_z}
 use Rattle.std.specs.Int.Signed.{lt_z}
 use lib.Lanes.{top, mask_l, zip2}
 use Rattle.rt_box.specs.declared.interval.Interval.{Interval}
 use Rattle.rt_box.specs.declared.window.Ends.{Ends}
 use Rattle.rt_box.specs.Bits.{Tells, lane, mask, AreLanes, IsClear}
 use Rattle.rt_box.specs.Ends.{AdmitsSide}
-use Rattle.rt_box.specs.Interval.{Includes, FitsEnds}
+use Rattle.rt_box.specs.Interval.{HasNumbers, Includes, FitsEnds}
 
 -- the bit of a lane where one comparison or the other holds
 abbrev bit : Bool → Bool → ℕ
@@ -328,6 +328,53 @@ lane_of_two true false = refl
 lane_of_two false true = refl
 lane_of_two false false = refl
 
+-- no lane is set exactly where four facts hold, of which the lanes tell
+four_clear : (a b c d : Bool) (P Q R S : Type 0) (lanes : List ℤ) → lanes ≡ mask a b c d → (a ≡ false ↔ P) → (b ≡ false ↔ Q) → (c ≡ false ↔ R) → (d ≡ false ↔ S) →
+    IsClear lanes ↔ ((P × Q) × (R × S))
+four_clear a b c d P Q R S lanes is p q r s =
+    let clear = clear_is a b c d lanes is in (
+      (λ h.
+          let halves = or-none (a || b) (c || d) (clear.1 h) in
+          let front = or-none a b halves.0 in
+          let back = or-none c d halves.1 in
+          ((p.0 front.0, q.0 front.1), (r.0 back.0, s.0 back.1))),
+      (λ h. clear.0 (or_none (a || b) (c || d) (or_none a b (p.1 h.0.0) (q.1 h.0.1)) (or_none c d (r.1 h.1.0) (s.1 h.1.1)))),
+    )
+
+-- ---- the same, where the interval has a number, by one comparison
+-- where a number stands once the circle of numbers is turned until the least one is first
+abbrev turned : ℤ → ℤ → ℤ
+turned least z = to_z w32 ((of_z w32 z + (2 ^ 32 - (of_z w32 (held least) + 2 ^ 31) % 2 ^ 32)) % 2 ^ 32)
+
+turned_above : (least z : ℤ) → FitsSigned w32 least → FitsSigned w32 z → least ≤ℤ z → turned least z ≡ (z -ℤ least) +ℤ negsuc (2 ^ 31 - 1)
+turned_above least z fits in_z h = grind (arith, ints, fits, in_z, h)
+
+turned_below : (least z : ℤ) → FitsSigned w32 least → FitsSigned w32 z → z <ℤ least → turned least z ≡ (z -ℤ least) +ℤ pos (2 ^ 31)
+turned_below least z fits in_z h = grind (arith, ints, fits, in_z, h)
+
+abbrev pub is_beyond : Interval → ℤ → Bool
+is_beyond i z = lt_z (turned i.lo (held i.hi)) (turned i.lo z)
+
+beyond-false : (i : Interval) (z : ℤ) → FitsEnds i → FitsSigned w32 z → HasNumbers i → is_beyond i z ≡ false ↔ Includes i z
+beyond-false i z ends fits some =
+    let greatest = ap (turned i.lo) (to_z-of_z w32 i.hi ends.1) ∙ turned_above i.lo i.hi ends.0 ends.1 some in
+    by_lt_z z i.lo
+    (λ below.
+    let is = turned_below i.lo z ends.0 fits below in
+    ((λ e. absurd (grind (arith, ints, e, greatest, is, below, fits, ends))), (λ h. absurd (omega (arith, ints, h.0, below)))))
+    (λ from.
+    let is = turned_above i.lo z ends.0 fits from in
+    ((λ e. (from, grind (arith, ints, e, greatest, is))), (λ h. grind (arith, ints, h, greatest, is))))
+
+-- the lane that it gives
+abbrev pub beyond_lane : Interval → ℤ → ℤ
+beyond_lane i z = to_z w32 (lanes (is_beyond i z))
+
+lane_of_one : (s : Bool) → to_z w32 (lanes s) ≡ lane s
+lane_of_one true = refl
+lane_of_one false = refl
+
+-- ---- four numbers and their intervals
 module _ (i j k l : Interval) (x y z u : ℤ) where
   pub outside_mask : outside_lane i x ∷ outside_lane j y ∷ outside_lane k z ∷ outside_lane l u ∷ [] ≡ mask (is_outside i x) (is_outside j y) (is_outside k z) (is_outside l u)
   outside_mask =
@@ -340,22 +387,22 @@ module _ (i j k l : Interval) (x y z u : ℤ) where
   pub none_outside : FitsEnds i → FitsEnds j → FitsEnds k → FitsEnds l → FitsSigned w32 x → FitsSigned w32 y → FitsSigned w32 z → FitsSigned w32 u →
       IsClear (outside_lane i x ∷ outside_lane j y ∷ outside_lane k z ∷ outside_lane l u ∷ []) ↔ ((Includes i x × Includes j y) × (Includes k z × Includes l u))
   none_outside in_i in_j in_k in_l in_x in_y in_z in_u =
-      let a = is_outside i x in
-      let b = is_outside j y in
-      let c = is_outside k z in
-      let d = is_outside l u in
-      let p = outside-false i x in_i in_x in
-      let q = outside-false j y in_j in_y in
-      let r = outside-false k z in_k in_z in
-      let s = outside-false l u in_l in_u in
-      let clear = clear_is a b c d (outside_lane i x ∷ outside_lane j y ∷ outside_lane k z ∷ outside_lane l u ∷ []) outside_mask in (
-        (λ h.
-            let halves = or-none (a || b) (c || d) (clear.1 h) in
-            let front = or-none a b halves.0 in
-            let back = or-none c d halves.1 in
-            ((p.0 front.0, q.0 front.1), (r.0 back.0, s.0 back.1))),
-        (λ h. clear.0 (or_none (a || b) (c || d) (or_none a b (p.1 h.0.0) (q.1 h.0.1)) (or_none c d (r.1 h.1.0) (s.1 h.1.1)))),
-      )
+      four_clear (is_outside i x) (is_outside j y) (is_outside k z) (is_outside l u) (Includes i x) (Includes j y) (Includes k z) (Includes l u)
+      (outside_lane i x ∷ outside_lane j y ∷ outside_lane k z ∷ outside_lane l u ∷ []) outside_mask
+      (outside-false i x in_i in_x) (outside-false j y in_j in_y) (outside-false k z in_k in_z) (outside-false l u in_l in_u)
+
+  pub beyond_mask : beyond_lane i x ∷ beyond_lane j y ∷ beyond_lane k z ∷ beyond_lane l u ∷ [] ≡ mask (is_beyond i x) (is_beyond j y) (is_beyond k z) (is_beyond l u)
+  beyond_mask =
+      ap₂ (λ a r. a ∷ r) (lane_of_one (is_beyond i x)) (ap₂ (λ a r. a ∷ r) (lane_of_one (is_beyond j y))
+      (ap₂ (λ a r. a ∷ r) (lane_of_one (is_beyond k z)) (ap (λ a. a ∷ []) (lane_of_one (is_beyond l u)))))
+
+  pub none_beyond : FitsEnds i → FitsEnds j → FitsEnds k → FitsEnds l → FitsSigned w32 x → FitsSigned w32 y → FitsSigned w32 z → FitsSigned w32 u →
+      HasNumbers i → HasNumbers j → HasNumbers k → HasNumbers l →
+      IsClear (beyond_lane i x ∷ beyond_lane j y ∷ beyond_lane k z ∷ beyond_lane l u ∷ []) ↔ ((Includes i x × Includes j y) × (Includes k z × Includes l u))
+  none_beyond in_i in_j in_k in_l in_x in_y in_z in_u i_some j_some k_some l_some =
+      four_clear (is_beyond i x) (is_beyond j y) (is_beyond k z) (is_beyond l u) (Includes i x) (Includes j y) (Includes k z) (Includes l u)
+      (beyond_lane i x ∷ beyond_lane j y ∷ beyond_lane k z ∷ beyond_lane l u ∷ []) beyond_mask
+      (beyond-false i x in_i in_x i_some) (beyond-false j y in_j in_y j_some) (beyond-false k z in_k in_z k_some) (beyond-false l u in_l in_u l_some)
 
 -- ---- two masks
 or_lane : (s t : Bool) → to_z w32 (bit_or (of_z w32 (lane s)) (of_z w32 (lane t))) ≡ lane (s || t)

@@ -8,7 +8,7 @@ use lib.Pointwise.{pointwise}
 use Rattle.rt_box.specs.declared.interval.Interval.{Interval}
 use Rattle.rt_box.specs.declared.operator.Operator.{Operator}
 use Rattle.rt_box.specs.declared.window.Ends.{Ends}
-use Rattle.rt_box.specs.Interval.{interval, Includes, Covers, FitsEnds}
+use Rattle.rt_box.specs.Interval.{interval, HasNumbers, Includes, Covers, FitsEnds}
 use Rattle.rt_box.specs.Operators.{Keeps}
 use Rattle.rt_box.specs.Rect.{IsBox, Holds}
 use Rattle.rt_box.specs.Ends.{in_order, paired_up, paired_up-in_order, AdmitsSide, AdmitsAxis, AreAround, AdmitsWithinSide, MayHoldSide, Reaches, HasCore}
@@ -43,6 +43,21 @@ get_or-in_order_hi (x ∷ es) zero (suc zero) d e is h = refl
 get_or-in_order_hi (x ∷ es) zero (suc (suc k)) d e is h = absurd (omega arith)
 get_or-in_order_hi (x ∷ es) (suc i) (suc zero) d e is h = absurd (omega arith)
 get_or-in_order_hi (x ∷ es) (suc i) (suc (suc k)) d e is h = get_or-in_order_hi es i k d e (omega arith) (omega arith)
+
+-- each interval has a number exactly where both of each pair have one
+pub All-in_order : (es : List Ends) → All (λ e. HasNumbers e.lo × HasNumbers e.hi) es ↔ All HasNumbers (in_order es)
+All-in_order [] = ((λ all. All-nil HasNumbers), (λ all. All-nil (λ e. HasNumbers e.lo × HasNumbers e.hi)))
+All-in_order (e ∷ es) =
+    let both = λ (e : Ends). HasNumbers e.lo × HasNumbers e.hi in
+    let rest = All-in_order es in (
+      (λ all.
+          let here = All-head both e es all in
+          All-cons HasNumbers e.lo (e.hi ∷ in_order es) here.0 (All-cons HasNumbers e.hi (in_order es) here.1 (rest.0 (All-tail both e es all)))),
+      (λ all.
+          let behind = All-tail HasNumbers e.lo (e.hi ∷ in_order es) all in
+          All-cons both e es (All-head HasNumbers e.lo (e.hi ∷ in_order es) all, All-head HasNumbers e.hi (in_order es) behind)
+          (rest.1 (All-tail HasNumbers e.hi (in_order es) behind))),
+    )
 
 -- a write to one interval of a pair is a write to one coordinate
 pub in_order-set_lo : (es : List Ends) (i k : ℕ) (x : Interval) (e : Ends) → k ≡ 2 * i → i < length es →

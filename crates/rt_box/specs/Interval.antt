@@ -11,6 +11,10 @@ interval lo hi = record { lo = lo; hi = hi }
 abbrev pub Includes : Interval → ℤ → Type 0
 Includes i z = (i.lo ≤ℤ z) × (z ≤ℤ i.hi)
 
+-- there is a number in the interval
+abbrev pub HasNumbers : Interval → Type 0
+HasNumbers i = i.lo ≤ℤ i.hi
+
 -- neither end of the inner interval goes past the outer one's
 abbrev pub Covers : Interval → Interval → Type 0
 Covers outer inner = (outer.lo ≤ℤ inner.lo) × (inner.hi ≤ℤ outer.hi)

@@ -6,7 +6,8 @@
 ghost use Rattle.std.specs.Prelude.{◌≡◌, ◌+◌, ◌*◌, ◌<◌, ◌≤◌, ◌↔◌, IsTrue, All, [], ◌∷◌, take, drop, length};
 ghost use Rattle.rt_box.specs.declared.interval.Interval.{Interval};
 ghost use Rattle.rt_box.specs.Bits.{Tells, AreLanes, IsClear};
-ghost use Rattle.rt_box.specs.Ends.{AdmitsSide, AdmitsAxis, AreAround, Reaches, HasCore};
+ghost use Rattle.rt_box.specs.Ends.{in_order, AdmitsSide, AdmitsAxis, AreAround, Reaches, HasCore};
+ghost use Rattle.rt_box.specs.Interval.{HasNumbers};
 ghost use Rattle.rt_box.specs.Rect.{IsBox};
 ghost use Rattle.rt_box.specs.Window.{IsUnlimited, IsAround, Narrows, Admits, MayHold, IsReach, IsCore};
 
@@ -109,16 +110,18 @@ impl Ends {
 // compared four at once.
 
 /// A lane for each end of the box's sides on one axis and on another, which is set if the end isn't allowed. The four numbers
-/// are compared at once.
+/// are compared at once. `some` says that each end may be some number: they are then compared once, and else twice.
 #[inline]
 fn refused_ends<const D: usize>(
     axes: &[Ends; D],
     rect: &Rect<D>,
     first: usize,
     second: usize,
+    some: bool,
 ) -> mask32x4
     requires first { first < D }
     requires second { second < D }
+    requires some { IsTrue some → All HasNumbers (in_order axes.now) }
     ensures lanes { AreLanes result }
     ensures clear { IsClear result ↔ (AdmitsAxis axes.now rect.now first × AdmitsAxis axes.now rect.now second) }
 {
@@ -130,6 +133,12 @@ fn refused_ends<const D: usize>(
     let ends = i32x4::from_array([one.lo.lo, one.lo.hi, one.hi.lo, one.hi.hi]);
     let other_ends = i32x4::from_array([two.lo.lo, two.lo.hi, two.hi.lo, two.hi.hi]);
     let (least, greatest) = ends.deinterleave(other_ends);
+    if some {
+        // The circle of 32-bit numbers is turned until the least number that is allowed is the least of all. A number is then
+        // allowed exactly if it isn't above the greatest one.
+        let turn = least - i32x4::splat(i32::MIN);
+        return (numbers - turn).simd_gt(greatest - turn);
+    }
     numbers.simd_lt(least) | numbers.simd_gt(greatest)
 }
 
@@ -243,13 +252,25 @@ impl<const D: usize> Window<D> {
             let (ends, side) = (&self.axes[0], rect.side(0));
             return ends.admits(side);
         }
-        !self.refused(rect).any()
+        !self.refused(rect, false).any()
     }
 
-    /// Four lanes, for a box of several axes: it is admitted if none is set.
+    /// Whether each coordinate may be some number. If not, no box is admitted.
     #[inline]
-    fn refused(&self, rect: &Rect<D>) -> mask32x4
-        requires { 2 ≤ D }
+    fn has_numbers(&self) -> bool
+        ensures { IsTrue result ↔ All HasNumbers self.now }
+    {
+        self.axes
+            .iter()
+            .all(|ends| ends.lo.has_numbers() & ends.hi.has_numbers())
+    }
+
+    /// Four lanes, for a box of several axes: it is admitted if none is set. `some` says that each coordinate may be some
+    /// number: the lanes are then made in fewer steps.
+    #[inline]
+    fn refused(&self, rect: &Rect<D>, some: bool) -> mask32x4
+        requires several { 2 ≤ D }
+        requires some { IsTrue some → All HasNumbers self.now }
         ensures lanes { AreLanes result }
         ensures clear { IsClear result ↔ Admits self.now rect.now }
     {
@@ -257,13 +278,15 @@ impl<const D: usize> Window<D> {
         // The first two axes, and the last two: the four numbers of neighbours stand side by side, so that they are loaded at
         // once. Three axes have the second in both pairs. Two axes have the same pair twice, and the compiler keeps one of
         // them.
-        refused_ends(&self.axes, rect, 0, 1) | refused_ends(&self.axes, rect, last - 1, last)
+        refused_ends(&self.axes, rect, 0, 1, some)
+            | refused_ends(&self.axes, rect, last - 1, last, some)
     }
 
     /// Which of the four boxes from a position on are admitted.
     #[inline]
     fn tell_four(&self, rects: &[Rect<D>], at: usize) -> u64
-        requires { at + 4 ≤ length rects.now }
+        requires within { at + 4 ≤ length rects.now }
+        requires some { All HasNumbers self.now }
         ensures told { Tells (Admits self.now) (take 4 (drop at rects.now)) result }
         ensures boxes { All (IsBox D) (take 4 (drop at rects.now)) }
     {
@@ -277,10 +300,10 @@ impl<const D: usize> Window<D> {
             return ends.admits_four(a.side(0), b.side(0), c.side(0), d.side(0));
         }
         tell_clear(
-            self.refused(a),
-            self.refused(b),
-            self.refused(c),
-            self.refused(d),
+            self.refused(a, true),
+            self.refused(b, true),
+            self.refused(c, true),
+            self.refused(d, true),
         )
     }
 
@@ -288,7 +311,8 @@ impl<const D: usize> Window<D> {
     /// admitted.
     #[inline]
     fn tell_fours(&self, rects: &[Rect<D>]) -> (usize, u64)
-        requires { length rects.now ≤ 64 }
+        requires few { length rects.now ≤ 64 }
+        requires some { All HasNumbers self.now }
         ensures left { result.0 < 4 }
         ensures within { result.0 ≤ length rects.now }
         ensures told { Tells (Admits self.now) (drop result.0 rects.now) result.1 }
@@ -325,7 +349,9 @@ impl<const D: usize> Window<D> {
         ensures told { Tells (Admits self.now) rects.now result }
         ensures boxes { All (IsBox D) rects.now }
     {
-        if rects.len() < 4 {
+        // Four boxes are tested at once only if each coordinate may be some number. A window of which one may not admits no
+        // box, and is rare.
+        if rects.len() < 4 || !self.has_numbers() {
             return self.tell_each(rects);
         }
         // Up to three boxes are left. How many can't be guessed, so the first four are tested together, some a second time:

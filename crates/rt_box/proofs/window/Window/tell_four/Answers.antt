@@ -28,7 +28,7 @@ returns-then-this-eq1-clause-told g c =
     let u = c.index-rects-at-4.result in
     let one : length axes ≡ 1 = c.self.told ∙ c.if-this-eq1.true in
     let ends_are : ends ≡ get_or axes 0 ends = get_or_default axes 0 read ends (omega (arith, one)) in
-    let four = four_at c.args.rects.now c.args.at x y z u c.requires c.index-rects-at.is c.index-rects-at-2.is c.index-rects-at-3.is c.index-rects-at-4.is in
+    let four = four_at c.args.rects.now c.args.at x y z u c.requires.within c.index-rects-at.is c.index-rects-at-2.is c.index-rects-at-3.is c.index-rects-at-4.is in
     let side_of : (b : List Interval) (side : Interval) → IsBox g.row.D b → side ≡ get_or b 0 side → (AdmitsSide ends side ↔ Admits window b) =
     λ b side is_box side_is. one_side axes window b ends side c.self.view_is one (is_box.axes_are ∙ c.if-this-eq1.true) ends_are side_is in
     let first = c.side.result.now in
@@ -49,7 +49,7 @@ returns-then-this-eq1-clause-boxes g c =
     let y = c.index-rects-at-2.result in
     let z = c.index-rects-at-3.result in
     let u = c.index-rects-at-4.result in
-    let four = four_at c.args.rects.now c.args.at x y z u c.requires c.index-rects-at.is c.index-rects-at-2.is c.index-rects-at-3.is c.index-rects-at-4.is in
+    let four = four_at c.args.rects.now c.args.at x y z u c.requires.within c.index-rects-at.is c.index-rects-at-2.is c.index-rects-at-3.is c.index-rects-at-4.is in
     subst (λ (xs : List (List Interval)). All (IsBox g.row.D) xs) (sym four)
     (All-four (IsBox g.row.D) x y z u [] c.facts.ensures c.facts-2.ensures c.facts-3.ensures c.facts-4.ensures (All-nil (IsBox g.row.D)))
 
@@ -72,7 +72,7 @@ returns-clause-told g c =
     let y = c.index-rects-at-2.result in
     let z = c.index-rects-at-3.result in
     let u = c.index-rects-at-4.result in
-    let four = four_at c.args.rects.now c.args.at x y z u c.requires c.index-rects-at.is c.index-rects-at-2.is c.index-rects-at-3.is c.index-rects-at-4.is in
+    let four = four_at c.args.rects.now c.args.at x y z u c.requires.within c.index-rects-at.is c.index-rects-at-2.is c.index-rects-at-3.is c.index-rects-at-4.is in
     let clear_of : (b : List Interval) (lanes : List ℤ) → AreLanes lanes → (IsClear lanes ↔ Admits window b) → (IsClear (handed lanes) ↔ Admits window b) =
     λ b lanes are is. let same = handed_clear lanes are in ((λ h. is.0 (same.0 h)), (λ h. same.1 (is.1 h))) in
     let bits : ℕ = c.tell_clear.result in
@@ -90,6 +90,6 @@ returns-clause-boxes g c =
     let y = c.index-rects-at-2.result in
     let z = c.index-rects-at-3.result in
     let u = c.index-rects-at-4.result in
-    let four = four_at c.args.rects.now c.args.at x y z u c.requires c.index-rects-at.is c.index-rects-at-2.is c.index-rects-at-3.is c.index-rects-at-4.is in
+    let four = four_at c.args.rects.now c.args.at x y z u c.requires.within c.index-rects-at.is c.index-rects-at-2.is c.index-rects-at-3.is c.index-rects-at-4.is in
     subst (λ (xs : List (List Interval)). All (IsBox g.row.D) xs) (sym four)
     (All-four (IsBox g.row.D) x y z u [] c.facts.ensures c.facts-2.ensures c.facts-3.ensures c.facts-4.ensures (All-nil (IsBox g.row.D)))

@@ -29,7 +29,7 @@ loop-at-preserved g c =
 
 pub overflow_mul-bits : goal.overflow_mul-bits
 overflow_mul-bits g c =
-    omega (arith, Tells-room (Admits c.args.self.now) c.args.rects.now c.loop-at.at 4 c.loop-at.bits c.loop-at.invariant.told c.loop-at-test.true c.requires)
+    omega (arith, Tells-room (Admits c.args.self.now) c.args.rects.now c.loop-at.at 4 c.loop-at.bits c.loop-at.invariant.told c.loop-at-test.true c.requires.few)
 
 pub overflow_add-bits : goal.overflow_add-bits
 overflow_add-bits g c =
@@ -39,4 +39,4 @@ overflow_add-bits g c =
     let long : length four ≡ 4 = length-take-le 4 (drop (at - 4) rects) (omega (arith, length-drop (at - 4) rects, c.loop-at-test.true, c.loop-at.invariant.within)) in
     let small : c.tell_four.result < 2 ^ 4 =
     subst (λ n. c.tell_four.result < 2 ^ n) long (Tells-below (Admits c.args.self.now) four c.tell_four.result c.tell_four.ensures.told) in
-    omega (arith, small, Tells-room (Admits c.args.self.now) rects at 4 c.loop-at.bits c.loop-at.invariant.told c.loop-at-test.true c.requires)
+    omega (arith, small, Tells-room (Admits c.args.self.now) rects at 4 c.loop-at.bits c.loop-at.invariant.told c.loop-at-test.true c.requires.few)
