@@ -6,3 +6,4 @@ pub mod Homes
 pub mod Sums
 pub mod Fitted
 pub mod Many
+pub mod Summed

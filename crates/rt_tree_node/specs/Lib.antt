@@ -7,3 +7,6 @@ pub mod Changes
 pub mod Homes
 pub mod Settles
 pub mod Open
+pub mod Below
+pub mod Sums
+pub mod NodesInside

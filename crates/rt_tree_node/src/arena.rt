@@ -5,17 +5,16 @@
 
 use crate::cell::Pending;
 use crate::key::Key;
-use crate::node::Node;
+use crate::nodes::Nodes;
 use indexmap::IndexMap;
 use rt_box::Capacity;
-use slab::Slab;
 use std::alloc::Global;
 use std::hash::RandomState;
 
 /// The nodes of a tree, and what goes with them.
 pub struct Arena<const D: usize> {
     /// The nodes by key.
-    pub nodes: Slab<Node<D>>,
+    pub nodes: Nodes<D>,
     /// The key of the leaf that each row lies in, by the row's id.
     pub leaves: IndexMap<i64, Key, RandomState>,
     /// The pending cells; the last is placed first.

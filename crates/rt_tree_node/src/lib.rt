@@ -16,6 +16,8 @@ mod cell;
 mod key;
 mod leaves;
 mod node;
+mod nodes;
+mod summing;
 
 pub use access::{
     add_cell, add_cells, add_node, hull_at, node_at, remove_cell, remove_node, set_cell,
@@ -26,3 +28,4 @@ pub use cell::{Cell, Pending, key_of, number_of};
 pub use key::Key;
 pub use leaves::{find_leaf, leaves_facts, set_leaf};
 pub use node::Node;
+pub use nodes::Nodes;

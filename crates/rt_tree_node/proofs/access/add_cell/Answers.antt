@@ -1,0 +1,13 @@
+use Rattle.std.proofs.Common.{rules, ◌≤◌}
+use Rattle.rt_tree_node.proofs.Summed.{set-logged}
+use Rattle.rt_tree_node.proofs.access.add_cell.Goals as goal
+
+pub add-requires : goal.add-requires
+add-requires g c = let few : g.row.D ≤ 3 = c.nodes.invariant.few in search rules
+
+pub invariant_of-nodes : goal.invariant_of-nodes
+invariant_of-nodes g c = record {
+  few = c.nodes.invariant.few;
+  sums = set-logged c.nodes.inside.slab c.nodes.inside.sums.items c.args.key c.index.result c.index.ensures c.add.new.self
+      c.nodes.inside.stale.items c.log.new.stale.items c.nodes.inside.is_lost c.log.new.is_lost c.log.ensures c.nodes.invariant.sums;
+}
