@@ -9,7 +9,6 @@ use crate::tree::{MOST_NODES, PENDING_ROOM, point};
 use indexmap::IndexMap;
 use rt_box::Capacity;
 use rt_tree_node::{Arena, Node, add_node};
-use slab::Slab;
 use std::alloc::{AllocError, Global};
 use std::hash::RandomState;
 

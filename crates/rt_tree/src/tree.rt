@@ -29,7 +29,6 @@ use rt_tree_outside::shadow_of;
 use rt_tree_place::{insert_row, levels_are_few, nodes_are_few};
 use rt_tree_remove::{find_row, remove_found, replace_found};
 use rt_tree_walk::{Found, Reached, Row, count, search, search_into};
-use slab::Slab;
 use std::alloc::{AllocError, Global};
 use std::hash::RandomState;
 use std::marker::Model;
@@ -107,9 +106,9 @@ pub fn nodes_for(capacity: Capacity, rows: usize) -> usize
 /// A copy of the nodes that has room for `room` nodes. What was there stays as it was, so nothing has to be put back if no
 /// memory is left.
 fn with_room<const D: usize>(
-    nodes: &Slab<Node<D>>,
+    nodes: &Nodes<D>,
     room: usize,
-) -> Result<Slab<Node<D>>, AllocError>
+) -> Result<Nodes<D>, AllocError>
     ensures same { IfOk result (λ copy. copy.slots ≡ nodes.now.slots) }
     ensures room { IfOk result (λ copy. room ≤ copy.capacity) }
     ensures keys { IfOk result (λ copy. copy.capacity ≤ 2 ^ 62) }
@@ -134,9 +133,9 @@ fn likely_room(room: usize) -> usize
 
 /// A copy of the nodes that has room for `room` nodes, and for more if there is memory for that.
 fn with_likely_room<const D: usize>(
-    nodes: &Slab<Node<D>>,
+    nodes: &Nodes<D>,
     room: usize,
-) -> Result<Slab<Node<D>>, AllocError>
+) -> Result<Nodes<D>, AllocError>
     ensures same { IfOk result (λ copy. copy.slots ≡ nodes.now.slots) }
     ensures room { IfOk result (λ copy. room ≤ copy.capacity) }
     ensures keys { IfOk result (λ copy. copy.capacity ≤ 2 ^ 62) }
@@ -152,7 +151,7 @@ fn with_likely_room<const D: usize>(
 }
 
 /// Makes room for `room` nodes, unless there is room already.
-fn make_room<const D: usize>(nodes: &mut Slab<Node<D>>, room: usize) -> Result<(), AllocError>
+fn make_room<const D: usize>(nodes: &mut Nodes<D>, room: usize) -> Result<(), AllocError>
     requires { nodes.old.capacity ≤ 2 ^ 62 }
     ensures same { nodes.new.slots ≡ nodes.old.slots }
     ensures keys { nodes.new.capacity ≤ 2 ^ 62 }

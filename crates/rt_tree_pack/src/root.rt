@@ -8,10 +8,9 @@ ghost use Rattle.rt_tree_pack.specs.Steps.{LiftsRoot};
 
 use rt_box::Rect;
 use rt_tree_node::{Arena, Key, Node};
-use slab::Slab;
 
 /// Puts a node in the place of another.
-fn put_node<const D: usize>(nodes: &mut Slab<Node<D>>, key: Key, node: Node<D>)
+fn put_node<const D: usize>(nodes: &mut Nodes<D>, key: Key, node: Node<D>)
     requires { ContainsKey nodes.old key }
     ensures { Changes (λ n. node.entry) nodes.old nodes.new key }
 {

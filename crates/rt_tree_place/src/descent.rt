@@ -11,21 +11,16 @@ ghost use Rattle.rt_tree_place.specs.Steps.{IsPassable, IsBestAt};
 ghost use Rattle.rt_tree_place.specs.Way.{LeadsUp};
 
 use rt_box::Rect;
-use rt_tree_node::{Key, Node, node_at};
+use rt_tree_node::{Key, Nodes, node_at, slab_facts};
 use rt_tree_subtree::choose_subtree;
-use slab::Slab;
 
 /// The child that the box goes into.
-fn best_child<const D: usize>(
-    nodes: &Slab<Node<D>>,
-    key: Key,
-    above_leaves: bool,
-    rect: &Rect<D>,
-) -> Key
+fn best_child<const D: usize>(nodes: &Nodes<D>, key: Key, above_leaves: bool, rect: &Rect<D>) -> Key
     requires present { ContainsKey nodes.now key }
     requires some { 1 ≤ length (cells_at nodes.now key) }
     ensures { IsBestAt nodes.now key above_leaves rect.now result }
 {
+    slab_facts(nodes);
     let node = node_at(nodes, key);
     let at = choose_subtree(node.boxes(), above_leaves, rect);
     let cell = node.cell(at);
@@ -35,7 +30,7 @@ fn best_child<const D: usize>(
 /// The node of a level that best children lead the box to, from the root down (Beckmann, Kriegel, Schneider, Seeger
 /// 1990, section 4.1).
 pub fn choose_node<const D: usize>(
-    nodes: &Slab<Node<D>>,
+    nodes: &Nodes<D>,
     root: Key,
     level: u8,
     target: u8,

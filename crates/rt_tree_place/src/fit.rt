@@ -10,8 +10,7 @@ ghost use Rattle.rt_tree_node.specs.Places.{times_named, cells_at, no_cell};
 ghost use Rattle.rt_tree_place.specs.Steps.{IsNamedAt, IsBoxAbove, IsHeldAbove, HasLeastBox, Refits};
 
 use rt_box::Rect;
-use rt_tree_node::{Cell, Key, Node, hull_at, node_at, number_of, set_cell, slab_facts};
-use slab::Slab;
+use rt_tree_node::{Cell, Key, Nodes, hull_at, node_at, number_of, set_cell, slab_facts};
 
 // A struct, since proofs follow a borrowed field of a value, and not a borrowed integer.
 
@@ -43,7 +42,7 @@ pub fn cell_for<const D: usize>(key: Key, rect: &Rect<D>) -> Cell<D>
 }
 
 /// Whether the parent's cell that names the node has the least box around the node's cells.
-pub fn has_least_box<const D: usize>(nodes: &Slab<Node<D>>, key: Key, parent: Key) -> bool
+pub fn has_least_box<const D: usize>(nodes: &Nodes<D>, key: Key, parent: Key) -> bool
     requires few { D ≤ 3 }
     requires keys { nodes.now.capacity ≤ 2 ^ 62 }
     requires present { ContainsKey nodes.now key }
@@ -62,7 +61,7 @@ pub fn has_least_box<const D: usize>(nodes: &Slab<Node<D>>, key: Key, parent: Ke
 }
 
 /// The box of the parent's cell that names the node.
-pub fn box_above<const D: usize>(nodes: &Slab<Node<D>>, key: Key, parent: Key) -> Rect<D>
+pub fn box_above<const D: usize>(nodes: &Nodes<D>, key: Key, parent: Key) -> Rect<D>
     requires few { D ≤ 3 }
     requires keys { nodes.now.capacity ≤ 2 ^ 62 }
     requires present { ContainsKey nodes.now key }
@@ -79,7 +78,7 @@ pub fn box_above<const D: usize>(nodes: &Slab<Node<D>>, key: Key, parent: Key) -
 
 /// Whether the parent's cell that names the node holds the box.
 pub(crate) fn is_held<const D: usize>(
-    nodes: &Slab<Node<D>>,
+    nodes: &Nodes<D>,
     key: Key,
     parent: Key,
     rect: &Rect<D>,
@@ -95,7 +94,7 @@ pub(crate) fn is_held<const D: usize>(
 }
 
 /// Gives the parent's cell that names the node the least box around the node's cells.
-pub fn refit<const D: usize>(nodes: &mut Slab<Node<D>>, key: Key, parent: Key)
+pub fn refit<const D: usize>(nodes: &mut Nodes<D>, key: Key, parent: Key)
     requires few { D ≤ 3 }
     requires keys { nodes.old.capacity ≤ 2 ^ 62 }
     requires present { ContainsKey nodes.old key }

@@ -14,10 +14,9 @@ use crate::fit::cell_for;
 use indexmap::IndexMap;
 use rt_tree_choice::{choose_split, sorted_positions};
 use rt_tree_node::{
-    Arena, Key, Node, Pending, add_cells, add_node, hull_at, node_at, set_leaf, set_parent,
+    Arena, Key, Node, Nodes, Pending, add_cells, add_node, hull_at, node_at, set_leaf, set_parent,
     take_cells,
 };
-use slab::Slab;
 use std::hash::RandomState;
 
 /// Notes that the rows of the cells at the positions lie in another leaf now.
@@ -39,7 +38,7 @@ fn rehouse<const D: usize>(
 }
 
 /// Makes the nodes that the cells at the positions name the children of another node.
-fn adopt<const D: usize>(nodes: &mut Slab<Node<D>>, key: Key, from: &Node<D>, positions: &[usize])
+fn adopt<const D: usize>(nodes: &mut Nodes<D>, key: Key, from: &Node<D>, positions: &[usize])
     requires few { D ≤ 3 }
     requires within { All (λ p. p < length from.now.cells) positions.now }
     requires present { ArePresent nodes.old (picked from.now.cells positions.now) }

@@ -10,13 +10,12 @@ ghost use Rattle.rt_tree_node.specs.Places.{times_named, cells_at, parent_at, pe
 ghost use Rattle.rt_tree_remove.specs.Steps.{Dissolves, IsSoundBut, Climbs};
 
 use crate::child::child_position;
-use rt_tree_node::{Arena, Key, Node, Pending, node_at, remove_cell, remove_node};
+use rt_tree_node::{Arena, Key, Node, Nodes, Pending, node_at, remove_cell, remove_node};
 use rt_tree_place::refit;
-use slab::Slab;
 
 /// Takes the node out of the slab, and the cell that names it out of the parent.
 pub(crate) fn remove_child<const D: usize>(
-    nodes: &mut Slab<Node<D>>,
+    nodes: &mut Nodes<D>,
     key: Key,
     parent: Key,
 ) -> Node<D>
