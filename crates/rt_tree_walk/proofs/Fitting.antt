@@ -1,7 +1,7 @@
 -- What a search finds fits where there is room for it.
-use Rattle.std.proofs.Common.{◌≡◌, ℕ, ◌+◌, ◌<◌, ◌≤◌, Bool, true, List, [], ◌∷◌, ◌++◌, length, get_or, drop, Option, None, is_some, cond, arith, refl, ap, inl, inr, Vec, Global, vec_capacity}
+use Rattle.std.proofs.Common.{◌≡◌, ℕ, ◌+◌, ◌≤◌, Bool, List, ◌++◌, length, get_or, drop, Option, None, is_some, cond, arith, ap, Vec, Global, vec_capacity}
 use Rattle.std.specs.Prelude.{Result, Ok, Err, IsErr, OnErr}
-use Rattle.std.specs.List.{All, count_by, sum_by}
+use Rattle.std.specs.List.{All, count_by}
 use Rattle.std.proofs.lemmas.List.{get_or_past, length-append, length-drop}
 use Rattle.slab.specs.Slab.{get, slab_len}
 use Rattle.rt_box.specs.declared.interval.Interval.{Interval}

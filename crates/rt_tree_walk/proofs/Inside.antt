@@ -1,21 +1,23 @@
 -- What a mark says of a node.
-use Rattle.std.proofs.Common.{◌≡◌, ℕ, ◌+◌, ◌<◌, ◌≤◌, true, false, List, [], ◌∷◌, ◌++◌, length, map, get_or, drop, Contains, All, None, Some, refl, ap, ◌∙◌, subst, sym, arith}
+use Rattle.std.proofs.Common.{◌≡◌, ℕ, suc, ◌+◌, ◌<◌, ◌≤◌, true, false, List, [], ◌∷◌, ◌++◌, length, map, get_or, drop, Contains, All, None, Some, refl, ap, ◌∙◌, subst, sym, arith}
 use Rattle.std.proofs.lemmas.Bool.{true≢false}
 use Rattle.std.proofs.lemmas.Option.{none-some}
 use Rattle.std.proofs.lemmas.List.{length-map, get_or-map, drop_more, drop_all, get_or_default}
 use Rattle.std.proofs.lemmas.List.Elements.{All-nil, All-cons, All-append, All-weaker}
 use Rattle.slab.specs.Slab.{Slab, get}
 use Rattle.rt_box.specs.declared.interval.Interval.{Interval}
+use Rattle.rt_box.specs.Rect.{Holds}
 use Rattle.rt_box.specs.Window.{Admits, AdmitsWithin}
+use Rattle.rt_box.proofs.Holding.{Holds_trans}
 use Rattle.rt_tree_node.specs.declared.arena.Arena.{Arena}
 use Rattle.rt_tree_node.specs.declared.cell.Cell.{Cell}
 use Rattle.rt_tree_node.specs.Node.{NodeCells}
-use Rattle.rt_tree_node.specs.Places.{key_of, cells_of, leaf_cells_of, inner_cells_of, leaf_part, inner_part, cells_at, leaf_cells_at, inner_cells_at, hull_at}
+use Rattle.rt_tree_node.specs.Places.{key_of, cells_of, leaf_cells_of, inner_cells_of, leaf_part, inner_part, cells_at, leaf_cells_at, inner_cells_at, level_at, hull_at}
 use Rattle.rt_tree_node.specs.Whole.{IsWhole}
 use Rattle.rt_tree_walk.specs.declared.searching.Reached.{Reached}
 use Rattle.rt_tree_walk.specs.declared.searching.Row.{Row}
 use Rattle.rt_tree_walk.specs.Search.{row_of}
-use Rattle.rt_tree_walk.specs.Visits.{keys_of, MarkHolds, NamesInside, Marks, TakesRows, TakesChildren, Visits, VisitsCounting}
+use Rattle.rt_tree_walk.specs.Visits.{keys_of, LiesInside, MarkHolds, NamesInside, Marks, TakesRows, TakesChildren, Visits, VisitsCounting}
 use Rattle.rt_tree_walk.proofs.Taking.{TakesRows-all, TakesChildren-none, TakesChildren-dropped}
 use Rattle.rt_tree_walk.proofs.Reaching.{All_contained, inner-level, hull-contained}
 
@@ -84,14 +86,14 @@ module _ {D : ℕ} (a : Slab (NodeCells D)) (window : List Interval) (key : ℕ)
 
 module _ {D : ℕ} (t : Arena D) (whole : IsWhole t) (window : List Interval) where
   -- a window that admits each box within the hull admits each cell's
-  admits-hull : (key : ℕ) → AdmitsWithin D window (hull_at t.nodes key) → All (λ c. Admits window c.rect) (cells_at t.nodes key)
+  pub admits-hull : (key : ℕ) → AdmitsWithin D window (hull_at t.nodes key) → All (λ c. Admits window c.rect) (cells_at t.nodes key)
   admits-hull key within i d below =
       let c = get_or (cells_at t.nodes key) i d in
       within c.rect (whole.fitted.boxes key i d below)
       (hull-contained t whole key c (i, below, get_or_default (cells_at t.nodes key) i c d below))
 
   -- the box of the cell that names a child is the child's hull
-  admits-child : (key child : ℕ) → NamesInside window (inner_cells_at t.nodes key) child → All (λ c. Admits window c.rect) (cells_at t.nodes child)
+  admits-child : (key child : ℕ) → NamesInside window (inner_cells_at t.nodes key) child → LiesInside t.nodes window child
   admits-child key child names =
       let c = names.0 in
       let inner = inner-level t.nodes key (let h = names.1.1 in omega arith) in
@@ -100,7 +102,20 @@ module _ {D : ℕ} (t : Arena D) (whole : IsWhole t) (window : List Interval) wh
       All_contained (λ x. (None ≡ Some (key_of x) → ⊥) → x.rect ≡ hull_at t.nodes (key_of x)) (cells_at t.nodes key) c
       (whole.fitted.hulls key inner.0 inner.1.level) there (none-some (key_of c))
       ∙ ap (hull_at t.nodes) names.2 in
-      admits-hull child (subst (AdmitsWithin D window) hull names.3)
+      let boxes = subst (AdmitsWithin D window) hull names.3 in
+      record { boxes = boxes; cells = admits-hull child boxes }
+
+  -- the child of a node inside lies inside
+  pub inside-child : (key l : ℕ) → level_at t.nodes key ≡ Some (suc l) → LiesInside t.nodes window key → (c : Cell D) → Contains (cells_at t.nodes key) c →
+      LiesInside t.nodes window (key_of c)
+  inside-child key l lev inside c there =
+      let hull : c.rect ≡ hull_at t.nodes (key_of c) =
+      All_contained (λ x. (None ≡ Some (key_of x) → ⊥) → x.rect ≡ hull_at t.nodes (key_of x)) (cells_at t.nodes key) c
+      (whole.fitted.hulls key l lev) there (none-some (key_of c)) in
+      let boxes : AdmitsWithin D window (hull_at t.nodes (key_of c)) = λ b box holds.
+      inside.boxes b box
+      (Holds_trans (hull_at t.nodes key) (hull_at t.nodes (key_of c)) b (subst (Holds (hull_at t.nodes key)) hull (hull-contained t whole key c there)) holds) in
+      record { boxes = boxes; cells = admits-hull (key_of c) boxes }
 
   -- the marks of a node's children hold, with those before them
   pub marks-hold : (key : ℕ) (old new : List Reached) → Marks window (inner_cells_at t.nodes key) old new →

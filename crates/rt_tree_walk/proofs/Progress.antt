@@ -43,6 +43,21 @@ module _ {D : ℕ} where
     pub each : (test : Row D → Bool) → AsksAdmitted window test →
         count_by test rows ≡ sum_by (λ k. count_by (λ c. test (row_of c)) (leaf_cells_at t.nodes k)) seen
 
+  -- the nodes still to come may stand in another order
+  pub Progress-reordered : (t : Arena D) (window : List Interval) (keys keys1 : List ℕ) (rows : List (Row D)) (visited : ℕ) →
+      ((k : ℕ) → times k keys1 ≡ times k keys) → Progress t window keys rows visited → Progress t window keys1 rows visited
+  Progress-reordered t window keys keys1 rows visited same so = record {
+    seen = so.seen;
+    counted = so.counted;
+    once = λ k. omega (arith, same k, so.once k);
+    top = omega (arith, same t.root, so.top);
+    reached = λ k some. so.reached k (omega (arith, same k));
+    above = λ k p some up. so.above k p (omega (arith, same k)) up;
+    below = λ k l child some lev leads. omega (arith, same child, so.below k l child some lev leads);
+    admitted = so.admitted;
+    each = so.each;
+  }
+
   -- what is sound and has nothing pending
   pub record IsSettled (t : Arena D) : Type 0 where
     pub whole : IsWhole t

@@ -1,5 +1,5 @@
 -- What a search takes from one node.
-use Rattle.std.specs.Prelude.{◌≡◌, ◌⊎◌, ℕ, ◌/◌, ◌%◌, ◌==◌, ◌≤◌, ◌<◌, Bool, true, if◌then◌else◌, Contains, List, [], ◌∷◌, ◌++◌, length, map, All, count_by}
+use Rattle.std.specs.Prelude.{◌≡◌, ◌⊎◌, ℕ, ◌/◌, ◌%◌, ◌==◌, ◌≤◌, ◌<◌, Bool, true, if◌then◌else◌, Contains, List, [], ◌∷◌, ◌++◌, length, map, All, count_by, Some}
 use Rattle.std.specs.Prelude.{Vec, vec_capacity}
 use Rattle.std.specs.declared.alloc.Global.{Global}
 use Rattle.slab.specs.Slab.{Slab}
@@ -8,7 +8,8 @@ use Rattle.rt_box.specs.Window.{Admits, AdmitsWithin, IsReach, IsCore}
 use Rattle.rt_tree_node.specs.declared.arena.Arena.{Arena}
 use Rattle.rt_tree_node.specs.declared.cell.Cell.{Cell}
 use Rattle.rt_tree_node.specs.Node.{NodeCells}
-use Rattle.rt_tree_node.specs.Places.{key_of, times_named, cells_at, leaf_cells_at, inner_cells_at}
+use Rattle.rt_tree_node.specs.Places.{key_of, times_named, cells_at, leaf_cells_at, inner_cells_at, level_at, hull_at}
+use Rattle.rt_tree_node.specs.Below.{rows_below}
 use Rattle.rt_tree_walk.specs.declared.searching.Query.{Query}
 use Rattle.rt_tree_walk.specs.declared.searching.Reached.{Reached}
 use Rattle.rt_tree_walk.specs.declared.searching.Row.{Row}
@@ -28,9 +29,14 @@ module _ {D : ℕ} where
     pub reach : IsReach D query.window query.reach
     pub core : IsCore D query.window query.core
 
-  -- a marked node has no cell whose box the window refuses
+  -- the window admits each box that lies in the node's, and so the boxes of its cells
+  pub record LiesInside (a : Slab (NodeCells D)) (window : List Interval) (key : ℕ) : Type 0 where
+    pub boxes : AdmitsWithin D window (hull_at a key)
+    pub cells : All (λ c. Admits window c.rect) (cells_at a key)
+
+  -- a marked node lies inside the window
   abbrev pub MarkHolds : Slab (NodeCells D) → List Interval → Reached → Type 0
-  MarkHolds a window d = d.is_inside ≡ true → All (λ c. Admits window c.rect) (cells_at a d.key)
+  MarkHolds a window d = d.is_inside ≡ true → LiesInside a window d.key
 
   -- one of the cells names the key, and the window admits each box in the cell's
   abbrev pub NamesInside : List Interval → List (Cell D) → ℕ → Type 0
@@ -83,6 +89,14 @@ module _ {D : ℕ} where
     pub rows_are : CountsRows window (leaf_cells_at a key) count
     pub children_are : TakesChildren window (inner_cells_at a key) keys keys1
 
+  -- the rows below a node that lies inside are counted at once, and no children come
+  pub record CountsBelow (a : Slab (NodeCells D)) (window : List Interval) (key count : ℕ) (keys keys1 : List ℕ) : Type 0 where
+    pub inside : LiesInside a window key
+    pub level : ℕ
+    pub level_is : level_at a key ≡ Some level
+    pub counted : count ≡ length (rows_below a level key)
+    pub same : keys1 ≡ keys
+
   -- the same of the lists that a search keeps: it takes children, and goes into the next node
   abbrev pub ReachesChildren : Query D → List (Cell D) → Vec Reached Global → Vec Reached Global → Type 0
   ReachesChildren query cells old new = TakesChildren query.window cells (keys_of old.items) (keys_of new.items)
@@ -97,6 +111,7 @@ module _ {D : ℕ} where
   abbrev pub GoesIntoCounting : Arena D → Query D → Reached → ℕ → Vec Reached Global → Vec Reached Global → Type 0
   GoesIntoCounting t query next count old new =
       VisitsCounting t.nodes query.window next.key count (keys_of old.items) (keys_of new.items)
+      ⊎ CountsBelow t.nodes query.window next.key count (keys_of old.items) (keys_of new.items)
 
   -- ---- what doesn't fit
   -- a list has no room for the rows of those cells that the window admits

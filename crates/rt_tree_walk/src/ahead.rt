@@ -28,7 +28,7 @@ const NUMBERS_A_LINE: usize = 8;
 /// How many cache lines are looked at of a node's numbers, and for each axis of its boxes. Most nodes have no more.
 const LINES: usize = 6;
 
-/// What is needed of a leaf inside the window: its rows, or only how many they are.
+/// What is needed of what lies inside the window: its rows, or only how many they are.
 #[derive(Clone, Copy)]
 pub(crate) enum Need {
     Rows,
@@ -83,6 +83,17 @@ fn sum_of_numbers<const D: usize>(node: &Node<D>) -> i64 {
     sum
 }
 
+/// A sum of what stands on the cache lines of a node.
+#[inline]
+fn sum_of<const D: usize>(tree: &Arena<D>, next: &Reached) -> i64
+    requires { D ≤ 3 }
+{
+    match tree.nodes.get(next.key) {
+        Some(node) => sum_of_boxes(node).wrapping_add(sum_of_numbers(node)),
+        None => 0,
+    }
+}
+
 impl LookAhead {
     /// Before a search goes into the root. In a small tree, no node needs a look.
     pub(crate) fn new<const D: usize>(tree: &Arena<D>, need: Need) -> LookAhead
@@ -113,16 +124,10 @@ impl LookAhead {
         }
     }
 
-    /// A sum of what stands on the cache lines that are needed of a node. Of a leaf inside the window, a count needs its
-    /// own count alone.
+    /// Whether the node is needed. A count mostly goes into no node inside the window.
     #[inline]
-    fn sum_of<const D: usize>(&self, node: &Node<D>, is_leaf_inside: bool) -> i64
-        requires { D ≤ 3 }
-    {
-        match self.need {
-            Need::Count if is_leaf_inside => node.len() as i64,
-            _ => sum_of_boxes(node).wrapping_add(sum_of_numbers(node)),
-        }
+    fn needs(&self, next: &Reached) -> bool {
+        matches!(self.need, Need::Rows) || !next.is_inside
     }
 
     /// Looks at some of the nodes that come next: leaves or their parents. Nodes further up are few, and mostly at hand.
@@ -145,9 +150,8 @@ impl LookAhead {
             return;
         }
         for next in reached.iter().take(NODES_TOGETHER) {
-            if let Some(node) = tree.nodes.get(next.key.index()) {
-                let is_leaf_inside = level == 0 && next.is_inside;
-                self.seen = self.seen.wrapping_add(self.sum_of(node, is_leaf_inside));
+            if self.needs(next) {
+                self.seen = self.seen.wrapping_add(sum_of(tree, next));
             }
         }
     }

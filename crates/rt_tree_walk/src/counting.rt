@@ -2,8 +2,10 @@
 //!
 //! The walk is that of a search, except that the rows of a leaf are counted, not taken.
 
-ghost use Rattle.std.specs.Prelude.{◌≡◌, ◌^◌, ◌≤◌, ◌<◌, [], IfOk, OnOk};
+ghost use Rattle.std.specs.Prelude.{◌≡◌, ◌^◌, ◌≤◌, ◌<◌, ℕ, [], length, true, Some, IfSome, IfOk, OnOk};
 ghost use Rattle.slab.specs.Slab.{ContainsKey};
+ghost use Rattle.rt_tree_node.specs.Below.{IsJoined, rows_below};
+ghost use Rattle.rt_tree_node.specs.Places.{level_at};
 ghost use Rattle.rt_tree_node.specs.Whole.{IsWhole, row_count};
 ghost use Rattle.rt_tree_walk.specs.Search.{Counts};
 ghost use Rattle.rt_tree_walk.specs.Visits.{IsQuery, MarkHolds, CountsRows, MarksChildren, GoesIntoCounting};
@@ -21,8 +23,22 @@ fn count_admitted<const D: usize>(leaf: &Node<D>, window: &Window<D>) -> usize
     window.admitted(boxes_of(leaf)).count_ones() as usize
 }
 
-/// Goes into a node: counts a leaf's rows, or takes another node's children. The rows of a marked leaf are counted
-/// without a look at them.
+/// How many rows there are below a marked node, if that is known. There is no look at the node.
+#[inline]
+fn rows_inside<const D: usize>(tree: &Arena<D>, next: &Reached) -> Option<usize>
+    requires { IsJoined tree.now.nodes }
+    ensures inside { IfSome result (λ _. next.now.is_inside ≡ true) }
+    ensures below { (l : ℕ) → level_at tree.now.nodes next.now.key ≡ Some l →
+        IfSome result (λ n. n ≡ length (rows_below tree.now.nodes l next.now.key)) }
+{
+    if !next.is_inside {
+        return None;
+    }
+    tree.nodes.rows_below(next.key)
+}
+
+/// Goes into a node: counts a leaf's rows, or takes another node's children. All rows below a marked node are counted without
+/// a look at it, if it is known how many they are.
 #[inline(never)]
 fn visit<const D: usize>(
     reached: &mut Vec<Reached>,
@@ -31,12 +47,16 @@ fn visit<const D: usize>(
     query: &Query<D>,
 ) -> Result<usize, AllocError>
     requires present { ContainsKey tree.now.nodes next.key }
+    requires joined { IsJoined tree.now.nodes }
     requires few { D ≤ 3 }
     requires query { IsQuery query.now }
     requires mark { MarkHolds tree.now.nodes query.now.window next }
     ensures count { IfOk result (λ count. GoesIntoCounting tree.now query.now next count reached.old reached.new) }
     ensures marks { OnOk result (MarksChildren tree.now query.now next reached.old reached.new) }
 {
+    if let Some(rows) = rows_inside(tree, &next) {
+        return Ok(rows);
+    }
     let node = node_at(&tree.nodes, next.key);
     if node.level() > 0 {
         take_children(reached, node, query)?;
@@ -66,7 +86,10 @@ pub fn count<const D: usize>(
 {
     let mut reached = Vec::with_capacity(alloc, REACHED_ROOM)?;
     reached.push(Reached::root(tree))?;
-    let (query, mut ahead) = (Query::new(window), LookAhead::new(tree, Need::Count));
+    let (query, mut ahead) = (
+        Query::new(window, Need::Count),
+        LookAhead::new(tree, Need::Count),
+    );
     let (mut visited, mut count) = (0, 0);
     while visited < reached.len() {
         ahead.look(tree, &reached, visited);

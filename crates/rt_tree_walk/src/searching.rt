@@ -31,7 +31,7 @@ pub(crate) const REACHED_ROOM: usize = 64;
 /// How many found rows make it likely that many more follow: from then on a search takes the rows of a leaf as suits many.
 const MANY_ROWS: usize = 16;
 
-/// How many children make it likely that some lie inside the window: only of that many it is tested.
+/// How many children make it likely that some lie inside the window: a search for rows tests only that many.
 const MANY_CHILDREN: usize = 8;
 
 /// A row that a search found.
@@ -59,11 +59,12 @@ pub(crate) struct Query<const D: usize> {
     pub(crate) window: Window<D>,
     reach: Window<D>,
     core: Window<D>,
+    need: Need,
 }
 
 impl<const D: usize> Query<D> {
     /// The query by a window.
-    pub(crate) fn new(window: &Window<D>) -> Query<D>
+    pub(crate) fn new(window: &Window<D>, need: Need) -> Query<D>
         ensures window { result.window ≡ window.now }
         ensures query { IsQuery result }
     {
@@ -71,6 +72,7 @@ impl<const D: usize> Query<D> {
             window: *window,
             reach: window.reach(),
             core: window.core(),
+            need,
         }
     }
 }
@@ -256,8 +258,8 @@ fn push_children<const D: usize>(
     reached.reserve(count)?;
     let alloc = *reached.allocator();
     let mut list = mem::replace(reached, Vec::new(alloc));
-    // On one axis most leaves that the window meets lie inside it.
-    let asks = D == 1 || count >= MANY_CHILDREN;
+    // On one axis most leaves that the window meets lie inside it. A count gains much by each child that does.
+    let asks = D == 1 || count >= MANY_CHILDREN || matches!(query.need, Need::Count);
     let mut rest = bits;
     while rest != 0 {
         let cell = node.cell(rest.trailing_zeros() as usize);
@@ -351,7 +353,10 @@ pub fn search_into<const D: usize>(
     reached.clear();
     reached.reserve(tree.nodes.len().min(REACHED_ROOM))?;
     reached.push(Reached::root(tree))?;
-    let (query, mut ahead) = (Query::new(window), LookAhead::new(tree, Need::Rows));
+    let (query, mut ahead) = (
+        Query::new(window, Need::Rows),
+        LookAhead::new(tree, Need::Rows),
+    );
     let mut visited = 0;
     while visited < reached.len() {
         ahead.look(tree, reached.as_slice(), visited);

@@ -2,10 +2,11 @@ use Rattle.std.proofs.Common.{◌≡◌, ℕ, ◌+◌, ◌<◌, ◌≤◌, false
 use Rattle.std.proofs.lemmas.List.{length-append}
 use Rattle.slab.specs.Slab.{ContainsKey}
 use Rattle.rt_box.specs.declared.interval.Interval.{Interval}
+use Rattle.rt_tree_node.specs.Below.{IsJoined}
 use Rattle.rt_tree_node.specs.Places.{inner_cells_at}
 use Rattle.rt_tree_walk.specs.declared.searching.Reached.{Reached}
 use Rattle.rt_tree_walk.specs.Visits.{keys_of, MarkHolds, Marks}
-use Rattle.rt_tree_walk.proofs.Progress.{IsSettled}
+use Rattle.rt_tree_walk.proofs.Progress.{IsSettled, settled-linked}
 use Rattle.rt_tree_walk.proofs.Counted.{Counting, Counting-start, Counting-few, Counting-end, Counting-next, counted-there, ahead-next}
 use Rattle.rt_tree_walk.proofs.Inside.{keys-end, marks-next, marks-first, marks-hold}
 use Rattle.rt_tree_walk.proofs.counting.count.Goals as goal
@@ -33,6 +34,7 @@ visit-requires g c =
     counted-there c.args.tree.now c.args.window.now s reached l.visited next below c.index-next.ensures l.count l.invariant.progress in
     let marked : MarkHolds c.args.tree.now.nodes c.args.window.now next =
     marks-next c.args.tree.now.nodes c.args.window.now reached l.visited next below c.index-next.ensures l.invariant.marks in
+    let joined : IsJoined c.args.tree.now.nodes = record { root = c.args.tree.now.root; level = c.args.tree.now.level; linked = settled-linked c.args.tree.now s } in
     search rules
 
 pub overflow_add-count : goal.overflow_add-count

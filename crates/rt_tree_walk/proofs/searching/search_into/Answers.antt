@@ -1,4 +1,4 @@
-use Rattle.std.proofs.Common.{◌≡◌, ℕ, ◌+◌, ◌<◌, ◌≤◌, false, List, [], ◌∷◌, ◌++◌, length, rules, arith, ap, ◌∙◌, subst, refl, inl, inr, vec_capacity}
+use Rattle.std.proofs.Common.{◌≡◌, ℕ, ◌+◌, ◌<◌, ◌≤◌, false, List, [], ◌∷◌, ◌++◌, length, rules, arith, ap, ◌∙◌, subst, refl, inl, inr}
 use Rattle.std.proofs.lemmas.List.{length-append, length-map}
 use Rattle.slab.specs.Slab.{ContainsKey}
 use Rattle.rt_box.specs.declared.interval.Interval.{Interval}

@@ -1,4 +1,4 @@
-use Rattle.std.proofs.Common.{rules, ◌+◌, ◌^◌, ◌<◌, ◌++◌, length, map, refl, ap, ◌∙◌, arith, vec_capacity, vec_len}
+use Rattle.std.proofs.Common.{rules, ◌+◌, ◌^◌, ◌<◌, ◌++◌, length, map, refl, arith, vec_capacity, vec_len}
 use Rattle.std.proofs.lemmas.List.{length-append, length-map}
 use Rattle.std.proofs.lemmas.Result.{on_ok_weaker, on_err_weaker}
 use Rattle.rt_box.specs.Window.{Admits}

@@ -13,7 +13,7 @@ pub returns-then-next-clause-ok : goal.returns-then-next-clause-ok
 returns-then-next-clause-ok g c =
     on_ok_weaker c.take_all.result
     (visits-all c.args.tree.now.nodes c.args.query.now.window c.args.next.key c.node_at-node.result.now c.node_at-node.ensures
-    (omega (arith, c.if-level-gt0.false, c.level.ensures)) (c.requires.mark c.if-next.true)
+    (omega (arith, c.if-level-gt0.false, c.level.ensures)) (c.requires.mark c.if-next.true).cells
     c.args.rows.now.items c.take_all.new.rows.items (keys_of c.args.reached.now.items))
     c.take_all.ensures.ok
 
@@ -27,7 +27,7 @@ returns-then-next-clause-full g c =
       rows1 = rows.items ++ map row_of cells;
       keys1 = keys;
       went = visits-all c.args.tree.now.nodes c.args.query.now.window c.args.next.key c.node_at-node.result.now c.node_at-node.ensures
-          (omega (arith, c.if-level-gt0.false, c.level.ensures)) (c.requires.mark c.if-next.true)
+          (omega (arith, c.if-level-gt0.false, c.level.ensures)) (c.requires.mark c.if-next.true).cells
           rows.items (rows.items ++ map row_of cells) keys refl;
       full = inl (omega (arith, full, length-append rows.items (map row_of cells), length-map cells row_of));
     })
