@@ -1,5 +1,5 @@
 -- What a tree keeps.
-use Rattle.std.proofs.Common.{ℕ}
+use Rattle.std.proofs.Common.{◌≡◌, ℕ, [], subst}
 use Rattle.std.specs.Ordering.{int_eq}
 use Rattle.indexmap.specs.IndexMap.{IsUnique}
 use Rattle.rt_tree_outside.specs.Outside.{outside}
@@ -9,6 +9,9 @@ use Rattle.rt_tree_outside.proofs.Subtrees.{outside-ordered}
 use Rattle.rt_tree_outside.proofs.Rows.{entries-rise}
 use Rattle.rt_tree.specs.Lists.{IsInShape}
 use Rattle.rt_tree_node.specs.declared.arena.Arena.{Arena}
+use Rattle.rt_tree_node.specs.Whole.{IsWhole}
+use Rattle.rt_tree_node.specs.Sound.{IsLinked}
+use Rattle.rt_tree_node.specs.Below.{IsJoined}
 use Rattle.rt_tree.specs.Kept.{IsKeptWith}
 use Rattle.rt_tree.specs.TreeInside.{IsKept}
 use Rattle.rt_tree.specs.declared.tree.Tree.TheInside.{Inside}
@@ -16,6 +19,9 @@ use Rattle.rt_tree.specs.declared.tree.Tree.TheInside.{Inside}
 module _ {D : ℕ} where
   pub kept-settled : (t : Arena D) (more : ℕ) → IsKeptWith t more → IsSettled t
   kept-settled t more k = record { whole = k.whole; none = k.idle }
+
+  pub joined : (t : Arena D) → IsWhole t → t.pending.items ≡ [] → IsJoined t.nodes
+  joined t whole none = record { root = t.root; level = t.level; linked = subst (IsLinked t.nodes t.root t.level) none whole.linked }
 
   pub settled : (t : Inside D) → IsKept t → IsSettled t.arena
   settled t k = record { whole = k.whole; none = k.idle }

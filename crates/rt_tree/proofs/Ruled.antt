@@ -1,5 +1,5 @@
 -- An insertion and a removal are those of the rules, said of the nested trees that the nodes show.
-use Rattle.std.proofs.Common.{◌≡◌, ℕ, ◌+◌, ℤ, List, length, Some, arith, refl}
+use Rattle.std.proofs.Common.{◌≡◌, ℕ, ℤ, List, Some, arith, refl}
 use Rattle.rt_box.specs.declared.interval.Interval.{Interval}
 use Rattle.rt_tree_node.specs.declared.arena.Arena.{Arena}
 use Rattle.rt_tree_node.specs.declared.arena.Work.{Work}

@@ -24,6 +24,7 @@
 #![tactic(auto)]
 
 mod bounds;
+mod learning;
 mod rowless;
 mod tree;
 

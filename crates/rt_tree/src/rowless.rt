@@ -8,7 +8,7 @@ ghost use Rattle.rt_tree.specs.Lists.{empty_lists};
 use crate::tree::{MOST_NODES, PENDING_ROOM, point};
 use indexmap::IndexMap;
 use rt_box::Capacity;
-use rt_tree_node::{Arena, Node, add_node};
+use rt_tree_node::{Arena, Node, Nodes, add_node};
 use std::alloc::{AllocError, Global};
 use std::hash::RandomState;
 
@@ -35,7 +35,7 @@ pub fn bare_arena<const D: usize>(
     ensures shown { IfOk result (λ arena. outside arena ≡ empty_lists capacity) }
 {
     capacity.facts();
-    let mut nodes = Slab::with_capacity(alloc, nodes)?;
+    let mut nodes = Nodes::with_capacity(alloc, nodes)?;
     if nodes.capacity() > MOST_NODES {
         return Err(AllocError);
     }

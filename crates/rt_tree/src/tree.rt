@@ -21,10 +21,11 @@ ghost use Rattle.rt_tree.specs.Kept.{IsKeptWith};
 ghost use Rattle.rt_tree_walk.specs.Search.{StaysInFront};
 
 use crate::bounds::{admits_root, root_box};
+use crate::learning::learn;
 use crate::rowless::bare_arena;
 use rt_box::{Capacity, Rect, Window};
 use rt_check::Shadow;
-use rt_tree_node::{Arena, Node, Work, leaves_facts};
+use rt_tree_node::{Arena, Nodes, Work, leaves_facts};
 use rt_tree_outside::shadow_of;
 use rt_tree_place::{insert_row, levels_are_few, nodes_are_few};
 use rt_tree_remove::{find_row, remove_found, replace_found};
@@ -105,16 +106,12 @@ pub fn nodes_for(capacity: Capacity, rows: usize) -> usize
 
 /// A copy of the nodes that has room for `room` nodes. What was there stays as it was, so nothing has to be put back if no
 /// memory is left.
-fn with_room<const D: usize>(
-    nodes: &Nodes<D>,
-    room: usize,
-) -> Result<Nodes<D>, AllocError>
+fn with_room<const D: usize>(nodes: &Nodes<D>, room: usize) -> Result<Nodes<D>, AllocError>
     ensures same { IfOk result (λ copy. copy.slots ≡ nodes.now.slots) }
     ensures room { IfOk result (λ copy. room ≤ copy.capacity) }
     ensures keys { IfOk result (λ copy. copy.capacity ≤ 2 ^ 62) }
 {
-    let mut copy = nodes.clone()?;
-    copy.reserve(room.saturating_sub(nodes.len()))?;
+    let copy = nodes.copy_with_room(room.saturating_sub(nodes.len()))?;
     if copy.capacity() > MOST_NODES {
         return Err(AllocError);
     }
@@ -132,10 +129,7 @@ fn likely_room(room: usize) -> usize
 }
 
 /// A copy of the nodes that has room for `room` nodes, and for more if there is memory for that.
-fn with_likely_room<const D: usize>(
-    nodes: &Nodes<D>,
-    room: usize,
-) -> Result<Nodes<D>, AllocError>
+fn with_likely_room<const D: usize>(nodes: &Nodes<D>, room: usize) -> Result<Nodes<D>, AllocError>
     ensures same { IfOk result (λ copy. copy.slots ≡ nodes.now.slots) }
     ensures room { IfOk result (λ copy. room ≤ copy.capacity) }
     ensures keys { IfOk result (λ copy. copy.capacity ≤ 2 ^ 62) }
@@ -426,6 +420,7 @@ impl<const D: usize> Tree<D> {
         ensures capacity { self.new.lists.capacity ≡ self.old.lists.capacity }
     {
         let work = insert_row(&mut self.arena, id, rect);
+        learn(&mut self.arena);
         self.spare -= 1;
         work
     }
@@ -444,6 +439,7 @@ impl<const D: usize> Tree<D> {
         // The pending cells have room: there are few levels.
         levels_are_few(&self.arena);
         remove_found(&mut self.arena, id, &found);
+        learn(&mut self.arena);
         Some(found.rect)
     }
 
@@ -476,6 +472,7 @@ impl<const D: usize> Tree<D> {
         // The pending cells have room: there are few levels.
         levels_are_few(&self.arena);
         replace_found(&mut self.arena, id, &location, rect);
+        learn(&mut self.arena);
         self.spare -= 1;
     }
 }

@@ -1,12 +1,13 @@
 use Rattle.std.proofs.Common.{◌≡◌, ◌+◌, ◌-◌, ◌<◌, ◌≤◌, ◌^◌, length, None, arith, rules, ap, sym, ◌∙◌, subst, vec_capacity}
 use Rattle.std.specs.Ordering.{int_eq}
 use Rattle.indexmap.specs.IndexMap.{get as leaf_of, spare}
+use Rattle.rt_tree_node.specs.Below.{IsJoined}
 use Rattle.rt_tree_node.specs.Whole.{IsWhole, IsBranched, HasRoom, row_count}
 use Rattle.rt_tree_outside.specs.Outside.{outside}
 use Rattle.rt_tree.specs.Lists.{TreeLists, box_of, GainsRow}
 use Rattle.rt_tree.specs.Changes.{IsInsertion}
 use Rattle.rt_tree.specs.Moving.{TakesRow}
-use Rattle.rt_tree.proofs.Kept.{settled}
+use Rattle.rt_tree.proofs.Kept.{settled, joined}
 use Rattle.rt_tree.proofs.Changed.{absent-leaf, less-room, rows-are, inserted-kept, inserted-rows, inserted-ruled, inserted-takes}
 use Rattle.rt_tree.proofs.tree.Tree.insert.Goals as goal
 
@@ -28,26 +29,33 @@ insert_row-work-requires g c =
     let pending_room : 513 ≤ vec_capacity t.pending = omega (arith, k.pending_room) in
     search rules
 
+pub learn-requires : goal.learn-requires
+learn-requires g c = let joins : IsJoined c.insert_row-work.new.tree.nodes = joined c.insert_row-work.new.tree c.insert_row-work.ensures.whole c.insert_row-work.ensures.none_waits in search rules
+
 pub invariant_of-self : goal.invariant_of-self
 invariant_of-self g c =
     let i = c.self.inside in
     let k = c.self.invariant in
     let long = ap (λ (v : TreeLists g.row.D). length v.lists.rows) c.self.view_is in
     let some : 1 ≤ i.spare = subst (λ (v : TreeLists g.row.D). 1 ≤ v.spare) (sym c.self.view_is) c.requires.spare in
-    inserted-kept i k c.insert_row-work.new.tree c.args.id.now c.args.rect.now c.insert_row-work.result c.insert_row-work.ensures (i.spare - 1) (omega (arith, some))
-    (omega (arith, rows-are i k, long, c.requires.few))
+    rw c.learn.ensures
+    (inserted-kept i k c.insert_row-work.new.tree c.args.id.now c.args.rect.now c.insert_row-work.result c.insert_row-work.ensures (i.spare - 1) (omega (arith, some))
+    (omega (arith, rows-are i k, long, c.requires.few)))
 
 pub returns-clause-rows : goal.returns-clause-rows
 returns-clause-rows g c =
-    subst (λ (v : TreeLists g.row.D). GainsRow v.lists (outside c.insert_row-work.new.tree) c.args.id.now c.args.rect.now) c.self.view_is
-    (inserted-rows c.self.inside c.self.invariant c.insert_row-work.new.tree c.args.id.now c.args.rect.now c.insert_row-work.result c.insert_row-work.ensures)
+    rw c.learn.ensures
+    (subst (λ (v : TreeLists g.row.D). GainsRow v.lists (outside c.insert_row-work.new.tree) c.args.id.now c.args.rect.now) c.self.view_is
+    (inserted-rows c.self.inside c.self.invariant c.insert_row-work.new.tree c.args.id.now c.args.rect.now c.insert_row-work.result c.insert_row-work.ensures))
 
 pub returns-clause-insertion : goal.returns-clause-insertion
 returns-clause-insertion g c =
-    subst (λ (v : TreeLists g.row.D). IsInsertion v.lists (outside c.insert_row-work.new.tree) c.args.id.now c.args.rect.now c.insert_row-work.result) c.self.view_is
-    (inserted-ruled c.self.inside c.self.invariant c.insert_row-work.new.tree c.args.id.now c.args.rect.now c.insert_row-work.result c.insert_row-work.ensures)
+    rw c.learn.ensures
+    (subst (λ (v : TreeLists g.row.D). IsInsertion v.lists (outside c.insert_row-work.new.tree) c.args.id.now c.args.rect.now c.insert_row-work.result) c.self.view_is
+    (inserted-ruled c.self.inside c.self.invariant c.insert_row-work.new.tree c.args.id.now c.args.rect.now c.insert_row-work.result c.insert_row-work.ensures))
 
 pub returns-clause-takes : goal.returns-clause-takes
 returns-clause-takes g c =
-    subst (λ (v : TreeLists g.row.D). TakesRow v.lists (outside c.insert_row-work.new.tree) c.args.id.now c.args.rect.now c.insert_row-work.result) c.self.view_is
-    (inserted-takes c.self.inside c.self.invariant c.insert_row-work.new.tree c.args.id.now c.args.rect.now c.insert_row-work.result c.insert_row-work.ensures)
+    rw c.learn.ensures
+    (subst (λ (v : TreeLists g.row.D). TakesRow v.lists (outside c.insert_row-work.new.tree) c.args.id.now c.args.rect.now c.insert_row-work.result) c.self.view_is
+    (inserted-takes c.self.inside c.self.invariant c.insert_row-work.new.tree c.args.id.now c.args.rect.now c.insert_row-work.result c.insert_row-work.ensures))

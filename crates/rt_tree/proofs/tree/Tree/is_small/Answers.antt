@@ -1,7 +1,6 @@
-use Rattle.std.proofs.Common.{◌≡◌, true, refl, ◌+◌, ◌-◌, ◌/◌, ◌^◌, ◌<◌, ◌≤◌, length, arith, ap, subst}
+use Rattle.std.proofs.Common.{◌≡◌, true, ◌+◌, ◌-◌, ◌/◌, ◌^◌, ◌<◌, ◌≤◌, length, arith, ap, subst}
 use Rattle.rt_box.specs.Capacity.{least_fill}
 use Rattle.rt_tree_place.proofs.Sums.{count-all}
-use Rattle.rt_tree_walk.specs.declared.searching.Row.{Row}
 use Rattle.rt_tree_outside.specs.Outside.{outside}
 use Rattle.rt_tree.specs.Lists.{TreeLists, root_level, least_rows, rows_of}
 use Rattle.rt_tree.proofs.Kept.{settled}

@@ -4,12 +4,13 @@ use Rattle.std.proofs.lemmas.Option.{same_Some}
 use Rattle.indexmap.specs.IndexMap.{spare}
 use Rattle.rt_box.specs.Capacity.{least_fill}
 use Rattle.rt_box.proofs.Equality.{Decides-box_eq}
+use Rattle.rt_tree_node.specs.Below.{IsJoined}
 use Rattle.rt_tree_node.specs.Whole.{IsWhole, IsBranched, HasRoom, row_count}
 use Rattle.rt_tree_remove.specs.Steps.{IsLocationOf}
 use Rattle.rt_tree_outside.specs.Outside.{outside}
 use Rattle.rt_tree.specs.Lists.{TreeLists, box_of}
 use Rattle.rt_tree.specs.Replacing.{IsReplacement}
-use Rattle.rt_tree.proofs.Kept.{settled}
+use Rattle.rt_tree.proofs.Kept.{settled, joined}
 use Rattle.rt_tree.proofs.Changed.{present-leaf, less-room, way-waits}
 use Rattle.rt_tree.proofs.Located.{found-box, found-some, found-there}
 use Rattle.rt_tree.proofs.Replaced.{replaced-kept, replacement}
@@ -49,13 +50,17 @@ replace_found-requires g c =
     let one_more : 513 ≤ vec_capacity t.pending = omega (arith, k.pending_room) in
     search rules
 
+pub learn-requires : goal.learn-requires
+learn-requires g c = let joins : IsJoined c.replace_found.new.tree.nodes = joined c.replace_found.new.tree c.replace_found.ensures.inserts.whole c.replace_found.ensures.inserts.none_waits in search rules
+
 pub invariant_of-self : goal.invariant_of-self
 invariant_of-self g c =
     let i = c.self.inside in
     let some : 1 ≤ i.spare = subst (λ (v : TreeLists g.row.D). 1 ≤ v.spare) (sym c.self.view_is) c.requires.spare in
     let it = c.replace_found.ensures in
-    replaced-kept i c.self.invariant it.between c.replace_found.new.tree c.args.id.now c.unwrap-location.result.rect c.args.rect.now
-    it.work it.removes it.inserts some
+    rw c.learn.ensures
+    (replaced-kept i c.self.invariant it.between c.replace_found.new.tree c.args.id.now c.unwrap-location.result.rect c.args.rect.now
+    it.work it.removes it.inserts some)
 
 pub returns-clause-same : goal.returns-clause-same
 returns-clause-same g c same =
@@ -72,6 +77,7 @@ returns-clause-other g c differs =
     let k = c.self.invariant in
     let old : IsSome (box_of (outside i.arena) c.args.id.now) = subst (λ (v : TreeLists g.row.D). IsSome (box_of v.lists c.args.id.now)) (sym c.self.view_is) c.requires.there in
     let it = c.replace_found.ensures in
-    subst (λ (v : TreeLists g.row.D). IsReplacement v.lists (outside c.replace_found.new.tree) c.args.id.now c.args.rect.now) c.self.view_is
+    rw c.learn.ensures
+    (subst (λ (v : TreeLists g.row.D). IsReplacement v.lists (outside c.replace_found.new.tree) c.args.id.now c.args.rect.now) c.self.view_is
     (replacement i k it.between c.replace_found.new.tree c.args.id.now c.unwrap-location.result.rect c.args.rect.now it.work
-    it.removes it.inserts (present-leaf i.arena (settled i k) c.args.id.now old) it.unique)
+    it.removes it.inserts (present-leaf i.arena (settled i k) c.args.id.now old) it.unique))

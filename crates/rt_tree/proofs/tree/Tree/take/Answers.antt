@@ -1,13 +1,14 @@
 use Rattle.std.proofs.Common.{◌≡◌, ◌+◌, ◌-◌, ◌*◌, ◌≤◌, ◌^◌, None, arith, rules, sym, ap, ◌∙◌, subst, vec_capacity}
 use Rattle.std.specs.Prelude.{is_some}
 use Rattle.rt_box.specs.Capacity.{least_fill}
+use Rattle.rt_tree_node.specs.Below.{IsJoined}
 use Rattle.rt_tree_node.specs.Whole.{IsWhole, IsBranched, HasRoom, row_count}
 use Rattle.rt_tree_remove.specs.Steps.{IsLocationOf}
 use Rattle.rt_tree_outside.specs.Outside.{outside}
 use Rattle.rt_tree.specs.Lists.{TreeLists, box_of, LosesRow}
 use Rattle.rt_tree.specs.Changes.{IsRemoval}
 use Rattle.rt_tree.specs.Moving.{DropsRow}
-use Rattle.rt_tree.proofs.Kept.{settled}
+use Rattle.rt_tree.proofs.Kept.{settled, joined}
 use Rattle.rt_tree.proofs.Changed.{less-room, way-waits, removed-kept, removed-rows, removed-ruled, removed-drops}
 use Rattle.rt_tree.proofs.Rows.{box-none}
 use Rattle.rt_tree.proofs.tree.Tree.take.Goals as goal
@@ -33,22 +34,28 @@ remove_found-requires g c =
     let pending_room : (least_fill t.capacity - 1) * t.level + 512 ≤ vec_capacity t.pending = way-waits i k (c.levels_are_few.ensures.doubles 31 k.rows) in
     search rules
 
+pub learn-requires : goal.learn-requires
+learn-requires g c = let joins : IsJoined c.remove_found.new.tree.nodes = joined c.remove_found.new.tree c.remove_found.ensures.whole c.remove_found.ensures.none_waits in search rules
+
 pub invariant_of-self : goal.invariant_of-self
-invariant_of-self g c = removed-kept c.self.inside c.self.invariant c.remove_found.new.tree c.args.id.now c.in_ok-found.found.rect c.remove_found.ensures
+invariant_of-self g c = rw c.learn.ensures (removed-kept c.self.inside c.self.invariant c.remove_found.new.tree c.args.id.now c.in_ok-found.found.rect c.remove_found.ensures)
 
 pub returns-clause-rows : goal.returns-clause-rows
 returns-clause-rows g c =
-    subst (λ (v : TreeLists g.row.D). LosesRow v.lists (outside c.remove_found.new.tree) c.args.id.now c.in_ok-found.found.rect) c.self.view_is
-    (removed-rows c.self.inside c.self.invariant c.remove_found.new.tree c.args.id.now c.in_ok-found.found.rect c.remove_found.ensures)
+    rw c.learn.ensures
+    (subst (λ (v : TreeLists g.row.D). LosesRow v.lists (outside c.remove_found.new.tree) c.args.id.now c.in_ok-found.found.rect) c.self.view_is
+    (removed-rows c.self.inside c.self.invariant c.remove_found.new.tree c.args.id.now c.in_ok-found.found.rect c.remove_found.ensures))
 
 pub returns-clause-removal : goal.returns-clause-removal
 returns-clause-removal g c =
-    subst (λ (v : TreeLists g.row.D). IsRemoval v.lists (outside c.remove_found.new.tree) c.args.id.now c.in_ok-found.found.rect) c.self.view_is
-    (removed-ruled c.self.inside c.self.invariant c.remove_found.new.tree c.args.id.now c.in_ok-found.found.rect c.remove_found.ensures)
+    rw c.learn.ensures
+    (subst (λ (v : TreeLists g.row.D). IsRemoval v.lists (outside c.remove_found.new.tree) c.args.id.now c.in_ok-found.found.rect) c.self.view_is
+    (removed-ruled c.self.inside c.self.invariant c.remove_found.new.tree c.args.id.now c.in_ok-found.found.rect c.remove_found.ensures))
 
 pub returns-clause-drops : goal.returns-clause-drops
 returns-clause-drops g c =
     let i = c.self.inside in
     let k = c.self.invariant in
-    subst (λ (v : TreeLists g.row.D). DropsRow v.lists (outside c.remove_found.new.tree) c.args.id.now c.in_ok-found.found.rect) c.self.view_is
-    (removed-drops i k c.remove_found.new.tree c.args.id.now c.in_ok-found.found.rect c.remove_found.ensures (ap is_some c.in_ok-found.ensures.home))
+    rw c.learn.ensures
+    (subst (λ (v : TreeLists g.row.D). DropsRow v.lists (outside c.remove_found.new.tree) c.args.id.now c.in_ok-found.found.rect) c.self.view_is
+    (removed-drops i k c.remove_found.new.tree c.args.id.now c.in_ok-found.found.rect c.remove_found.ensures (ap is_some c.in_ok-found.ensures.home)))
