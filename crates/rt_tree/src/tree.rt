@@ -21,7 +21,7 @@ ghost use Rattle.rt_tree.specs.Kept.{IsKeptWith};
 ghost use Rattle.rt_tree_walk.specs.Search.{StaysInFront};
 
 use crate::bounds::{admits_root, root_box};
-use crate::learning::learn;
+use crate::learning::{learn, learn_all};
 use crate::rowless::bare_arena;
 use rt_box::{Capacity, Rect, Window};
 use rt_check::Shadow;
@@ -199,6 +199,8 @@ impl<const D: usize> Tree<D> {
         requires kept { IsKeptWith arena 0 }
         ensures { result ≡ record { lists = outside arena.entry; spare = 0; ids = keys arena.entry.leaves } }
     {
+        let mut arena = arena;
+        learn_all(&mut arena);
         Tree { arena, spare: 0 }
     }
 

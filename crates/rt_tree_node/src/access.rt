@@ -63,6 +63,16 @@ pub fn node_at<const D: usize>(nodes: &Nodes<D>, key: Key) -> &Node<D>
     &nodes.slab[key.index()]
 }
 
+/// Puts a node in the place of another.
+pub fn put_node<const D: usize>(nodes: &mut Nodes<D>, key: Key, node: Node<D>)
+    requires { ContainsKey nodes.old key }
+    ensures { Changes (λ n. node.entry) nodes.old nodes.new key }
+{
+    let place = &mut nodes.slab[key.index()];
+    *place = node;
+    log(&mut nodes.stale, &mut nodes.is_lost, key);
+}
+
 /// Makes the node the child of another, or of none.
 pub fn set_parent<const D: usize>(nodes: &mut Nodes<D>, key: Key, parent: Option<Key>)
     requires { ContainsKey nodes.old key }

@@ -20,7 +20,7 @@ mod nodes;
 mod summing;
 
 pub use access::{
-    add_cell, add_cells, add_node, hull_at, node_at, remove_cell, remove_node, set_cell,
+    add_cell, add_cells, add_node, hull_at, node_at, put_node, remove_cell, remove_node, set_cell,
     set_parent, slab_facts, take_cells,
 };
 pub use arena::{Arena, Work};

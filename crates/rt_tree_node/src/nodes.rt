@@ -19,6 +19,9 @@ use std::marker::Model;
 /// How many keys can be stale before all sums are lost.
 const STALE_ROOM: usize = 64;
 
+/// How many nodes an edit may look at, so that sums that were lost are learnt again.
+const NODES_AN_EDIT: usize = 16;
+
 /// The nodes of a tree by key, and how many rows there are below each.
 #[derive(Drop)]
 pub struct Nodes<const D: usize> {
@@ -29,6 +32,8 @@ pub struct Nodes<const D: usize> {
     pub(crate) stale: Vec<Key>,
     /// Whether any sum may be wrong.
     pub(crate) is_lost: bool,
+    /// How many edits came since.
+    edits: usize,
 }
 
 // Clauses see the slab.
@@ -76,6 +81,7 @@ impl<const D: usize> Nodes<D> {
             sums,
             stale,
             is_lost: false,
+            edits: 0,
         })
     }
 
@@ -99,6 +105,7 @@ impl<const D: usize> Nodes<D> {
             sums,
             stale,
             is_lost: !is_right,
+            edits: 0,
         })
     }
 
@@ -140,12 +147,15 @@ impl<const D: usize> Nodes<D> {
         Some(sum_of(self.sums.as_slice(), key))
     }
 
-    /// Learns how many rows there are below the nodes that were written. It takes no memory.
-    pub fn learn(&mut self)
-        requires { IsJoined self.old }
+    /// At the end of an edit: learns how many rows there are below the nodes that were written. The root has the level. It
+    /// takes no memory.
+    pub fn learn(&mut self, level: u8)
+        requires joined { IsJoined self.old }
+        requires level { (key l : ℕ) → level_at self.old key ≡ Some l → l ≤ level }
         ensures { self.new ≡ self.old }
     {
         if self.is_lost {
+            self.learn_again(level);
             return;
         }
         while let Some(key) = self.stale.pop() {
@@ -156,12 +166,25 @@ impl<const D: usize> Nodes<D> {
         }
     }
 
+    /// After an edit that wrote many nodes, learns the sums of all, but only once so many edits came that it is cheap.
+    fn learn_again(&mut self, level: u8)
+        requires joined { IsJoined self.old }
+        requires level { (key l : ℕ) → level_at self.old key ≡ Some l → l ≤ level }
+        ensures { self.new ≡ self.old }
+    {
+        self.edits = self.edits.saturating_add(1);
+        if self.edits >= self.slab.len() / NODES_AN_EDIT {
+            self.learn_all(level);
+        }
+    }
+
     /// Learns how many rows there are below each node of a tree whose root has the level. It takes no memory.
     pub fn learn_all(&mut self, level: u8)
         requires joined { IsJoined self.old }
         requires level { (key l : ℕ) → level_at self.old key ≡ Some l → l ≤ level }
         ensures { self.new ≡ self.old }
     {
+        self.edits = 0;
         self.is_lost = !learn_levels(&self.slab, &mut self.sums, level);
         self.stale.clear();
     }

@@ -30,7 +30,12 @@ insert_row-work-requires g c =
     search rules
 
 pub learn-requires : goal.learn-requires
-learn-requires g c = let joins : IsJoined c.insert_row-work.new.tree.nodes = joined c.insert_row-work.new.tree c.insert_row-work.ensures.whole c.insert_row-work.ensures.none_waits in search rules
+learn-requires g c =
+    let t = c.insert_row-work.new.tree in
+    let whole : IsWhole t = c.insert_row-work.ensures.whole in
+    let joins : IsJoined t.nodes = joined t whole c.insert_row-work.ensures.none_waits in
+    let levels = whole.linked.levels in
+    search rules
 
 pub invariant_of-self : goal.invariant_of-self
 invariant_of-self g c =

@@ -51,7 +51,12 @@ replace_found-requires g c =
     search rules
 
 pub learn-requires : goal.learn-requires
-learn-requires g c = let joins : IsJoined c.replace_found.new.tree.nodes = joined c.replace_found.new.tree c.replace_found.ensures.inserts.whole c.replace_found.ensures.inserts.none_waits in search rules
+learn-requires g c =
+    let t = c.replace_found.new.tree in
+    let whole : IsWhole t = c.replace_found.ensures.inserts.whole in
+    let joins : IsJoined t.nodes = joined t whole c.replace_found.ensures.inserts.none_waits in
+    let levels = whole.linked.levels in
+    search rules
 
 pub invariant_of-self : goal.invariant_of-self
 invariant_of-self g c =

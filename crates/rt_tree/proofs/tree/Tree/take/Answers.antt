@@ -35,7 +35,12 @@ remove_found-requires g c =
     search rules
 
 pub learn-requires : goal.learn-requires
-learn-requires g c = let joins : IsJoined c.remove_found.new.tree.nodes = joined c.remove_found.new.tree c.remove_found.ensures.whole c.remove_found.ensures.none_waits in search rules
+learn-requires g c =
+    let t = c.remove_found.new.tree in
+    let whole : IsWhole t = c.remove_found.ensures.whole in
+    let joins : IsJoined t.nodes = joined t whole c.remove_found.ensures.none_waits in
+    let levels = whole.linked.levels in
+    search rules
 
 pub invariant_of-self : goal.invariant_of-self
 invariant_of-self g c = rw c.learn.ensures (removed-kept c.self.inside c.self.invariant c.remove_found.new.tree c.args.id.now c.in_ok-found.found.rect c.remove_found.ensures)
