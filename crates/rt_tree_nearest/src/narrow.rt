@@ -15,7 +15,7 @@ use rt_tree_node::{Arena, Key, Node, node_at};
 use std::alloc::{AllocError, Global};
 
 /// The child whose box is nearest by the sum of the gaps on all axes, or `None` if there is none.
-fn near_child<const D: usize>(node: &Node<D>, target: &Rect<D>) -> Option<Key>
+fn least_apart<const D: usize>(node: &Node<D>, target: &Rect<D>) -> Option<Key>
     ensures { IfSome result (NamesKey node.now) }
 {
     let mut child = None;
@@ -31,6 +31,18 @@ fn near_child<const D: usize>(node: &Node<D>, target: &Rect<D>) -> Option<Key>
     child
 }
 
+/// A child whose box touches the target, or the nearest one if none does. Most often one does, and a window tells that of all
+/// children at once.
+fn near_child<const D: usize>(node: &Node<D>, touching: &Query<D>) -> Option<Key>
+    ensures { IfSome result (NamesKey node.now) }
+{
+    let cells = touching.near_cells(node);
+    if cells == 0 {
+        return least_apart(node, &touching.target);
+    }
+    Some(node.cell(cells.trailing_zeros() as usize).key())
+}
+
 /// A leaf whose rows are likely to be near to the box.
 fn near_leaf<const D: usize>(tree: &Arena<D>, target: &Rect<D>) -> Option<Key>
     requires whole { IsWhole tree.now }
@@ -38,10 +50,11 @@ fn near_leaf<const D: usize>(tree: &Arena<D>, target: &Rect<D>) -> Option<Key>
     requires few { D ≤ 3 }
     ensures { IfSome result (λ key. level_at tree.now.nodes key ≡ Some 0) }
 {
+    let touching = Query::new(target, 0, 0);
     let mut key = tree.root;
     let mut height = tree.level;
     while height > 0 {
-        key = near_child(node_at(&tree.nodes, key), target)?;
+        key = near_child(node_at(&tree.nodes, key), &touching)?;
         height -= 1;
     }
     Some(key)
