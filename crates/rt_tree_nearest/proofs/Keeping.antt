@@ -1,15 +1,14 @@
 -- Rows that are seen one after another: each is kept or left out.
-use Rattle.std.proofs.Common.{◌≡◌, ℕ, ◌<◌, ◌≤◌, true, false, List, [], ◌∷◌, ◌++◌, length, Contains, Option, Some, None, IsSome, append-nil, append_assoc, arith, sym, subst, inl, inr}
+use Rattle.std.proofs.Common.{◌≡◌, ℕ, ◌<◌, ◌≤◌, true, false, List, [], ◌∷◌, ◌++◌, length, append-nil, append_assoc, arith, sym, subst, inl, inr}
 use Rattle.std.specs.List.{All}
 use Rattle.std.specs.List.Sorted.{IsPermutation}
-use Rattle.std.specs.BinaryHeap.{IsHeap, IsUpperBound, PopsGreatest, KeepsHeap, heap_items}
+use Rattle.std.specs.BinaryHeap.{IsHeap, IsUpperBound, heap_items}
 use Rattle.std.specs.Prelude.{Vec}
 use Rattle.std.specs.declared.alloc.Global.{Global}
 use Rattle.std.specs.declared.collections.BinaryHeap.{BinaryHeap}
-use Rattle.std.specs.Option.{IfSome}
 use Rattle.std.proofs.lemmas.Bool.{true≢false, cases_lt}
 use Rattle.std.specs.Ordering.{is_lt, is_gt}
-use Rattle.std.proofs.lemmas.List.Elements.{All-nil, All-cons, All-tail, All-append, All-weaker, All-contains}
+use Rattle.std.proofs.lemmas.List.Elements.{All-nil, All-cons, All-head, All-tail, All-append, All-weaker}
 use Rattle.std.proofs.lemmas.List.Sorted.{All-permutation, IsPermutation-refl, IsPermutation-sym, IsPermutation-trans, IsPermutation-cons, IsPermutation-to_front, IsPermutation-append_left, IsPermutation-append_right, IsPermutation-append_comm, length_permutation}
 use Rattle.rt_tree_nearest.specs.declared.candidate.Candidate.{Candidate}
 use Rattle.rt_tree_nearest.specs.declared.keep.Kept.{Kept}
@@ -89,66 +88,86 @@ module _ {D : ℕ} (q : Query D) where
   keeps-none_kept kept c is full none = keeps-out kept c is (inr (full, λ i d h. absurd (omega (arith, h, none))))
 
   -- it takes the place of the last one
-  module _ (old rest new : List (Candidate D)) (c last out : Candidate D) (is : IsKept q old) (full : length old ≡ q.k) (near : c.distance ≤ q.limit)
-      (there : Contains old last) (less : is_lt (compare c last) ≡ true) (popped : IsPermutation old (out ∷ rest)) (top : IsUpperBound compare out old)
-      (pushed : IsPermutation (c ∷ rest) new) where
+  module _ (old rest new : List (Candidate D)) (c last : Candidate D) (is : IsKept q old) (full : length old ≡ q.k) (near : c.distance ≤ q.limit)
+      (less : is_lt (compare c last) ≡ true) (parted : IsPermutation old (last ∷ rest)) (top : IsUpperBound compare last old)
+      (joined : IsPermutation (c ∷ rest) new) where
     before-last : is_gt (compare c last) ≡ false
     before-last = not-after_less c last less
 
-    olds : All (λ a. is_gt (compare a out) ≡ false) old
-    olds = top-last out old top
+    rests : (d : Candidate D) → All (λ a. is_gt (compare a d) ≡ false) old → All (λ a. is_gt (compare a d) ≡ false) (last ∷ rest)
+    rests d = All-permutation (λ a. is_gt (compare a d) ≡ false) old (last ∷ rest) parted
 
-    rests : All (λ a. is_gt (compare a out) ≡ false) rest
-    rests = All-tail (λ a. is_gt (compare a out) ≡ false) out rest (All-permutation (λ a. is_gt (compare a out) ≡ false) old (out ∷ rest) popped olds)
+    long : length new ≡ q.k
+    long = omega (arith, length_permutation old (last ∷ rest) parted, length_permutation (c ∷ rest) new joined, full)
 
-    before-out : is_gt (compare c out) ≡ false
-    before-out = not-after_trans c last out before-last (All-contains (λ a. is_gt (compare a out) ≡ false) old last olds there)
-
-    pub long : length new ≡ q.k
-    long = omega (arith, length_permutation old (out ∷ rest) popped, length_permutation (c ∷ rest) new pushed, full)
-
-    news : (d : Candidate D) → is_gt (compare c d) ≡ false → All (λ a. is_gt (compare a d) ≡ false) rest → All (λ a. is_gt (compare a d) ≡ false) new
-    news d h all = All-permutation (λ a. is_gt (compare a d) ≡ false) (c ∷ rest) new pushed (All-cons (λ a. is_gt (compare a d) ≡ false) c rest h all)
+    news : (d : Candidate D) → is_gt (compare last d) ≡ false → All (λ a. is_gt (compare a d) ≡ false) old → All (λ a. is_gt (compare a d) ≡ false) new
+    news d h all =
+        All-permutation (λ a. is_gt (compare a d) ≡ false) (c ∷ rest) new joined
+        (All-cons (λ a. is_gt (compare a d) ≡ false) c rest (not-after_trans c last d before-last h) (All-tail (λ a. is_gt (compare a d) ≡ false) last rest (rests d all)))
 
     still : (d : Candidate D) → All (λ a. is_gt (compare a d) ≡ false) old → All (λ a. is_gt (compare a d) ≡ false) new
-    still d all =
-        news d (not-after_trans c last d before-last (All-contains (λ a. is_gt (compare a d) ≡ false) old last all there))
-        (All-tail (λ a. is_gt (compare a d) ≡ false) out rest (All-permutation (λ a. is_gt (compare a d) ≡ false) old (out ∷ rest) popped all))
+    still d all = news d (All-head (λ a. is_gt (compare a d) ≡ false) last rest (rests d all)) all
 
-    moved : IsPermutation (old ++ c ∷ []) (new ++ out ∷ [])
+    moved : IsPermutation (old ++ c ∷ []) (new ++ last ∷ [])
     moved =
-        IsPermutation-trans (old ++ c ∷ []) (c ∷ old) (new ++ out ∷ []) (IsPermutation-to_front old c)
-        (IsPermutation-trans (c ∷ old) (c ∷ (out ∷ rest)) (new ++ out ∷ []) (IsPermutation-cons c old (out ∷ rest) popped)
-        (IsPermutation-trans (c ∷ (out ∷ rest)) ((c ∷ rest) ++ out ∷ []) (new ++ out ∷ [])
-        (IsPermutation-cons c (out ∷ rest) (rest ++ out ∷ []) (IsPermutation-sym (rest ++ out ∷ []) (out ∷ rest) (IsPermutation-to_front rest out)))
-        (IsPermutation-append_left (out ∷ []) (c ∷ rest) new pushed)))
+        IsPermutation-trans (old ++ c ∷ []) (c ∷ old) (new ++ last ∷ []) (IsPermutation-to_front old c)
+        (IsPermutation-trans (c ∷ old) (c ∷ (last ∷ rest)) (new ++ last ∷ []) (IsPermutation-cons c old (last ∷ rest) parted)
+        (IsPermutation-trans (c ∷ (last ∷ rest)) ((c ∷ rest) ++ last ∷ []) (new ++ last ∷ [])
+        (IsPermutation-cons c (last ∷ rest) (rest ++ last ∷ []) (IsPermutation-sym (rest ++ last ∷ []) (last ∷ rest) (IsPermutation-to_front rest last)))
+        (IsPermutation-append_left (last ∷ []) (c ∷ rest) new joined)))
 
-    pub keeps-instead : Keeps q (c ∷ []) old new
+    keeps-instead : Keeps q (c ∷ []) old new
     keeps-instead = record {
-      left = out ∷ [];
+      left = last ∷ [];
       same = moved;
-      out = All-cons (IsOut q new) out [] (inr (long, news out before-out rests)) (All-nil (IsOut q new));
+      out = All-cons (IsOut q new) last [] (inr (long, still last (top-last last old top))) (All-nil (IsOut q new));
       stays = λ d h. elim h [ inl beyond ↦ inl beyond | inr after ↦ inr (long, still d after.1) ];
       kept = record {
         few = omega (arith, long);
-        within = All-permutation (λ d. d.distance ≤ q.limit) (c ∷ rest) new pushed
+        within = All-permutation (λ d. d.distance ≤ q.limit) (c ∷ rest) new joined
             (All-cons (λ d. d.distance ≤ q.limit) c rest near
-            (All-tail (λ d. d.distance ≤ q.limit) out rest (All-permutation (λ d. d.distance ≤ q.limit) old (out ∷ rest) popped is.within)));
+            (All-tail (λ d. d.distance ≤ q.limit) last rest (All-permutation (λ d. d.distance ≤ q.limit) old (last ∷ rest) parted is.within)));
       };
     }
 
-  -- the same, of what a heap's `pop` gives
-  pub keeps-popped : (old rest new : BinaryHeap (Candidate D) Global) (c last : Candidate D) (out : Option (Candidate D)) → IsKept q (heap_items old) →
-      length (heap_items old) ≡ q.k → IsHeap compare (heap_items old) → c.distance ≤ q.limit → Contains (heap_items old) last → is_lt (compare c last) ≡ true →
-      IsSome out → IfSome out (λ x. IsPermutation (heap_items old) (x ∷ heap_items rest)) → IfSome out (λ x. PopsGreatest compare (heap_items old) x (heap_items rest)) →
-      IsPermutation (c ∷ heap_items rest) (heap_items new) → KeepsHeap compare (heap_items rest) (heap_items new) → ReplacesFrom q c old new
-  keeps-popped old rest new c last None is full ordered near there less some popped top pushed order = absurd (true≢false (sym some))
-  keeps-popped old rest new c last (Some out) is full ordered near there less some popped top pushed order =
-      let greatest = top ordered in
+  -- the same, of a heap whose first is written
+  pub keeps-written : (old new : BinaryHeap (Candidate D) Global) (rest : List (Candidate D)) (c last : Candidate D) → IsKept q (heap_items old) →
+      length (heap_items old) ≡ q.k → c.distance ≤ q.limit → is_lt (compare c last) ≡ true → IsPermutation (heap_items old) (last ∷ rest) →
+      IsUpperBound compare last (heap_items old) → IsPermutation (c ∷ rest) (heap_items new) → IsHeap compare (heap_items new) → ReplacesFrom q c old new
+  keeps-written old new rest c last is full near less parted top joined order = record {
+    keeps = keeps-instead (heap_items old) rest (heap_items new) c last is full near less parted top joined;
+    full = long (heap_items old) rest (heap_items new) c last is full near less parted top joined;
+    ordered = order;
+  }
+
+  -- the rows kept in another order
+  keeps-reordered : (seen old mid new : List (Candidate D)) → Keeps q seen old mid → IsPermutation mid new → Keeps q seen old new
+  keeps-reordered seen old mid new keeps moved =
+      let outs : (d : Candidate D) → IsOut q mid d → IsOut q new d = λ d h. elim h [
+        | inl beyond ↦ inl beyond
+        | inr after ↦ inr (omega (arith, after.0, length_permutation mid new moved), All-permutation (λ a. is_gt (compare a d) ≡ false) mid new moved after.1)
+      ] in
       record {
-        keeps = keeps-instead (heap_items old) (heap_items rest) (heap_items new) c last out is full near there less popped greatest.1 pushed;
-        full = long (heap_items old) (heap_items rest) (heap_items new) c last out is full near there less popped greatest.1 pushed;
-        ordered = order greatest.0;
+        left = keeps.left;
+        same = IsPermutation-trans (old ++ seen) (mid ++ keeps.left) (new ++ keeps.left) keeps.same (IsPermutation-append_left keeps.left mid new moved);
+        out = All-weaker (IsOut q mid) (IsOut q new) outs keeps.left keeps.out;
+        stays = λ d h. outs d (keeps.stays d h);
+        kept = record {
+          few = omega (arith, keeps.kept.few, length_permutation mid new moved);
+          within = All-permutation (λ d. d.distance ≤ q.limit) mid new moved keeps.kept.within;
+        };
+      }
+
+  -- the same, of a heap whose first stays
+  pub keeps-unwritten : (old new : BinaryHeap (Candidate D) Global) (rest : List (Candidate D)) (c last : Candidate D) → IsKept q (heap_items old) →
+      length (heap_items old) ≡ q.k → is_lt (compare c last) ≡ false → IsPermutation (heap_items old) (last ∷ rest) →
+      IsUpperBound compare last (heap_items old) → IsPermutation (last ∷ rest) (heap_items new) → IsHeap compare (heap_items new) → ReplacesFrom q c old new
+  keeps-unwritten old new rest c last is full not_less parted top joined order =
+      let moved = IsPermutation-trans (heap_items old) (last ∷ rest) (heap_items new) parted joined in
+      record {
+        keeps = keeps-reordered (c ∷ []) (heap_items old) (heap_items old) (heap_items new) (keeps-last (heap_items old) c last is full top not_less) moved;
+        full = omega (arith, full, length_permutation (heap_items old) (heap_items new) moved);
+        ordered = order;
       }
 
   -- some rows, and then some more

@@ -40,22 +40,19 @@ fn replace<const D: usize>(
     heap: &mut BinaryHeap<Candidate<D>>,
     query: &Query<D>,
     candidate: Candidate<D>,
-) -> Result<(), AllocError>
+)
     requires kept { IsKept query.now (heap_items heap.old) }
     requires full { length (heap_items heap.old) ≡ query.now.k }
     requires ordered { IsHeap compare (heap_items heap.old) }
     requires within { candidate.distance ≤ query.now.limit }
-    ensures { OnOk result (ReplacesFrom query.now candidate.entry heap.old heap.new) }
+    ensures { ReplacesFrom query.now candidate.entry heap.old heap.new }
 {
-    let comes_before = match heap.peek() {
-        Some(last) => candidate < *last,
-        None => false,
+    let Some(mut last) = heap.peek_mut() else {
+        return;
     };
-    if comes_before {
-        let _ = heap.pop();
-        heap.push(candidate)?;
+    if candidate < *last {
+        *last = candidate;
     }
-    Ok(())
 }
 
 /// Keeps the row, unless as many others come before it as are asked for.
@@ -72,7 +69,10 @@ fn keep<const D: usize>(
         return Ok(());
     }
     match kept {
-        Kept::Full(heap) => replace(heap, query, candidate),
+        Kept::Full(heap) => {
+            replace(heap, query, candidate);
+            Ok(())
+        }
         Kept::Few(rows) => {
             rows.push(candidate)?;
             if rows.len() == query.k {

@@ -1,46 +1,46 @@
-use Rattle.std.proofs.Common.{◌≡◌, ◌<◌, true, false, length, arith, refl, sym, ◌∙◌}
+use Rattle.std.proofs.Common.{◌≡◌, true, false, arith, rules, ap, sym, ◌∙◌, subst}
 use Rattle.std.specs.BinaryHeap.{heap_items, heap_len}
+use Rattle.std.specs.declared.alloc.Global.{Global}
+use Rattle.std.specs.declared.collections.BinaryHeap.{BinaryHeap}
+use Rattle.std.specs.Option.{IfNone}
 use Rattle.std.specs.Ordering.{is_lt}
-use Rattle.std.proofs.lemmas.Bool.{true≢false}
-use Rattle.rt_tree_nearest.specs.Candidates.{compare}
+use Rattle.rt_tree_nearest.specs.declared.candidate.Candidate.{Candidate}
+use Rattle.rt_tree_nearest.specs.Candidates.{compare, ReplacesFrom}
 use Rattle.rt_tree_nearest.proofs.Orders.{lt-compare}
-use Rattle.rt_tree_nearest.proofs.Keeping.{keeps-last, keeps-popped, keeps-none_kept, none-there}
+use Rattle.rt_tree_nearest.proofs.Keeping.{keeps-written, keeps-unwritten, keeps-none_kept, none-there}
 use Rattle.rt_tree_nearest.proofs.keep.replace.Goals as goal
-use Rattle.rt_tree_nearest.proofs.keep.replace.Goals.{in-Some, in-None}
 
-pub returns-in_ok-push : goal.returns-in_ok-push
-returns-in_ok-push g c =
-    let old = heap_items c.args.heap.now in
+pub returns-in_default : goal.returns-in_default
+returns-in_default g c =
+    let q = c.args.query.now in
+    let old = c.args.heap.now in
     let x = c.args.candidate in
-    elim c.match-peek.branch [
-      | in-Some w ↦
-          let last = w.in-Some.last.now in
-          let less : is_lt (compare x last) ≡ true = lt-compare x last ∙ sym w.lt-comes_before.ensures ∙ sym w.comes_before-is ∙ c.if-comes_before.true in
-          let some : 0 < length old = omega (arith, w.in-Some.ensures.variant.0 refl, c.args.heap.now.data.ok) in
-          keeps-popped c.args.query.now c.args.heap.now c.pop.new.self c.push.new.self x last c.pop.result c.requires.kept c.requires.full c.requires.ordered c.requires.within
-          (0, some, sym w.in-Some.ensures.lookup) less (c.pop.ensures.variant.1 (omega (arith, some, c.args.heap.now.data.ok))) c.pop.ensures.permutation
-          c.pop.ensures.heap_order c.in_ok-push.ensures.permutation c.in_ok-push.ensures.heap_order
-      | in-None w ↦ absurd (true≢false (sym c.if-comes_before.true ∙ w.comes_before-is))
-    ]
+    let new = c.peek_mut.follows.lender-at-none in
+    let same : new ≡ old = subst (λ r. IfNone r (new ≡ old)) c.in_default.is c.peek_mut.follows.holds-at-none in
+    subst (λ (heap : BinaryHeap (Candidate g.row.D) Global). ReplacesFrom q x old heap) (sym same) (record {
+      keeps = keeps-none_kept q (heap_items old) x c.requires.kept c.requires.full (omega (arith, none-there (heap_len old) c.in_default.ensures.variant.1, old.data.ok));
+      full = c.requires.full;
+      ordered = c.requires.ordered;
+    })
 
-pub returns-else-comes_before : goal.returns-else-comes_before
-returns-else-comes_before g c =
-    let old = heap_items c.args.heap.now in
+pub returns-then-lt : goal.returns-then-lt
+returns-then-lt g c =
     let x = c.args.candidate in
-    elim c.match-peek.branch [
-      | in-Some w ↦
-          let last = w.in-Some.last.now in
-          let not_less : is_lt (compare x last) ≡ false = lt-compare x last ∙ sym w.lt-comes_before.ensures ∙ sym w.comes_before-is ∙ c.if-comes_before.false in
-          record {
-            keeps = keeps-last c.args.query.now old x last c.requires.kept c.requires.full (w.in-Some.ensures.greatest c.requires.ordered) not_less;
-            full = c.requires.full;
-            ordered = c.requires.ordered;
-          }
-      | in-None w ↦
-          record {
-            keeps = keeps-none_kept c.args.query.now old x c.requires.kept c.requires.full
-                (omega (arith, none-there (heap_len c.args.heap.now) w.in-None.ensures.variant.1, c.args.heap.now.data.ok));
-            full = c.requires.full;
-            ordered = c.requires.ordered;
-          }
-    ]
+    let last = c.in-Some.last.top in
+    let less : is_lt (compare x last) ≡ true = ap (λ y. is_lt (compare x y)) (sym c.deref.ensures) ∙ lt-compare x c.deref.result.now ∙ sym c.lt.ensures ∙ c.if-lt.true in
+    let joined = c.drop-last.ensures.permutation (search rules) in
+    let ordered = c.drop-last.ensures.heap_order (search rules) (c.in-Some.ensures.heap_order c.requires.ordered) in
+    let written = keeps-written c.args.query.now c.args.heap.now c.drop-last.new.self.0 _ x last c.requires.kept c.requires.full c.requires.within less c.in-Some.ensures.permutation
+    (c.in-Some.ensures.greatest c.requires.ordered) joined ordered in
+    search rules
+
+pub returns : goal.returns
+returns g c =
+    let x = c.args.candidate in
+    let last = c.in-Some.last.top in
+    let not_less : is_lt (compare x last) ≡ false = ap (λ y. is_lt (compare x y)) (sym c.deref.ensures) ∙ lt-compare x c.deref.result.now ∙ sym c.lt.ensures ∙ c.if-lt.false in
+    let joined = c.drop-last-2.ensures.permutation (search rules) in
+    let ordered = c.drop-last-2.ensures.heap_order (search rules) (c.in-Some.ensures.heap_order c.requires.ordered) in
+    let unwritten = keeps-unwritten c.args.query.now c.args.heap.now c.drop-last-2.new.self.0 _ x last c.requires.kept c.requires.full not_less c.in-Some.ensures.permutation
+    (c.in-Some.ensures.greatest c.requires.ordered) joined ordered in
+    search rules
