@@ -27,10 +27,12 @@ use Rattle.rt_tree_walk.proofs.Listed.{levels-below, listed-contained}
 use Rattle.rt_tree_walk.proofs.Progress.{IsSettled}
 use Rattle.rt_tree_walk.proofs.Reaching.{counted-contained}
 use Rattle.rt_tree_nearest.specs.declared.candidate.Candidate.{Candidate}
+use Rattle.rt_tree_nearest.specs.declared.keep.Kept.{Kept}
+use Rattle.rt_tree_nearest.specs.declared.keep.Kept.TheVariants.{Few, Full}
 use Rattle.rt_tree_nearest.specs.declared.query.Query.{Query}
 use Rattle.rt_tree_walk.specs.Rows.{rows_in}
 use Rattle.rt_tree_nearest.specs.Nearest.{box_distance, by_nearness_to}
-use Rattle.rt_tree_nearest.specs.Candidates.{NamesKey, IsNearLimit, IsAimed, IsNarrowed, IsReach, IsAnswer, Keeps, candidate_of}
+use Rattle.rt_tree_nearest.specs.Candidates.{NamesKey, IsNearLimit, IsAimed, IsNarrowed, IsReach, IsOut, IsAnswer, Keeps, HasShape, candidate_of}
 use Rattle.rt_tree_walk.proofs.Below.{leaf_rows, ids-apart}
 use Rattle.rt_tree_nearest.proofs.Ordered.{Rising, Rising-sort, contains-cases, sort-permutes}
 use Rattle.rt_tree_nearest.proofs.Orders.{nearness_total, untied}
@@ -183,3 +185,36 @@ module _ {D : ℕ} (t : Arena D) (s : IsSettled t) where
   pub narrowed-some : (q nearer : Query D) → IsNarrowed t q nearer → nearer.k ≡ q.k
   narrowed-some q nearer (inl e) = ap (λ (p : Query D). p.k) e
   narrowed-some q nearer (inr found) = ap (λ (p : Query D). p.k) found.3
+
+-- ---- the rows kept
+module _ {D : ℕ} (q nearer : Query D) (seen kept : List (Candidate D)) (most : ℕ) (keeps : Keeps q seen [] kept) (some : 1 ≤ q.k) (full : length kept ≡ q.k)
+    (reach : IsReach q kept most) (k : nearer.k ≡ q.k) (limit : nearer.limit ≡ most) where
+  still-out : (c : Candidate D) → IsOut q kept c → IsOut nearer kept c
+  still-out c out = elim out [
+    | inl beyond ↦ inl (beyond.0, beyond.1, omega (arith, beyond.2, limit, reach.within), beyond.3)
+    | inr after ↦ inr (after.0 ∙ sym k, after.1)
+  ]
+
+  out-later : (c : Candidate D) → IsOut nearer [] c → IsOut nearer kept c
+  out-later c out = elim out [ inl beyond ↦ inl beyond | inr after ↦ absurd (omega (arith, after.0, k, some)) ]
+
+  all-within : All (λ c. c.distance ≤ nearer.limit) kept
+  all-within = elim (reach.far (suc most) (omega arith)) [
+    | inl low ↦ All-weaker (λ c. c.distance ≤ q.limit) (λ c. c.distance ≤ nearer.limit) (λ c h. omega (arith, h, low, limit)) kept keeps.kept.within
+    | inr held ↦ All-weaker (λ c. c.distance < suc most) (λ c. c.distance ≤ nearer.limit) (λ c h. omega (arith, h, limit)) kept held.1
+  ]
+
+  -- a nearer limit leaves out no row that was kept
+  pub keeps-nearer : Keeps nearer seen [] kept
+  keeps-nearer = record {
+    left = keeps.left;
+    same = keeps.same;
+    out = All-weaker (IsOut q kept) (IsOut nearer kept) still-out keeps.left keeps.out;
+    stays = out-later;
+    kept = record { few = omega (arith, full, k); within = all-within };
+  }
+
+module _ {D : ℕ} where
+  pub shape-nearer : (q nearer : Query D) (kept : Kept D) → nearer.k ≡ q.k → HasShape q kept → HasShape nearer kept
+  shape-nearer q nearer (Few rows) k shape = omega (arith, shape, k)
+  shape-nearer q nearer (Full heap) k shape = (shape.0 ∙ sym k, shape.1)

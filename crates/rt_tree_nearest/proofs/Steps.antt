@@ -1,5 +1,5 @@
 -- One turn: the nearest node is seen, or all that is left is too far.
-use Rattle.std.proofs.Common.{◌≡◌, ℕ, zero, suc, ◌^◌, ◌<◌, ◌≤◌, List, [], ◌∷◌, length, map, Some, arith, refl, ap, sym, ◌∙◌, subst}
+use Rattle.std.proofs.Common.{◌≡◌, ℕ, zero, suc, ◌^◌, ◌<◌, ◌≤◌, List, [], ◌∷◌, length, map, Option, Some, None, IfSome, arith, refl, ap, sym, ◌∙◌, subst}
 use Rattle.std.specs.List.{All, count_by, sum_by}
 use Rattle.std.specs.List.Sorted.{IsPermutation}
 use Rattle.std.specs.BinaryHeap.{IsHeap, IsUpperBound}
@@ -15,9 +15,11 @@ use Rattle.rt_tree_node.specs.Places.{cells_of, cells_at, level_of, level_at}
 use Rattle.rt_tree_walk.proofs.Progress.{IsSettled, level-some}
 use Rattle.rt_tree_nearest.specs.declared.candidate.Candidate.{Candidate}
 use Rattle.rt_tree_nearest.specs.declared.candidate.Branch.{Branch}
+use Rattle.rt_tree_nearest.specs.declared.keep.Kept.{Kept}
+use Rattle.rt_tree_nearest.specs.declared.narrow.Near.{Near}
 use Rattle.rt_tree_nearest.specs.declared.query.Query.{Query}
 use Rattle.rt_tree_nearest.specs.Nearest.{box_distance}
-use Rattle.rt_tree_nearest.specs.Candidates.{candidate_of, compare_branches, IsReach, IsBeyond, IsOut, Keeps, Queues, Explores}
+use Rattle.rt_tree_nearest.specs.Candidates.{candidate_of, candidates_of, items_in, compare_branches, IsReach, IsBeyond, IsOut, Keeps, KeepsFrom, IsKeptAfter, Queues, Explores}
 use Rattle.rt_tree_nearest.proofs.Orders.{top-nearest}
 use Rattle.rt_tree_walk.proofs.Below.{rows_under}
 use Rattle.rt_tree_nearest.proofs.Below.{rows_below, keys_below, rows-node, IsNear}
@@ -107,3 +109,26 @@ module _ {D : ℕ} (q : Query D) (t : Arena D) (s : IsSettled t) where
       All-cons (λ e. IsBeyond most e.0.distance) x rest (x.0.distance, fits, far, omega arith)
       (All-weaker (λ e. x.0.distance ≤ e.0.distance) (λ e. IsBeyond most e.0.distance) (λ e h. (x.0.distance, fits, far, h)) rest (top-nearest x rest top)) in
       Searched-drop q t s kept most reach [] (x ∷ rest) (Searched-moved q t kept es (x ∷ rest) popped so) beyond
+
+-- ---- the near leaf
+module _ {D : ℕ} (t : Arena D) (q : Query D) where
+  -- what is kept after its rows, where it comes
+  pub known-here : (kept : Kept D) (n : NodeCells D) (key : ℕ) (near : Option (Near D)) → get t.nodes key ≡ Some n →
+      IfSome near (IsKeptAfter t q (items_in kept)) → IfSome near (λ l. l.leaf ≡ key → KeepsFrom q (candidates_of q n) kept l.kept)
+  known-here kept n key None got known = known
+  known-here kept n key (Some l) got known = λ same. record {
+    keeps = subst (λ (cells : List (Cell D)). Keeps q (map (candidate_of q.target) cells) (items_in kept) (items_in l.kept)) (ap (cells_at t.nodes) same ∙ ap cells_of got) known.keeps;
+    shape = known.shape;
+  }
+
+  -- another node leaves the rows kept as they are
+  pub known-later : (kept kept1 : List (Candidate D)) (heap heap1 : List (Reverse Branch)) (n : NodeCells D) (near near1 : Option (Near D)) →
+      Explores q n kept kept1 heap heap1 → (n.level ≡ 0 → near1 ≡ None) → ((l : ℕ) → n.level ≡ suc l → near1 ≡ near) →
+      IfSome near (IsKeptAfter t q kept) → IfSome near1 (IsKeptAfter t q kept1)
+  known-later kept kept1 heap heap1 n near near1 explores leaf inner known = by n.level refl
+    where
+      by : (l : ℕ) → n.level ≡ l → IfSome near1 (IsKeptAfter t q kept1)
+      by zero e = subst (λ (o : Option (Near D)). IfSome o (IsKeptAfter t q kept1)) (sym (leaf e)) tt
+      by (suc l) e =
+          subst (λ (o : Option (Near D)). IfSome o (IsKeptAfter t q kept1)) (sym (inner l e))
+          (subst (λ (cs : List (Candidate D)). IfSome near (IsKeptAfter t q cs)) (sym (explores.nodes l e).0) known)

@@ -15,12 +15,13 @@ use Rattle.rt_tree_choice.specs.Sorting.{sort_by}
 use Rattle.rt_tree_node.specs.declared.arena.Arena.{Arena}
 use Rattle.rt_tree_node.specs.declared.cell.Cell.{Cell}
 use Rattle.rt_tree_node.specs.Node.{NodeCells}
-use Rattle.rt_tree_node.specs.Places.{key_of}
+use Rattle.rt_tree_node.specs.Places.{key_of, cells_at}
 use Rattle.rt_tree_walk.specs.declared.searching.Row.{Row}
 use Rattle.rt_tree_nearest.specs.declared.candidate.Candidate.{Candidate}
 use Rattle.rt_tree_nearest.specs.declared.candidate.Branch.{Branch}
 use Rattle.rt_tree_nearest.specs.declared.keep.Kept.{Kept}
 use Rattle.rt_tree_nearest.specs.declared.keep.Kept.TheVariants.{Few, Full}
+use Rattle.rt_tree_nearest.specs.declared.narrow.Near.{Near}
 use Rattle.rt_tree_nearest.specs.declared.query.Query.{Query}
 use Rattle.rt_tree_walk.specs.Rows.{rows_in}
 use Rattle.rt_tree_nearest.specs.Nearest.{box_distance, by_nearness_to}
@@ -72,6 +73,10 @@ module _ {D : ℕ} where
   -- a cell of a leaf
   abbrev pub candidate_of : List Interval → Cell D → Candidate D
   candidate_of target c = record { distance = box_distance c.rect target; id = c.number; rect = c.rect }
+
+  -- the rows of a leaf
+  abbrev pub candidates_of : Query D → NodeCells D → List (Candidate D)
+  candidates_of q n = map (candidate_of q.target) n.cells
 
   abbrev pub own_row : Candidate D → Row D
   own_row c = record { id = c.id; rect = c.rect }
@@ -153,6 +158,11 @@ module _ {D : ℕ} where
   pub record KeepsFrom (q : Query D) (seen : List (Candidate D)) (old new : Kept D) : Type 0 where
     pub keeps : Keeps q seen (items_in old) (items_in new)
     pub shape : HasShape q new
+
+  -- what is kept after the rows of the near leaf, if those were kept before
+  pub record IsKeptAfter (t : Arena D) (q : Query D) (before : List (Candidate D)) (near : Near D) : Type 0 where
+    pub keeps : Keeps q (map (candidate_of q.target) (cells_at t.nodes near.leaf)) before (items_in near.kept)
+    pub shape : HasShape q near.kept
 
   -- a row is seen, and a heap stays full
   pub record ReplacesFrom (q : Query D) (c : Candidate D) (old new : BinaryHeap (Candidate D) Global) : Type 0 where

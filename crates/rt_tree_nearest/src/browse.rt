@@ -5,18 +5,18 @@
 //! No row below a node is nearer than its box. So a node that is farther than `k` rows that were seen has no row of the
 //! answer below it.
 
-ghost use Rattle.std.specs.Prelude.{◌≡◌, ◌<◌, ◌≤◌, [], ◌++◌, map, filter, nat_le, IfOk, OnOk, unsigned_abs};
+ghost use Rattle.std.specs.Prelude.{◌≡◌, ℕ, suc, None, IfSome, ◌<◌, ◌≤◌, [], ◌++◌, map, filter, nat_le, IfOk, OnOk, unsigned_abs};
 ghost use Rattle.std.specs.List.Sorted.{IsPermutation};
 ghost use Rattle.std.specs.BinaryHeap.{KeepsHeap, heap_items};
 ghost use Rattle.slab.specs.Slab.{ContainsKey};
 ghost use Rattle.rt_tree_node.specs.Whole.{IsWhole};
-ghost use Rattle.rt_tree_nearest.specs.Candidates.{IsAimed, IsKeptIn, QueuesFrom, ExploresFrom, IsAnswer};
+ghost use Rattle.rt_tree_nearest.specs.Candidates.{candidates_of, IsAimed, IsKeptIn, IsKeptAfter, KeepsFrom, QueuesFrom, ExploresFrom, IsAnswer};
 
 use crate::candidate::Branch;
 use crate::keep::{Kept, keep_rows, ordered, reach};
-use crate::narrow::narrow;
+use crate::narrow::{Narrowed, Near, narrow};
 use crate::query::Query;
-use rt_tree_node::{Arena, Node, node_at};
+use rt_tree_node::{Arena, Key, Node, node_at};
 use rt_tree_walk::Row;
 use std::alloc::{AllocError, Global};
 use std::cmp::Reverse;
@@ -45,20 +45,48 @@ fn push_children<const D: usize>(
     Ok(())
 }
 
+/// Sees the rows of a leaf. What is kept after those of the near leaf is known if they come first.
+fn see_rows<const D: usize>(
+    alloc: Global,
+    kept: &mut Kept<D>,
+    near: Option<Near<D>>,
+    query: &Query<D>,
+    key: Key,
+    leaf: &Node<D>,
+) -> Result<(), AllocError>
+    requires kept { IsKeptIn query.now kept.old }
+    requires aimed { IsAimed query.now }
+    requires near { IfSome near (λ n. n.leaf ≡ key → KeepsFrom query.now (candidates_of query.now leaf.now) kept.old n.kept) }
+    ensures { OnOk result (KeepsFrom query.now (candidates_of query.now leaf.now) kept.old kept.new) }
+{
+    match near {
+        Some(first) if first.leaf == key => {
+            *kept = first.kept;
+            Ok(())
+        }
+        _ => keep_rows(alloc, kept, query, leaf),
+    }
+}
+
 /// Sees the rows of a leaf, or the children of another node.
 fn explore<const D: usize>(
     alloc: Global,
     kept: &mut Kept<D>,
+    near: &mut Option<Near<D>>,
     branches: &mut BinaryHeap<Reverse<Branch>>,
     query: &Query<D>,
+    key: Key,
     node: &Node<D>,
 ) -> Result<(), AllocError>
     requires kept { IsKeptIn query.now kept.old }
     requires aimed { IsAimed query.now }
-    ensures { OnOk result (ExploresFrom query.now node.now kept.old kept.new branches.old branches.new) }
+    requires near { IfSome near.old (λ n. n.leaf ≡ key → KeepsFrom query.now (candidates_of query.now node.now) kept.old n.kept) }
+    ensures explores { OnOk result (ExploresFrom query.now node.now kept.old kept.new branches.old branches.new) }
+    ensures leaf { node.now.level ≡ 0 → near.new ≡ None }
+    ensures inner { (l : ℕ) → node.now.level ≡ suc l → near.new ≡ near.old }
 {
     if node.level() == 0 {
-        return keep_rows(alloc, kept, query, node);
+        return see_rows(alloc, kept, near.take(), query, key, node);
     }
     let most = reach(kept, query);
     push_children(branches, query, node, most)
@@ -69,12 +97,14 @@ fn browse<const D: usize>(
     alloc: Global,
     tree: &Arena<D>,
     query: &Query<D>,
+    mut near: Option<Near<D>>,
 ) -> Result<Vec<Row<D>>, AllocError>
     requires whole { IsWhole tree.now }
     requires settled { tree.now.pending.items ≡ [] }
     requires few { D ≤ 3 }
     requires aimed { IsAimed query.now }
     requires some { 1 ≤ query.now.k }
+    requires near { IfSome near (IsKeptAfter tree.now query.now []) }
     ensures { IfOk result (λ rows. IsAnswer tree.now query.now rows.items) }
 {
     let mut kept = Kept::Few(Vec::new(alloc));
@@ -90,8 +120,10 @@ fn browse<const D: usize>(
         explore(
             alloc,
             &mut kept,
+            &mut near,
             &mut branches,
             query,
+            first.key,
             node_at(&tree.nodes, first.key),
         )?;
     }
@@ -113,5 +145,9 @@ pub(crate) fn find<const D: usize>(
     if query.k == 0 {
         return Ok(Vec::new(alloc));
     }
-    browse(alloc, tree, &narrow(alloc, tree, query)?)
+    let Narrowed {
+        query: nearer,
+        near,
+    } = narrow(alloc, tree, query)?;
+    browse(alloc, tree, &nearer, near)
 }

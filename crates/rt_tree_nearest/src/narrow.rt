@@ -5,7 +5,7 @@
 ghost use Rattle.std.specs.Prelude.{◌≡◌, ◌≤◌, [], Some, IfOk, IfSome};
 ghost use Rattle.rt_tree_node.specs.Whole.{IsWhole};
 ghost use Rattle.rt_tree_node.specs.Places.{level_at};
-ghost use Rattle.rt_tree_nearest.specs.Candidates.{IsAimed, IsNarrowed, NamesKey};
+ghost use Rattle.rt_tree_nearest.specs.Candidates.{IsAimed, IsKeptAfter, IsNarrowed, NamesKey};
 
 use crate::distance::gaps;
 use crate::keep::{Kept, keep_rows, reach};
@@ -60,30 +60,53 @@ fn near_leaf<const D: usize>(tree: &Arena<D>, target: &Rect<D>) -> Option<Key>
     Some(key)
 }
 
+/// A leaf, and what is kept of its rows if they are the first ones seen.
+#[derive(Drop)]
+pub(crate) struct Near<const D: usize> {
+    pub(crate) leaf: Key,
+    pub(crate) kept: Kept<D>,
+}
+
+/// A query with a limit that is likely to be nearer, and the leaf that gave it, if one did.
+#[derive(Drop)]
+pub(crate) struct Narrowed<const D: usize> {
+    pub(crate) query: Query<D>,
+    pub(crate) near: Option<Near<D>>,
+}
+
 /// The query with a limit that is likely to be nearer, and the same answer.
 pub(crate) fn narrow<const D: usize>(
     alloc: Global,
     tree: &Arena<D>,
     query: &Query<D>,
-) -> Result<Query<D>, AllocError>
+) -> Result<Narrowed<D>, AllocError>
     requires whole { IsWhole tree.now }
     requires settled { tree.now.pending.items ≡ [] }
     requires few { D ≤ 3 }
     requires aimed { IsAimed query.now }
     requires some { 1 ≤ query.now.k }
-    ensures { IfOk result (IsNarrowed tree.now query.now) }
+    ensures query { IfOk result (λ n. IsNarrowed tree.now query.now n.query) }
+    ensures near { IfOk result (λ n. IfSome n.near (IsKeptAfter tree.now n.query [])) }
 {
+    let unchanged = Narrowed {
+        query: *query,
+        near: None,
+    };
     let Some(key) = near_leaf(tree, &query.target) else {
-        return Ok(*query);
+        return Ok(unchanged);
     };
     let leaf = node_at(&tree.nodes, key);
     if tree.level == 0 || leaf.len() < query.k {
-        return Ok(*query);
+        return Ok(unchanged);
     }
     let mut kept = Kept::Few(Vec::new(alloc));
     keep_rows(alloc, &mut kept, query, leaf)?;
-    match &kept {
-        Kept::Few(_) => Ok(*query),
-        Kept::Full(_) => Ok(Query::new(&query.target, query.k, reach(&kept, query))),
-    }
+    let Kept::Full(_) = &kept else {
+        return Ok(unchanged);
+    };
+    let limit = reach(&kept, query);
+    Ok(Narrowed {
+        query: Query::new(&query.target, query.k, limit),
+        near: Some(Near { leaf: key, kept }),
+    })
 }

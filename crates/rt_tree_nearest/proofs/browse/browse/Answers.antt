@@ -1,4 +1,4 @@
-use Rattle.std.proofs.Common.{◌≡◌, ◌<◌, ◌≤◌, List, [], ◌∷◌, length, rules, arith, refl, ap, subst}
+use Rattle.std.proofs.Common.{◌≡◌, ◌<◌, ◌≤◌, List, [], ◌∷◌, length, IfSome, rules, arith, refl, ap, sym, subst}
 use Rattle.std.specs.List.Sorted.{IsPermutation}
 use Rattle.std.specs.BinaryHeap.{heap_items}
 use Rattle.std.specs.declared.cmp.Reverse.{Reverse}
@@ -8,9 +8,9 @@ use Rattle.slab.specs.Slab.{ContainsKey}
 use Rattle.rt_tree_walk.proofs.Progress.{IsSettled}
 use Rattle.rt_tree_nearest.specs.declared.candidate.Branch.{Branch}
 use Rattle.rt_tree_nearest.specs.declared.candidate.Candidate.{Candidate}
-use Rattle.rt_tree_nearest.specs.Candidates.{items_in, IsOrdered, IsAnswer}
+use Rattle.rt_tree_nearest.specs.Candidates.{items_in, IsKeptAfter, IsOrdered, IsAnswer}
 use Rattle.rt_tree_nearest.proofs.Searched.{Searched}
-use Rattle.rt_tree_nearest.proofs.Steps.{start, turn, stop, first-there}
+use Rattle.rt_tree_nearest.proofs.Steps.{start, turn, stop, first-there, known-here, known-later}
 use Rattle.rt_tree_nearest.proofs.Answered.{answered}
 use Rattle.rt_tree_nearest.proofs.browse.browse.Goals as goal
 
@@ -27,6 +27,7 @@ loop-first-init g c =
     record {
       searched = start q c.args.tree.now s root branches refl refl moved kept c.new.ensures.items;
       shape = room;
+      near = subst (λ (cs : List (Candidate g.row.D)). IfSome c.args.near (IsKeptAfter c.args.tree.now q cs)) (sym c.new.ensures.items) c.requires.near;
       ordered = c.in_ok-push.ensures.heap_order c.new-branches.ensures.heap_order;
     }
 
@@ -44,6 +45,7 @@ pub explore-requires : goal.explore-requires
 explore-requires g c =
     let few : g.row.D ≤ 3 = c.requires.few in
     let kept = c.loop-first.invariant.searched.keeps in
+    let near = known-here c.args.tree.now c.args.query.now c.loop-first.kept c.node_at.result.now c.in-Some.field-0.0.key c.loop-first.near c.node_at.ensures c.loop-first.invariant.near in
     search rules
 
 pub loop-first-smaller : goal.loop-first-smaller
@@ -53,7 +55,7 @@ loop-first-smaller g c =
     let so = c.loop-first.invariant in
     let step = turn c.args.query.now t s (items_in c.loop-first.kept) (items_in c.explore.new.kept) (heap_items c.loop-first.branches) (heap_items c.pop.new.self)
     (heap_items c.explore.new.branches) c.in-Some.field-0 c.node_at.result.now so.searched c.in-Some.ensures.permutation (c.in-Some.ensures.heap_order so.ordered).0
-    c.node_at.ensures c.in_ok-explore.ensures.seen in
+    c.node_at.ensures c.in_ok-explore.ensures.explores.seen in
     step.shorter
 
 pub loop-first-preserved : goal.loop-first-preserved
@@ -63,8 +65,14 @@ loop-first-preserved g c =
     let so = c.loop-first.invariant in
     let step = turn c.args.query.now t s (items_in c.loop-first.kept) (items_in c.explore.new.kept) (heap_items c.loop-first.branches) (heap_items c.pop.new.self)
     (heap_items c.explore.new.branches) c.in-Some.field-0 c.node_at.result.now so.searched c.in-Some.ensures.permutation (c.in-Some.ensures.heap_order so.ordered).0
-    c.node_at.ensures c.in_ok-explore.ensures.seen in
-    record { searched = step.searched; shape = c.in_ok-explore.ensures.shape; ordered = step.ordered }
+    c.node_at.ensures c.in_ok-explore.ensures.explores.seen in
+    record {
+      searched = step.searched;
+      shape = c.in_ok-explore.ensures.explores.shape;
+      near = known-later t c.args.query.now (items_in c.loop-first.kept) (items_in c.explore.new.kept) (heap_items c.pop.new.self) (heap_items c.explore.new.branches)
+          c.node_at.result.now c.loop-first.near c.explore.new.near c.in_ok-explore.ensures.explores.seen c.in_ok-explore.ensures.leaf c.in_ok-explore.ensures.inner so.near;
+      ordered = step.ordered;
+    }
 
 pub returns-then-first-reach : goal.returns-then-first-reach
 returns-then-first-reach g c =

@@ -8,5 +8,6 @@ pub returns : goal.returns
 returns g c =
     let t = c.args.tree.now in
     let s : IsSettled t = record { whole = c.requires.whole; none = c.requires.settled } in
-    IfOk-weaker c.browse.result (λ rows. IsAnswer t c.in_ok-narrow.field-0 rows.items) (λ rows. IsAnswer t c.args.query.now rows.items)
-    (λ rows answer. narrowed-answer t s c.args.query.now c.in_ok-narrow.field-0 rows.items c.in_ok-narrow.ensures answer) c.browse.ensures
+    let nearer = c.in_ok-nearer.field-0.query in
+    IfOk-weaker c.browse.result (λ rows. IsAnswer t nearer rows.items) (λ rows. IsAnswer t c.args.query.now rows.items)
+    (λ rows answer. narrowed-answer t s c.args.query.now nearer rows.items c.in_ok-nearer.ensures.query answer) c.browse.ensures
