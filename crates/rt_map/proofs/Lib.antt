@@ -1,4 +1,5 @@
 pub mod Faults
+pub mod Pieces
 pub mod Listed
 pub mod FromRows
 pub mod PackedLevel

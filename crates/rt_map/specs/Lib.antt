@@ -6,3 +6,5 @@ pub mod Join
 pub mod Levels
 pub mod LevelSteps
 pub mod TreeBytes
+pub mod Written
+pub mod ReadingInside

@@ -1,6 +1,19 @@
 //! What bytes say of a tree.
+//!
+//! Of the bytes of lists, each call reads what the lists say (`specs/ReadingInside.antt`).
 
-ghost use Rattle.std.specs.Prelude.{◌≡◌, ◌+◌, ◌*◌, ◌≤◌, length};
+ghost use Rattle.std.specs.Prelude.{◌≡◌, ◌+◌, ◌*◌, ◌≤◌, ◌++◌, ℤ, List, true, length, map, All, FitsSigned, IsSomeAnd, MatchResult};
+ghost use Rattle.std.specs.Int.{w32, w64};
+ghost use Rattle.std.specs.List.{flat_map};
+ghost use Rattle.rt_check.specs.declared.node.NodeRow.{NodeRow};
+ghost use Rattle.rt_check.specs.declared.node.RawCell.{RawCell};
+ghost use Rattle.rt_check.specs.Shadow.{ShadowLists};
+ghost use Rattle.rt_check.specs.Conditions.{is_ordered};
+ghost use Rattle.rt_tree.specs.Lists.{row_in};
+ghost use Rattle.rt_map.specs.TreeBytes.{long_bytes, short_bytes, cell_bytes, node_bytes, tree_bytes};
+ghost use Rattle.rt_map.specs.Written.{IsCellWritten};
+ghost use Rattle.rt_map.specs.ReadingInside.{AreRows, AreNodes, AreParts, ReadsNodes, IsReadAs};
+ghost use Rattle.rt_map.specs.declared.bytes_fault.BytesFault.TheVariants.{Memory};
 
 use crate::bytes_fault::BytesFault;
 use crate::shape::Shape;
@@ -20,37 +33,53 @@ pub(crate) struct Parts<const D: usize> {
     pub(crate) rows: Vec<Row<D>>,
 }
 
-/// The number in the four bytes at a place.
-fn short_at(bytes: &[u8], at: usize) -> i32
-    requires { at + 4 ≤ length bytes.now }
+/// The number in four bytes.
+fn short_of(bytes: &[u8]) -> i32
+    requires { 4 ≤ length bytes.now }
+    ensures { (z : ℤ) → FitsSigned w32 z → bytes.now ≡ short_bytes z → result ≡ z }
 {
-    i32::from_be_bytes([bytes[at], bytes[at + 1], bytes[at + 2], bytes[at + 3]])
+    i32::from_be_bytes([bytes[0], bytes[1], bytes[2], bytes[3]])
 }
 
-/// The number in the first eight bytes.
-fn long_at_first(bytes: &[u8]) -> i64
+/// The number in eight bytes.
+fn long_of(bytes: &[u8]) -> i64
     requires { 8 ≤ length bytes.now }
+    ensures { (z : ℤ) → FitsSigned w64 z → bytes.now ≡ long_bytes z → result ≡ z }
 {
     i64::from_be_bytes([
         bytes[0], bytes[1], bytes[2], bytes[3], bytes[4], bytes[5], bytes[6], bytes[7],
     ])
 }
 
+/// The coordinates of a point.
+fn read_point<const D: usize>(bytes: &[u8]) -> [i32; D]
+    requires { length bytes.now ≡ 4 * D }
+    ensures { (point : List ℤ) → length point ≡ D → All (FitsSigned w32) point → bytes.now ≡ flat_map short_bytes point →
+        result ≡ point }
+{
+    let mut point = [0; D];
+    let mut left = bytes;
+    for axis in 0..D {
+        let (number, rest) = left.split_at(4);
+        point[axis] = short_of(number);
+        left = rest;
+    }
+    point
+}
+
 /// The row that a leaf's cell is, unless some lo is above its hi.
-fn read_row<const D: usize>(cell: &[u8]) -> Option<Row<D>>
+fn read_row<const D: usize>(bytes: &[u8]) -> Option<Row<D>>
     requires some { 1 ≤ D }
     requires few { D ≤ 3 }
-    requires long { 8 + 8 * D ≤ length cell.now }
+    requires long { length bytes.now ≡ 8 + 8 * D }
+    ensures { (cell : RawCell D) → IsCellWritten cell → is_ordered cell ≡ true → bytes.now ≡ cell_bytes cell →
+        IsSomeAnd result (λ row. row ≡ row_in cell) }
 {
-    let mut lo = [0; D];
-    let mut hi = [0; D];
-    for axis in 0..D {
-        lo[axis] = short_at(cell, 8 + 4 * axis);
-        hi[axis] = short_at(cell, 8 + 4 * D + 4 * axis);
-    }
-    let rect = Rect::new(lo, hi)?;
+    let (number, rest) = bytes.split_at(8);
+    let (lo, hi) = rest.split_at(4 * D);
+    let rect = Rect::new(read_point(lo), read_point(hi))?;
     Some(Row {
-        id: long_at_first(cell),
+        id: long_of(number),
         rect,
     })
 }
@@ -58,14 +87,16 @@ fn read_row<const D: usize>(cell: &[u8]) -> Option<Row<D>>
 /// Appends the rows of a leaf's cells, each of which has `width` bytes.
 fn read_rows<const D: usize>(
     rows: &mut Vec<Row<D>>,
-    cells: &[u8],
+    bytes: &[u8],
     width: usize,
 ) -> Result<(), BytesFault>
     requires some { 1 ≤ D }
     requires few { D ≤ 3 }
-    requires width { 8 + 8 * D ≤ width }
+    requires width { width ≡ 8 + 8 * D }
+    ensures { (cells : List (RawCell D)) → AreRows cells → bytes.now ≡ flat_map cell_bytes cells →
+        MatchResult result (λ _. rows.new.items ≡ rows.old.items ++ map row_in cells) (λ fault. fault ≡ Memory) }
 {
-    let mut left = cells;
+    let mut left = bytes;
     while left.len() >= width {
         let (cell, rest) = left.split_at(width);
         let Some(row) = read_row(cell) else {
@@ -84,6 +115,8 @@ fn read_rows<const D: usize>(
 fn read_nodes<const D: usize>(parts: &mut Parts<D>, bytes: &[u8]) -> Result<(), BytesFault>
     requires some { 1 ≤ D }
     requires few { D ≤ 3 }
+    ensures { (nodes : List (NodeRow D)) → AreNodes nodes → bytes.now ≡ flat_map node_bytes nodes →
+        MatchResult result (λ _. ReadsNodes parts.old parts.new nodes) (λ fault. fault ≡ Memory) }
 {
     let width = 8 + 8 * D;
     let mut left = bytes;
@@ -119,6 +152,8 @@ fn read_nodes<const D: usize>(parts: &mut Parts<D>, bytes: &[u8]) -> Result<(), 
 pub(crate) fn read<const D: usize>(alloc: Global, bytes: &[u8]) -> Result<Parts<D>, BytesFault>
     requires some { 1 ≤ D }
     requires few { D ≤ 3 }
+    ensures { (s : ShadowLists D) → AreParts s → tree_bytes s ≡ bytes.now →
+        MatchResult result (λ parts. IsReadAs parts s) (λ fault. fault ≡ Memory) }
 {
     let [74, 68, 84, version, axes, most, nodes @ ..] = bytes else {
         return Err(BytesFault::Bad);

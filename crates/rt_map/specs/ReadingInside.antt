@@ -1,0 +1,43 @@
+-- What is read of the bytes of lists. No public clause cites this module.
+use Rattle.std.specs.Prelude.{◌≡◌, ℕ, ◌<◌, ◌++◌, true, List, length, map, All}
+use Rattle.rt_box.specs.Capacity.{IsCapacity}
+use Rattle.rt_check.specs.declared.node.NodeRow.{NodeRow}
+use Rattle.rt_check.specs.declared.node.RawCell.{RawCell}
+use Rattle.rt_check.specs.Shadow.{ShadowLists}
+use Rattle.rt_check.specs.Conditions.{is_leaf, is_ordered, leaf_cells}
+use Rattle.rt_tree.specs.Lists.{row_in, rows_of}
+use Rattle.rt_map.specs.declared.reading.Parts.{Parts}
+use Rattle.rt_map.specs.declared.shape.Shape.{Shape}
+use Rattle.rt_map.specs.Written.{IsCellWritten}
+
+module _ {D : ℕ} where
+  -- how many cells a node has, and its level
+  abbrev pub shape_in : NodeRow D → Shape
+  shape_in n = record { level = n.level; cells = length n.cells }
+
+  -- the cells are those of a leaf, with a box each
+  pub record AreRows (cells : List (RawCell D)) : Type 0 where
+    pub written : All IsCellWritten cells
+    pub ordered : All (λ c. is_ordered c ≡ true) cells
+
+  -- no node has more cells than a byte tells; their numbers fit, and those of a leaf have a box each
+  pub record AreNodes (nodes : List (NodeRow D)) : Type 0 where
+    pub few : All (λ n. length n.cells < 256) nodes
+    pub written : All (λ n. All IsCellWritten n.cells) nodes
+    pub ordered : All (λ n. is_leaf n ≡ true → All (λ c. is_ordered c ≡ true) n.cells) nodes
+
+  -- the nodes' shapes and rows are added to the parts
+  pub record ReadsNodes (old new : Parts D) (nodes : List (NodeRow D)) : Type 0 where
+    pub capacity : new.capacity ≡ old.capacity
+    pub shapes : new.shapes.items ≡ old.shapes.items ++ map shape_in nodes
+    pub rows : new.rows.items ≡ old.rows.items ++ map row_in (leaf_cells nodes)
+
+  pub record AreParts (s : ShadowLists D) : Type 0 where
+    pub capacity : IsCapacity s.capacity
+    pub nodes : AreNodes s.nodes
+
+  -- the capacity, the shapes and the rows of the lists
+  pub record IsReadAs (parts : Parts D) (s : ShadowLists D) : Type 0 where
+    pub capacity : parts.capacity ≡ s.capacity
+    pub shapes : parts.shapes.items ≡ map shape_in s.nodes
+    pub rows : parts.rows.items ≡ rows_of s
