@@ -8,7 +8,7 @@ use Rattle.rt_tree_node.specs.declared.arena.Arena.{Arena}
 use Rattle.rt_tree_node.specs.declared.cell.Cell.{Cell}
 use Rattle.rt_tree_node.specs.declared.cell.Pending.{Pending}
 use Rattle.rt_tree_node.specs.Node.{NodeCells}
-use Rattle.rt_tree_node.specs.Places.{key_of, level_of, level_at, count_rows, pending_at}
+use Rattle.rt_tree_node.specs.Places.{key_of, cells_of, level_of, cells_at, level_at, count_rows, pending_at}
 use Rattle.rt_tree_node.specs.Homes.{KeepsIds}
 use Rattle.rt_tree_node.specs.Open.{IsOpen}
 use Rattle.rt_tree_node.proofs.Links.{same-at, All-left}
@@ -29,6 +29,7 @@ module _ {D : ℕ} where
   pub record Adds (t u : Arena D) (key level : ℕ) (c : Cell D) (n : NodeCells D) : Type 0 where
     pub here : get u.nodes key ≡ Some (record n { cells = n.cells ++ c ∷ [] })
     pub others : (x : ℕ) → x ≢ key → (1 ≤ level → key_of c ≢ x) → get u.nodes x ≡ get t.nodes x
+    pub kept : (x : ℕ) → x ≢ key → cells_at u.nodes x ≡ cells_at t.nodes x
     pub levels : (x : ℕ) → level_at u.nodes x ≡ level_at t.nodes x
     pub ids : KeepsIds t.leaves u.leaves
     pub len : slab_len u.nodes ≡ slab_len t.nodes
@@ -42,6 +43,7 @@ module _ {D : ℕ} where
       record {
         here = put.updates.changed;
         others = λ x ne free. put.updates.others x ne;
+        kept = λ x ne. ap cells_of (put.updates.others x ne);
         levels = same-at level_of t.nodes u.nodes key n (record n { cells = n.cells ++ c ∷ [] }) has put.updates refl;
         ids = both.0.keeps;
         len = put.len;
@@ -59,6 +61,9 @@ module _ {D : ℕ} where
       record {
         here = second.updates.changed;
         others = λ x ne free. second.updates.others x ne ∙ first.updates.others x (λ e. free some (sym e));
+        kept = λ x ne.
+            ap cells_of (second.updates.others x ne)
+            ∙ same-at cells_of t.nodes mid (key_of c) m (record m { parent = Some key }) named.1 first.updates refl x;
         levels = λ x.
             same-at level_of mid u.nodes key n (record n { cells = n.cells ++ c ∷ [] }) has_mid second.updates refl x
             ∙ same-at level_of t.nodes mid (key_of c) m (record m { parent = Some key }) named.1 first.updates refl x;
@@ -72,6 +77,7 @@ module _ {D : ℕ} where
     rest = refl;
     here = λ n has. let whole : List (Cell D) → Option (NodeCells D) = λ cells. Some (record n { cells = cells }) in has ∙ ap whole (sym (append-nil n.cells));
     others = λ x ne free. refl;
+    kept = λ x ne. refl;
     levels = λ x. refl;
     ids = record { ids = refl; len = refl; room = refl };
     len = refl;
@@ -94,6 +100,7 @@ module _ {D : ℕ} where
         others = λ x ne free.
             one.others x ne (λ some. last-of (λ q. key_of q ≢ x) cs c (free some))
             ∙ so_far.others x ne (λ some. All-left (λ q. key_of q ≢ x) cs (c ∷ []) (free some));
+        kept = λ x ne. one.kept x ne ∙ so_far.kept x ne;
         levels = λ x. one.levels x ∙ so_far.levels x;
         ids = record { ids = one.ids.ids ∙ so_far.ids.ids; len = one.ids.len ∙ so_far.ids.len; room = one.ids.room ∙ so_far.ids.room };
         len = one.len ∙ so_far.len;

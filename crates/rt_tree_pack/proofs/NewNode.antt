@@ -156,12 +156,18 @@ module _ {D : ℕ} where
       new-top : get new.nodes old.root ≡ get old.nodes old.root
       new-top = fills.others old.root root-apart (named-others old.nodes old.root old.level level cs ys was.linked) ∙ u.others old.root root-apart
 
+    kept : (x : ℕ) → x ≢ key_of cell → cells_at new.nodes x ≡ cells_at old.nodes x
+    kept x other = fills.kept x (λ e. other (e ∙ sym key_is)) ∙ new-at cells_of old.nodes b key made vacant u refl x
+
     pub packs-node : PacksNode old new level cs cell
     packs-node = record {
       rest = fills.rest;
       ids = fills.ids;
       len = fills.len ∙ len;
       room = fills.room ∙ room;
+      fresh = ap (get old.nodes) key_is ∙ vacant;
+      made = ap (cells_at new.nodes) key_is ∙ ap cells_of here;
+      kept = kept;
       opened = new-open;
       rows = new-rows;
       top = new-top;

@@ -49,6 +49,7 @@ module _ {D : ℕ} where
     pub rest : new ≡ record old { nodes = new.nodes; leaves = new.leaves }
     pub here : (n : NodeCells D) → get old.nodes key ≡ Some n → get new.nodes key ≡ Some (record n { cells = n.cells ++ cs })
     pub others : (x : ℕ) → x ≢ key → (1 ≤ level → All (λ c. key_of c ≢ x) cs) → get new.nodes x ≡ get old.nodes x
+    pub kept : (x : ℕ) → x ≢ key → cells_at new.nodes x ≡ cells_at old.nodes x
     pub levels : (x : ℕ) → level_at new.nodes x ≡ level_at old.nodes x
     pub ids : KeepsIds old.leaves new.leaves
     pub len : slab_len new.nodes ≡ slab_len old.nodes
@@ -78,6 +79,9 @@ module _ {D : ℕ} where
     pub ids : KeepsIds old.leaves new.leaves
     pub len : slab_len new.nodes ≡ slab_len old.nodes + 1
     pub room : new.nodes.capacity ≡ old.nodes.capacity
+    pub fresh : get old.nodes (key_of cell) ≡ None
+    pub made : cells_at new.nodes (key_of cell) ≡ cs
+    pub kept : (x : ℕ) → x ≢ key_of cell → cells_at new.nodes x ≡ cells_at old.nodes x
     pub opened : (ys : List (Pending D)) → IsOpen (is_top old.root) old (pending_at level cs ++ ys) →
         IsOpen (is_top old.root) new (ys ++ above level (cell ∷ []))
     pub rows : (ys : List (Pending D)) → IsOpen (is_top old.root) old (pending_at level cs ++ ys) → (test : Cell D → Bool) →
