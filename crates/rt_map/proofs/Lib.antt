@@ -2,6 +2,8 @@ pub mod Faults
 pub mod Pieces
 pub mod Listed
 pub mod FromRows
+pub mod MeantLevel
+pub mod MeantTree
 pub mod PackedLevel
 pub mod Restored
 pub mod FromShadow

@@ -2,7 +2,7 @@
 use Rattle.std.proofs.Common.{◌≡◌, ℕ, zero, suc, ◌<◌, ◌≤◌, List, [], ◌∷◌, ◌++◌, take, drop, length, IsSome, append_assoc, arith, refl, ap, ◌∙◌, sym, subst}
 use Rattle.std.specs.Ordering.{int_eq}
 use Rattle.std.specs.List.{All}
-use Rattle.std.proofs.lemmas.List.{map-append, take-append-drop, length-take-le}
+use Rattle.std.proofs.lemmas.List.{length_push, map-append, take-append-drop, length-take-le}
 use Rattle.indexmap.specs.IndexMap.{get as leaf_of}
 use Rattle.slab.specs.Slab.{get, ContainsKey}
 use Rattle.rt_tree_node.specs.declared.arena.Arena.{Arena}
@@ -42,7 +42,7 @@ module _ {D : ℕ} where
     abbrev ys : List (Pending D)
     ys = pending_at level rest ++ above level next
 
-    was : IsOpen (is_top t.root) t (pending_at level run ++ ys)
+    pub was : IsOpen (is_top t.root) t (pending_at level run ++ ys)
     was = subst (λ r. IsOpen (is_top r) t (pending_at level run ++ ys)) (sym same_root)
         (subst (IsOpen (is_top s.root) t) (split-pending level run rest (above level next)) so_far.opened)
 
@@ -73,6 +73,7 @@ module _ {D : ℕ} where
         record {
           frame = step.rest ∙ ap with so_far.frame;
           ids = record { ids = step.ids.ids ∙ so_far.ids.ids; len = step.ids.len ∙ so_far.ids.len; room = step.ids.room ∙ so_far.ids.room };
+          len = omega (arith, step.len, so_far.len, length_push next c);
           room = step.room ∙ so_far.room;
           opened = subst (IsOpen (is_top s.root) u) order (subst (λ r. IsOpen (is_top r) u ((pending_at level rest ++ above level next) ++ above level (c ∷ []))) same_root (step.opened ys was));
           empty = ap cells_of (ap (get u.nodes) (sym same_root) ∙ step.top ys was ∙ ap (get t.nodes) same_root) ∙ so_far.empty;

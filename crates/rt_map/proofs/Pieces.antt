@@ -16,11 +16,6 @@ use Rattle.rt_map.specs.Written.{IsCellWritten}
 use Rattle.rt_map.specs.declared.shape.Shape.{Shape}
 use Rattle.rt_map.specs.ReadingInside.{shape_in, AreRows, AreNodes}
 
--- what holds of a fault holds of an `Err` of it
-pub err-matches : {A E : Type 0} (r : Result A E) (e : E) (P : A → Type 0) (Q : E → Type 0) → IsErrAnd r (λ f. f ≡ e) → Q e → MatchResult r P Q
-err-matches (Ok x) e P Q is holds = absurd is
-err-matches (Err f) e P Q is holds = subst Q (sym is) holds
-
 front-of : (n : ℕ) (p q bytes : List ℕ) → bytes ≡ p ++ q → length p ≡ n → take n bytes ≡ p
 front-of n p q bytes e long = ap (take n) e ∙ take_at p q n long
 

@@ -1,7 +1,7 @@
 -- The steps of restoring. As in packing, the root is there from the start, without cells, and alone out of shape, and the cells
 -- that wait for a node are pending.
-use Rattle.std.specs.Prelude.{◌≡◌, ℕ, ◌≤◌, Bool, List, [], ◌++◌, count_by}
-use Rattle.slab.specs.Slab.{HasRoomFor}
+use Rattle.std.specs.Prelude.{◌≡◌, ℕ, ◌+◌, ◌≤◌, Bool, List, [], ◌++◌, length, count_by}
+use Rattle.slab.specs.Slab.{slab_len, HasRoomFor}
 use Rattle.rt_box.specs.Capacity.{least_fill}
 use Rattle.rt_tree_node.specs.declared.arena.Arena.{Arena}
 use Rattle.rt_tree_node.specs.declared.cell.Cell.{Cell}
@@ -27,6 +27,7 @@ module _ {D : ℕ} where
   pub record RestoresUpTo (old new : Arena D) (level : ℕ) (cells left next : List (Cell D)) : Type 0 where
     pub frame : new ≡ record old { nodes = new.nodes; leaves = new.leaves }
     pub ids : KeepsIds old.leaves new.leaves
+    pub len : slab_len new.nodes ≡ slab_len old.nodes + length next
     pub room : new.nodes.capacity ≡ old.nodes.capacity
     pub opened : IsOpen (is_top old.root) new (pending_at level left ++ above level next)
     pub empty : cells_at new.nodes old.root ≡ []

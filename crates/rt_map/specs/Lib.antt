@@ -5,6 +5,7 @@ pub mod RestoringInside
 pub mod Join
 pub mod Levels
 pub mod LevelSteps
+pub mod Meant
 pub mod TreeBytes
 pub mod Written
 pub mod ReadingInside

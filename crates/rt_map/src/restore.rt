@@ -5,13 +5,18 @@
 //! levels stand among them in their order, and that tree comes again. If some number doesn't fit, no tree is made. That the
 //! tree is whole and has the rows is proved; whether it is the one that was meant, the caller tests.
 
-ghost use Rattle.std.specs.Prelude.{◌≡◌, ◌^◌, ◌<◌, ◌≤◌, true, IfOk, IfErr, IfSome};
+ghost use Rattle.std.specs.Prelude.{◌≡◌, ◌^◌, ◌<◌, ◌≤◌, true, length, IfOk, IfErr, IfSome, IsSomeAnd, MatchResult};
 ghost use Rattle.rt_tree.specs.Bare.{IsBare};
 ghost use Rattle.rt_tree.specs.Kept.{IsKeptWith};
 ghost use Rattle.rt_tree_pack.specs.Packing.{AreEntered, IsFaultOf};
+ghost use Rattle.rt_tree_pack.specs.declared.fault.PackFault.TheVariants.{Memory};
 ghost use Rattle.rt_map.specs.Packing.{ids};
 ghost use Rattle.rt_map.specs.Levels.{Restores};
 ghost use Rattle.rt_map.specs.LevelSteps.{FitsRoot};
+ghost use Rattle.rt_map.specs.Meant.{top_level, rows_in, IsMeant, IsListed, IsMade};
+ghost use Rattle.rt_tree_node.specs.Whole.{HasRoom};
+ghost use Rattle.rt_tree_rules.specs.Nested.{Tree};
+ghost use Rattle.rt_tree_obeys.specs.View.{tree_in};
 
 use crate::packing::{ready_arena, row_cells};
 use crate::restore_level::restore_level;
@@ -26,14 +31,16 @@ use std::hash::RandomState;
 
 /// Whether the root may have that many cells.
 fn fits_root<const D: usize>(tree: &Arena<D>, count: usize) -> bool
-    ensures { result ≡ true → FitsRoot tree.now count }
+    ensures fits { result ≡ true → FitsRoot tree.now count }
+    ensures all { FitsRoot tree.now count → result ≡ true }
 {
     count <= tree.capacity.greatest() && (tree.level == 0 || 2 <= count)
 }
 
 /// The level of the first shape, which is taken for the root's.
 fn root_level(shapes: &[Shape]) -> u8
-    ensures { result < 256 }
+    ensures value { result ≡ top_level shapes.now }
+    ensures byte { result < 256 }
 {
     if shapes.is_empty() {
         return 0;
@@ -58,7 +65,9 @@ fn restore<const D: usize>(
     requires bare { IsBare tree.old }
     requires entered { AreEntered tree.old rows.items }
     requires keys { tree.old.nodes.capacity ≤ 2 ^ 62 }
-    ensures { IfOk result (λ done. done ≡ true → Restores tree.old tree.new rows.entry.items) }
+    ensures steps { IfOk result (λ done. done ≡ true → Restores tree.old tree.new rows.entry.items) }
+    ensures meant { (meant : Tree) → IsMeant tree.old.capacity shapes.now (rows_in rows.entry.items) meant →
+        HasRoom tree.old (length rows.entry.items) → IfOk result (λ done. (done ≡ true) × (tree_in tree.new ≡ meant)) }
 {
     let top = root_level(shapes);
     let mut cells = rows;
@@ -91,6 +100,8 @@ pub(crate) fn shaped_arena<const D: usize>(
     requires few { D ≤ 3 }
     ensures arena { IfOk result (λ found. IfSome found (λ arena. IsKeptWith arena 0)) }
     ensures fault { IfErr result (λ fault. IsFaultOf (ids rows.now) fault) }
+    ensures meant { (meant : Tree) → IsListed capacity shapes.now rows.now meant →
+        MatchResult result (λ found. IsSomeAnd found (λ arena. IsMade arena capacity meant)) (λ fault. fault ≡ Memory) }
 {
     if rows.len() > MOST_ROWS_OF_A_TREE {
         return Err(PackFault::TooMany);

@@ -7,7 +7,8 @@ use Rattle.rt_tree.specs.Lists.{row_in}
 use Rattle.rt_map.specs.declared.bytes_fault.BytesFault.TheVariants.{Memory}
 use Rattle.rt_map.specs.TreeBytes.{node_bytes}
 use Rattle.rt_map.specs.ReadingInside.{shape_in}
-use Rattle.rt_map.proofs.Pieces.{err-matches, first-node, no-nodes, run-of, leaf-rows, leaf-added, inner-added, added}
+use Rattle.rt_map.proofs.Faults.{err-matches}
+use Rattle.rt_map.proofs.Pieces.{first-node, no-nodes, run-of, leaf-rows, leaf-added, inner-added, added}
 use Rattle.rt_map.proofs.reading.read_nodes.Goals as goal
 
 pub returns-then-length-after : goal.returns-then-length-after
@@ -42,10 +43,14 @@ loop-left-preserved-in_ok-read_rows g c = λ nodes are same.
     let run = run-of left c.split_at-in-loop-left.result.0.now c.split_at-in-loop-left.result.1.now c.from-cells.result size inv.0 first c.requires.few c.from-cells.ensures
     c.saturating_mul-length.ensures (c.split_at-in-loop-left.ensures.front ∙ ap (take size) after) (c.split_at-in-loop-left.ensures.back ∙ ap (drop size) after) in
     let leaf : is_leaf run.first.node ≡ true = ap (λ l. eqb l 0) (sym run.first.level ∙ c.if-level-eq0.true) in
-    let rows = c.in_ok-read_rows.ensures run.first.node.cells (leaf-rows left inv.0 run.first leaf) run.cells in
-    (run.first.others, run.first.rest, run.back, inv.3,
-    added shape_in c.loop-left.parts.shapes.items c.push.new.self.items _ run.first.node run.first.others inv.0 _ run.first.is run.shape inv.4 c.in-Ok.ensures.items,
-    leaf-added c.loop-left.parts.rows.items c.read_rows.new.rows.items _ run.first.node run.first.others inv.0 run.first.is leaf inv.5 rows)
+    let rows = c.in_ok-read_rows.ensures run.first.node.cells (leaf-rows left inv.0 run.first leaf) run.cells in (
+      run.first.others,
+      run.first.rest,
+      run.back,
+      inv.3,
+      added shape_in c.loop-left.parts.shapes.items c.push.new.self.items _ run.first.node run.first.others inv.0 _ run.first.is run.shape inv.4 c.in-Ok.ensures.items,
+      leaf-added c.loop-left.parts.rows.items c.read_rows.new.rows.items _ run.first.node run.first.others inv.0 run.first.is leaf inv.5 rows,
+    )
 
 pub loop-left-preserved : goal.loop-left-preserved
 loop-left-preserved g c = λ nodes are same.
@@ -56,10 +61,14 @@ loop-left-preserved g c = λ nodes are same.
     let first = first-node left inv.0 inv.1 inv.2 (omega (arith, c.loop-left-test.true)) in
     let run = run-of left c.split_at-in-loop-left.result.0.now c.split_at-in-loop-left.result.1.now c.from-cells.result size inv.0 first c.requires.few c.from-cells.ensures
     c.saturating_mul-length.ensures (c.split_at-in-loop-left.ensures.front ∙ ap (take size) after) (c.split_at-in-loop-left.ensures.back ∙ ap (drop size) after) in
-    let inner : is_leaf run.first.node ≡ false = ne_eqb run.first.node.level 0 (λ none. c.if-level-eq0.false (run.first.level ∙ none)) in
-    (run.first.others, run.first.rest, run.back, inv.3,
-    added shape_in c.loop-left.parts.shapes.items c.push.new.self.items _ run.first.node run.first.others inv.0 _ run.first.is run.shape inv.4 c.in-Ok.ensures.items,
-    inner-added c.loop-left.parts.rows.items _ run.first.node run.first.others inv.0 run.first.is inner inv.5)
+    let inner : is_leaf run.first.node ≡ false = ne_eqb run.first.node.level 0 (λ none. c.if-level-eq0.false (run.first.level ∙ none)) in (
+      run.first.others,
+      run.first.rest,
+      run.back,
+      inv.3,
+      added shape_in c.loop-left.parts.shapes.items c.push.new.self.items _ run.first.node run.first.others inv.0 _ run.first.is run.shape inv.4 c.in-Ok.ensures.items,
+      inner-added c.loop-left.parts.rows.items _ run.first.node run.first.others inv.0 run.first.is inner inv.5,
+    )
 
 pub returns-then-is_empty : goal.returns-then-is_empty
 returns-then-is_empty g c = λ nodes are same.

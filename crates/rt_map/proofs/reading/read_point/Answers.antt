@@ -19,9 +19,10 @@ loop-axis-preserved g c =
           let so_far = inv.read point long fits same in
           let within : axis < length point = omega (arith, long, c.loop-axis-test.true) in
           let next = next-number c.loop-axis.left.now point axis within so_far.0 in
-          let is = c.short_of.ensures (get_or point axis (pos 0)) (fits axis (pos 0) within) (c.split_at.ensures.front ∙ next.front) in
-          (c.split_at.ensures.back ∙ next.back,
-          agree-more c.loop-axis.point point axis (to_z w32 (of_z w32 found)) (omega (arith, inv.long, c.loop-axis-test.true)) (to_z-of_z w32 found small ∙ is) so_far.1);
+          let is = c.short_of.ensures (get_or point axis (pos 0)) (fits axis (pos 0) within) (c.split_at.ensures.front ∙ next.front) in (
+            c.split_at.ensures.back ∙ next.back,
+            agree-more c.loop-axis.point point axis (to_z w32 (of_z w32 found)) (omega (arith, inv.long, c.loop-axis-test.true)) (to_z-of_z w32 found small ∙ is) so_far.1,
+          );
     }
 
 pub returns : goal.returns

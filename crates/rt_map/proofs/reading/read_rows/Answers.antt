@@ -17,9 +17,12 @@ loop-left-preserved g c = λ cells rows same.
     let left = c.loop-left.left.now in
     let first = first-row left inv.0 inv.1 inv.2 (omega (arith, c.loop-left-test.true, c.requires.width)) in
     let front = c.split_at.ensures.front ∙ ap (λ n. take n left) c.requires.width ∙ first.front in
-    let row = c.in-Some.ensures first.cell first.written first.ordered front in
-    (first.others, first.rows, c.split_at.ensures.back ∙ ap (λ n. drop n left) c.requires.width ∙ first.back,
-    added row_in c.loop-left.rows.items c.push.new.self.items _ first.cell first.others inv.0 c.in-Some.row first.is row inv.3 c.in-Ok.ensures.items)
+    let row = c.in-Some.ensures first.cell first.written first.ordered front in (
+      first.others,
+      first.rows,
+      c.split_at.ensures.back ∙ ap (λ n. drop n left) c.requires.width ∙ first.back,
+      added row_in c.loop-left.rows.items c.push.new.self.items _ first.cell first.others inv.0 c.in-Some.row first.is row inv.3 c.in-Ok.ensures.items,
+    )
 
 pub returns : goal.returns
 returns g c = λ cells rows same.
