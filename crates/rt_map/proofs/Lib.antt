@@ -4,6 +4,9 @@ pub mod Listed
 pub mod FromRows
 pub mod MeantLevel
 pub mod MeantTree
+pub mod MeantLists
+pub mod SoundLists
+pub mod BytesTaken
 pub mod PackedLevel
 pub mod Restored
 pub mod FromShadow

@@ -1,17 +1,17 @@
 -- A level of the nested tree that is meant, some of whose nodes are made.
-use Rattle.std.proofs.Common.{◌≡◌, ◌≢◌, ℕ, zero, suc, ◌+◌, ◌<◌, ◌≤◌, true, cond, List, [], ◌∷◌, ◌++◌, length, map, take, drop, get_or, Option, None, Some, append_assoc, append-nil, arith, refl, eq-eqb, ap, ◌∙◌, sym, subst}
+use Rattle.std.proofs.Common.{◌≡◌, ◌≢◌, ℕ, suc, ◌+◌, ◌<◌, true, cond, List, [], ◌∷◌, ◌++◌, length, map, take, drop, get_or, Some, append_assoc, append-nil, arith, eq-eqb, ap, ◌∙◌, sym, subst}
 use Rattle.std.specs.Prelude.{◌==◌}
-use Rattle.std.specs.List.{All, filter, flat_map}
+use Rattle.std.specs.List.{All, filter}
 use Rattle.std.proofs.lemmas.Bool.{ne_eqb}
 use Rattle.std.proofs.lemmas.Option.{none-some}
 use Rattle.std.proofs.lemmas.List.{take-map, drop-map, take_at, drop_at, drop_more, map_push, length-append, length-map, nil_from_length}
 use Rattle.std.proofs.lemmas.List.Elements.{All-head, All-tail}
-use Rattle.slab.specs.Slab.{Slab, get, slab_len, HasRoomFor}
+use Rattle.slab.specs.Slab.{Slab, HasRoomFor}
 use Rattle.rt_tree_node.specs.declared.arena.Arena.{Arena}
 use Rattle.rt_tree_node.specs.declared.cell.Cell.{Cell}
 use Rattle.rt_tree_node.specs.declared.cell.Pending.{Pending}
 use Rattle.rt_tree_node.specs.Node.{NodeCells}
-use Rattle.rt_tree_node.specs.Places.{key_of, level_of, cells_at, level_at, pending_at}
+use Rattle.rt_tree_node.specs.Places.{level_of, cells_at, level_at, pending_at}
 use Rattle.rt_tree_node.specs.Sound.{Names, IsLinked}
 use Rattle.rt_tree_node.proofs.Links.{All-right}
 use Rattle.rt_tree_rules.specs.Nested.{Entry}

@@ -8,4 +8,5 @@ pub mod LevelSteps
 pub mod Meant
 pub mod TreeBytes
 pub mod Written
+pub mod BytesFaults
 pub mod ReadingInside

@@ -6,9 +6,19 @@ use Rattle.rt_check.specs.declared.node.RawCell.{RawCell}
 use Rattle.rt_check.specs.Shadow.{ShadowLists}
 use Rattle.rt_check.specs.Conditions.{is_leaf, is_ordered, leaf_cells}
 use Rattle.rt_tree.specs.Lists.{row_in, rows_of}
+use Rattle.rt_tree_pack.specs.declared.fault.PackFault.{PackFault}
+use Rattle.rt_tree_pack.specs.declared.fault.PackFault.TheVariants.{TooMany as AreTooMany, Repeated, Memory as IsOutOfMemory}
+use Rattle.rt_map.specs.declared.bytes_fault.BytesFault.{BytesFault}
+use Rattle.rt_map.specs.declared.bytes_fault.BytesFault.TheVariants.{Bad, TooMany, Memory}
 use Rattle.rt_map.specs.declared.reading.Parts.{Parts}
 use Rattle.rt_map.specs.declared.shape.Shape.{Shape}
 use Rattle.rt_map.specs.Written.{IsCellWritten}
+
+-- the fault of bytes whose rows make no tree
+abbrev pub fault_of_rows : PackFault → BytesFault
+fault_of_rows AreTooMany = TooMany
+fault_of_rows (Repeated at) = Bad
+fault_of_rows IsOutOfMemory = Memory
 
 module _ {D : ℕ} where
   -- how many cells a node has, and its level

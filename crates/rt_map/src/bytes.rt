@@ -3,10 +3,15 @@
 //! What the bytes say of nodes is taken as their shapes, and the rows are packed into nodes of these. The tree's own bytes are
 //! then compared with the given ones, so nothing has to be known of how they were read.
 
-ghost use Rattle.std.specs.Prelude.{◌≡◌, ◌≤◌, true, IfOk};
-ghost use Rattle.rt_map.specs.TreeBytes.{tree_bytes};
-ghost use Rattle.rt_map.specs.RestoringInside.{IsArenaOfBytes};
+ghost use Rattle.std.specs.Prelude.{◌≡◌, ◌≤◌, true, IfOk, IfErr, MatchResult};
+ghost use Rattle.rt_tree_rules.specs.Nested.{Tree as NestedTree};
 ghost use Rattle.rt_tree.specs.Kept.{IsKeptWith};
+ghost use Rattle.rt_map.specs.TreeBytes.{tree_bytes};
+ghost use Rattle.rt_map.specs.BytesFaults.{IsBytesFaultOf};
+ghost use Rattle.rt_map.specs.RestoringInside.{IsArenaOfBytes};
+ghost use Rattle.rt_map.specs.ReadingInside.{fault_of_rows};
+ghost use Rattle.rt_map.specs.Meant.{IsListed, IsMade};
+ghost use Rattle.rt_map.specs.declared.bytes_fault.BytesFault.TheVariants.{Memory};
 
 use crate::bytes_fault::BytesFault;
 use crate::reading::{Parts, read};
@@ -19,7 +24,9 @@ use std::alloc::{AllocError, Global};
 use std::hash::RandomState;
 
 /// The fault of bytes whose rows make no tree.
-fn fault_of(fault: PackFault) -> BytesFault {
+fn fault_of(fault: PackFault) -> BytesFault
+    ensures { result ≡ fault_of_rows fault }
+{
     match fault {
         PackFault::TooMany => BytesFault::TooMany,
         PackFault::Repeated { .. } => BytesFault::Bad,
@@ -29,7 +36,8 @@ fn fault_of(fault: PackFault) -> BytesFault {
 
 /// Whether the bytes are equal.
 fn are_same(bytes: &[u8], others: &[u8]) -> bool
-    ensures { result ≡ true → bytes.now ≡ others.now }
+    ensures same { result ≡ true → bytes.now ≡ others.now }
+    ensures all { bytes.now ≡ others.now → result ≡ true }
 {
     bytes == others
 }
@@ -42,7 +50,9 @@ fn arena_of<const D: usize>(
 ) -> Result<Arena<D>, BytesFault>
     requires some { 1 ≤ D }
     requires few { D ≤ 3 }
-    ensures { IfOk result (λ arena. IsKeptWith arena 0) }
+    ensures kept { IfOk result (λ arena. IsKeptWith arena 0) }
+    ensures meant { (meant : NestedTree) → IsListed parts.now.capacity parts.now.shapes.items parts.now.rows.items meant →
+        MatchResult result (λ arena. IsMade arena parts.now.capacity meant) (λ fault. fault ≡ Memory) }
 {
     match shaped_arena(alloc, keys, parts.capacity, &parts.shapes, &parts.rows) {
         Ok(Some(arena)) => Ok(arena),
@@ -59,7 +69,8 @@ pub(crate) fn bytes_arena<const D: usize>(
 ) -> Result<Arena<D>, BytesFault>
     requires some { 1 ≤ D }
     requires few { D ≤ 3 }
-    ensures { IfOk result (λ arena. IsArenaOfBytes arena bytes.now) }
+    ensures arena { IfOk result (λ arena. IsArenaOfBytes arena bytes.now) }
+    ensures fault { IfErr result (λ fault. IsBytesFaultOf D bytes.now fault) }
 {
     let parts = read::<D>(alloc, bytes)?;
     let arena = arena_of(alloc, keys, &parts)?;
@@ -87,6 +98,7 @@ pub fn from_bytes<const D: usize>(
     requires few { D ≤ 3 }
     ensures tree { IfOk result (λ tree. tree_bytes tree.lists ≡ bytes.now) }
     ensures spare { IfOk result (λ tree. tree.spare ≡ 0) }
+    ensures fault { IfErr result (λ fault. IsBytesFaultOf D bytes.now fault) }
 {
     let arena = bytes_arena(alloc, keys, bytes)?;
     Ok(Tree::from_arena(arena))

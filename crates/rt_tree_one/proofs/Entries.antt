@@ -31,11 +31,11 @@ module _ {X : Type 0} where
   Each P [] = Unit {0}
   Each P (x ∷ xs) = P x × Each P xs
 
-  abbrev In : X → List X → Type 0
+  abbrev pub In : X → List X → Type 0
   In x [] = ⊥
   In x (y ∷ ys) = (y ≡ x) ⊎ In x ys
 
-  each_in : (P : X → Type 0) (x : X) (xs : List X) → Each P xs → In x xs → P x
+  pub each_in : (P : X → Type 0) (x : X) (xs : List X) → Each P xs → In x xs → P x
   each_in P x [] all here = absurd here
   each_in P x (y ∷ xs) all (inl e) = subst P e all.0
   each_in P x (y ∷ xs) all (inr later) = each_in P x xs all.1 later
@@ -112,7 +112,7 @@ find_step id r s rs true is e later = let same : s ≡ r = cc in (inl same, ap (
 find_step id r s rs false is e later = let more = later e in (inr more.0, more.1)
 
 -- what is found is there
-found : (id : ℤ) (r : RowEntry) (rs : List RowEntry) → entry_of rs id ≡ Some r → In r rs × (r.id ≡ id)
+pub found : (id : ℤ) (r : RowEntry) (rs : List RowEntry) → entry_of rs id ≡ Some r → In r rs × (r.id ≡ id)
 found id r [] e = let none : ⊥ = cc in absurd none
 found id r (s ∷ rs) e = find_step id r s rs (int_eq id s.id) refl e (found id r rs)
 
@@ -135,12 +135,12 @@ same_entry r x p q = ap (λ (z : ℤ). entry z r.leaf) p ∙ ap (λ (z : ℤ). e
 
 -- ---- the cells of the leaves
 module _ {D : ℕ} where
-  abbrev HasId : ℤ → List (RawCell D) → Type 0
+  abbrev pub HasId : ℤ → List (RawCell D) → Type 0
   HasId id [] = ⊥
   HasId id (c ∷ cs) = (c.number ≡ id) ⊎ HasId id cs
 
   -- a leaf of that number has a cell of that id
-  abbrev AtLeaf : List (NodeRow D) → ℤ → ℤ → Type 0
+  abbrev pub AtLeaf : List (NodeRow D) → ℤ → ℤ → Type 0
   AtLeaf [] id leaf = ⊥
   AtLeaf (n ∷ ns) id leaf = ((is_leaf n ≡ true) × (n.number ≡ leaf) × HasId id n.cells) ⊎ AtLeaf ns id leaf
 
@@ -163,7 +163,7 @@ module _ {D : ℕ} where
         (found.0, inr found.1)
   ]
 
-  counted_leaf : (id : ℤ) (nodes : List (NodeRow D)) → 0 < times_named id (leaf_cells nodes) → (leaf : ℤ) × AtLeaf nodes id leaf
+  pub counted_leaf : (id : ℤ) (nodes : List (NodeRow D)) → 0 < times_named id (leaf_cells nodes) → (leaf : ℤ) × AtLeaf nodes id leaf
   counted_leaf id [] some = absurd (omega arith)
   counted_leaf id (n ∷ ns) some = in_leaf id n ns (is_leaf n) refl some (counted_leaf id ns)
 
@@ -209,11 +209,11 @@ module _ {D : ℕ} where
         let all = append-none (of_nodes ++ cell_problems HasEntry leaf_test s.nodes) (row_problems HasCell (has_cell s) s.rows) sound in
         ((append-none of_nodes (cell_problems HasEntry leaf_test s.nodes) all.0).1, all.1)
 
-    have_cells : IsSound s → Each (λ r. has_cell s r ≡ true) s.rows
+    pub have_cells : IsSound s → Each (λ r. has_cell s r ≡ true) s.rows
     have_cells sound = none-fail (has_cell s) (λ r. record { condition = HasCell; node = r.1.leaf; position = r.0 }) 1 s.rows (last_problems sound).1
 
     -- the entry of a leaf's cell
-    entry_at : IsSound s → (id leaf : ℤ) → AtLeaf s.nodes id leaf → (r : RowEntry) × (entry_of s.rows id ≡ Some r) × (r.leaf ≡ leaf)
+    pub entry_at : IsSound s → (id leaf : ℤ) → AtLeaf s.nodes id leaf → (r : RowEntry) × (entry_of s.rows id ≡ Some r) × (r.leaf ≡ leaf)
     entry_at sound id leaf here = entry_is leaf (entry_of s.rows id) (leads s.nodes id leaf (last_problems sound).0 here)
 
   -- an entry of the one is one of the other

@@ -1,18 +1,41 @@
-use Rattle.std.proofs.Common.{◌∙◌, sym}
-use Rattle.std.proofs.lemmas.Result.{IfOk-from_err}
+use Rattle.std.proofs.Common.{◌∙◌, sym, subst}
+use Rattle.std.proofs.lemmas.Bool.{false≢true}
+use Rattle.rt_map.specs.BytesFaults.{IsBytesFaultOf}
+use Rattle.rt_map.specs.Meant.{IsMade}
+use Rattle.rt_map.proofs.Faults.{err-of}
+use Rattle.rt_map.proofs.MeantLists.{listed-tree, readable}
+use Rattle.rt_map.proofs.BytesTaken.{only-for-memory, read-listed, same-bytes}
 use Rattle.rt_map.proofs.bytes.bytes_arena.Goals as goal
 
-pub returns : goal.returns
-returns g c = record {
-  kept = c.in_ok-arena.ensures;
-  same = sym c.in_ok-again.ensures ∙ sym c.as_slice.ensures.value ∙ c.are_same-same.ensures c.if-not-same.false;
+pub returns-clause-arena : goal.returns-clause-arena
+returns-clause-arena g c = record {
+  kept = c.in_ok-arena.ensures.kept;
+  same = sym c.in_ok-again.ensures ∙ sym c.as_slice.ensures.value ∙ c.are_same-same.ensures.same c.if-not-same.false;
 }
 
-pub returns-in_err-parts : goal.returns-in_err-parts
-returns-in_err-parts g c = IfOk-from_err _ _ c.from_residual.ensures.0
+pub returns-in_err-parts-clause-fault : goal.returns-in_err-parts-clause-fault
+returns-in_err-parts-clause-fault g c =
+    let bytes = c.args.bytes.now in
+    let fault = c.in_err-parts.field-0.0 in
+    err-of c.from_residual.result fault (IsBytesFaultOf g.row.D bytes) c.from_residual.ensures.1
+    (only-for-memory g.row.D bytes fault (λ are. c.in_err-parts.ensures are.0 (readable are.0 bytes are.1) are.1.same))
 
-pub returns-in_err-arena : goal.returns-in_err-arena
-returns-in_err-arena g c = IfOk-from_err _ _ c.from_residual-in_err-arena.ensures.0
+pub returns-in_err-arena-clause-fault : goal.returns-in_err-arena-clause-fault
+returns-in_err-arena-clause-fault g c =
+    let bytes = c.args.bytes.now in
+    let fault = c.in_err-arena.field-0.0 in
+    err-of c.from_residual-in_err-arena.result fault (IsBytesFaultOf g.row.D bytes) c.from_residual-in_err-arena.ensures.1
+    (only-for-memory g.row.D bytes fault (λ are.
+    let read = c.in_ok-parts.ensures are.0 (readable are.0 bytes are.1) are.1.same in
+    let found = listed-tree are.0 bytes are.1 in
+    c.in_err-arena.ensures.meant found.0 (read-listed c.in_ok-parts.parts are.0 found.0 read found.2)))
 
-pub returns-in_err-again : goal.returns-in_err-again
-returns-in_err-again g c = IfOk-from_err _ _ c.from_residual-in_err-again.ensures.0
+pub returns-then-not-same-clause-fault : goal.returns-then-not-same-clause-fault
+returns-then-not-same-clause-fault g c = λ are.
+    let bytes = c.args.bytes.now in
+    let arena = c.in_ok-arena.arena in
+    let read = c.in_ok-parts.ensures are.0 (readable are.0 bytes are.1) are.1.same in
+    let found = listed-tree are.0 bytes are.1 in
+    let made = c.in_ok-arena.ensures.meant found.0 (read-listed c.in_ok-parts.parts are.0 found.0 read found.2) in
+    let same = same-bytes arena are.0 found.0 c.in_ok-arena.ensures.kept (subst (λ n. IsMade arena n found.0) read.capacity made) found.1 in
+    absurd (false≢true (c.if-not-same.ensures.all (c.as_slice.ensures.value ∙ c.in_ok-again.ensures ∙ same ∙ are.1.same)))

@@ -1,0 +1,45 @@
+-- The bytes of a tree are taken.
+use Rattle.std.proofs.Common.{◌≡◌, ℕ, List, ◌++◌, map, None, ap, ◌∙◌, sym, subst}
+use Rattle.std.specs.List.{flat_map}
+use Rattle.rt_check.specs.declared.node.NodeRow.{NodeRow}
+use Rattle.rt_check.specs.Shadow.{ShadowLists}
+use Rattle.rt_tree_node.specs.declared.arena.Arena.{Arena}
+use Rattle.rt_tree_walk.specs.declared.searching.Row.{Row}
+use Rattle.rt_tree_outside.specs.Outside.{outside}
+use Rattle.rt_tree_rules.specs.Nested.{Tree}
+use Rattle.rt_tree_rules.specs.Shadow.{nodes_in}
+use Rattle.rt_tree_obeys.proofs.Seen.{nodes_seen}
+use Rattle.rt_tree.specs.Lists.{rows_of}
+use Rattle.rt_tree.specs.Kept.{IsKeptWith}
+use Rattle.rt_map.specs.declared.bytes_fault.BytesFault.{BytesFault}
+use Rattle.rt_map.specs.declared.bytes_fault.BytesFault.TheVariants.{Bad, TooMany, Memory}
+use Rattle.rt_map.specs.declared.reading.Parts.{Parts}
+use Rattle.rt_map.specs.declared.shape.Shape.{Shape}
+use Rattle.rt_map.specs.TreeBytes.{head_bytes, node_bytes, tree_bytes}
+use Rattle.rt_map.specs.Written.{IsTreeBytes}
+use Rattle.rt_map.specs.BytesFaults.{IsBytesFaultOf}
+use Rattle.rt_map.specs.ReadingInside.{shape_in, IsReadAs}
+use Rattle.rt_map.specs.Meant.{IsListed, IsMade}
+
+pub only-for-memory : (axes : ℕ) (bytes : List ℕ) (fault : BytesFault) → (IsTreeBytes axes bytes → fault ≡ Memory) → IsBytesFaultOf axes bytes fault
+only-for-memory axes bytes Bad only = λ are. let none : ⊥ = cc (only are) in none
+only-for-memory axes bytes TooMany only = λ are. let none : ⊥ = cc (only are) in none
+only-for-memory axes bytes Memory only = tt
+
+module _ {D : ℕ} where
+  -- what was read is that of the nested tree
+  pub read-listed : (parts : Parts D) (s : ShadowLists D) (tree : Tree) → IsReadAs parts s → IsListed s.capacity (map shape_in s.nodes) (rows_of s) tree →
+      IsListed parts.capacity parts.shapes.items parts.rows.items tree
+  read-listed parts s tree read listed =
+      subst (λ c. IsListed c parts.shapes.items parts.rows.items tree) (sym read.capacity)
+      (subst (λ (shapes : List Shape). IsListed s.capacity shapes parts.rows.items tree) (sym read.shapes)
+      (subst (λ (rows : List (Row D)). IsListed s.capacity (map shape_in s.nodes) rows tree) (sym read.rows) listed))
+
+  -- the bytes of the arena are those of the lists
+  pub same-bytes : (t : Arena D) (s : ShadowLists D) (tree : Tree) → IsKeptWith t 0 → IsMade t s.capacity tree → s.nodes ≡ nodes_in tree.level 1 None tree.root →
+      tree_bytes (outside t) ≡ tree_bytes s
+  same-bytes t s tree kept made nodes =
+      let seen = nodes_seen D t kept.whole kept.idle in
+      let of : Tree → List (NodeRow D) = λ x. nodes_in x.level 1 None x.root in
+      ap (λ ns. head_bytes D t.capacity ++ flat_map node_bytes ns) (seen ∙ ap of made.tree_is ∙ sym nodes)
+      ∙ ap (λ c. head_bytes D c ++ flat_map node_bytes s.nodes) made.capacity_is
