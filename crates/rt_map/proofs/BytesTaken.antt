@@ -1,6 +1,8 @@
 -- The bytes of a tree are taken.
-use Rattle.std.proofs.Common.{◌≡◌, ℕ, List, ◌++◌, map, None, ap, ◌∙◌, sym, subst}
-use Rattle.std.specs.List.{flat_map}
+use Rattle.std.proofs.Common.{◌≡◌, ℕ, ◌≤◌, List, ◌++◌, length, map, None, Result, Ok, Err, ap, ◌∙◌, sym, subst}
+use Rattle.std.specs.Result.{IfOk, OnOk}
+use Rattle.std.specs.List.{All, flat_map}
+use Rattle.rt_box.specs.Capacity.{IsCapacity}
 use Rattle.rt_check.specs.declared.node.NodeRow.{NodeRow}
 use Rattle.rt_check.specs.Shadow.{ShadowLists}
 use Rattle.rt_tree_node.specs.declared.arena.Arena.{Arena}
@@ -9,14 +11,15 @@ use Rattle.rt_tree_outside.specs.Outside.{outside}
 use Rattle.rt_tree_rules.specs.Nested.{Tree}
 use Rattle.rt_tree_rules.specs.Shadow.{nodes_in}
 use Rattle.rt_tree_obeys.proofs.Seen.{nodes_seen}
-use Rattle.rt_tree.specs.Lists.{rows_of}
+use Rattle.rt_tree_node.specs.Whole.{most_rows_of_a_tree}
+use Rattle.rt_tree.specs.Lists.{IsInShape, rows_of}
 use Rattle.rt_tree.specs.Kept.{IsKeptWith}
 use Rattle.rt_map.specs.declared.bytes_fault.BytesFault.{BytesFault}
 use Rattle.rt_map.specs.declared.bytes_fault.BytesFault.TheVariants.{Bad, TooMany, Memory}
 use Rattle.rt_map.specs.declared.reading.Parts.{Parts}
 use Rattle.rt_map.specs.declared.shape.Shape.{Shape}
 use Rattle.rt_map.specs.TreeBytes.{head_bytes, node_bytes, tree_bytes}
-use Rattle.rt_map.specs.Written.{IsTreeBytes}
+use Rattle.rt_map.specs.Written.{IsNodeWritten, IsTreeBytes}
 use Rattle.rt_map.specs.BytesFaults.{IsBytesFaultOf}
 use Rattle.rt_map.specs.ReadingInside.{shape_in, IsReadAs}
 use Rattle.rt_map.specs.Meant.{IsListed, IsMade}
@@ -43,3 +46,9 @@ module _ {D : ℕ} where
       let of : Tree → List (NodeRow D) = λ x. nodes_in x.level 1 None x.root in
       ap (λ ns. head_bytes D t.capacity ++ flat_map node_bytes ns) (seen ∙ ap of made.tree_is ∙ sym nodes)
       ∙ ap (λ c. head_bytes D c ++ flat_map node_bytes s.nodes) made.capacity_is
+
+  -- the bytes that were written of a tree
+  pub taken-again : {V E : Type 0} (r : Result V E) (items : V → List ℕ) (s : ShadowLists D) → IfOk r (λ v. items v ≡ tree_bytes s) → OnOk r (All IsNodeWritten s.nodes) →
+      IsInShape s → IsCapacity s.capacity → length (rows_of s) ≤ most_rows_of_a_tree → IfOk r (λ v. IsTreeBytes D (items v))
+  taken-again (Ok v) items s is cells shape capacity most = (s, record { shape = shape; capacity = capacity; most = most; cells = cells; same = sym is })
+  taken-again (Err e) items s is cells shape capacity most = tt

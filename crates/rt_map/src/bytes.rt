@@ -1,12 +1,13 @@
 //! A tree as bytes, and the tree whose bytes these are.
 //!
 //! What the bytes say of nodes is taken as their shapes, and the rows are packed into nodes of these. The tree's own bytes are
-//! then compared with the given ones, so nothing has to be known of how they were read.
+//! then compared with the given ones. If these are the bytes of a tree, its nodes have these shapes, so that tree comes again.
 
 ghost use Rattle.std.specs.Prelude.{◌≡◌, ◌≤◌, true, IfOk, IfErr, MatchResult};
 ghost use Rattle.rt_tree_rules.specs.Nested.{Tree as NestedTree};
 ghost use Rattle.rt_tree.specs.Kept.{IsKeptWith};
 ghost use Rattle.rt_map.specs.TreeBytes.{tree_bytes};
+ghost use Rattle.rt_map.specs.Written.{IsTreeBytes};
 ghost use Rattle.rt_map.specs.BytesFaults.{IsBytesFaultOf};
 ghost use Rattle.rt_map.specs.RestoringInside.{IsArenaOfBytes};
 ghost use Rattle.rt_map.specs.ReadingInside.{fault_of_rows};
@@ -87,8 +88,9 @@ pub(crate) fn bytes_arena<const D: usize>(
 ///
 /// # Errors
 ///
-/// `Bad` if no tree of `D` axes is found that has these bytes, `TooMany` if they have more rows than `MOST_ROWS_OF_A_TREE`, and
-/// `Memory` if no memory is left. What is taken is no more than a few times what the bytes take.
+/// `Bad` if no tree of `D` axes has these bytes, `TooMany` if they have more rows than `MOST_ROWS_OF_A_TREE`, and `Memory` if no
+/// memory is left. So bytes that `to_bytes` wrote are refused only for want of memory. What is taken is no more than a few times
+/// what the bytes take.
 pub fn from_bytes<const D: usize>(
     alloc: Global,
     keys: RandomState,
@@ -104,13 +106,16 @@ pub fn from_bytes<const D: usize>(
     Ok(Tree::from_arena(arena))
 }
 
-/// The tree in a compact form: with two axes 24 bytes a row, and little more for the nodes.
+/// The tree in a compact form, which `from_bytes` takes again: with two axes 24 bytes a row, and little more for the nodes.
 ///
 /// # Errors
 ///
 /// `AllocError` if no memory is left.
 pub fn to_bytes<const D: usize>(alloc: Global, tree: &Tree<D>) -> Result<Vec<u8>, AllocError>
-    ensures { IfOk result (λ bytes. bytes.items ≡ tree_bytes tree.now.lists) }
+    ensures bytes { IfOk result (λ bytes. bytes.items ≡ tree_bytes tree.now.lists) }
+    ensures again { IfOk result (λ bytes. IsTreeBytes D bytes.items) }
 {
+    tree.is_in_shape();
+    tree.is_small();
     bytes_of(alloc, tree.arena())
 }

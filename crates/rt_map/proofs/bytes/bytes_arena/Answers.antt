@@ -10,7 +10,7 @@ use Rattle.rt_map.proofs.bytes.bytes_arena.Goals as goal
 pub returns-clause-arena : goal.returns-clause-arena
 returns-clause-arena g c = record {
   kept = c.in_ok-arena.ensures.kept;
-  same = sym c.in_ok-again.ensures ∙ sym c.as_slice.ensures.value ∙ c.are_same-same.ensures.same c.if-not-same.false;
+  same = sym c.in_ok-again.ensures.bytes ∙ sym c.as_slice.ensures.value ∙ c.are_same-same.ensures.same c.if-not-same.false;
 }
 
 pub returns-in_err-parts-clause-fault : goal.returns-in_err-parts-clause-fault
@@ -38,4 +38,4 @@ returns-then-not-same-clause-fault g c = λ are.
     let found = listed-tree are.0 bytes are.1 in
     let made = c.in_ok-arena.ensures.meant found.0 (read-listed c.in_ok-parts.parts are.0 found.0 read found.2) in
     let same = same-bytes arena are.0 found.0 c.in_ok-arena.ensures.kept (subst (λ n. IsMade arena n found.0) read.capacity made) found.1 in
-    absurd (false≢true (c.if-not-same.ensures.all (c.as_slice.ensures.value ∙ c.in_ok-again.ensures ∙ same ∙ are.1.same)))
+    absurd (false≢true (c.if-not-same.ensures.all (c.as_slice.ensures.value ∙ c.in_ok-again.ensures.bytes ∙ same ∙ are.1.same)))
