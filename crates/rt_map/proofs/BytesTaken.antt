@@ -1,5 +1,5 @@
 -- The bytes of a tree are taken.
-use Rattle.std.proofs.Common.{◌≡◌, ℕ, ◌≤◌, List, ◌++◌, length, map, None, Result, Ok, Err, ap, ◌∙◌, sym, subst}
+use Rattle.std.proofs.Common.{◌≡◌, ℕ, ◌≤◌, List, ◌++◌, length, map, None, Result, Ok, Err, refl, ap, ◌∙◌, sym, subst}
 use Rattle.std.specs.Result.{IfOk, OnOk}
 use Rattle.std.specs.List.{All, flat_map}
 use Rattle.rt_box.specs.Capacity.{IsCapacity}
@@ -20,14 +20,15 @@ use Rattle.rt_map.specs.declared.reading.Parts.{Parts}
 use Rattle.rt_map.specs.declared.shape.Shape.{Shape}
 use Rattle.rt_map.specs.TreeBytes.{head_bytes, node_bytes, tree_bytes}
 use Rattle.rt_map.specs.Written.{IsNodeWritten, IsTreeBytes}
-use Rattle.rt_map.specs.BytesFaults.{IsBytesFaultOf}
+use Rattle.rt_map.specs.BytesFaults.{HasTooManyRows, IsBytesFaultOf}
 use Rattle.rt_map.specs.ReadingInside.{shape_in, IsReadAs}
 use Rattle.rt_map.specs.Meant.{IsListed, IsMade}
 
-pub only-for-memory : (axes : ℕ) (bytes : List ℕ) (fault : BytesFault) → (IsTreeBytes axes bytes → fault ≡ Memory) → IsBytesFaultOf axes bytes fault
-only-for-memory axes bytes Bad only = λ are. let none : ⊥ = cc (only are) in none
-only-for-memory axes bytes TooMany only = λ are. let none : ⊥ = cc (only are) in none
-only-for-memory axes bytes Memory only = tt
+pub only-for-memory : (axes : ℕ) (bytes : List ℕ) (fault : BytesFault) → (IsTreeBytes axes bytes → fault ≡ Memory) → (fault ≡ TooMany → HasTooManyRows axes bytes) →
+    IsBytesFaultOf axes bytes fault
+only-for-memory axes bytes Bad only many = λ are. let none : ⊥ = cc (only are) in none
+only-for-memory axes bytes TooMany only many = (many refl, λ are. let none : ⊥ = cc (only are) in none)
+only-for-memory axes bytes Memory only many = tt
 
 module _ {D : ℕ} where
   -- what was read is that of the nested tree

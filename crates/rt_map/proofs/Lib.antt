@@ -1,5 +1,6 @@
 pub mod Faults
 pub mod Pieces
+pub mod AnyBytes
 pub mod Listed
 pub mod FromRows
 pub mod MeantLevel

@@ -1,5 +1,5 @@
 -- Bytes of lists, read piece by piece.
-use Rattle.std.proofs.Common.{◌≡◌, ℕ, suc, ◌+◌, ◌*◌, ◌<◌, ◌≤◌, min, cond, true, false, ℤ, pos, List, [], ◌∷◌, ◌++◌, length, map, take, drop, get_or, set, arith, refl, ap, ◌∙◌, sym, append_assoc, inl, inr}
+use Rattle.std.proofs.Common.{◌≡◌, ℕ, zero, suc, ◌+◌, ◌-◌, ◌*◌, ◌<◌, ◌≤◌, min, cond, true, false, ℤ, pos, List, [], ◌∷◌, ◌++◌, length, map, take, drop, get_or, set, arith, refl, ap, ◌∙◌, sym, append_assoc, inl, inr}
 use Rattle.std.specs.Prelude.{All}
 use Rattle.std.specs.List.{flat_map}
 use Rattle.std.proofs.Math.Nat.{mul-le-mul_left}
@@ -21,6 +21,22 @@ front-of n p q bytes e long = ap (take n) e ∙ take_at p q n long
 
 back-of : (n : ℕ) (p q bytes : List ℕ) → bytes ≡ p ++ q → length p ≡ n → drop n bytes ≡ q
 back-of n p q bytes e long = ap (drop n) e ∙ drop_at p q n long
+
+-- ---- counts
+
+-- one piece of the width fewer is left
+pub one-less : (width left rest more : ℕ) → 1 ≤ width → width ≤ left → left ≡ more * width → rest ≡ left - width →
+    (fewer : ℕ) × (more ≡ fewer + 1) × (rest ≡ fewer * width)
+one-less width left rest zero some long count fewer = absurd (omega arith)
+one-less width left rest (suc more) some long count fewer =
+    let step : suc more * width ≡ width + more * width = omega arith in
+    (more, omega arith, omega (arith, step))
+
+pub none-more : (width left more : ℕ) → left < width → left ≡ more * width → more ≡ 0
+none-more width left zero short count = refl
+none-more width left (suc more) short count =
+    let step : suc more * width ≡ width + more * width = omega arith in
+    absurd (omega (arith, step))
 
 -- ---- points
 

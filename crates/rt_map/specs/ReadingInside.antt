@@ -1,5 +1,6 @@
 -- What is read of the bytes of lists. No public clause cites this module.
-use Rattle.std.specs.Prelude.{◌≡◌, ℕ, ◌<◌, ◌++◌, true, List, length, map, All}
+use Rattle.std.specs.Prelude.{◌≡◌, ℕ, ◌+◌, ◌<◌, ◌++◌, true, List, length, map, All}
+use Rattle.std.specs.List.{flat_map}
 use Rattle.rt_box.specs.Capacity.{IsCapacity}
 use Rattle.rt_check.specs.declared.node.NodeRow.{NodeRow}
 use Rattle.rt_check.specs.declared.node.RawCell.{RawCell}
@@ -12,6 +13,7 @@ use Rattle.rt_map.specs.declared.bytes_fault.BytesFault.{BytesFault}
 use Rattle.rt_map.specs.declared.bytes_fault.BytesFault.TheVariants.{Bad, TooMany, Memory}
 use Rattle.rt_map.specs.declared.reading.Parts.{Parts}
 use Rattle.rt_map.specs.declared.shape.Shape.{Shape}
+use Rattle.rt_map.specs.TreeBytes.{node_bytes}
 use Rattle.rt_map.specs.Written.{IsCellWritten}
 
 -- the fault of bytes whose rows make no tree
@@ -41,6 +43,11 @@ module _ {D : ℕ} where
     pub capacity : new.capacity ≡ old.capacity
     pub shapes : new.shapes.items ≡ old.shapes.items ++ map shape_in nodes
     pub rows : new.rows.items ≡ old.rows.items ++ map row_in (leaf_cells nodes)
+
+  -- the bytes are those of some nodes, whose rows are added
+  abbrev pub CountsNodes : Parts D → Parts D → List ℕ → Type 0
+  CountsNodes old new bytes = (nodes : List (NodeRow D)) × (flat_map node_bytes nodes ≡ bytes)
+      × (length new.rows.items ≡ length old.rows.items + length (leaf_cells nodes)) × (new.capacity ≡ old.capacity)
 
   pub record AreParts (s : ShadowLists D) : Type 0 where
     pub capacity : IsCapacity s.capacity

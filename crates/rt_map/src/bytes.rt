@@ -3,7 +3,8 @@
 //! What the bytes say of nodes is taken as their shapes, and the rows are packed into nodes of these. The tree's own bytes are
 //! then compared with the given ones. If these are the bytes of a tree, its nodes have these shapes, so that tree comes again.
 
-ghost use Rattle.std.specs.Prelude.{◌≡◌, ◌≤◌, true, IfOk, IfErr, MatchResult};
+ghost use Rattle.std.specs.Prelude.{◌≡◌, ◌<◌, ◌≤◌, true, length, IfOk, IfErr, MatchResult};
+ghost use Rattle.rt_tree_node.specs.Whole.{most_rows_of_a_tree};
 ghost use Rattle.rt_tree_rules.specs.Nested.{Tree as NestedTree};
 ghost use Rattle.rt_tree.specs.Kept.{IsKeptWith};
 ghost use Rattle.rt_map.specs.TreeBytes.{tree_bytes};
@@ -12,7 +13,7 @@ ghost use Rattle.rt_map.specs.BytesFaults.{IsBytesFaultOf};
 ghost use Rattle.rt_map.specs.RestoringInside.{IsArenaOfBytes};
 ghost use Rattle.rt_map.specs.ReadingInside.{fault_of_rows};
 ghost use Rattle.rt_map.specs.Meant.{IsListed, IsMade};
-ghost use Rattle.rt_map.specs.declared.bytes_fault.BytesFault.TheVariants.{Memory};
+ghost use Rattle.rt_map.specs.declared.bytes_fault.BytesFault.TheVariants.{TooMany, Memory};
 
 use crate::bytes_fault::BytesFault;
 use crate::reading::{Parts, read};
@@ -54,6 +55,7 @@ fn arena_of<const D: usize>(
     ensures kept { IfOk result (λ arena. IsKeptWith arena 0) }
     ensures meant { (meant : NestedTree) → IsListed parts.now.capacity parts.now.shapes.items parts.now.rows.items meant →
         MatchResult result (λ arena. IsMade arena parts.now.capacity meant) (λ fault. fault ≡ Memory) }
+    ensures many { IfErr result (λ fault. fault ≡ TooMany → most_rows_of_a_tree < length parts.now.rows.items) }
 {
     match shaped_arena(alloc, keys, parts.capacity, &parts.shapes, &parts.rows) {
         Ok(Some(arena)) => Ok(arena),

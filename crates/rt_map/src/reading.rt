@@ -2,7 +2,7 @@
 //!
 //! Of the bytes of lists, each call reads what the lists say (`specs/ReadingInside.antt`).
 
-ghost use Rattle.std.specs.Prelude.{◌≡◌, ◌+◌, ◌*◌, ◌≤◌, ◌++◌, ℤ, List, true, length, map, All, FitsSigned, IsSomeAnd, MatchResult};
+ghost use Rattle.std.specs.Prelude.{◌≡◌, ◌≢◌, ℕ, ◌+◌, ◌*◌, ◌≤◌, ◌++◌, ℤ, List, true, length, map, All, FitsSigned, IsSomeAnd, MatchResult, IfOk, IfErr, OnOk};
 ghost use Rattle.std.specs.Int.{w32, w64};
 ghost use Rattle.std.specs.List.{flat_map};
 ghost use Rattle.rt_check.specs.declared.node.NodeRow.{NodeRow};
@@ -12,8 +12,9 @@ ghost use Rattle.rt_check.specs.Conditions.{is_ordered};
 ghost use Rattle.rt_tree.specs.Lists.{row_in};
 ghost use Rattle.rt_map.specs.TreeBytes.{long_bytes, short_bytes, cell_bytes, node_bytes, tree_bytes};
 ghost use Rattle.rt_map.specs.Written.{IsCellWritten};
-ghost use Rattle.rt_map.specs.ReadingInside.{AreRows, AreNodes, AreParts, ReadsNodes, IsReadAs};
-ghost use Rattle.rt_map.specs.declared.bytes_fault.BytesFault.TheVariants.{Memory};
+ghost use Rattle.rt_map.specs.BytesFaults.{HasRows};
+ghost use Rattle.rt_map.specs.ReadingInside.{AreRows, AreNodes, AreParts, ReadsNodes, CountsNodes, IsReadAs};
+ghost use Rattle.rt_map.specs.declared.bytes_fault.BytesFault.TheVariants.{TooMany, Memory};
 
 use crate::bytes_fault::BytesFault;
 use crate::shape::Shape;
@@ -93,8 +94,11 @@ fn read_rows<const D: usize>(
     requires some { 1 ≤ D }
     requires few { D ≤ 3 }
     requires width { width ≡ 8 + 8 * D }
-    ensures { (cells : List (RawCell D)) → AreRows cells → bytes.now ≡ flat_map cell_bytes cells →
+    ensures read { (cells : List (RawCell D)) → AreRows cells → bytes.now ≡ flat_map cell_bytes cells →
         MatchResult result (λ _. rows.new.items ≡ rows.old.items ++ map row_in cells) (λ fault. fault ≡ Memory) }
+    ensures count { (count : ℕ) → length bytes.now ≡ count * width →
+        OnOk result (length rows.new.items ≡ length rows.old.items + count) }
+    ensures fault { IfErr result (λ fault. fault ≢ TooMany) }
 {
     let mut left = bytes;
     while left.len() >= width {
@@ -115,8 +119,10 @@ fn read_rows<const D: usize>(
 fn read_nodes<const D: usize>(parts: &mut Parts<D>, bytes: &[u8]) -> Result<(), BytesFault>
     requires some { 1 ≤ D }
     requires few { D ≤ 3 }
-    ensures { (nodes : List (NodeRow D)) → AreNodes nodes → bytes.now ≡ flat_map node_bytes nodes →
+    ensures read { (nodes : List (NodeRow D)) → AreNodes nodes → bytes.now ≡ flat_map node_bytes nodes →
         MatchResult result (λ _. ReadsNodes parts.old parts.new nodes) (λ fault. fault ≡ Memory) }
+    ensures count { OnOk result (CountsNodes parts.old parts.new bytes.now) }
+    ensures fault { IfErr result (λ fault. fault ≢ TooMany) }
 {
     let width = 8 + 8 * D;
     let mut left = bytes;
@@ -152,8 +158,10 @@ fn read_nodes<const D: usize>(parts: &mut Parts<D>, bytes: &[u8]) -> Result<(), 
 pub(crate) fn read<const D: usize>(alloc: Global, bytes: &[u8]) -> Result<Parts<D>, BytesFault>
     requires some { 1 ≤ D }
     requires few { D ≤ 3 }
-    ensures { (s : ShadowLists D) → AreParts s → tree_bytes s ≡ bytes.now →
+    ensures read { (s : ShadowLists D) → AreParts s → tree_bytes s ≡ bytes.now →
         MatchResult result (λ parts. IsReadAs parts s) (λ fault. fault ≡ Memory) }
+    ensures count { IfOk result (λ parts. HasRows D bytes.now (length parts.rows.items)) }
+    ensures fault { IfErr result (λ fault. fault ≢ TooMany) }
 {
     let [74, 68, 84, version, axes, most, nodes @ ..] = bytes else {
         return Err(BytesFault::Bad);

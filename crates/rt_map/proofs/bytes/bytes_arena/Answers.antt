@@ -1,4 +1,4 @@
-use Rattle.std.proofs.Common.{◌∙◌, sym, subst}
+use Rattle.std.proofs.Common.{length, ◌∙◌, sym, subst}
 use Rattle.std.proofs.lemmas.Bool.{false≢true}
 use Rattle.rt_map.specs.BytesFaults.{IsBytesFaultOf}
 use Rattle.rt_map.specs.Meant.{IsMade}
@@ -18,7 +18,7 @@ returns-in_err-parts-clause-fault g c =
     let bytes = c.args.bytes.now in
     let fault = c.in_err-parts.field-0.0 in
     err-of c.from_residual.result fault (IsBytesFaultOf g.row.D bytes) c.from_residual.ensures.1
-    (only-for-memory g.row.D bytes fault (λ are. c.in_err-parts.ensures are.0 (readable are.0 bytes are.1) are.1.same))
+    (only-for-memory g.row.D bytes fault (λ are. c.in_err-parts.ensures.read are.0 (readable are.0 bytes are.1) are.1.same) (λ e. absurd (c.in_err-parts.ensures.fault e)))
 
 pub returns-in_err-arena-clause-fault : goal.returns-in_err-arena-clause-fault
 returns-in_err-arena-clause-fault g c =
@@ -26,15 +26,16 @@ returns-in_err-arena-clause-fault g c =
     let fault = c.in_err-arena.field-0.0 in
     err-of c.from_residual-in_err-arena.result fault (IsBytesFaultOf g.row.D bytes) c.from_residual-in_err-arena.ensures.1
     (only-for-memory g.row.D bytes fault (λ are.
-    let read = c.in_ok-parts.ensures are.0 (readable are.0 bytes are.1) are.1.same in
+    let read = c.in_ok-parts.ensures.read are.0 (readable are.0 bytes are.1) are.1.same in
     let found = listed-tree are.0 bytes are.1 in
-    c.in_err-arena.ensures.meant found.0 (read-listed c.in_ok-parts.parts are.0 found.0 read found.2)))
+    c.in_err-arena.ensures.meant found.0 (read-listed c.in_ok-parts.parts are.0 found.0 read found.2))
+    (λ e. (length c.in_ok-parts.parts.rows.items, c.in_ok-parts.ensures.count, c.in_err-arena.ensures.many e)))
 
 pub returns-then-not-same-clause-fault : goal.returns-then-not-same-clause-fault
 returns-then-not-same-clause-fault g c = λ are.
     let bytes = c.args.bytes.now in
     let arena = c.in_ok-arena.arena in
-    let read = c.in_ok-parts.ensures are.0 (readable are.0 bytes are.1) are.1.same in
+    let read = c.in_ok-parts.ensures.read are.0 (readable are.0 bytes are.1) are.1.same in
     let found = listed-tree are.0 bytes are.1 in
     let made = c.in_ok-arena.ensures.meant found.0 (read-listed c.in_ok-parts.parts are.0 found.0 read found.2) in
     let same = same-bytes arena are.0 found.0 c.in_ok-arena.ensures.kept (subst (λ n. IsMade arena n found.0) read.capacity made) found.1 in

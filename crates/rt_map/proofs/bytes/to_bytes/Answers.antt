@@ -1,8 +1,6 @@
 use Rattle.std.proofs.Common.{◌≡◌, ℕ, length, Vec, Global, arith, ap, sym, subst}
-use Rattle.rt_box.specs.Capacity.{IsCapacity}
 use Rattle.rt_check.specs.Shadow.{ShadowLists}
 use Rattle.rt_tree.specs.Lists.{IsInShape, rows_of}
-use Rattle.rt_tree_node.specs.Whole.{most_rows_of_a_tree}
 use Rattle.rt_tree_outside.specs.Outside.{outside}
 use Rattle.rt_map.proofs.BytesTaken.{taken-again}
 use Rattle.rt_map.proofs.bytes.to_bytes.Goals as goal

@@ -1,4 +1,4 @@
-use Rattle.std.proofs.Common.{◌≡◌, pos, arith}
+use Rattle.std.proofs.Common.{pos, arith}
 use Rattle.std.specs.Prelude.{FitsSigned}
 use Rattle.std.specs.Int.{w32}
 use Rattle.std.proofs.lemmas.Grind.{common_steps}
