@@ -14,11 +14,7 @@ use rt_tree_node::{Arena, Key, Node, Nodes, Pending, node_at, remove_cell, remov
 use rt_tree_place::refit;
 
 /// Takes the node out of the slab, and the cell that names it out of the parent.
-pub(crate) fn remove_child<const D: usize>(
-    nodes: &mut Nodes<D>,
-    key: Key,
-    parent: Key,
-) -> Node<D>
+pub(crate) fn remove_child<const D: usize>(nodes: &mut Nodes<D>, key: Key, parent: Key) -> Node<D>
     requires here { ContainsKey nodes.old key }
     requires above { ContainsKey nodes.old parent }
     requires apart { key ≢ parent }
