@@ -308,6 +308,16 @@ def test_workers():
             assert len(call([], workers=4)) == len(call([]))
         odd = array.array("i", [0] * (2 * dimension * 4000 + 1))
         assert refused(lambda: tree.intersection_many(odd, workers=4)) == 14
+    # One window in 64 finds all rows, and each other window finds one.
+    tree = RTree.from_rows(range(1000), [(id, id) for id in range(1000)], 1)
+    for place in range(3):
+        windows = [(0, 999) if k % 64 == place else (k % 1000, k % 1000) for k in range(20000)]
+        for workers in (1, 4):
+            ids, starts = tree.intersection_many(windows, workers=workers)
+            assert len(starts) == 20001 and starts[20000] == len(ids)
+            for (low, high), begin, end in zip(windows, starts, starts[1:]):
+                assert sorted(ids[begin:end]) == list(range(low, high + 1))
+            assert list(tree.count_many(windows, workers=workers)) == [high + 1 - low for low, high in windows]
 
 
 def test_numbers():

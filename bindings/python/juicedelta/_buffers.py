@@ -23,7 +23,9 @@ def array_of(values: Any, code: str, name: str, width: int = 1) -> "array.array[
         raise ValueError(f"{name} have {width} numbers each, not the shape {view.shape}")
     if len(form) != 1 or form not in _TAKEN[code]:
         raise ValueError(f"{name} are {_WORDS[code]}, not a buffer of format {view.format!r}")
-    numbers, data = array.array(code), view.tobytes()
+    # The bytes are copied only where they can't be viewed.
+    is_viewed = form == view.format and view.c_contiguous and view.nbytes > 0
+    numbers, data = array.array(code), view.cast("B") if is_viewed else view.tobytes()
     if array.array(form).itemsize == numbers.itemsize and (form in "fd") == (code == "d") and form.islower():
         numbers.frombytes(data)
         return numbers

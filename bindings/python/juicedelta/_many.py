@@ -31,7 +31,7 @@ from ._errors import BUFFER_TOO_SMALL, EMPTY, accept, error_at
 from ._form import Form
 from ._grid import Grid
 from ._owner import Guard, Owner, capacity_of, whole
-from ._spread import Many, joined, parts_for, side_by_side
+from ._spread import Found, Many, Share, few_of, joined, memory_of, shares_of, side_by_side, threads_for
 from ._sqlite import all_or_nothing, create, find, parts_of, quoted, replace_rows, table_of
 
 Relation = Literal["touches", "within", "holds"]
@@ -135,47 +135,60 @@ class ManyReads(Owner):
         If there are many windows, `workers` threads share them; -1 stands for a thread for each processor. A write of
         another thread may then come between their shares.
         """
-        width, number = self._form.width, relation_of(relation)
+        number, windows = relation_of(relation), self._form.list_of_boxes(boxes)
+        each = self._ids_each(number, windows)
+        return self._many(tree_search_many, (number,), windows, self._form.width, (), each, workers)
 
-        def found(windows: array.array[int]) -> Many:
-            return self._many(tree_search_many, windows, width, 4 * len(windows), number, *_list(windows))
-
-        return joined(side_by_side(found, parts_for(self._form.list_of_boxes(boxes), width, workers)))
+    def _ids_each(self, number: ctypes.c_uint32, windows: array.array[int]) -> int:
+        """Room for the ids of a window: some more than few windows find. With too little room a share is searched twice."""
+        few = few_of(windows, self._form.width)
+        if not few:
+            return 16
+        counts = zeros("q", len(few) // self._form.width)
+        accept(self._guard.read(tree_count_many, self._at, number, *_list(few), at(counts), len(counts)))
+        return 2 + sum(counts) * 5 // (4 * len(counts))
 
     def nearest_many(self, points: Any, num_results: SupportsIndex = 1, workers: SupportsIndex = 1) -> Many:
         """The ids of the rows nearest to each point, the nearest first. For `workers` see `intersection_many`."""
         axes, most = self._form.axes, min(max(whole(num_results, "num_results"), 0), len(self))
+        return self._many(tree_nearest_many, (), self._form.list_of_points(points), axes, (most,), most, workers)
 
-        def found(numbers: array.array[int]) -> Many:
-            return self._many(tree_nearest_many, numbers, axes, most * len(numbers) // axes, *_list(numbers), most)
+    def _many(
+        self, call: Call, before: Tuple[object, ...], numbers: array.array[int], width: int, behind: Tuple[object, ...],
+        each: int, workers: SupportsIndex
+    ) -> Many:
+        """What a call finds that takes the numbers between other words, with room for that many ids each at first."""
+        threads = threads_for(workers)
+        spare: List[array.array[int]] = []
 
-        return joined(side_by_side(found, parts_for(self._form.list_of_points(points), axes, workers)))
+        def found(share: Share) -> Found:
+            count, total = share.length // width, ctypes.c_uint64()
+            ids, starts = memory_of(spare, each * count), zeros("q", count)
+            words = (*before, *share.words(), *behind, at(starts), count)
+            while True:
+                code = self._guard.read(call, self._at, *words, at(ids), len(ids), ctypes.byref(total))
+                if code != BUFFER_TOO_SMALL:
+                    accept(code)
+                    return Found(ids, total.value, starts)
+                ids = zeros("q", total.value + total.value // 8)
 
-    def _many(self, call: Call, given: array.array[int], width: int, room: int, *words: object) -> Many:
-        count, total = len(given) // width, ctypes.c_uint64()
-        starts, code = zeros("q", count + 1), BUFFER_TOO_SMALL
-        while code == BUFFER_TOO_SMALL:
-            ids = zeros("q", room)
-            code = self._guard.read(call, self._at, *words, at(starts), count, at(ids), room, ctypes.byref(total))
-            room = total.value
-        accept(code)
-        del ids[room:]
-        starts[count] = room
-        return Many(ids, starts)
+        return joined(side_by_side(found, shares_of(numbers, width, threads), threads), spare)
 
     def count_many(
         self, boxes: Any, relation: Relation = "touches", workers: SupportsIndex = 1
     ) -> array.array[int]:
         """How many rows each window finds. For `workers` see `intersection_many`."""
         width, number = self._form.width, relation_of(relation)
+        windows, threads = self._form.list_of_boxes(boxes), threads_for(workers)
+        counts = zeros("q", len(windows) // width)
 
-        def counted(windows: array.array[int]) -> array.array[int]:
-            counts = zeros("q", len(windows) // width)
-            accept(self._guard.read(tree_count_many, self._at, number, *_list(windows), at(counts), len(counts)))
-            return counts
+        def count(share: Share) -> None:
+            place = at(counts) + counts.itemsize * (share.begin // width)
+            accept(self._guard.read(tree_count_many, self._at, number, *share.words(), place, share.length // width))
 
-        counts = side_by_side(counted, parts_for(self._form.list_of_boxes(boxes), width, workers))
-        return sum(counts[1:], counts[0])
+        for _ in side_by_side(count, shares_of(windows, width, threads), threads):
+            pass
+        return counts
 
     def join(self, other: Optional[ManyReads] = None) -> Pairs:
         """Each pair of rows, one of this tree and one of the other, whose boxes touch, once, in no stated order.

@@ -6,11 +6,14 @@ import array
 import os
 import sys
 from concurrent.futures import ThreadPoolExecutor
-from typing import Callable, List, NamedTuple, Sequence, SupportsIndex, TypeVar
+from typing import Callable, Iterator, List, NamedTuple, SupportsIndex, Tuple, TypeVar
 
+from ._buffers import at, zeros
 from ._owner import whole
 
 _LEAST = 1000  # A thread with fewer windows takes longer to begin than to search.
+_SHARES = 8  # For each thread. Memory serves again for a later share, and a thread that is slowed down takes fewer.
+_FEW, _STEP = 128, 64  # Few windows are asked before all: that many, or one of a step.
 T = TypeVar("T")
 
 
@@ -21,37 +24,83 @@ class Many(NamedTuple):
     starts: array.array[int]
 
 
-def parts_for(numbers: array.array[int], width: int, workers: SupportsIndex) -> List[array.array[int]]:
-    """The numbers, of which `width` belong together, in a part for each thread."""
+class Share(NamedTuple):
+    """Some of the numbers of a list."""
+
+    numbers: array.array[int]
+    begin: int
+    length: int
+
+    def words(self) -> Tuple[int, int]:
+        """The share as a call takes it: where it stands, and its length."""
+        return at(self.numbers) + self.numbers.itemsize * self.begin, self.length
+
+
+class Found(NamedTuple):
+    """What the windows or points of a share find: memory that begins with `total` ids, and where those of each begin."""
+
+    memory: array.array[int]
+    total: int
+    starts: array.array[int]
+
+
+def threads_for(workers: SupportsIndex) -> int:
+    """How many threads `workers` stands for."""
     threads = whole(workers, "workers")
     if threads == -1:
-        threads = len(os.sched_getaffinity(0)) if hasattr(os, "sched_getaffinity") else os.cpu_count() or 1
+        return len(os.sched_getaffinity(0)) if hasattr(os, "sched_getaffinity") else os.cpu_count() or 1
     if threads < 1:
         raise ValueError("workers is 1 or more, or -1")
-    size = max(-(-len(numbers) // (width * threads)), _LEAST) * width
-    return [numbers[begin : begin + size] for begin in range(0, len(numbers), size)] or [numbers]
+    return threads
 
 
-def side_by_side(ask: Callable[[array.array[int]], T], parts: List[array.array[int]]) -> List[T]:
-    """The answers for the parts, each in a thread of its own."""
-    if len(parts) == 1:
-        return [ask(parts[0])]
-    with ThreadPoolExecutor(len(parts)) as pool:
-        return list(pool.map(ask, parts))
+def shares_of(numbers: array.array[int], width: int, threads: int) -> List[Share]:
+    """The numbers, of which `width` belong together, in shares for the threads: one, or several for each."""
+    length, shares = len(numbers), _SHARES * threads if threads > 1 else 1
+    size = max(-(-length // (width * shares)), _LEAST) * width
+    return [Share(numbers, begin, min(size, length - begin)) for begin in range(0, max(length, 1), size)]
 
 
-def joined(answers: Sequence[Many]) -> Many:
-    """The answers as one."""
-    ids, starts = answers[0]
-    for answer in answers[1:]:
-        del starts[-1]
-        starts.extend(_raised(answer.starts, len(ids)))
-        ids.extend(answer.ids)
+def few_of(numbers: array.array[int], width: int) -> array.array[int]:
+    """The numbers of a few windows, spread over the list; of none if there aren't many."""
+    few, step = numbers[:0], max(len(numbers) // (width * _FEW), _STEP) * width
+    if len(numbers) >= _LEAST * width:
+        for begin in range(0, len(numbers) - width + 1, step):
+            few.extend(numbers[begin : begin + width])
+    return few
+
+
+def side_by_side(ask: Callable[[Share], T], shares: List[Share], threads: int) -> Iterator[T]:
+    """The answers for the shares, in their order. A thread that is done with a share takes the next."""
+    if len(shares) == 1:
+        yield ask(shares[0])
+        return
+    with ThreadPoolExecutor(min(threads, len(shares))) as pool:
+        yield from pool.map(ask, shares)
+
+
+def memory_of(spare: List[array.array[int]], room: int) -> array.array[int]:
+    """Memory that an earlier share no longer needs, or new memory with that much room. New pages cost time."""
+    try:
+        return spare.pop()
+    except IndexError:
+        return zeros("q", room)
+
+
+def joined(answers: Iterator[Found], spare: List[array.array[int]]) -> Many:
+    """The answers as one. They are joined while threads search on, and their memory becomes spare."""
+    ids, total, starts = next(answers)
+    del ids[total:]
+    for found in answers:
+        starts.extend(_raised(found.starts, len(ids)))
+        ids.frombytes(memoryview(found.memory).cast("B")[: ids.itemsize * found.total])
+        spare.append(found.memory)
+    starts.append(len(ids))
     return Many(ids, starts)
 
 
 def _raised(numbers: array.array[int], by: int) -> array.array[int]:
     """Each number and `by`. All are added at once, as digits of 64 bits: no sum carries into the next digit."""
     ones = array.array("q", [1]) * len(numbers)
-    sums = int.from_bytes(numbers.tobytes(), sys.byteorder) + by * int.from_bytes(ones.tobytes(), sys.byteorder)
+    sums = int.from_bytes(numbers, sys.byteorder) + by * int.from_bytes(ones, sys.byteorder)
     return array.array("q", sums.to_bytes(8 * len(numbers), sys.byteorder))
