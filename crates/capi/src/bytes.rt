@@ -21,7 +21,7 @@ pub extern "C" fn juicedelta_tree_open_bytes(
     second_key: u64,
 ) -> i32
     ensures { Opens handle.old.held handle.new.held (IsTree axes (λ D. IsOfBytes bytes.now))
-        (OpensNoBytes axes) result }
+        (OpensNoBytes axes bytes.now) result }
 {
     if let Some(object) = handle.take(alloc) {
         handle.put(object);

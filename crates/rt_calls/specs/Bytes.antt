@@ -4,19 +4,22 @@ use Rattle.rt_handle.specs.declared.object.HeldTree.{HeldTree}
 use Rattle.rt_handle.specs.declared.object.Object.{Object}
 use Rattle.rt_tree.specs.Lists.{TreeLists}
 use Rattle.rt_map.specs.TreeBytes.{tree_bytes}
+use Rattle.rt_map.specs.Written.{IsTreeBytes}
+use Rattle.rt_map.specs.BytesFaults.{HasTooManyRows}
 use Rattle.rt_calls.specs.Buffers.{GivesText}
 use Rattle.rt_calls.specs.Calls.{IsTree}
 use Rattle.rt_calls.specs.Trees.{IsAxes}
 use Rattle.rt_calls.specs.declared.code.Code.{Code}
 use Rattle.rt_calls.specs.declared.code.Code.TheVariants.{BadBytes, OutOfMemory, TreeFull, BadAxes}
 
--- why there is no tree of the bytes: a tree has not that many axes; or one of these, as they are met
-abbrev pub OpensNoBytes : ℕ → Code → Type 0
-OpensNoBytes axes BadAxes = ¬ IsAxes axes
-OpensNoBytes axes BadBytes = IsAxes axes
-OpensNoBytes axes TreeFull = IsAxes axes
-OpensNoBytes axes OutOfMemory = IsAxes axes
-OpensNoBytes axes code = ⊥
+-- why there is no tree of the bytes: a tree has not that many axes; or the bytes are not those of a tree, in which case they may
+-- have more rows than one; or no memory is left
+abbrev pub OpensNoBytes : ℕ → List ℕ → Code → Type 0
+OpensNoBytes axes bytes BadAxes = ¬ IsAxes axes
+OpensNoBytes axes bytes BadBytes = IsAxes axes × (¬ IsTreeBytes axes bytes)
+OpensNoBytes axes bytes TreeFull = IsAxes axes × (¬ IsTreeBytes axes bytes) × HasTooManyRows axes bytes
+OpensNoBytes axes bytes OutOfMemory = IsAxes axes
+OpensNoBytes axes bytes code = ⊥
 
 module _ {D : ℕ} where
   -- the tree's bytes are in the caller's buffer, and their number is told; or there are more, or no memory is left
@@ -29,8 +32,8 @@ module _ {D : ℕ} where
 
   abbrev pub ReadsBytes : List ℕ → Result (HeldTree D) Code → Type 0
   ReadsBytes bytes (Ok kept) = IsOfBytes bytes kept
-  ReadsBytes bytes (Err code) = OpensNoBytes D code
+  ReadsBytes bytes (Err code) = OpensNoBytes D bytes code
 
 abbrev pub ReadsAnyBytes : ℕ → List ℕ → Result Object Code → Type 0
 ReadsAnyBytes axes bytes (Ok object) = IsAxes axes × IsTree axes (λ D. IsOfBytes bytes) object
-ReadsAnyBytes axes bytes (Err code) = OpensNoBytes axes code
+ReadsAnyBytes axes bytes (Err code) = OpensNoBytes axes bytes code
