@@ -170,6 +170,10 @@ module _ {D : ℕ} where
     pub full : length (heap_items new) ≡ q.k
     pub ordered : IsHeap compare (heap_items new)
 
+  -- what the near leaf knows is what is kept after the node's rows, if it is that node
+  abbrev pub KnowsAt : Query D → ℕ → NodeCells D → Kept D → Near D → Type 0
+  KnowsAt q key n kept near = near.leaf ≡ key → KeepsFrom q (candidates_of q n) kept near.kept
+
   abbrev pub QueuesFrom : List Interval → ℕ → List (Cell D) → BinaryHeap (Reverse Branch) Global → BinaryHeap (Reverse Branch) Global → Type 0
   QueuesFrom target most cells old new = Queues target most cells (heap_items old) (heap_items new)
 

@@ -10,7 +10,7 @@ ghost use Rattle.std.specs.List.Sorted.{IsPermutation};
 ghost use Rattle.std.specs.BinaryHeap.{KeepsHeap, heap_items};
 ghost use Rattle.slab.specs.Slab.{ContainsKey};
 ghost use Rattle.rt_tree_node.specs.Whole.{IsWhole};
-ghost use Rattle.rt_tree_nearest.specs.Candidates.{candidates_of, IsAimed, IsKeptIn, IsKeptAfter, KeepsFrom, QueuesFrom, ExploresFrom, IsAnswer};
+ghost use Rattle.rt_tree_nearest.specs.Candidates.{candidates_of, IsAimed, IsKeptIn, IsKeptAfter, KeepsFrom, KnowsAt, QueuesFrom, ExploresFrom, IsAnswer};
 
 use crate::candidate::Branch;
 use crate::keep::{Kept, keep_rows, ordered, reach};
@@ -56,7 +56,7 @@ fn see_rows<const D: usize>(
 ) -> Result<(), AllocError>
     requires kept { IsKeptIn query.now kept.old }
     requires aimed { IsAimed query.now }
-    requires near { IfSome near (λ n. n.leaf ≡ key → KeepsFrom query.now (candidates_of query.now leaf.now) kept.old n.kept) }
+    requires near { IfSome near (KnowsAt query.now key leaf.now kept.old) }
     ensures { OnOk result (KeepsFrom query.now (candidates_of query.now leaf.now) kept.old kept.new) }
 {
     match near {
@@ -80,7 +80,7 @@ fn explore<const D: usize>(
 ) -> Result<(), AllocError>
     requires kept { IsKeptIn query.now kept.old }
     requires aimed { IsAimed query.now }
-    requires near { IfSome near.old (λ n. n.leaf ≡ key → KeepsFrom query.now (candidates_of query.now node.now) kept.old n.kept) }
+    requires near { IfSome near.old (KnowsAt query.now key node.now kept.old) }
     ensures explores { OnOk result (ExploresFrom query.now node.now kept.old kept.new branches.old branches.new) }
     ensures leaf { node.now.level ≡ 0 → near.new ≡ None }
     ensures inner { (l : ℕ) → node.now.level ≡ suc l → near.new ≡ near.old }

@@ -5,11 +5,11 @@
 //! - `nearest_to`: the same by the squared distance between the rows' boxes and a box.
 //!
 //! What is nearest is looked at first, and what is farther than `k` rows seen is left out, so a search for few rows goes
-//! into few nodes. A near leaf gives a first limit (`narrow`), and a window around it tells most cells that are beyond it
-//! without their distances (`query`).
+//! into few nodes. A near leaf gives a first limit, and most often the first rows kept (`narrow`). A window around the limit
+//! tells most cells that are beyond it without their distances (`query`).
 //!
 //! They ask for a whole tree without pending cells, and take memory for what they return, for at most `k` rows that they
-//! keep, and for a heap of the nodes that they have seen.
+//! keep, for as many of the near leaf, and for a heap of the nodes that they have seen.
 //!
 //! Stands on `rt_tree_node` and `rt_tree_walk`. Definitions: `specs/Nearest.antt` (distances, the order, the answers),
 //! `Candidates.antt` (what a search keeps).
