@@ -53,7 +53,8 @@ fn arena_of<const D: usize>(
     requires some { 1 ≤ D }
     requires few { D ≤ 3 }
     ensures kept { IfOk result (λ arena. IsKeptWith arena 0) }
-    ensures meant { (meant : NestedTree) → IsListed parts.now.capacity parts.now.shapes.items parts.now.rows.items meant →
+    ensures meant { (meant : NestedTree) →
+        IsListed parts.now.capacity parts.now.shapes.items parts.now.rows.items meant →
         MatchResult result (λ arena. IsMade arena parts.now.capacity meant) (λ fault. fault ≡ Memory) }
     ensures many { IfErr result (λ fault. fault ≡ TooMany → most_rows_of_a_tree < length parts.now.rows.items) }
 {

@@ -55,8 +55,8 @@ fn long_of(bytes: &[u8]) -> i64
 /// The coordinates of a point.
 fn read_point<const D: usize>(bytes: &[u8]) -> [i32; D]
     requires { length bytes.now ≡ 4 * D }
-    ensures { (point : List ℤ) → length point ≡ D → All (FitsSigned w32) point → bytes.now ≡ flat_map short_bytes point →
-        result ≡ point }
+    ensures { (point : List ℤ) → length point ≡ D → All (FitsSigned w32) point →
+        bytes.now ≡ flat_map short_bytes point → result ≡ point }
 {
     let mut point = [0; D];
     let mut left = bytes;

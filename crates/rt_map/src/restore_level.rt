@@ -35,8 +35,10 @@ pub(crate) fn restore_level<const D: usize>(
     requires few { D ≤ 3 }
     requires below { IsBelowRoot tree.old level cells.now }
     requires keys { tree.old.nodes.capacity ≤ 2 ^ 62 }
-    ensures steps { IfOk result (λ made. IfSome made (λ next. RestoresUpTo tree.old tree.new level cells.now [] next.items)) }
-    ensures meant { (nodes : List (Entry (suc level))) → Awaits tree.old level (sizes_at level shapes.now) cells.now [] nodes →
+    ensures steps { IfOk result (λ made. IfSome made
+        (λ next. RestoresUpTo tree.old tree.new level cells.now [] next.items)) }
+    ensures meant { (nodes : List (Entry (suc level))) →
+        Awaits tree.old level (sizes_at level shapes.now) cells.now [] nodes →
         IfOk result (λ made. IsSomeAnd made (λ next. Awaits tree.new level [] [] next.items nodes)) }
 {
     let mut next = Vec::new(alloc);

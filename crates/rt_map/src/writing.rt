@@ -61,7 +61,8 @@ fn push_cells<const D: usize>(
     requires small { All (λ n. n < 2 ^ 63) numbers.now }
     ensures bytes { OnOk result (bytes.new.items ≡ bytes.old.items ++
         flat_map cell_bytes (map (cell_seen (noted numbers.now) node.now.level) node.now.cells)) }
-    ensures written { OnOk result (All IsCellWritten (map (cell_seen (noted numbers.now) node.now.level) node.now.cells)) }
+    ensures written { OnOk result (All IsCellWritten
+        (map (cell_seen (noted numbers.now) node.now.level) node.now.cells)) }
 {
     for at in 0..node.len() {
         push_cell(bytes, &cell_row(&node.cell(at), node.level(), numbers))?;
