@@ -57,7 +57,7 @@ def _of_items(values: Iterable[Any], code: str, name: str, width: int) -> "array
 
 
 def numpy_for(length: int) -> Any:
-    """NumPy, if the program uses it and there are enough numbers to be worth its while. It answers what Python does number by number."""
+    """NumPy, if the program uses it and there are many numbers. It answers what Python does number by number."""
     return sys.modules.get("numpy") if length >= 100 else None
 
 

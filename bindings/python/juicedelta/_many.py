@@ -31,7 +31,7 @@ from ._errors import BUFFER_TOO_SMALL, EMPTY, accept, error_at
 from ._form import Form
 from ._grid import Grid
 from ._owner import Guard, Owner, capacity_of, whole
-from ._spread import Found, Many, Share, few_of, joined, memory_of, shares_of, side_by_side, threads_for
+from ._spread import Found, Many, Share, joined, memory_of, sample_of, shares_of, side_by_side, threads_for
 from ._sqlite import all_or_nothing, create, find, parts_of, quoted, replace_rows, table_of
 
 Relation = Literal["touches", "within", "holds"]
@@ -140,12 +140,12 @@ class ManyReads(Owner):
         return self._many(tree_search_many, (number,), windows, self._form.width, (), each, workers)
 
     def _ids_each(self, number: ctypes.c_uint32, windows: array.array[int]) -> int:
-        """Room for the ids of a window: some more than few windows find. With too little room a share is searched twice."""
-        few = few_of(windows, self._form.width)
-        if not few:
+        """How many ids to make room for, a window: more than a sample finds, since too little means a second search."""
+        sample = sample_of(windows, self._form.width)
+        if not sample:
             return 16
-        counts = zeros("q", len(few) // self._form.width)
-        accept(self._guard.read(tree_count_many, self._at, number, *_list(few), at(counts), len(counts)))
+        counts = zeros("q", len(sample) // self._form.width)
+        accept(self._guard.read(tree_count_many, self._at, number, *_list(sample), at(counts), len(counts)))
         return 2 + sum(counts) * 5 // (4 * len(counts))
 
     def nearest_many(self, points: Any, num_results: SupportsIndex = 1, workers: SupportsIndex = 1) -> Many:
@@ -157,7 +157,7 @@ class ManyReads(Owner):
         self, call: Call, before: Tuple[object, ...], numbers: array.array[int], width: int, behind: Tuple[object, ...],
         each: int, workers: SupportsIndex
     ) -> Many:
-        """What a call finds that takes the numbers between other words, with room for that many ids each at first."""
+        """What a call finds that takes the numbers between other words. At first there is room for `each` ids a place."""
         threads = threads_for(workers)
         spare: List[array.array[int]] = []
 

@@ -12,8 +12,8 @@ from ._buffers import at, zeros
 from ._owner import whole
 
 _LEAST = 1000  # A thread with fewer windows takes longer to begin than to search.
-_SHARES = 8  # For each thread. Memory serves again for a later share, and a thread that is slowed down takes fewer.
-_FEW, _STEP = 128, 64  # Few windows are asked before all: that many, or one of a step.
+_SHARES = 8  # For each thread: a later share uses the memory of an earlier one again, and a slow thread takes fewer.
+_SAMPLE, _STEP = 128, 64  # A sample has about as many windows as that, and at most one in a step.
 T = TypeVar("T")
 
 
@@ -61,13 +61,13 @@ def shares_of(numbers: array.array[int], width: int, threads: int) -> List[Share
     return [Share(numbers, begin, min(size, length - begin)) for begin in range(0, max(length, 1), size)]
 
 
-def few_of(numbers: array.array[int], width: int) -> array.array[int]:
-    """The numbers of a few windows, spread over the list; of none if there aren't many."""
-    few, step = numbers[:0], max(len(numbers) // (width * _FEW), _STEP) * width
+def sample_of(numbers: array.array[int], width: int) -> array.array[int]:
+    """The numbers of a sample of the windows, spread over the list. It is empty if there are too few of them to need one."""
+    sample, step = numbers[:0], max(len(numbers) // (width * _SAMPLE), _STEP) * width
     if len(numbers) >= _LEAST * width:
         for begin in range(0, len(numbers) - width + 1, step):
-            few.extend(numbers[begin : begin + width])
-    return few
+            sample.extend(numbers[begin : begin + width])
+    return sample
 
 
 def side_by_side(ask: Callable[[Share], T], shares: List[Share], threads: int) -> Iterator[T]:
@@ -80,7 +80,7 @@ def side_by_side(ask: Callable[[Share], T], shares: List[Share], threads: int) -
 
 
 def memory_of(spare: List[array.array[int]], room: int) -> array.array[int]:
-    """Memory that an earlier share no longer needs, or new memory with that much room. New pages cost time."""
+    """Memory that an earlier share no longer needs, since new pages cost time; else new memory with that much room."""
     try:
         return spare.pop()
     except IndexError:
