@@ -1,10 +1,10 @@
 -- Lemmas on numbers whose bits tell of a list's elements.
 use Rattle.std.proofs.Common.{◌≡◌, ℕ, zero, suc, ◌+◌, ◌*◌, ◌/◌, ◌%◌, ◌^◌, ◌-◌, ◌<◌, ◌≤◌, ◌↔◌, min, Bool, true, false, IsTrue, List, [], ◌∷◌, ◌++◌, All, length, take, drop, get_or, arith, refl, ap, ap₂, sym, subst, ◌∙◌, inl, inr}
-use Rattle.std.proofs.Math.Nat.{two-pow-succ, pow-suc, mul_assoc}
-use Rattle.std.proofs.lemmas.Nat.{mod-pow-add}
+use Rattle.std.proofs.Math.Nat.{two-pow-succ, pow-suc, mul_assoc, mul-le-mul_right, mod-lt, mod-eq_of_lt}
+use Rattle.std.proofs.lemmas.Nat.{mod-pow-add, shl_whole, pow_pos}
 use Rattle.std.proofs.Math.Pow.{pow_mono}
-use Rattle.std.proofs.lemmas.List.{length-drop, drop-drop, drop_more, length-take-le, take-take, take-append-drop}
-use Rattle.std.proofs.lemmas.List.Elements.{All-cons, All-head, All-tail, All-append, All-drop}
+use Rattle.std.proofs.lemmas.List.{length-drop, drop_more, drop-take, length-take-le, take-take, take_all, take-append-drop}
+use Rattle.std.proofs.lemmas.List.Elements.{All-cons, All-head, All-tail, All-append, All-take}
 use Rattle.std.specs.Int.{from_bool}
 use Rattle.std.proofs.lemmas.Bool.{cases_Bool, iff_false}
 use Rattle.std.specs.Int.Bits.{bit_and}
@@ -26,8 +26,10 @@ four_left_from xs i j x y z u next within x_is y_is z_is u_is =
     (left_from xs (i + 2) (i + 3) z (u ∷ rest) (omega (arith, next, within)) (omega arith) z_is
     (left_from xs (i + 3) j u rest (omega (arith, next, within)) (omega (arith, next)) u_is refl)))
 
-pub four-in-front : {X : Type 0} (xs : List X) (i j : ℕ) → i + 4 ≡ j → take 4 (drop i xs) ++ drop j xs ≡ drop i xs
-four-in-front xs i j next = ap (λ l. take 4 (drop i xs) ++ l) (ap (λ n. drop n xs) (sym next) ∙ sym (drop-drop 4 i xs)) ∙ take-append-drop 4 (drop i xs)
+pub four-behind : {X : Type 0} (xs : List X) (i j : ℕ) → j ≡ i + 4 → take i xs ++ take 4 (drop i xs) ≡ take j xs
+four-behind {X} xs i j next =
+    ap₂ (λ (front back : List X). front ++ back) (sym (take-take i (i + 4) xs (omega arith))) (sym (drop-take i 4 xs))
+    ∙ take-append-drop i (take (i + 4) xs) ∙ ap (λ n. take n xs) (sym next)
 
 pub four_at : {X : Type 0} (xs : List X) (i : ℕ) (x y z u : X) → i + 4 ≤ length xs → x ≡ get_or xs i x → y ≡ get_or xs (i + 1) y →
     z ≡ get_or xs (i + 2) z → u ≡ get_or xs (i + 3) u → take 4 (drop i xs) ≡ x ∷ y ∷ z ∷ u ∷ []
@@ -37,13 +39,16 @@ pub All-four : {X : Type 0} (P : X → Type 0) (x y z u : X) (xs : List X) → P
 All-four P x y z u xs p q r s all =
     All-cons P x (y ∷ z ∷ u ∷ xs) p (All-cons P y (z ∷ u ∷ xs) q (All-cons P z (u ∷ xs) r (All-cons P u xs s all)))
 
--- a property of the first four, and of those behind the first ones, is one of all
-pub All-together : {X : Type 0} (P : X → Type 0) (xs : List X) (left : ℕ) → left < 4 → 4 ≤ length xs → All P (take 4 (drop 0 xs)) → All P (drop left xs) → All P xs
-All-together P xs left few some front back =
-    let four : left + (4 - left) ≡ 4 = omega (arith, few) in
-    let both : All P (take 4 xs ++ drop 4 xs) = All-append P (take 4 xs) (drop 4 xs) front
-    (subst (λ l. All P l) (drop-drop (4 - left) left xs ∙ ap (λ n. drop n xs) four) (All-drop P (4 - left) (drop left xs) back)) in
-    subst (λ l. All P l) (take-append-drop 4 xs) both
+-- the first ones up to the last four, and these, are all
+pub last-four : {X : Type 0} (xs : List X) (last : ℕ) → last + 4 ≡ length xs → take last xs ++ take 4 (drop last xs) ≡ xs
+last-four xs last long = four-behind xs last (length xs) (sym long) ∙ take_all (length xs) xs (omega arith)
+
+-- a property of the first ones and of the last four is one of all
+pub All-together : {X : Type 0} (P : X → Type 0) (xs : List X) (at last : ℕ) → last + 4 ≡ length xs → last ≤ at → All P (take at xs) →
+    All P (take 4 (drop last xs)) → All P xs
+All-together P xs at last long past front back =
+    let first : All P (take last xs) = subst (λ l. All P l) (take-take last at xs past) (All-take P last (take at xs) front) in
+    subst (λ l. All P l) (last-four xs last long) (All-append P (take last xs) (take 4 (drop last xs)) first back)
 
 pub bit-le : (holds : Bool) (bit : ℕ) → bit ≡ from_bool holds → bit ≤ 1
 bit-le true bit e = omega (arith, e)
@@ -131,38 +136,67 @@ module _ {X : Type 0} (P : X → Type 0) where
             ((λ o. absurd (omega (arith, o, even)), λ p. absurd (iff_false is false_is p)), subst (Tells P xs) half told)
       ]
 
--- a shift by less than four places, of bits that have the room
-shifted : (left bits first : ℕ) → left < 4 → bits < 2 ^ (64 - left) →
-    (bits * 2 ^ left % 2 ^ 64 ≡ bits * 2 ^ left) × (1 * 2 ^ left % 2 ^ 64 ≡ 2 ^ left) × (bits * 2 ^ left + first % 2 ^ left < 2 ^ 64)
-shifted zero bits first few room = (omega (arith, room), refl, omega (arith, room))
-shifted (suc zero) bits first few room = (omega (arith, room), refl, omega (arith, room))
-shifted (suc (suc zero)) bits first few room = (omega (arith, room), refl, omega (arith, room))
-shifted (suc (suc (suc zero))) bits first few room = (omega (arith, room), refl, omega (arith, room))
-shifted (suc (suc (suc (suc left)))) bits first few room = absurd (omega (arith, few))
+-- four bits that are shifted, and the others below them
+module _ (last four bits : ℕ) (few : last ≤ 60) (small : four < 2 ^ 4) where
+  pub shifted : (four * 2 ^ last % 2 ^ 64 ≡ four * 2 ^ last) × (1 * 2 ^ last % 2 ^ 64 ≡ 2 ^ last) × (bits % 2 ^ last + four * 2 ^ last < 2 ^ 64)
+  shifted =
+      let low : 2 ^ last ≤ 2 ^ 60 = pow_mono {i = last} {j = 60} few in
+      let rest : bits % 2 ^ last < 2 ^ last = mod-lt bits (pow_pos last) in
+      let high : four * 2 ^ last ≤ 15 * 2 ^ last = mul-le-mul_right (2 ^ last) (omega (arith, small)) in (
+        shl_whole four 4 last 64 small (omega (arith, few)),
+        shl_whole 1 1 last 64 (omega arith) (omega (arith, few)) ∙ omega arith,
+        omega (arith, low, high, rest),
+      )
 
--- the bits of all elements, from those behind the first ones and from those of the first four
-module _ {X : Type 0} (P : X → Type 0) (xs : List X) (left bits first : ℕ) (few : left < 4) (some : 4 ≤ length xs) (most : length xs ≤ 64)
-    (told : Tells P (drop left xs) bits) (told_first : Tells P (take 4 (drop 0 xs)) first) where
+-- the bits of all elements, from those of the first ones and from those of the last four
+module _ {X : Type 0} (P : X → Type 0) (xs : List X) (at last bits four : ℕ) (long : last + 4 ≡ length xs) (past : last ≤ at) (within : at ≤ length xs)
+    (most : length xs ≤ 64) (told : Tells P (take at xs) bits) (told_last : Tells P (take 4 (drop last xs)) four) where
   abbrev pub together : ℕ
-  together = bits * 2 ^ left % 2 ^ 64 + first % (1 * 2 ^ left % 2 ^ 64)
+  together = bits % (1 * 2 ^ last % 2 ^ 64) + four * 2 ^ last % 2 ^ 64
 
-  parts : (bits * 2 ^ left % 2 ^ 64 ≡ bits * 2 ^ left) × (1 * 2 ^ left % 2 ^ 64 ≡ 2 ^ left) × (bits * 2 ^ left + first % 2 ^ left < 2 ^ 64)
-  parts = shifted left bits first few (Tells-room P xs left left bits told (omega arith) most)
+  four-long : length (take 4 (drop last xs)) ≡ 4
+  four-long = length-take-le 4 (drop last xs) (omega (arith, length-drop last xs, long))
 
-  together_is : together ≡ bits * 2 ^ left + first % 2 ^ left
-  together_is = ap₂ (λ m n. m + first % n) parts.0 parts.1
+  parts : (four * 2 ^ last % 2 ^ 64 ≡ four * 2 ^ last) × (1 * 2 ^ last % 2 ^ 64 ≡ 2 ^ last) × (bits % 2 ^ last + four * 2 ^ last < 2 ^ 64)
+  parts = shifted last four bits (omega (arith, long, most)) (subst (λ n. four < 2 ^ n) four-long (Tells-below P (take 4 (drop last xs)) four told_last))
+
+  together_is : together ≡ bits % 2 ^ last + four * 2 ^ last
+  together_is = ap₂ (λ m n. bits % m + n) parts.1 parts.0
 
   pub Tells-together-fits : together < 2 ^ 64
   Tells-together-fits = subst (λ n. n < 2 ^ 64) (sym together_is) parts.2
 
   pub Tells-together : Tells P xs together
   Tells-together =
-      let long : length (take 4 xs) ≡ 4 = length-take-le 4 xs some in
-      let front = Tells-take P left (take 4 xs) first (omega (arith, few, long)) told_first in
-      let front_is : take left (take 4 xs) ≡ take left xs = take-take left 4 xs (omega (arith, few)) in
-      subst (λ l. Tells P l together) (take-append-drop left xs)
-      (Tells-joined P (take left xs) (drop left xs) left (first % 2 ^ left) bits together (length-take-le left xs (omega (arith, few, some)))
-      (subst (λ l. Tells P l (first % 2 ^ left)) front_is front) told together_is)
+      let front = Tells-take P last (take at xs) bits (omega (arith, past, length-take-le at xs within)) told in
+      let front_is : take last (take at xs) ≡ take last xs = take-take last at xs past in
+      subst (λ l. Tells P l together) (last-four xs last long)
+      (Tells-joined P (take last xs) (take 4 (drop last xs)) last (bits % 2 ^ last) four together (length-take-le last xs (omega (arith, long)))
+      (subst (λ l. Tells P l (bits % 2 ^ last)) front_is front) told_last (together_is ∙ omega arith))
+
+-- four more are told behind the first ones
+module _ {X : Type 0} (P : X → Type 0) (xs : List X) (at bits four : ℕ) (more : at + 4 ≤ length xs) (most : length xs ≤ 64)
+    (told : Tells P (take at xs) bits) (told_four : Tells P (take 4 (drop at xs)) four) where
+  at-long : length (take at xs) ≡ at
+  at-long = length-take-le at xs (omega (arith, more))
+
+  more-parts : (four * 2 ^ at % 2 ^ 64 ≡ four * 2 ^ at) × (1 * 2 ^ at % 2 ^ 64 ≡ 2 ^ at) × (bits % 2 ^ at + four * 2 ^ at < 2 ^ 64)
+  more-parts = shifted at four bits (omega (arith, more, most))
+      (subst (λ n. four < 2 ^ n) (length-take-le 4 (drop at xs) (omega (arith, length-drop at xs, more))) (Tells-below P (take 4 (drop at xs)) four told_four))
+
+  bits-small : bits < 2 ^ at
+  bits-small = subst (λ n. bits < 2 ^ n) at-long (Tells-below P (take at xs) bits told)
+
+  pub Tells-more-fits : bits + four * 2 ^ at % 2 ^ 64 < 2 ^ 64
+  Tells-more-fits =
+      let same : bits % 2 ^ at ≡ bits = mod-eq_of_lt bits-small in
+      omega (arith, more-parts.0, more-parts.2, same)
+
+  pub Tells-more : Tells P (take (at + 4) xs) (bits + four * 2 ^ at % 2 ^ 64)
+  Tells-more =
+      subst (λ l. Tells P l (bits + four * 2 ^ at % 2 ^ 64)) (four-behind xs at (at + 4) refl)
+      (Tells-joined P (take at xs) (take 4 (drop at xs)) at bits four (bits + four * 2 ^ at % 2 ^ 64) at-long told told_four
+      (ap (λ n. bits + n) more-parts.0 ∙ omega arith))
 
 -- four elements more, of which bits tell that stand for others
 module _ {X Y : Type 0} (P : X → Type 0) (Q : Y → Type 0) (a b c d : Y) (x y z u : X) (xs : List X) (bits four new : ℕ)

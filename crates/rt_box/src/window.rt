@@ -110,18 +110,18 @@ impl Ends {
 // compared four at once.
 
 /// A lane for each end of the box's sides on one axis and on another, which is set if the end isn't allowed. The four numbers
-/// are compared at once. `some` says that each end may be some number: they are then compared once, and else twice.
+/// are compared at once. `has_numbers` says that each end may be some number: they are then compared once, and else twice.
 #[inline]
 fn refused_ends<const D: usize>(
     axes: &[Ends; D],
     rect: &Rect<D>,
     first: usize,
     second: usize,
-    some: bool,
+    has_numbers: bool,
 ) -> mask32x4
     requires first { first < D }
     requires second { second < D }
-    requires some { IsTrue some → All HasNumbers (in_order axes.now) }
+    requires some { IsTrue has_numbers → All HasNumbers (in_order axes.now) }
     ensures lanes { AreLanes result }
     ensures clear { IsClear result ↔ (AdmitsAxis axes.now rect.now first × AdmitsAxis axes.now rect.now second) }
 {
@@ -133,7 +133,7 @@ fn refused_ends<const D: usize>(
     let ends = i32x4::from_array([one.lo.lo, one.lo.hi, one.hi.lo, one.hi.hi]);
     let other_ends = i32x4::from_array([two.lo.lo, two.lo.hi, two.hi.lo, two.hi.hi]);
     let (least, greatest) = ends.deinterleave(other_ends);
-    if some {
+    if has_numbers {
         // The circle of 32-bit numbers is turned until the least number that is allowed is the least of all. A number is then
         // allowed exactly if it isn't above the greatest one.
         let turn = least - i32x4::splat(i32::MIN);
@@ -265,12 +265,12 @@ impl<const D: usize> Window<D> {
             .all(|ends| ends.lo.has_numbers() & ends.hi.has_numbers())
     }
 
-    /// Four lanes, for a box of several axes: it is admitted if none is set. `some` says that each coordinate may be some
+    /// Four lanes, for a box of several axes: it is admitted if none is set. `has_numbers` says that each coordinate may be some
     /// number: the lanes are then made in fewer steps.
     #[inline]
-    fn refused(&self, rect: &Rect<D>, some: bool) -> mask32x4
+    fn refused(&self, rect: &Rect<D>, has_numbers: bool) -> mask32x4
         requires several { 2 ≤ D }
-        requires some { IsTrue some → All HasNumbers self.now }
+        requires some { IsTrue has_numbers → All HasNumbers self.now }
         ensures lanes { AreLanes result }
         ensures clear { IsClear result ↔ Admits self.now rect.now }
     {
@@ -278,8 +278,8 @@ impl<const D: usize> Window<D> {
         // The first two axes, and the last two: the four numbers of neighbours stand side by side, so that they are loaded at
         // once. Three axes have the second in both pairs. Two axes have the same pair twice, and the compiler keeps one of
         // them.
-        refused_ends(&self.axes, rect, 0, 1, some)
-            | refused_ends(&self.axes, rect, last - 1, last, some)
+        refused_ends(&self.axes, rect, 0, 1, has_numbers)
+            | refused_ends(&self.axes, rect, last - 1, last, has_numbers)
     }
 
     /// Which of the four boxes from a position on are admitted.
@@ -307,21 +307,20 @@ impl<const D: usize> Window<D> {
         )
     }
 
-    /// Tests the boxes four at a time, the last ones first. Answers how many are left in front, and which of the others are
-    /// admitted.
+    /// Tests the boxes four at a time, the first ones first. Answers how many were tested, and which of these are admitted.
     #[inline]
     fn tell_fours(&self, rects: &[Rect<D>]) -> (usize, u64)
         requires few { length rects.now ≤ 64 }
         requires some { All HasNumbers self.now }
-        ensures left { result.0 < 4 }
+        ensures most { length rects.now < result.0 + 4 }
         ensures within { result.0 ≤ length rects.now }
-        ensures told { Tells (Admits self.now) (drop result.0 rects.now) result.1 }
-        ensures boxes { All (IsBox D) (drop result.0 rects.now) }
+        ensures told { Tells (Admits self.now) (take result.0 rects.now) result.1 }
+        ensures boxes { All (IsBox D) (take result.0 rects.now) }
     {
-        let (mut at, mut bits) = (rects.len(), 0);
-        while at >= 4 {
-            at -= 4;
-            bits = 16 * bits + self.tell_four(rects, at);
+        let (mut at, mut bits) = (0, 0);
+        while rects.len() - at >= 4 {
+            bits += self.tell_four(rects, at) << at;
+            at += 4;
         }
         (at, bits)
     }
@@ -354,11 +353,11 @@ impl<const D: usize> Window<D> {
         if rects.len() < 4 || !self.has_numbers() {
             return self.tell_each(rects);
         }
-        // Up to three boxes are left. How many can't be guessed, so the first four are tested together, some a second time:
-        // a loop would take longer.
-        let (left, bits) = self.tell_fours(rects);
-        let first = self.tell_four(rects, 0);
-        (bits << left) + first % (1 << left)
+        // Up to three boxes are left. How many can't be guessed, so the last four are tested together, some a second time: a
+        // loop would take longer. The first boxes are read while their count is still on its way.
+        let (_, bits) = self.tell_fours(rects);
+        let last = rects.len() - 4;
+        bits % (1 << last) + (self.tell_four(rects, last) << last)
     }
 
     /// Whether a box that this window admits may lie in the box. A search that asks it of many boxes makes the `reach`

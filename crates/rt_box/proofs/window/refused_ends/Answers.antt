@@ -9,8 +9,8 @@ use Rattle.rt_box.proofs.window.refused_ends.Goals as goal
 abbrev read : Ends
 read = record { lo = interval (pos 0) (pos 0); hi = interval (pos 0) (pos 0) }
 
-pub returns-then-some-clause-lanes : goal.returns-then-some-clause-lanes
-returns-then-some-clause-lanes g c =
+pub returns-then-has_numbers-clause-lanes : goal.returns-then-has_numbers-clause-lanes
+returns-then-has_numbers-clause-lanes g c =
     let one = get_or c.args.axes.now c.args.first read in
     let two = get_or c.args.axes.now c.args.second read in
     let side = c.side-side.result.now in
@@ -22,15 +22,15 @@ returns-then-some-clause-lanes g c =
       beyond_mask one.lo one.hi two.lo two.hi side.lo side.hi other.lo other.hi,
     )
 
-pub returns-then-some-clause-clear : goal.returns-then-some-clause-clear
-returns-then-some-clause-clear g c =
+pub returns-then-has_numbers-clause-clear : goal.returns-then-has_numbers-clause-clear
+returns-then-has_numbers-clause-clear g c =
     let axes = c.args.axes.now in
     let rect = c.args.rect.now in
     let one = get_or axes c.args.first read in
     let two = get_or axes c.args.second read in
     let side = c.side-side.result.now in
     let other = c.side-other.result.now in
-    let some = (All-in_order axes).1 (c.requires.some c.if-some.true) in
+    let some = (All-in_order axes).1 (c.requires.some c.if-has_numbers.true) in
     let first = some c.args.first read (omega arith) in
     let second = some c.args.second read (omega arith) in
     let both = none_beyond one.lo one.hi two.lo two.hi side.lo side.hi other.lo other.hi
