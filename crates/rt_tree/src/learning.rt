@@ -1,4 +1,6 @@
 //! How many rows there are below each node, for counts.
+//!
+//! `Nodes` learns them. These calls take the whole arena, so that one equation says that all of it stays.
 
 ghost use Rattle.std.specs.Prelude.{◌≡◌, ℕ, ◌≤◌, Some};
 ghost use Rattle.rt_tree_node.specs.Places.{level_at};

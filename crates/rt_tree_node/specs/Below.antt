@@ -1,4 +1,4 @@
--- What is below a node.
+-- What is below a node (own).
 use Rattle.std.specs.Prelude.{ℕ, zero, suc, List, []}
 use Rattle.std.specs.List.{flat_map}
 use Rattle.slab.specs.Slab.{Slab}

@@ -1,4 +1,4 @@
--- How the nodes keep the numbers of rows below them. No public clause cites this module.
+-- How the nodes keep the numbers of rows below them (own). No public clause cites this module.
 use Rattle.std.specs.Prelude.{◌≡◌, ℕ, ◌≤◌, false, Contains}
 use Rattle.slab.specs.Slab.{Slab}
 use Rattle.rt_tree_node.specs.declared.nodes.Nodes.TheInside.{Inside}

@@ -1,4 +1,4 @@
--- Sums: for each key, how many rows there are below the node.
+-- Sums: for each key, how many rows there are below the node (own).
 use Rattle.std.specs.Prelude.{◌≡◌, ◌⊎◌, ℕ, zero, suc, ◌+◌, ◌<◌, Bool, false, List, length, sum_by, slice_index_or, Contains, Some}
 use Rattle.slab.specs.Slab.{Slab, get}
 use Rattle.rt_tree_node.specs.declared.cell.Cell.{Cell}

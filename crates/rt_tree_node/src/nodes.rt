@@ -19,8 +19,8 @@ use std::marker::Model;
 /// How many keys can be stale before all sums are lost.
 const STALE_ROOM: usize = 64;
 
-/// How many nodes an edit may look at, so that sums that were lost are learnt again.
-const NODES_AN_EDIT: usize = 16;
+/// How many places of nodes an edit may look at, so that sums that were lost are learnt again.
+const PLACES_AN_EDIT: usize = 16;
 
 /// The nodes of a tree by key, and how many rows there are below each.
 #[derive(Drop)]
@@ -173,7 +173,8 @@ impl<const D: usize> Nodes<D> {
         ensures { self.new ≡ self.old }
     {
         self.edits = self.edits.saturating_add(1);
-        if self.edits >= self.slab.len() / NODES_AN_EDIT {
+        // What learns them goes through all places, also those that no node has.
+        if self.edits >= self.slab.capacity() / PLACES_AN_EDIT {
             self.learn_all(level);
         }
     }
