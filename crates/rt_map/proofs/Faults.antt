@@ -25,3 +25,8 @@ only-memory ids Memory few once is = refl
 pub err-matches : {A E : Type 0} (r : Result A E) (e : E) (P : A → Type 0) (Q : E → Type 0) → IsErrAnd r (λ f. f ≡ e) → Q e → MatchResult r P Q
 err-matches (Ok x) e P Q is holds = absurd is
 err-matches (Err f) e P Q is holds = subst Q (sym is) holds
+
+-- an `Err` that is passed on is the same `Err`
+pub err-is : {A B E : Type 0} (r : Result A E) (e f : E) → IsErrAnd r (λ x. x ≡ e) → ◌≡◌ {A = Result B E} (Err e) (Err f) → r ≡ Err f
+err-is (Ok x) e f is same = absurd is
+err-is (Err x) e f is same = cc

@@ -1,13 +1,11 @@
 -- A tree that is made of a list of rows.
-use Rattle.std.proofs.Common.{◌≡◌, ℕ, ◌+◌, ◌-◌, ◌*◌, ◌≤◌, ◌^◌, Bool, true, List, [], ◌∷◌, length, map, None, Some, count_by, vec_capacity, arith, refl, ap, ◌∙◌, sym, subst}
+use Rattle.std.proofs.Common.{◌≡◌, ℕ, ◌+◌, ◌-◌, ◌*◌, ◌≤◌, ◌^◌, Bool, true, List, [], ◌∷◌, length, map, count_by, vec_capacity, arith, refl, ap, ◌∙◌, sym, subst}
 use Rattle.std.proofs.Math.Nat.{mul-le-mul_left}
 use Rattle.std.proofs.lemmas.List.{length-map}
-use Rattle.slab.specs.Slab.{Slab, Updates}
 use Rattle.indexmap.specs.IndexMap.{index_map_len}
 use Rattle.rt_box.specs.Capacity.{least_fill}
 use Rattle.rt_tree_node.specs.declared.arena.Arena.{Arena}
 use Rattle.rt_tree_node.specs.declared.cell.Cell.{Cell}
-use Rattle.rt_tree_node.specs.Node.{NodeCells}
 use Rattle.rt_tree_node.specs.Places.{numbers}
 use Rattle.rt_tree_node.specs.Whole.{row_count, most_rows_of_a_tree, HasRoom}
 use Rattle.rt_tree.specs.Bare.{IsBare}
@@ -18,7 +16,6 @@ use Rattle.rt_tree_walk.specs.Search.{row_of}
 use Rattle.rt_tree_outside.specs.Outside.{outside}
 use Rattle.rt_tree_walk.proofs.Progress.{IsSettled}
 use Rattle.rt_tree_node.proofs.Counts.{count-cons}
-use Rattle.rt_tree.specs.Kept.{IsKeptWith}
 use Rattle.rt_map.specs.Packing.{ids}
 use Rattle.rt_map.specs.PackingInside.{cell_of, IsReadyFor, IsArenaOf}
 use Rattle.rt_tree.proofs.Rows.{rows-counted}

@@ -1,12 +1,17 @@
 -- Why bytes make no tree (own).
-use Rattle.std.specs.Prelude.{◌≡◌, ℕ, ◌<◌, List, length}
+use Rattle.std.specs.Prelude.{◌≡◌, ℕ, ◌<◌, ◌++◌, List, length}
+use Rattle.rt_box.specs.Capacity.{IsCapacity}
 use Rattle.rt_check.specs.Shadow.{ShadowLists}
 use Rattle.rt_tree_node.specs.Whole.{most_rows_of_a_tree}
 use Rattle.rt_tree.specs.Lists.{rows_of}
 use Rattle.rt_map.specs.declared.bytes_fault.BytesFault.{BytesFault}
 use Rattle.rt_map.specs.declared.bytes_fault.BytesFault.TheVariants.{Bad, TooMany, Memory}
-use Rattle.rt_map.specs.TreeBytes.{tree_bytes}
+use Rattle.rt_map.specs.TreeBytes.{head_bytes, tree_bytes}
 use Rattle.rt_map.specs.Written.{IsTreeBytes}
+
+-- the bytes begin as those of a tree do: with the head of one of some capacity
+abbrev pub BeginAsTree : ℕ → List ℕ → Type 0
+BeginAsTree axes bytes = (capacity : ℕ) × IsCapacity capacity × (nodes : List ℕ) × (bytes ≡ head_bytes axes capacity ++ nodes)
 
 -- the bytes are those of lists with that many rows, whether these are a tree's or not
 abbrev pub HasRows : ℕ → List ℕ → ℕ → Type 0

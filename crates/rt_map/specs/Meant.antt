@@ -1,4 +1,4 @@
--- The nested tree that shapes and rows are those of, and what of it is made. No public clause cites this module.
+-- The nested tree that shapes and rows are those of, and what of it is made (own). No public clause cites this module.
 use Rattle.std.specs.Prelude.{◌≡◌, ℕ, zero, suc, ◌+◌, ◌-◌, ◌*◌, ◌≤◌, List, [], ◌∷◌, ◌++◌, ◌==◌, length, map, All}
 use Rattle.std.specs.List.{filter, flat_map}
 use Rattle.slab.specs.Slab.{slab_len, HasRoomFor}

@@ -1,4 +1,4 @@
--- What is read of the bytes of lists. No public clause cites this module.
+-- What is read of the bytes of lists (own). No public clause cites this module.
 use Rattle.std.specs.Prelude.{◌≡◌, ℕ, ◌+◌, ◌<◌, ◌++◌, true, List, length, map, All}
 use Rattle.std.specs.List.{flat_map}
 use Rattle.rt_box.specs.Capacity.{IsCapacity}

@@ -1,6 +1,6 @@
 -- Trees as bytes (own; nodes in the manner of the blobs of SQLite's R*Tree module, whose cells have eight bytes for the number and
 -- four for each coordinate, the highest byte first).
-use Rattle.std.specs.Prelude.{ℕ, ◌+◌, ℤ, List, [], ◌∷◌, ◌++◌, length}
+use Rattle.std.specs.Prelude.{ℕ, ℤ, List, [], ◌∷◌, ◌++◌, length}
 use Rattle.std.specs.List.{flat_map}
 use Rattle.std.specs.Int.{w32, w64, cast_unsigned, to_be_bytes}
 use Rattle.rt_check.specs.declared.node.NodeRow.{NodeRow}

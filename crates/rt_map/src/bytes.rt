@@ -3,17 +3,17 @@
 //! What the bytes say of nodes is taken as their shapes, and the rows are packed into nodes of these. The tree's own bytes are
 //! then compared with the given ones. If these are the bytes of a tree, its nodes have these shapes, so that tree comes again.
 
-ghost use Rattle.std.specs.Prelude.{◌≡◌, ◌<◌, ◌≤◌, true, length, IfOk, IfErr, MatchResult};
+ghost use Rattle.std.specs.Prelude.{◌≡◌, ◌<◌, ◌≤◌, true, length, Err, IfOk, IfErr, MatchResult};
 ghost use Rattle.rt_tree_node.specs.Whole.{most_rows_of_a_tree};
 ghost use Rattle.rt_tree_rules.specs.Nested.{Tree as NestedTree};
 ghost use Rattle.rt_tree.specs.Kept.{IsKeptWith};
 ghost use Rattle.rt_map.specs.TreeBytes.{tree_bytes};
 ghost use Rattle.rt_map.specs.Written.{IsTreeBytes};
-ghost use Rattle.rt_map.specs.BytesFaults.{IsBytesFaultOf};
+ghost use Rattle.rt_map.specs.BytesFaults.{BeginAsTree, IsBytesFaultOf};
 ghost use Rattle.rt_map.specs.RestoringInside.{IsArenaOfBytes};
 ghost use Rattle.rt_map.specs.ReadingInside.{fault_of_rows};
 ghost use Rattle.rt_map.specs.Meant.{IsListed, IsMade};
-ghost use Rattle.rt_map.specs.declared.bytes_fault.BytesFault.TheVariants.{TooMany, Memory};
+ghost use Rattle.rt_map.specs.declared.bytes_fault.BytesFault.TheVariants.{Bad, TooMany, Memory};
 
 use crate::bytes_fault::BytesFault;
 use crate::reading::{Parts, read};
@@ -75,6 +75,7 @@ pub(crate) fn bytes_arena<const D: usize>(
     requires few { D ≤ 3 }
     ensures arena { IfOk result (λ arena. IsArenaOfBytes arena bytes.now) }
     ensures fault { IfErr result (λ fault. IsBytesFaultOf D bytes.now fault) }
+    ensures head { ¬ BeginAsTree D bytes.now → result ≡ Err Bad }
 {
     let parts = read::<D>(alloc, bytes)?;
     let arena = arena_of(alloc, keys, &parts)?;
@@ -91,7 +92,7 @@ pub(crate) fn bytes_arena<const D: usize>(
 ///
 /// # Errors
 ///
-/// `Bad` if no tree of `D` axes has these bytes, `TooMany` if they have more rows than `MOST_ROWS_OF_A_TREE`, and `Memory` if no
+/// `Bad` if no tree of `D` axes has these bytes, and always if they don't begin as those of one do; `TooMany` if they have more rows than `MOST_ROWS_OF_A_TREE`, and `Memory` if no
 /// memory is left. So bytes that `to_bytes` wrote are refused only for want of memory. What is taken is no more than a few times
 /// what the bytes take.
 pub fn from_bytes<const D: usize>(
@@ -104,6 +105,7 @@ pub fn from_bytes<const D: usize>(
     ensures tree { IfOk result (λ tree. tree_bytes tree.lists ≡ bytes.now) }
     ensures spare { IfOk result (λ tree. tree.spare ≡ 0) }
     ensures fault { IfErr result (λ fault. IsBytesFaultOf D bytes.now fault) }
+    ensures head { ¬ BeginAsTree D bytes.now → result ≡ Err Bad }
 {
     let arena = bytes_arena(alloc, keys, bytes)?;
     Ok(Tree::from_arena(arena))

@@ -2,7 +2,8 @@
 //!
 //! Of the bytes of lists, each call reads what the lists say (`specs/ReadingInside.antt`).
 
-ghost use Rattle.std.specs.Prelude.{◌≡◌, ◌≢◌, ℕ, ◌+◌, ◌*◌, ◌≤◌, ◌++◌, ℤ, List, true, length, map, All, FitsSigned, IsSomeAnd, MatchResult, IfOk, IfErr, OnOk};
+ghost use Rattle.std.specs.Prelude.{◌≡◌, ◌≢◌, ℕ, ◌+◌, ◌*◌, ◌≤◌, ◌++◌, ℤ, List, true, length, map, All, FitsSigned};
+ghost use Rattle.std.specs.Prelude.{IsSomeAnd, MatchResult, IfOk, IfErr, OnOk};
 ghost use Rattle.std.specs.Int.{w32, w64};
 ghost use Rattle.std.specs.List.{flat_map};
 ghost use Rattle.rt_check.specs.declared.node.NodeRow.{NodeRow};
@@ -12,9 +13,9 @@ ghost use Rattle.rt_check.specs.Conditions.{is_ordered};
 ghost use Rattle.rt_tree.specs.Lists.{row_in};
 ghost use Rattle.rt_map.specs.TreeBytes.{long_bytes, short_bytes, cell_bytes, node_bytes, tree_bytes};
 ghost use Rattle.rt_map.specs.Written.{IsCellWritten};
-ghost use Rattle.rt_map.specs.BytesFaults.{HasRows};
+ghost use Rattle.rt_map.specs.BytesFaults.{BeginAsTree, HasRows};
 ghost use Rattle.rt_map.specs.ReadingInside.{AreRows, AreNodes, AreParts, ReadsNodes, CountsNodes, IsReadAs};
-ghost use Rattle.rt_map.specs.declared.bytes_fault.BytesFault.TheVariants.{TooMany, Memory};
+ghost use Rattle.rt_map.specs.declared.bytes_fault.BytesFault.TheVariants.{Bad, TooMany, Memory};
 
 use crate::bytes_fault::BytesFault;
 use crate::shape::Shape;
@@ -154,7 +155,7 @@ fn read_nodes<const D: usize>(parts: &mut Parts<D>, bytes: &[u8]) -> Result<(), 
 ///
 /// # Errors
 ///
-/// `Bad` if they can't be those of such a tree, and `Memory` if no memory is left.
+/// `Bad` if they can't be those of such a tree, at once if they don't begin so, and `Memory` if no memory is left.
 pub(crate) fn read<const D: usize>(alloc: Global, bytes: &[u8]) -> Result<Parts<D>, BytesFault>
     requires some { 1 ≤ D }
     requires few { D ≤ 3 }
@@ -162,6 +163,7 @@ pub(crate) fn read<const D: usize>(alloc: Global, bytes: &[u8]) -> Result<Parts<
         MatchResult result (λ parts. IsReadAs parts s) (λ fault. fault ≡ Memory) }
     ensures count { IfOk result (λ parts. HasRows D bytes.now (length parts.rows.items)) }
     ensures fault { IfErr result (λ fault. fault ≢ TooMany) }
+    ensures head { ¬ BeginAsTree D bytes.now → result ≡ Err Bad }
 {
     let [74, 68, 84, version, axes, most, nodes @ ..] = bytes else {
         return Err(BytesFault::Bad);
@@ -172,6 +174,7 @@ pub(crate) fn read<const D: usize>(alloc: Global, bytes: &[u8]) -> Result<Parts<
     let Some(capacity) = Capacity::new(*most) else {
         return Err(BytesFault::Bad);
     };
+    capacity.facts();
     let mut parts = Parts {
         capacity,
         shapes: Vec::new(alloc),
