@@ -8,6 +8,7 @@ ghost use Rattle.rt_tree_pack.specs.Packing.{HasEntries, IsFaultOf};
 ghost use Rattle.rt_tree_pack.specs.Steps.{Enters};
 
 use crate::fault::PackFault;
+use crate::looks::Looks;
 use indexmap::IndexMap;
 use rt_tree_node::{Cell, Key};
 use std::alloc::AllocError;
@@ -43,7 +44,11 @@ pub fn enter<const D: usize>(
     ensures boxes { OnOk result (All (λ c. IsBox D c.rect) rows.now) }
     ensures repeated { IfErr result (λ fault. IsFaultOf (numbers rows.now) fault) }
 {
+    let mut looks = Looks::new();
     for (at, row) in rows.iter().enumerate() {
+        if Looks::is_due(at) {
+            looks.look_up(leaves, rows, at);
+        }
         row.rect.facts();
         let is_new = enter_id(leaves, &row.number, leaf)?;
         if !is_new {

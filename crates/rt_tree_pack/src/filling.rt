@@ -6,38 +6,13 @@ ghost use Rattle.rt_box.specs.Capacity.{most_cells};
 ghost use Rattle.rt_tree_node.specs.Places.{cells_at};
 ghost use Rattle.rt_tree_pack.specs.Steps.{MayFill, Fills};
 
+use crate::looks::Looks;
 use indexmap::IndexMap;
 use rt_tree_node::{Arena, Cell, Key, Pending};
 use rt_tree_place::attach;
 use std::hash::RandomState;
 
-/// What was seen of entries. Nothing reads it, but without it the compiler would leave the looks out.
-#[derive(Drop)]
-struct Looks {
-    seen: u64,
-}
-
-impl Looks {
-    /// Looks at the places in which ids that count up have their entries. The entry of each row is written next, and the waits
-    /// for their memory overlap here.
-    #[inline(never)]
-    fn look<const D: usize>(
-        &mut self,
-        leaves: &IndexMap<i64, Key, RandomState>,
-        cells: &[Cell<D>],
-    ) {
-        for cell in cells {
-            let place = cell.number.unsigned_abs() as usize;
-            if let Some((id, leaf)) = leaves.get_index(place) {
-                // Ids and leaves are two arrays.
-                let seen = id.unsigned_abs().wrapping_add(leaf.index() as u64);
-                self.seen = self.seen.wrapping_add(seen);
-            }
-        }
-    }
-}
-
-/// Looks at the entries of cells that are rows.
+/// Looks at the entries of cells that are rows: they are written next.
 fn look_at_entries<const D: usize>(
     leaves: &IndexMap<i64, Key, RandomState>,
     level: u8,
@@ -46,8 +21,8 @@ fn look_at_entries<const D: usize>(
     if level > 0 {
         return;
     }
-    let mut looks = Looks { seen: 0 };
-    looks.look(leaves, cells);
+    let mut looks = Looks::new();
+    looks.look_at(leaves, cells);
 }
 
 /// Appends cells to a node of their level.

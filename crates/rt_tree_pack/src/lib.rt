@@ -18,6 +18,7 @@ mod entries;
 mod fault;
 mod filling;
 mod level;
+mod looks;
 mod node;
 mod packing;
 mod root;
