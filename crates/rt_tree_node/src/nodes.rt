@@ -27,7 +27,7 @@ const PLACES_AN_EDIT: usize = 16;
 pub struct Nodes<const D: usize> {
     pub(crate) slab: Slab<Node<D>>,
     /// By key, how many rows there are below the node.
-    pub(crate) sums: Vec<usize>,
+    pub(crate) sums: Vec<u32>,
     /// The keys of the nodes whose sums may be wrong.
     pub(crate) stale: Vec<Key>,
     /// Whether any sum may be wrong.
@@ -51,7 +51,7 @@ impl<const D: usize> Model for Nodes<D> {
 }
 
 /// The sums, and 0 for each key after them and below `len`.
-fn padded(alloc: Global, sums: &[usize], len: usize) -> Result<Vec<usize>, AllocError>
+fn padded(alloc: Global, sums: &[u32], len: usize) -> Result<Vec<u32>, AllocError>
     ensures { IfOk result (λ copy. (key : ℕ) → sum_at copy.items key ≡ sum_at sums.now key) }
 {
     let mut copy = Vec::with_capacity(alloc, len)?;

@@ -63,17 +63,17 @@ pub(crate) fn are_right(stale: &[Key], is_lost: bool) -> bool
 
 /// The sum of a key: 0 if there is no place for it.
 #[inline]
-pub(crate) fn sum_of(sums: &[usize], key: Key) -> usize
+pub(crate) fn sum_of(sums: &[u32], key: Key) -> usize
     ensures { result ≡ sum_at sums.now key }
 {
     if key.index() < sums.len() {
-        return sums[key.index()];
+        return sums[key.index()] as usize;
     }
     0
 }
 
 /// The sum of children, whose keys are these numbers, or `None` if it is too large.
-fn sum_of_children(sums: &[usize], numbers: &[i64]) -> Option<usize>
+fn sum_of_children(sums: &[u32], numbers: &[i64]) -> Option<usize>
     ensures { IfSome result (λ rows. rows ≡ sum_by (λ n. sum_at sums.now (unsigned_abs n)) numbers.now) }
 {
     let mut rows = 0usize;
@@ -84,7 +84,7 @@ fn sum_of_children(sums: &[usize], numbers: &[i64]) -> Option<usize>
 }
 
 /// How many rows there are below the node, by the sums of its children; `None` if they are too many.
-fn total_of<const D: usize>(sums: &[usize], node: &Node<D>) -> Option<usize>
+fn total_of<const D: usize>(sums: &[u32], node: &Node<D>) -> Option<usize>
     ensures { IfSome result (λ rows. rows ≡ total sums.now node.now) }
 {
     if node.level() == 0 {
@@ -93,16 +93,19 @@ fn total_of<const D: usize>(sums: &[usize], node: &Node<D>) -> Option<usize>
     sum_of_children(sums, node.numbers())
 }
 
-/// Writes the sum of a key, and returns whether there was a place for it.
+/// Writes the sum of a key, and returns whether there was a place for it and 32 bits can hold it.
 #[inline]
-fn write(sums: &mut Vec<usize>, key: Key, rows: usize) -> bool
+fn write(sums: &mut Vec<u32>, key: Key, rows: usize) -> bool
     ensures place { result ≡ true → key < length sums.old.items }
     ensures written { result ≡ true → sums.new.items ≡ slice_set sums.old.items key rows }
 {
     if key.index() >= sums.len() {
         return false;
     }
-    sums[key.index()] = rows;
+    let Ok(sum) = u32::try_from(rows) else {
+        return false;
+    };
+    sums[key.index()] = sum;
     true
 }
 
@@ -117,7 +120,7 @@ fn changed(sum: usize, change: Change) -> Option<usize>
 /// Carries a change of a child's sum into the sum of its parent.
 fn raise<const D: usize>(
     slab: &Slab<Node<D>>,
-    sums: &mut Vec<usize>,
+    sums: &mut Vec<u32>,
     stale: &[Key],
     change: Change,
 ) -> Rise
@@ -148,7 +151,7 @@ fn raise<const D: usize>(
 /// Carries a change up to the root, and returns whether the sums add up then, except at stale keys.
 fn carry<const D: usize>(
     slab: &Slab<Node<D>>,
-    sums: &mut Vec<usize>,
+    sums: &mut Vec<u32>,
     stale: &[Key],
     change: Change,
 ) -> bool
@@ -170,7 +173,7 @@ fn carry<const D: usize>(
 /// Makes the sum of a key right, and those above it, and returns whether it could.
 pub(crate) fn mend<const D: usize>(
     slab: &Slab<Node<D>>,
-    sums: &mut Vec<usize>,
+    sums: &mut Vec<u32>,
     stale: &[Key],
     key: Key,
 ) -> bool
@@ -189,12 +192,7 @@ pub(crate) fn mend<const D: usize>(
 }
 
 /// Makes the sum of a node of a level right, if that of its children are.
-fn learn_one<const D: usize>(
-    slab: &Slab<Node<D>>,
-    sums: &mut Vec<usize>,
-    key: Key,
-    level: u8,
-) -> bool
+fn learn_one<const D: usize>(slab: &Slab<Node<D>>, sums: &mut Vec<u32>, key: Key, level: u8) -> bool
     requires joined { IsJoined slab.now }
     requires lower { AddUpBelow slab.now sums.old.items level }
     ensures { result ≡ true → Learns slab.now sums.old.items sums.new.items level key }
@@ -212,7 +210,7 @@ fn learn_one<const D: usize>(
 }
 
 /// Makes the sums of a level right, if those of the levels below it are, and returns whether it could.
-fn learn_level<const D: usize>(slab: &Slab<Node<D>>, sums: &mut Vec<usize>, level: u8) -> bool
+fn learn_level<const D: usize>(slab: &Slab<Node<D>>, sums: &mut Vec<u32>, level: u8) -> bool
     requires joined { IsJoined slab.now }
     requires lower { AddUpBelow slab.now sums.old.items level }
     ensures { result ≡ true → AddUpBelow slab.now sums.new.items (level + 1) }
@@ -228,7 +226,7 @@ fn learn_level<const D: usize>(slab: &Slab<Node<D>>, sums: &mut Vec<usize>, leve
 /// Makes the sums of all levels up to one right, and returns whether it could.
 pub(crate) fn learn_levels<const D: usize>(
     slab: &Slab<Node<D>>,
-    sums: &mut Vec<usize>,
+    sums: &mut Vec<u32>,
     top: u8,
 ) -> bool
     requires { IsJoined slab.now }
