@@ -31,7 +31,7 @@ from ._errors import BUFFER_TOO_SMALL, EMPTY, accept, error_at
 from ._form import Form
 from ._grid import Grid
 from ._owner import Guard, Owner, capacity_of, whole
-from ._spread import Found, Many, Share, joined, memory_of, sample_of, shares_of, side_by_side, threads_for
+from ._spread import Found, Many, Memory, Share, joined, memory_of, sample_of, shares_of, side_by_side, threads_for
 from ._sqlite import all_or_nothing, create, find, parts_of, quoted, replace_rows, table_of
 
 Relation = Literal["touches", "within", "holds"]
@@ -159,20 +159,21 @@ class ManyReads(Owner):
     ) -> Many:
         """What a call finds that takes the numbers between other words. At first there is room for `each` ids a place."""
         threads = threads_for(workers)
-        spare: List[array.array[int]] = []
+        shares = shares_of(numbers, width, threads)
+        spare: List[Memory] = []
 
         def found(share: Share) -> Found:
             count, total = share.length // width, ctypes.c_uint64()
-            ids, starts = memory_of(spare, each * count), zeros("q", count)
+            memory, starts = memory_of(spare, each * count, len(shares) > 1), zeros("q", count)
             words = (*before, *share.words(), *behind, at(starts), count)
             while True:
-                code = self._guard.read(call, self._at, *words, at(ids), len(ids), ctypes.byref(total))
+                code = self._guard.read(call, self._at, *words, memory.at, memory.room, ctypes.byref(total))
                 if code != BUFFER_TOO_SMALL:
                     accept(code)
-                    return Found(ids, total.value, starts)
-                ids = zeros("q", total.value + total.value // 8)
+                    return Found(memory, total.value, starts)
+                memory = Memory(total.value + total.value // 8, len(shares) > 1)
 
-        return joined(side_by_side(found, shares_of(numbers, width, threads), threads), spare)
+        return joined(side_by_side(found, shares, threads), spare)
 
     def count_many(
         self, boxes: Any, relation: Relation = "touches", workers: SupportsIndex = 1

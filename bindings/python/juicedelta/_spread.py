@@ -3,18 +3,46 @@
 from __future__ import annotations
 
 import array
+import ctypes
+import mmap
 import os
 import sys
 from concurrent.futures import ThreadPoolExecutor
-from typing import Callable, Iterator, List, NamedTuple, SupportsIndex, Tuple, TypeVar
+from typing import Callable, Iterator, List, NamedTuple, SupportsIndex, Tuple, TypeVar, Union
 
 from ._buffers import at, zeros
 from ._owner import whole
 
 _LEAST = 1000  # A thread with fewer windows takes longer to begin than to search.
-_SHARES = 8  # For each thread: a later share uses the memory of an earlier one again, and a slow thread takes fewer.
+_SHARES = 4  # For each thread: a later share uses the memory of an earlier one again, and a slow thread takes fewer.
 _SAMPLE, _STEP = 128, 64  # A sample has about as many windows as that, and at most one in a step.
 T = TypeVar("T")
+
+
+class Memory:
+    """Room for ids. If threads share the windows, its pages come into being as they are written to, side by side."""
+
+    def __init__(self, room: int, is_shared: bool) -> None:
+        self.room = room
+        self.numbers: Union[array.array[int], mmap.mmap]
+        if is_shared:
+            try:
+                self.numbers = mmap.mmap(-1, max(8 * room, 1), flags=mmap.MAP_PRIVATE | mmap.MAP_ANONYMOUS)
+            except (OSError, OverflowError):
+                raise MemoryError from None
+            self.at = ctypes.addressof(ctypes.c_char.from_buffer(self.numbers))
+        else:
+            self.numbers = zeros("q", room)
+            self.at = at(self.numbers)
+
+    def ids(self, total: int) -> array.array[int]:
+        """The ids with which it begins. It serves no other share afterwards if they aren't copied."""
+        if isinstance(self.numbers, array.array):
+            del self.numbers[total:]
+            return self.numbers
+        ids = array.array("q")
+        ids.frombytes(memoryview(self.numbers)[: ids.itemsize * total])
+        return ids
 
 
 class Many(NamedTuple):
@@ -39,7 +67,7 @@ class Share(NamedTuple):
 class Found(NamedTuple):
     """What the windows or points of a share find: memory that begins with `total` ids, and where those of each begin."""
 
-    memory: array.array[int]
+    memory: Memory
     total: int
     starts: array.array[int]
 
@@ -79,21 +107,21 @@ def side_by_side(ask: Callable[[Share], T], shares: List[Share], threads: int) -
         yield from pool.map(ask, shares)
 
 
-def memory_of(spare: List[array.array[int]], room: int) -> array.array[int]:
+def memory_of(spare: List[Memory], room: int, is_shared: bool) -> Memory:
     """Memory that an earlier share no longer needs, since new pages cost time; else new memory with that much room."""
     try:
         return spare.pop()
     except IndexError:
-        return zeros("q", room)
+        return Memory(room, is_shared)
 
 
-def joined(answers: Iterator[Found], spare: List[array.array[int]]) -> Many:
+def joined(answers: Iterator[Found], spare: List[Memory]) -> Many:
     """The answers as one. They are joined while threads search on, and their memory becomes spare."""
-    ids, total, starts = next(answers)
-    del ids[total:]
+    first = next(answers)
+    ids, starts = first.memory.ids(first.total), first.starts
     for found in answers:
         starts.extend(_raised(found.starts, len(ids)))
-        ids.frombytes(memoryview(found.memory).cast("B")[: ids.itemsize * found.total])
+        ids.frombytes(memoryview(found.memory.numbers).cast("B")[: ids.itemsize * found.total])
         spare.append(found.memory)
     starts.append(len(ids))
     return Many(ids, starts)
