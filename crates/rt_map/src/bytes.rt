@@ -92,9 +92,9 @@ pub(crate) fn bytes_arena<const D: usize>(
 ///
 /// # Errors
 ///
-/// `Bad` if no tree of `D` axes has these bytes, and always if they don't begin as those of one do; `TooMany` if they have more rows than `MOST_ROWS_OF_A_TREE`, and `Memory` if no
-/// memory is left. So bytes that `to_bytes` wrote are refused only for want of memory. What is taken is no more than a few times
-/// what the bytes take.
+/// `Bad` if no tree of `D` axes has these bytes, and always if they don't begin as those of one do; `TooMany` if they have more
+/// rows than `MOST_ROWS_OF_A_TREE`; and `Memory` if no memory is left. So bytes that `to_bytes` wrote are refused only for want
+/// of memory. What is taken is no more than a few times what the bytes take.
 pub fn from_bytes<const D: usize>(
     alloc: Global,
     keys: RandomState,
