@@ -31,7 +31,7 @@ from ._errors import BUFFER_TOO_SMALL, EMPTY, accept, error_at
 from ._form import Form
 from ._grid import Grid
 from ._owner import Guard, Owner, capacity_of, whole
-from ._spread import Found, Many, Memory, Share, joined, memory_of, sample_of, shares_of, side_by_side, threads_for
+from ._spread import Buffer, Found, Many, Share, buffer_of, joined, sample_of, shares_of, side_by_side, threads_for
 from ._sqlite import all_or_nothing, create, find, parts_of, quoted, replace_rows, table_of
 
 Relation = Literal["touches", "within", "holds"]
@@ -160,18 +160,18 @@ class ManyReads(Owner):
         """What a call finds that takes the numbers between other words. At first there is room for `each` ids a place."""
         threads = threads_for(workers)
         shares = shares_of(numbers, width, threads)
-        spare: List[Memory] = []
+        spare: List[Buffer] = []
 
         def found(share: Share) -> Found:
             count, total = share.length // width, ctypes.c_uint64()
-            memory, starts = memory_of(spare, each * count, len(shares) > 1), zeros("q", count)
+            buffer, starts = buffer_of(spare, each * count, len(shares) > 1), zeros("q", count)
             words = (*before, *share.words(), *behind, at(starts), count)
             while True:
-                code = self._guard.read(call, self._at, *words, memory.at, memory.room, ctypes.byref(total))
+                code = self._guard.read(call, self._at, *words, buffer.at, buffer.room, ctypes.byref(total))
                 if code != BUFFER_TOO_SMALL:
                     accept(code)
-                    return Found(memory, total.value, starts)
-                memory = Memory(total.value + total.value // 8, len(shares) > 1)
+                    return Found(buffer, total.value, starts)
+                buffer = Buffer(total.value + total.value // 8, len(shares) > 1)
 
         return joined(side_by_side(found, shares, threads), spare)
 

@@ -14,13 +14,13 @@ from ._buffers import at, zeros
 from ._owner import whole
 
 _LEAST = 1000  # A thread with fewer windows takes longer to begin than to search.
-_SHARES = 4  # For each thread: a later share uses the memory of an earlier one again, and a slow thread takes fewer.
+_SHARES = 4  # For each thread: a later share uses the buffer of an earlier one again, and a slow thread takes fewer.
 _SAMPLE, _STEP = 128, 64  # A sample has about as many windows as that, and at most one in a step.
 T = TypeVar("T")
 
 
-class Memory:
-    """Room for ids. If threads share the windows, its pages come into being as they are written to, side by side."""
+class Buffer:
+    """Room for ids. If threads share the windows, its pages come into being as the threads write to them."""
 
     def __init__(self, room: int, is_shared: bool) -> None:
         self.room = room
@@ -36,7 +36,7 @@ class Memory:
             self.at = at(self.numbers)
 
     def ids(self, total: int) -> array.array[int]:
-        """The ids with which it begins. It serves no other share afterwards if they aren't copied."""
+        """The ids with which it begins: a copy, unless no other share can need the buffer."""
         if isinstance(self.numbers, array.array):
             del self.numbers[total:]
             return self.numbers
@@ -65,9 +65,9 @@ class Share(NamedTuple):
 
 
 class Found(NamedTuple):
-    """What the windows or points of a share find: memory that begins with `total` ids, and where those of each begin."""
+    """What the windows or points of a share find: a buffer that begins with `total` ids, and where those of each begin."""
 
-    memory: Memory
+    buffer: Buffer
     total: int
     starts: array.array[int]
 
@@ -107,22 +107,23 @@ def side_by_side(ask: Callable[[Share], T], shares: List[Share], threads: int) -
         yield from pool.map(ask, shares)
 
 
-def memory_of(spare: List[Memory], room: int, is_shared: bool) -> Memory:
-    """Memory that an earlier share no longer needs, since new pages cost time; else new memory with that much room."""
+def buffer_of(spare: List[Buffer], room: int, is_shared: bool) -> Buffer:
+    """A buffer that an earlier share no longer needs, since new pages cost time; else a new one with that much room."""
     try:
         return spare.pop()
     except IndexError:
-        return Memory(room, is_shared)
+        return Buffer(room, is_shared)
 
 
-def joined(answers: Iterator[Found], spare: List[Memory]) -> Many:
-    """The answers as one. They are joined while threads search on, and their memory becomes spare."""
+def joined(answers: Iterator[Found], spare: List[Buffer]) -> Many:
+    """The answers as one. They are joined while threads search on, and their buffers become spare."""
     first = next(answers)
-    ids, starts = first.memory.ids(first.total), first.starts
+    ids, starts = first.buffer.ids(first.total), first.starts
+    spare.append(first.buffer)
     for found in answers:
         starts.extend(_raised(found.starts, len(ids)))
-        ids.frombytes(memoryview(found.memory.numbers).cast("B")[: ids.itemsize * found.total])
-        spare.append(found.memory)
+        ids.frombytes(memoryview(found.buffer.numbers).cast("B")[: ids.itemsize * found.total])
+        spare.append(found.buffer)
     starts.append(len(ids))
     return Many(ids, starts)
 
