@@ -11,7 +11,7 @@ use Rattle.rt_tree.specs.Lists.{IsInShape}
 use Rattle.rt_tree_node.specs.declared.arena.Arena.{Arena}
 use Rattle.rt_tree_node.specs.Whole.{IsWhole}
 use Rattle.rt_tree_node.specs.Sound.{IsLinked}
-use Rattle.rt_tree_node.specs.Below.{IsJoined}
+use Rattle.rt_tree_node.specs.Below.{HangTogether}
 use Rattle.rt_tree.specs.Kept.{IsKeptWith}
 use Rattle.rt_tree.specs.TreeInside.{IsKept}
 use Rattle.rt_tree.specs.declared.tree.Tree.TheInside.{Inside}
@@ -20,7 +20,7 @@ module _ {D : ℕ} where
   pub kept-settled : (t : Arena D) (more : ℕ) → IsKeptWith t more → IsSettled t
   kept-settled t more k = record { whole = k.whole; none = k.idle }
 
-  pub joined : (t : Arena D) → IsWhole t → t.pending.items ≡ [] → IsJoined t.nodes
+  pub joined : (t : Arena D) → IsWhole t → t.pending.items ≡ [] → HangTogether t.nodes
   joined t whole none = record { root = t.root; level = t.level; linked = subst (IsLinked t.nodes t.root t.level) none whole.linked }
 
   pub settled : (t : Inside D) → IsKept t → IsSettled t.arena

@@ -14,7 +14,7 @@ module _ {D : ℕ} where
   rows_below a (suc l) key = flat_map (λ c. rows_below a l (key_of c)) (cells_at a key)
 
   -- the nodes hang together, and no cell is pending
-  pub record IsJoined (a : Slab (NodeCells D)) : Type 0 where
+  pub record HangTogether (a : Slab (NodeCells D)) : Type 0 where
     pub root : ℕ
     pub level : ℕ
     pub linked : IsLinked a root level []

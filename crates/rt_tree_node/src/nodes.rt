@@ -6,7 +6,7 @@
 ghost use Rattle.std.specs.Prelude.{◌≡◌, ℕ, ◌≤◌, [], length, Some, IfSome, IfOk, option_copied};
 ghost use Rattle.slab.specs.Slab.{get, slab_len, HasRoomFor};
 ghost use Rattle.rt_tree_node.specs.Places.{level_at};
-ghost use Rattle.rt_tree_node.specs.Below.{IsJoined, rows_below};
+ghost use Rattle.rt_tree_node.specs.Below.{HangTogether, rows_below};
 ghost use Rattle.rt_tree_node.specs.Sums.{sum_at};
 
 use crate::key::Key;
@@ -138,7 +138,7 @@ impl<const D: usize> Nodes<D> {
     /// How many rows there are below a node, if that is known.
     #[inline]
     pub fn rows_below(&self, key: Key) -> Option<usize>
-        requires { IsJoined self.now }
+        requires { HangTogether self.now }
         ensures { (l : ℕ) → level_at self.now key ≡ Some l → IfSome result (λ n. n ≡ length (rows_below self.now l key)) }
     {
         if !are_right(self.stale.as_slice(), self.is_lost) {
@@ -150,7 +150,7 @@ impl<const D: usize> Nodes<D> {
     /// At the end of an edit: learns how many rows there are below the nodes that were written. The root has the level. It
     /// takes no memory.
     pub fn learn(&mut self, level: u8)
-        requires joined { IsJoined self.old }
+        requires joined { HangTogether self.old }
         requires level { (key l : ℕ) → level_at self.old key ≡ Some l → l ≤ level }
         ensures { self.new ≡ self.old }
     {
@@ -168,7 +168,7 @@ impl<const D: usize> Nodes<D> {
 
     /// After an edit that wrote many nodes, learns the sums of all, but only once so many edits came that it is cheap.
     fn learn_again(&mut self, level: u8)
-        requires joined { IsJoined self.old }
+        requires joined { HangTogether self.old }
         requires level { (key l : ℕ) → level_at self.old key ≡ Some l → l ≤ level }
         ensures { self.new ≡ self.old }
     {
@@ -181,7 +181,7 @@ impl<const D: usize> Nodes<D> {
 
     /// Learns how many rows there are below each node of a tree whose root has the level. It takes no memory.
     pub fn learn_all(&mut self, level: u8)
-        requires joined { IsJoined self.old }
+        requires joined { HangTogether self.old }
         requires level { (key l : ℕ) → level_at self.old key ≡ Some l → l ≤ level }
         ensures { self.new ≡ self.old }
     {

@@ -2,7 +2,7 @@
 
 ghost use Rattle.std.specs.Prelude.{◌≡◌, ◌⊎◌, ℕ, ◌+◌, ◌<◌, ◌≤◌, ◌↔◌, [], length, true, false, IsTrue, IfSome, Contains, sum_by, slice_set, unsigned_abs};
 ghost use Rattle.slab.specs.Slab.{get};
-ghost use Rattle.rt_tree_node.specs.Below.{IsJoined};
+ghost use Rattle.rt_tree_node.specs.Below.{HangTogether};
 ghost use Rattle.rt_tree_node.specs.Sums.{sum_at, total, AddUp, AddUpBelow, Misses, Leaves, Learns, Logs};
 
 use crate::cell::key_of;
@@ -124,7 +124,7 @@ fn raise<const D: usize>(
     stale: &[Key],
     change: Change,
 ) -> Rise
-    requires joined { IsJoined slab.now }
+    requires joined { HangTogether slab.now }
     requires misses { Misses slab.now sums.old.items stale.now change }
     ensures { Leaves slab.now sums.new.items stale.now result }
 {
@@ -155,7 +155,7 @@ fn carry<const D: usize>(
     stale: &[Key],
     change: Change,
 ) -> bool
-    requires joined { IsJoined slab.now }
+    requires joined { HangTogether slab.now }
     requires misses { Misses slab.now sums.old.items stale.now change }
     ensures { result ≡ true → AddUp slab.now sums.new.items (Contains stale.now) }
 {
@@ -177,7 +177,7 @@ pub(crate) fn mend<const D: usize>(
     stale: &[Key],
     key: Key,
 ) -> bool
-    requires joined { IsJoined slab.now }
+    requires joined { HangTogether slab.now }
     requires rest { AddUp slab.now sums.old.items (λ k. Contains stale.now k ⊎ (k ≡ key)) }
     ensures { result ≡ true → AddUp slab.now sums.new.items (Contains stale.now) }
 {
@@ -193,7 +193,7 @@ pub(crate) fn mend<const D: usize>(
 
 /// Makes the sum of a node of a level right, if that of its children are.
 fn learn_one<const D: usize>(slab: &Slab<Node<D>>, sums: &mut Vec<u32>, key: Key, level: u8) -> bool
-    requires joined { IsJoined slab.now }
+    requires joined { HangTogether slab.now }
     requires lower { AddUpBelow slab.now sums.old.items level }
     ensures { result ≡ true → Learns slab.now sums.old.items sums.new.items level key }
 {
@@ -211,7 +211,7 @@ fn learn_one<const D: usize>(slab: &Slab<Node<D>>, sums: &mut Vec<u32>, key: Key
 
 /// Makes the sums of a level right, if those of the levels below it are, and returns whether it could.
 fn learn_level<const D: usize>(slab: &Slab<Node<D>>, sums: &mut Vec<u32>, level: u8) -> bool
-    requires joined { IsJoined slab.now }
+    requires joined { HangTogether slab.now }
     requires lower { AddUpBelow slab.now sums.old.items level }
     ensures { result ≡ true → AddUpBelow slab.now sums.new.items (level + 1) }
 {
@@ -229,7 +229,7 @@ pub(crate) fn learn_levels<const D: usize>(
     sums: &mut Vec<u32>,
     top: u8,
 ) -> bool
-    requires { IsJoined slab.now }
+    requires { HangTogether slab.now }
     ensures { result ≡ true → AddUpBelow slab.now sums.new.items (top + 1) }
 {
     for level in 0..=top {

@@ -4,7 +4,7 @@
 
 ghost use Rattle.std.specs.Prelude.{◌≡◌, ◌^◌, ◌≤◌, ◌<◌, ℕ, [], length, true, Some, IfSome, IfOk, OnOk};
 ghost use Rattle.slab.specs.Slab.{ContainsKey};
-ghost use Rattle.rt_tree_node.specs.Below.{IsJoined, rows_below};
+ghost use Rattle.rt_tree_node.specs.Below.{HangTogether, rows_below};
 ghost use Rattle.rt_tree_node.specs.Places.{level_at};
 ghost use Rattle.rt_tree_node.specs.Whole.{IsWhole, row_count};
 ghost use Rattle.rt_tree_walk.specs.Search.{Counts};
@@ -26,7 +26,7 @@ fn count_admitted<const D: usize>(leaf: &Node<D>, window: &Window<D>) -> usize
 /// How many rows there are below a marked node, if that is known. There is no look at the node.
 #[inline]
 fn rows_inside<const D: usize>(tree: &Arena<D>, next: &Reached) -> Option<usize>
-    requires { IsJoined tree.now.nodes }
+    requires { HangTogether tree.now.nodes }
     ensures inside { IfSome result (λ _. next.now.is_inside ≡ true) }
     ensures below { (l : ℕ) → level_at tree.now.nodes next.now.key ≡ Some l →
         IfSome result (λ n. n ≡ length (rows_below tree.now.nodes l next.now.key)) }
@@ -47,7 +47,7 @@ fn visit<const D: usize>(
     query: &Query<D>,
 ) -> Result<usize, AllocError>
     requires present { ContainsKey tree.now.nodes next.key }
-    requires joined { IsJoined tree.now.nodes }
+    requires joined { HangTogether tree.now.nodes }
     requires few { D ≤ 3 }
     requires query { IsQuery query.now }
     requires mark { MarkHolds tree.now.nodes query.now.window next }

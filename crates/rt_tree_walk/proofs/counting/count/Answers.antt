@@ -2,7 +2,7 @@ use Rattle.std.proofs.Common.{◌≡◌, ℕ, ◌+◌, ◌<◌, ◌≤◌, false
 use Rattle.std.proofs.lemmas.List.{length-append}
 use Rattle.slab.specs.Slab.{ContainsKey}
 use Rattle.rt_box.specs.declared.interval.Interval.{Interval}
-use Rattle.rt_tree_node.specs.Below.{IsJoined}
+use Rattle.rt_tree_node.specs.Below.{HangTogether}
 use Rattle.rt_tree_node.specs.Places.{inner_cells_at}
 use Rattle.rt_tree_walk.specs.declared.searching.Reached.{Reached}
 use Rattle.rt_tree_walk.specs.Visits.{keys_of, MarkHolds, Marks}
@@ -34,7 +34,7 @@ visit-requires g c =
     counted-there c.args.tree.now c.args.window.now s reached l.visited next below c.index-next.ensures l.count l.invariant.progress in
     let marked : MarkHolds c.args.tree.now.nodes c.args.window.now next =
     marks-next c.args.tree.now.nodes c.args.window.now reached l.visited next below c.index-next.ensures l.invariant.marks in
-    let joined : IsJoined c.args.tree.now.nodes = record { root = c.args.tree.now.root; level = c.args.tree.now.level; linked = settled-linked c.args.tree.now s } in
+    let joined : HangTogether c.args.tree.now.nodes = record { root = c.args.tree.now.root; level = c.args.tree.now.level; linked = settled-linked c.args.tree.now s } in
     search rules
 
 pub overflow_add-count : goal.overflow_add-count

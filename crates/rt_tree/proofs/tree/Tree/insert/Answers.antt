@@ -1,7 +1,7 @@
 use Rattle.std.proofs.Common.{◌≡◌, ◌+◌, ◌-◌, ◌<◌, ◌≤◌, ◌^◌, length, None, arith, rules, ap, sym, ◌∙◌, subst, vec_capacity}
 use Rattle.std.specs.Ordering.{int_eq}
 use Rattle.indexmap.specs.IndexMap.{get as leaf_of, spare}
-use Rattle.rt_tree_node.specs.Below.{IsJoined}
+use Rattle.rt_tree_node.specs.Below.{HangTogether}
 use Rattle.rt_tree_node.specs.Whole.{IsWhole, IsBranched, HasRoom, row_count}
 use Rattle.rt_tree_outside.specs.Outside.{outside}
 use Rattle.rt_tree.specs.Lists.{TreeLists, box_of, GainsRow}
@@ -33,7 +33,7 @@ pub learn-requires : goal.learn-requires
 learn-requires g c =
     let t = c.insert_row-work.new.tree in
     let whole : IsWhole t = c.insert_row-work.ensures.whole in
-    let joins : IsJoined t.nodes = joined t whole c.insert_row-work.ensures.none_waits in
+    let joins : HangTogether t.nodes = joined t whole c.insert_row-work.ensures.none_waits in
     let levels = whole.linked.levels in
     search rules
 

@@ -4,7 +4,7 @@ use Rattle.std.proofs.lemmas.Option.{same_Some}
 use Rattle.indexmap.specs.IndexMap.{spare}
 use Rattle.rt_box.specs.Capacity.{least_fill}
 use Rattle.rt_box.proofs.Equality.{Decides-box_eq}
-use Rattle.rt_tree_node.specs.Below.{IsJoined}
+use Rattle.rt_tree_node.specs.Below.{HangTogether}
 use Rattle.rt_tree_node.specs.Whole.{IsWhole, IsBranched, HasRoom, row_count}
 use Rattle.rt_tree_remove.specs.Steps.{IsLocationOf}
 use Rattle.rt_tree_outside.specs.Outside.{outside}
@@ -54,7 +54,7 @@ pub learn-requires : goal.learn-requires
 learn-requires g c =
     let t = c.replace_found.new.tree in
     let whole : IsWhole t = c.replace_found.ensures.inserts.whole in
-    let joins : IsJoined t.nodes = joined t whole c.replace_found.ensures.inserts.none_waits in
+    let joins : HangTogether t.nodes = joined t whole c.replace_found.ensures.inserts.none_waits in
     let levels = whole.linked.levels in
     search rules
 

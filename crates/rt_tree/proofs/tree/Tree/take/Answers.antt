@@ -1,7 +1,7 @@
 use Rattle.std.proofs.Common.{◌≡◌, ◌+◌, ◌-◌, ◌*◌, ◌≤◌, ◌^◌, None, arith, rules, sym, ap, ◌∙◌, subst, vec_capacity}
 use Rattle.std.specs.Prelude.{is_some}
 use Rattle.rt_box.specs.Capacity.{least_fill}
-use Rattle.rt_tree_node.specs.Below.{IsJoined}
+use Rattle.rt_tree_node.specs.Below.{HangTogether}
 use Rattle.rt_tree_node.specs.Whole.{IsWhole, IsBranched, HasRoom, row_count}
 use Rattle.rt_tree_remove.specs.Steps.{IsLocationOf}
 use Rattle.rt_tree_outside.specs.Outside.{outside}
@@ -38,7 +38,7 @@ pub learn-requires : goal.learn-requires
 learn-requires g c =
     let t = c.remove_found.new.tree in
     let whole : IsWhole t = c.remove_found.ensures.whole in
-    let joins : IsJoined t.nodes = joined t whole c.remove_found.ensures.none_waits in
+    let joins : HangTogether t.nodes = joined t whole c.remove_found.ensures.none_waits in
     let levels = whole.linked.levels in
     search rules
 
