@@ -1,12 +1,12 @@
 // The work of a map program: rows loaded at once, windows, the nearest rows, moves, joins, many windows in a call, trees that are kept,
-// and moves that are told to the windows that see them. map ROWS [all]: with `all`, also what needs a tree into which each row was
-// inserted. Compiled with -DPEER_BOOST or
-// -DPEER_SPATIALINDEX it does the same with Boost.Geometry's rtree or libspatialindex. Prints a line of nanoseconds a call, or a row,
-// and a checksum for each kind of work; `bytes` are resident bytes a row.
+// and moves that are told to the windows that see them. map ROWS: for each line of input that names a kind of work, it does that work
+// and prints, for each part, a line with a name, nanoseconds a call or a row, and a checksum; then an empty line. `bytes` are resident
+// bytes a row. So programs can take turns, each with its trees made. Compiled with -DPEER_BOOST or -DPEER_SPATIALINDEX it does the same
+// with Boost.Geometry's rtree or libspatialindex; work that it can't do prints nothing.
 #include "draw.hpp"
 #include <algorithm>
 #include <cstdlib>
-#include <cstring>
+#include <iostream>
 #include <memory>
 #include <string>
 #include <thread>
@@ -372,36 +372,22 @@ static void joins(const Tree &tree, uint64_t rows)
 #endif
 }
 
-static void insertions(const Rows &all)
+static Box moved(Box box) { return box.min[0] += 30, box.max[0] += 30, box; }
+
+// A tenth of the rows go there and back, so that each kind of work meets the same tree.
+static void moves(Tree &tree, const Rows &all)
 {
     const uint64_t rows = all.ids.size(), some = rows / 10;
     auto at_row = [&](uint64_t turn) { return turn * 7919 % rows; };
-    Tree tree;
-    timed("insert", rows, [&](uint64_t at) { return tree.insert(all.ids[at], all.boxes[at]), 0; });
-    windows_of(tree, rows, "inserted_10", "inserted_1000");
-    nearest_of(tree, rows, "nearest_1", "nearest_10");
-    // There and back, so that each kind of work meets the same tree.
-    auto moved = [&](uint64_t row) { Box box = all.boxes[row]; return box.min[0] += 30, box.max[0] += 30, box; };
-    timed("replace", some, [&](uint64_t at) {
-        uint64_t row = at_row(at);
-        return tree.remove(all.ids[row], all.boxes[row]), tree.insert(all.ids[row], moved(row)), 0;
-    });
-    timed("back", some, [&](uint64_t at) {
-        uint64_t row = at_row(at);
-        return tree.remove(all.ids[row], moved(row)), tree.insert(all.ids[row], all.boxes[row]), 0;
-    });
-#if defined(PEER_BOOST)
-    Small small;
-    for (uint64_t at = 0; at < rows; at++)
-        small.insert(all.ids[at], all.boxes[at]);
-    nearest_of(small, rows, "small_1", "small_10");
-#else
-    timed("move", some, [&](uint64_t at) { uint64_t row = at_row(at); return tree.move(all.ids[row], moved(row)), 0; });
+    auto replace = [&](uint64_t row, const Box &old, const Box &box) { return tree.remove(all.ids[row], old), tree.insert(all.ids[row], box), 0; };
+    timed("replace", some, [&](uint64_t at) { uint64_t row = at_row(at); return replace(row, all.boxes[row], moved(all.boxes[row])); });
+    timed("back", some, [&](uint64_t at) { uint64_t row = at_row(at); return replace(row, moved(all.boxes[row]), all.boxes[row]); });
+#if !defined(PEER_BOOST)
+    timed("move", some, [&](uint64_t at) { uint64_t row = at_row(at); return tree.move(all.ids[row], moved(all.boxes[row])), 0; });
+    timed("move_back", some, [&](uint64_t at) { uint64_t row = at_row(at); return tree.move(all.ids[row], all.boxes[row]), 0; });
 #endif
 }
-#endif
 
-#if !defined(PEER_SPATIALINDEX)
 // A screen that shows a hundred rows, a few steps on.
 static Box screen(uint64_t rows, uint64_t number, int32_t steps)
 {
@@ -409,66 +395,75 @@ static Box screen(uint64_t rows, uint64_t number, int32_t steps)
     return box.min[0] += steps, box.max[0] += steps, box;
 }
 
-// The work of live windows, each kind under its name behind the kind of tree.
-template <class Any> struct Told {
-    Any &live;
+// The work of live windows, each part under its name behind the kind of tree.
+template <class Any> class Told {
     const Rows &all;
-    std::string kind;
-    uint64_t rows = all.ids.size();
+    const std::string kind;
+    const uint64_t rows = all.ids.size();
+    Any live{all};
+    uint64_t watched = 0;
+    // The moves stand in a list, as they come to a program. So neither side waits for the list that rows are drawn from.
+    struct Move {
+        int64_t id;
+        Box there, back;
+    };
+    std::vector<Move> fed;
     template <class Call> void timed(const char *name, uint64_t calls, Call call) { ::timed((kind + name).c_str(), calls, call); }
-    // The windows with these numbers are there too; then rows move and go back.
-    void moves(uint64_t first, uint64_t past, const char *move, const char *back)
+
+public:
+    Told(const Rows &all, const char *kind) : all(all), kind(kind)
     {
-        // The moves stand in a list, as they come to a program. So neither side waits for the list that rows are drawn from.
-        struct Move {
-            int64_t id;
-            Box there, back;
-        };
-        std::vector<Move> fed;
         for (uint64_t turn = 0; turn < rows / 10; turn++) {
             const uint64_t row = turn * 7919 % rows;
-            Box there = all.boxes[row];
-            there.min[0] += 30, there.max[0] += 30;
-            fed.push_back({all.ids[row], there, all.boxes[row]});
+            fed.push_back({all.ids[row], moved(all.boxes[row]), all.boxes[row]});
         }
-        for (uint64_t window = first; window < past; window++)
-            live.watch(int64_t(window), screen(rows, window, 0));
+    }
+    // At least so many windows are there; then rows move and go back.
+    void moves(uint64_t windows, const char *move, const char *back)
+    {
+        for (; watched < windows; watched++)
+            live.watch(int64_t(watched), screen(rows, watched, 0));
         timed(move, fed.size(), [&](uint64_t at) { return live.move(fed[at].id, fed[at].there); });
         timed(back, fed.size(), [&](uint64_t at) { return live.move(fed[at].id, fed[at].back); });
     }
-    // So many windows pan, beside two searches for each.
+    // So many windows pan, beside two searches for each, and pan back.
     void pans(uint64_t windows)
     {
         timed("two_searches", windows, [&](uint64_t at) { return live.search(screen(rows, at, 0)) + live.search(screen(rows, at, 200)); });
         timed("shift", windows, [&](uint64_t at) { return live.shift(int64_t(at), screen(rows, at, 200)); });
+        timed("shift_back", windows, [&](uint64_t at) { return live.shift(int64_t(at), screen(rows, at, 0)); });
     }
     // A window over everything, and then a thousand more over one place. They are gone again at the end.
     void crowds()
     {
         const uint64_t some = rows / 100;
+        const int64_t over_all = 1 << 20, last = over_all + 1000;
         auto stretched = [&](uint64_t row, uint64_t by) { Box box = all.boxes[row]; return box.max[0] += int32_t(by), box; };
-        live.watch(0, {{-2000000, -2000000}, {3000000, 3000000}});
+        live.watch(over_all, {{-2000000, -2000000}, {3000000, 3000000}});
         timed("all_seen", some, [&](uint64_t at) { return live.move(all.ids[at / 2], stretched(at / 2, 1 - at % 2)); });
-        for (int32_t window = 1; window <= 1000; window++) {
+        for (int64_t window = over_all + 1; window <= last; window++) {
+            const int32_t by = int32_t(window - over_all);
             Box box = all.boxes[0];
-            box.min[0] -= window, box.min[1] -= window, box.max[0] += window, box.max[1] += window;
+            box.min[0] -= by, box.min[1] -= by, box.max[0] += by, box.max[1] += by;
             live.watch(window, box);
         }
         timed("crowd", some, [&](uint64_t at) { return live.move(all.ids[0], stretched(0, 1 - at % 2)); });
-        for (int32_t window = 0; window <= 1000; window++)
+        for (int64_t window = over_all; window <= last; window++)
             live.unwatch(window);
     }
+    // Does one of these kinds of work.
+    void work(const std::string &name)
+    {
+        if (name == "crowds")
+            crowds();
+        else if (name == "told_10000")
+            moves(10000, "told_10000", "back_10000");
+        else if (name == "told_100000")
+            moves(100000, "told_100000", "back_100000");
+        else if (name == "pans")
+            pans(10000);
+    }
 };
-
-template <class Any> static void live_windows(const Rows &all, const char *kind)
-{
-    Any live(all);
-    Told<Any> told = {live, all, kind};
-    told.crowds();
-    told.moves(0, 10000, "told_10000", "back_10000");
-    told.moves(10000, 100000, "told_100000", "back_100000");
-    told.pans(10000);
-}
 #endif
 
 #if !defined(PEER_BOOST) && !defined(PEER_SPATIALINDEX)
@@ -515,39 +510,102 @@ static double side_by_side(const Tree &tree, uint64_t rows, unsigned threads)
 }
 #endif
 
+// The rows, and the trees that the work so far made of them.
+class Program {
+    Rows all;
+    const uint64_t rows;
+    std::unique_ptr<Tree> packed, inserted;
+#if defined(PEER_BOOST)
+    std::unique_ptr<Small> small;
+    std::unique_ptr<Told<SmallLive>> small_told;
+#endif
+#if !defined(PEER_SPATIALINDEX)
+    std::unique_ptr<Told<Live>> told;
+#endif
+    void load()
+    {
+        packed.reset();
+        const double before = resident(), begun = now();
+        packed = std::make_unique<Tree>(all);
+        const double loaded = now();
+        std::printf("load %.0f 0\nbytes %.1f 0\n", (loaded - begun) / double(rows), (resident() - before) / double(rows));
+    }
+#if !defined(PEER_SPATIALINDEX)
+    void insert()
+    {
+        inserted = std::make_unique<Tree>();
+        timed("insert", rows, [&](uint64_t at) { return inserted->insert(all.ids[at], all.boxes[at]), 0; });
+    }
+    void nearest()
+    {
+        nearest_of(*inserted, rows, "nearest_1", "nearest_10");
+#if defined(PEER_BOOST)
+        if (!small) {
+            small = std::make_unique<Small>();
+            for (uint64_t at = 0; at < rows; at++)
+                small->insert(all.ids[at], all.boxes[at]);
+        }
+        nearest_of(*small, rows, "small_1", "small_10");
+#endif
+    }
+    void live(const std::string &name)
+    {
+        if (!told)
+            told = std::make_unique<Told<Live>>(all, "");
+        told->work(name);
+#if defined(PEER_BOOST)
+        if (!small_told)
+            small_told = std::make_unique<Told<SmallLive>>(all, "small_");
+        small_told->work(name);
+#endif
+    }
+#endif
+
+public:
+    explicit Program(uint64_t rows) : rows(rows)
+    {
+        for (uint64_t row = 1; row <= rows; row++)
+            all.ids.push_back(int64_t(row)), all.boxes.push_back(box_of(row, 0));
+        all.ids.shrink_to_fit(), all.boxes.shrink_to_fit();
+    }
+    // Does one kind of work.
+    void work(const std::string &name)
+    {
+        if (name == "load")
+            return load();
+        if (name == "packed")
+            return windows_of(*packed, rows, "packed_10", "packed_1000");
+#if !defined(PEER_SPATIALINDEX)
+        if (name == "joins")
+            return joins(*packed, rows);
+        if (name == "insert")
+            return insert();
+        if (name == "inserted")
+            return windows_of(*inserted, rows, "inserted_10", "inserted_1000");
+        if (name == "nearest")
+            return nearest();
+        if (name == "moves")
+            return moves(*inserted, all);
+        if (name == "crowds" || name == "told_10000" || name == "told_100000" || name == "pans")
+            return live(name);
+#if !defined(PEER_BOOST)
+        if (name == "many")
+            return many_windows(*packed, rows);
+        if (name == "threads")
+            std::printf("one_thread %.0f 0\n", side_by_side(*packed, rows, 1)), std::printf("four_threads %.0f 0\n", side_by_side(*packed, rows, 4));
+        if (name == "kept")
+            kept(*packed, rows, true, "dump", "open_dump", "dump_bytes"), kept(*packed, rows, false, "to_bytes", "open_bytes", "bytes_bytes");
+#endif
+#endif
+    }
+};
+
 int main(int count, char **words)
 {
-    const uint64_t rows = count > 1 ? std::strtoull(words[1], nullptr, 10) : 100000;
-    const bool has_all = count > 2 && std::strcmp(words[2], "all") == 0;
-    Rows all;
-    for (uint64_t row = 1; row <= rows; row++)
-        all.ids.push_back(int64_t(row)), all.boxes.push_back(box_of(row, 0));
-    all.ids.shrink_to_fit(), all.boxes.shrink_to_fit();
-    const double before = resident(), begun = now();
-    auto tree = std::make_unique<Tree>(all);
-    const double loaded = now();
-    std::printf("load %.0f 0\nbytes %.1f 0\n", (loaded - begun) / double(rows), (resident() - before) / double(rows));
-    windows_of(*tree, rows, "packed_10", "packed_1000");
-#if !defined(PEER_SPATIALINDEX)
-    joins(*tree, rows);
-#if !defined(PEER_BOOST)
-    many_windows(*tree, rows);
-    const double one = side_by_side(*tree, rows, 1), four = side_by_side(*tree, rows, 4);
-    std::printf("one_thread %.0f 0\nfour_threads %.0f 0\n", one, four);
-    if (has_all) {
-        kept(*tree, rows, true, "dump", "open_dump", "dump_bytes");
-        kept(*tree, rows, false, "to_bytes", "open_bytes", "bytes_bytes");
+    Program program(count > 1 ? std::strtoull(words[1], nullptr, 10) : 100000);
+    for (std::string name; std::getline(std::cin, name);) {
+        program.work(name);
+        std::puts("");
+        std::fflush(stdout);
     }
-#endif
-    tree.reset();
-    if (has_all) {
-        insertions(all);
-        live_windows<Live>(all, "");
-#if defined(PEER_BOOST)
-        live_windows<SmallLive>(all, "small_");
-#endif
-    }
-#else
-    (void)has_all;
-#endif
 }

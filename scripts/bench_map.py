@@ -3,8 +3,9 @@
 
 The work is that of bench/map.cpp: rows loaded at once, windows, nearest rows, moves, joins, many windows in a call, trees that are kept,
 threads, and moves that are told to the windows that see them. Boost's rtree and libspatialindex do what they can of it, if they are
-installed. The programs run by turns, and the least time counts. What they found is compared. ROWS gives the numbers of rows; above
-1,000,000 no tree is made row by row. It needs g++ and the libraries of lib/, which make bindings builds, or of FOLDER.
+installed. All stay there with their trees and take turns at each kind of work, and the least time counts. What they found is compared.
+ROWS gives the numbers of rows, TURNS how many turns each takes; above 1,000,000 no tree is made row by row. It needs g++ and the
+libraries of lib/, which make bindings builds, or of FOLDER.
 """
 
 import os
@@ -16,7 +17,11 @@ from typing import Callable, Dict, NamedTuple, Optional
 TOP = os.path.join(os.path.dirname(os.path.abspath(__file__)), "..")
 FOLDER = os.path.abspath(sys.argv[1] if len(sys.argv) > 1 else os.path.join(TOP, "lib"))
 ROWS = [int(rows) for rows in os.environ.get("ROWS", "100000 1000000 10000000").split()]
+TURNS = int(os.environ.get("TURNS", "3"))
 MOST_INSERTED = 1_000_000
+# Kinds of work that a packed tree is enough for, and those that need one into which each row was inserted.
+PACKED = ["load", "packed", "joins", "many", "threads"]
+INSERTED = ["kept", "insert", "inserted", "nearest", "moves", "crowds", "told_10000", "told_100000", "pans"]
 
 Times = Dict[str, float]
 
@@ -76,23 +81,35 @@ def compiled(room, name, *words):
     return None
 
 
-def run(program, rows):
-    """The times of a program, and what it found."""
-    command = [program, str(rows), "all"] if rows <= MOST_INSERTED else [program, str(rows)]
-    lines = subprocess.run(command, stdout=subprocess.PIPE, check=True, text=True).stdout.splitlines()
-    return {name: (float(time), found) for name, time, found in map(str.split, lines)}
+def ask(process, work):
+    """The times of a kind of work, and what it found."""
+    process.stdin.write(work + "\n")
+    process.stdin.flush()
+    for line in process.stdout:
+        if line == "\n":
+            return
+        part, time, found = line.split()
+        yield part, float(time), found
+    sys.exit(f"a program ended at {work}")
 
 
 def measure(programs, rows):
     """The least times of each program. The programs have to find the same."""
+    running = {
+        name: subprocess.Popen([program, str(rows)], stdin=subprocess.PIPE, stdout=subprocess.PIPE, text=True)
+        for name, program in programs.items()
+    }
     best = {name: {} for name in programs}
     found = {}
-    for _ in range(3 if rows <= 100_000 else 1):
-        for name, program in programs.items():
-            for work, (time, answer) in run(program, rows).items():
-                best[name][work] = min(time, best[name].get(work, time))
-                if found.setdefault(work, answer) != answer:
-                    sys.exit(f"{name} answers {work} otherwise than another program or turn")
+    for work in PACKED + (INSERTED if rows <= MOST_INSERTED else []):
+        for _ in range(TURNS):
+            for name, process in running.items():
+                for part, time, answer in ask(process, work):
+                    best[name][part] = min(time, best[name].get(part, time))
+                    if found.setdefault(part, answer) != answer:
+                        sys.exit(f"{name} answers {part} otherwise than another program or turn")
+    for process in running.values():
+        process.communicate()
     return best
 
 
