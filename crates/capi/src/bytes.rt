@@ -2,7 +2,7 @@
 
 ghost use Rattle.std.specs.Prelude.{◌≡◌, ◌≢◌, pos};
 ghost use Rattle.rt_handle.specs.Passes.{IsOf, IsSame};
-ghost use Rattle.rt_calls.specs.Bytes.{WritesBytes, IsOfBytes, OpensNoBytes};
+ghost use Rattle.rt_calls.specs.Bytes.{WritesBytes, OpensAgain, IsOfBytes, OpensNoBytes};
 ghost use Rattle.rt_calls.specs.Calls.{OfTree, Opens, IsTree};
 
 use rt_calls::bytes::{read_any, write_bytes};
@@ -48,6 +48,7 @@ pub extern "C" fn juicedelta_tree_to_bytes(
 ) -> Answer
     requires { IsOf pass.at pass.held handle.now }
     ensures told { OfTree pass.held (λ D. WritesBytes bytes.old bytes.new total.old total.new) result.code }
+    ensures again { OfTree pass.held (λ D. OpensAgain) result.code }
     ensures kept { result.code ≢ pos 0 → result.code ≢ pos 8 → (bytes.new ≡ bytes.old) × (total.new ≡ total.old) }
     ensures pass { IsSame pass result.pass }
 {

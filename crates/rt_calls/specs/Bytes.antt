@@ -10,7 +10,7 @@ use Rattle.rt_calls.specs.Buffers.{GivesText}
 use Rattle.rt_calls.specs.Calls.{IsTree}
 use Rattle.rt_calls.specs.Trees.{IsAxes}
 use Rattle.rt_calls.specs.declared.code.Code.{Code}
-use Rattle.rt_calls.specs.declared.code.Code.TheVariants.{BadBytes, OutOfMemory, TreeFull, BadAxes}
+use Rattle.rt_calls.specs.declared.code.Code.TheVariants.{Done, BadBytes, OutOfMemory, TreeFull, BadAxes}
 
 -- why there is no tree of the bytes: a tree has not that many axes; or the bytes are not those of a tree, in which case they may
 -- have more rows than one; or no memory is left
@@ -25,6 +25,10 @@ module _ {D : ℕ} where
   -- the tree's bytes are in the caller's buffer, and their number is told; or there are more, or no memory is left
   abbrev pub WritesBytes : List ℕ → List ℕ → ℕ → ℕ → TreeLists D → Code → Type 0
   WritesBytes before after told total tree code = GivesText (tree_bytes tree.lists) before after told total code
+
+  -- what is written are the bytes of a tree of these axes, so they are refused only for want of memory
+  abbrev pub OpensAgain : TreeLists D → Code → Type 0
+  OpensAgain tree code = code ≡ Done → IsTreeBytes D (tree_bytes tree.lists)
 
   -- the tree's bytes are these, so it is the tree that they were written of
   abbrev pub IsOfBytes : List ℕ → HeldTree D → Type 0

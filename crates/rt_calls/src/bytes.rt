@@ -1,7 +1,7 @@
 //! Trees as bytes.
 
 ghost use Rattle.std.specs.Prelude.{◌≤◌};
-ghost use Rattle.rt_calls.specs.Bytes.{WritesBytes, ReadsBytes, ReadsAnyBytes};
+ghost use Rattle.rt_calls.specs.Bytes.{WritesBytes, OpensAgain, ReadsBytes, ReadsAnyBytes};
 
 use crate::buffer::copy_to;
 use crate::code::Code;
@@ -23,7 +23,8 @@ pub fn write_bytes<const D: usize>(
     buffer: &mut [u8],
     total: &mut u64,
 ) -> Code
-    ensures { WritesBytes buffer.old buffer.new total.old total.new tree.now result }
+    ensures written { WritesBytes buffer.old buffer.new total.old total.new tree.now result }
+    ensures again { OpensAgain tree.now result }
 {
     let Ok(bytes) = to_bytes(alloc, tree) else {
         return Code::OutOfMemory;

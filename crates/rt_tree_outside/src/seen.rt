@@ -18,14 +18,16 @@ use std::hash::RandomState;
 
 /// Whether the coordinates are equal on each axis.
 fn is_same_point<const D: usize>(point: &[i32; D], other: &[i32; D]) -> bool
-    ensures { result ≡ true → point.now ≡ other.now }
+    ensures same { result ≡ true → point.now ≡ other.now }
+    ensures all { point.now ≡ other.now → result ≡ true }
 {
     point == other
 }
 
 /// Whether two cells are equal.
 fn is_same_cell<const D: usize>(cell: &RawCell<D>, other: &RawCell<D>) -> bool
-    ensures { result ≡ true → cell.now ≡ other.now }
+    ensures same { result ≡ true → cell.now ≡ other.now }
+    ensures all { cell.now ≡ other.now → result ≡ true }
 {
     cell.number == other.number
         && is_same_point(&cell.lo, &other.lo)
@@ -35,7 +37,8 @@ fn is_same_cell<const D: usize>(cell: &RawCell<D>, other: &RawCell<D>) -> bool
 /// Whether two nodes have equal cells.
 fn have_same_cells<const D: usize>(node: &NodeRow<D>, other: &NodeRow<D>) -> bool
     requires { D ≤ 3 }
-    ensures { result ≡ true → node.now.cells ≡ other.now.cells }
+    ensures same { result ≡ true → node.now.cells ≡ other.now.cells }
+    ensures all { node.now.cells ≡ other.now.cells → result ≡ true }
 {
     let (cells, others) = (node.cells.as_slice(), other.cells.as_slice());
     if cells.len() != others.len() {
@@ -52,7 +55,8 @@ fn have_same_cells<const D: usize>(node: &NodeRow<D>, other: &NodeRow<D>) -> boo
 /// Whether two nodes are equal.
 fn is_same_node<const D: usize>(node: &NodeRow<D>, other: &NodeRow<D>) -> bool
     requires { D ≤ 3 }
-    ensures { result ≡ true → node.now ≡ other.now }
+    ensures same { result ≡ true → node.now ≡ other.now }
+    ensures all { node.now ≡ other.now → result ≡ true }
 {
     node.number == other.number
         && node.level == other.level
@@ -71,7 +75,8 @@ fn is_seen_at<const D: usize>(
     requires few { D ≤ 3 }
     requires known { IsSomeAnd (get tree.now.nodes key) (AreKnown (length numbers.now) key) }
     requires small { All (λ n. n < 2 ^ 63) numbers.now }
-    ensures { IfOk result (λ is. is ≡ true → noted_node numbers.now tree.now.nodes key ≡ listed.now) }
+    ensures same { IfOk result (λ is. is ≡ true → noted_node numbers.now tree.now.nodes key ≡ listed.now) }
+    ensures all { IfOk result (λ is. noted_node numbers.now tree.now.nodes key ≡ listed.now → is ≡ true) }
 {
     let row = node_row(alloc, node_at(&tree.nodes, key), key, numbers)?;
     Ok(is_same_node(&row, listed))
@@ -88,7 +93,8 @@ fn are_seen_at<const D: usize>(
     requires few { D ≤ 3 }
     requires known { All (λ key. IsSomeAnd (get tree.now.nodes key) (AreKnown (length numbers.now) key)) order.now }
     requires small { All (λ n. n < 2 ^ 63) numbers.now }
-    ensures { IfOk result (λ are. are ≡ true → map (noted_node numbers.now tree.now.nodes) order.now ≡ listed.now) }
+    ensures same { IfOk result (λ are. are ≡ true → map (noted_node numbers.now tree.now.nodes) order.now ≡ listed.now) }
+    ensures all { IfOk result (λ are. map (noted_node numbers.now tree.now.nodes) order.now ≡ listed.now → are ≡ true) }
 {
     if order.len() != listed.len() {
         return Ok(false);
@@ -110,7 +116,8 @@ fn are_entries(
 ) -> bool
     requires known { (id : ℤ) → ForSome (leaf_of int_eq leaves.now id) (λ key. key < length numbers.now) }
     requires small { All (λ n. n < 2 ^ 63) numbers.now }
-    ensures { result ≡ true → map (noted_entry numbers.now leaves.now) ids.now ≡ listed.now }
+    ensures same { result ≡ true → map (noted_entry numbers.now leaves.now) ids.now ≡ listed.now }
+    ensures all { map (noted_entry numbers.now leaves.now) ids.now ≡ listed.now → result ≡ true }
 {
     if ids.len() != listed.len() {
         return false;
@@ -125,12 +132,13 @@ fn are_entries(
 
 /// Whether the root has the number of the first node in preorder.
 fn is_root_first<const D: usize>(shadow: &Shadow<D>) -> bool
-    ensures { result ≡ true → shadow.now.root ≡ pos 1 }
+    ensures same { result ≡ true → shadow.now.root ≡ pos 1 }
+    ensures all { shadow.now.root ≡ pos 1 → result ≡ true }
 {
     shadow.root() == 1
 }
 
-/// Whether the tree from outside is that shadow. Of a tree that isn't, nothing is said.
+/// Whether the tree from outside is that shadow.
 ///
 /// # Errors
 ///
@@ -143,7 +151,8 @@ pub fn is_seen_as<const D: usize>(
     requires whole { IsWhole tree.now }
     requires settled { tree.now.pending.items ≡ [] }
     requires few { D ≤ 3 }
-    ensures { IfOk result (λ is. is ≡ true → outside tree.now ≡ shadow.now) }
+    ensures same { IfOk result (λ is. is ≡ true → outside tree.now ≡ shadow.now) }
+    ensures all { IfOk result (λ is. outside tree.now ≡ shadow.now → is ≡ true) }
 {
     let rooted = is_root_first(shadow);
     if !rooted || tree.capacity.greatest() != shadow.capacity().greatest() {
