@@ -13,7 +13,7 @@ use Rattle.rt_check_dump.specs.Faults.{IsTextOf}
 use Rattle.rt_handle.specs.declared.object.HeldTree.{HeldTree}
 use Rattle.rt_handle.specs.declared.object.Object.{Object}
 use Rattle.rt_handle.specs.declared.object.Object.TheVariants.{Line, Plane, Space}
-use Rattle.rt_tree.specs.Lists.{TreeLists, empty_lists, box_of, rows_of, GainsRow, LosesRow}
+use Rattle.rt_tree.specs.Lists.{TreeLists, IsInShape, empty_lists, box_of, rows_of, GainsRow, LosesRow}
 use Rattle.rt_tree.specs.Changes.{IsInsertion, IsRemoval}
 use Rattle.rt_tree.specs.Moving.{TakesRow, DropsRow}
 use Rattle.rt_tree.specs.Replacing.{IsReplacement}
@@ -59,10 +59,11 @@ module _ {D : ℕ} where
   Makes capacity (Err code) = MakesNone capacity code
 
   -- The tree has exactly the rows of the shadow, ids and boxes: as many of either pass any test. It is the shadow, node by node,
-  -- or it is packed of these rows.
+  -- or it is packed of these rows; if the shadow's nodes stand in preorder and its row entries by rising id, it is the shadow.
   pub record HasRowsOf (s : ShadowLists D) (kept : HeldTree D) : Type 0 where
     pub rows : (test : Row D → Bool) → count_by test (rows_of kept.tree.lists) ≡ count_by test (rows_of s)
     pub restored : IsRestoredOf kept.tree.lists s
+    pub again : IsInShape s → kept.tree.lists ≡ s
     pub most_cells : kept.tree.lists.capacity ≡ s.capacity
     pub capacity : kept.capacity ≡ s.capacity
 

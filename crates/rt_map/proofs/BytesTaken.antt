@@ -23,6 +23,7 @@ use Rattle.rt_map.specs.Written.{IsNodeWritten, IsTreeBytes}
 use Rattle.rt_map.specs.BytesFaults.{HasTooManyRows, IsBytesFaultOf}
 use Rattle.rt_map.specs.ReadingInside.{shape_in, IsReadAs}
 use Rattle.rt_map.specs.Meant.{IsListed, IsMade}
+use Rattle.rt_map.proofs.MeantLists.{listed-at}
 
 pub only-for-memory : (axes : ℕ) (bytes : List ℕ) (fault : BytesFault) → (IsTreeBytes axes bytes → fault ≡ Memory) → (fault ≡ TooMany → HasTooManyRows axes bytes) →
     IsBytesFaultOf axes bytes fault
@@ -34,10 +35,7 @@ module _ {D : ℕ} where
   -- what was read is that of the nested tree
   pub read-listed : (parts : Parts D) (s : ShadowLists D) (tree : Tree) → IsReadAs parts s → IsListed s.capacity (map shape_in s.nodes) (rows_of s) tree →
       IsListed parts.capacity parts.shapes.items parts.rows.items tree
-  read-listed parts s tree read listed =
-      subst (λ c. IsListed c parts.shapes.items parts.rows.items tree) (sym read.capacity)
-      (subst (λ (shapes : List Shape). IsListed s.capacity shapes parts.rows.items tree) (sym read.shapes)
-      (subst (λ (rows : List (Row D)). IsListed s.capacity (map shape_in s.nodes) rows tree) (sym read.rows) listed))
+  read-listed parts s tree read listed = listed-at s parts.capacity parts.shapes.items parts.rows.items tree read.capacity read.shapes read.rows listed
 
   -- the bytes of the arena are those of the lists
   pub same-bytes : (t : Arena D) (s : ShadowLists D) (tree : Tree) → IsKeptWith t 0 → IsMade t s.capacity tree → s.nodes ≡ nodes_in tree.level 1 None tree.root →

@@ -6,6 +6,7 @@ pub mod FromRows
 pub mod MeantLevel
 pub mod MeantTree
 pub mod MeantLists
+pub mod ShadowAgain
 pub mod SoundLists
 pub mod BytesTaken
 pub mod PackedLevel

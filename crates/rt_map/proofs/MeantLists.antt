@@ -11,18 +11,20 @@ use Rattle.rt_check.specs.declared.node.NodeRow.{NodeRow}
 use Rattle.rt_check.specs.declared.node.RawCell.{RawCell}
 use Rattle.rt_check.specs.Shadow.{ShadowLists}
 use Rattle.rt_check.specs.Conditions.{leaf_cells}
-use Rattle.rt_tree.specs.Lists.{box_in, row_in, rows_of}
+use Rattle.rt_tree.specs.Lists.{IsInShape, box_in, row_in, rows_of}
 use Rattle.rt_tree.proofs.Rows.{intervals-back}
 use Rattle.rt_tree_pack.proofs.NewNode.{All-unmapped}
 use Rattle.rt_tree_rules.specs.Nested.{Row as Nested, Entry, Node, Tree}
 use Rattle.rt_tree_rules.specs.Filled.{IsFilled, IsFilledTree}
-use Rattle.rt_tree_rules.specs.Shadow.{node_count, starts, row_cell, child_cell, nodes_in}
+use Rattle.rt_tree_rules.specs.Shadow.{node_count, starts, row_cell, child_cell, nodes_in, Shows}
 use Rattle.rt_tree_rules.proofs.Faithful.{length_starts}
 use Rattle.rt_map.specs.declared.shape.Shape.{Shape}
 use Rattle.rt_map.specs.ReadingInside.{shape_in, AreParts}
 use Rattle.rt_map.specs.Meant.{sizes_at, cells_in, IsNodeSize, IsRootSize, LeadsTo, top_level, IsMeant, rows_among, IsListed}
 use Rattle.rt_tree_node.specs.Whole.{most_rows_of_a_tree}
+use Rattle.rt_tree_walk.specs.declared.searching.Row.{Row as ListedRow}
 use Rattle.rt_check.specs.Conditions.{IsSound}
+use Rattle.rt_box.specs.Capacity.{IsCapacity}
 use Rattle.rt_tree_one.specs.Laws.{CellsHaveAxes}
 use Rattle.rt_tree_one.proofs.Nested.{nested}
 use Rattle.rt_tree_one.proofs.Filled.{filled}
@@ -236,14 +238,29 @@ module _ {D : ℕ} where
     pub shown-listed : IsSound s → IsFilledTree s.capacity tree → length (rows_of s) ≤ most_rows_of_a_tree → IsListed s.capacity (map shape_in s.nodes) (rows_of s) tree
     shown-listed sound filled most = record { meant = shown-meant filled (few-cells s sound); most = most; once = no-repetition s sound }
 
-  -- the lists of a tree
+  -- sound lists in preorder show a nested tree
+  pub shape-listed : (s : ShadowLists D) → IsCapacity s.capacity → CellsHaveAxes s → IsInShape s → length (rows_of s) ≤ most_rows_of_a_tree →
+      (tree : Tree) × Shows s tree × IsListed s.capacity (map shape_in s.nodes) (rows_of s) tree
+  shape-listed s capacity axes shape most =
+      let found = nested D s capacity axes shape.sound shape.preorder in
+      let full = filled D s found.0 shape.sound found.1 in
+      (found.0, found.1, shown-listed s found.0 found.1.1 shape.sound full most)
+
+  -- what is equal to them means the same
+  pub listed-at : (s : ShadowLists D) (capacity : ℕ) (shapes : List Shape) (rows : List (ListedRow D)) (tree : Tree) →
+      capacity ≡ s.capacity → shapes ≡ map shape_in s.nodes → rows ≡ rows_of s → IsListed s.capacity (map shape_in s.nodes) (rows_of s) tree → IsListed capacity shapes rows tree
+  listed-at s capacity shapes rows tree same_capacity same_shapes same_rows listed =
+      subst (λ c. IsListed c shapes rows tree) (sym same_capacity)
+      (subst (λ (xs : List Shape). IsListed s.capacity xs rows tree) (sym same_shapes)
+      (subst (λ (rs : List (ListedRow D)). IsListed s.capacity (map shape_in s.nodes) rs tree) (sym same_rows) listed))
+
+  -- so do the lists of a tree
   pub listed-tree : (s : ShadowLists D) (bytes : List ℕ) → AreBytesOf s bytes →
       (tree : Tree) × (s.nodes ≡ nodes_in tree.level 1 None tree.root) × IsListed s.capacity (map shape_in s.nodes) (rows_of s) tree
   listed-tree s bytes are =
       let axes : CellsHaveAxes s = λ k d within j e inside. let cell = are.cells k d within j e inside in (cell.axes_lo, cell.axes_hi) in
-      let found = nested D s are.capacity axes are.shape.sound are.shape.preorder in
-      let full = filled D s found.0 are.shape.sound found.1 in
-      (found.0, found.1.1, shown-listed s found.0 found.1.1 are.shape.sound full are.most)
+      let found = shape-listed s are.capacity axes are.shape are.most in
+      (found.0, found.1.1, found.2)
 
   -- and they can be read
   pub readable : (s : ShadowLists D) (bytes : List ℕ) → AreBytesOf s bytes → AreParts s

@@ -1,11 +1,11 @@
 //! A tree restored: its rows go into nodes of given shapes.
 //!
 //! `restore` packs the rows into leaves that have as many cells each as the leaves among the shapes, the cells that name those
-//! into nodes as the shapes of the next level say, and so on up to the root. If the shapes are those of a tree in preorder, the
-//! levels stand among them in their order, and that tree comes again. If some number doesn't fit, no tree is made. That the
-//! tree is whole and has the rows is proved; whether it is the one that was meant, the caller tests.
+//! into nodes as the shapes of the next level say, and so on up to the root. The levels stand among the shapes of a tree in
+//! preorder in their order, so of its shapes and rows that tree comes again. If some number doesn't fit, no tree is made. Whether
+//! shapes and rows at hand are those of a tree, the caller tests: it compares what was made with what it was made of.
 
-ghost use Rattle.std.specs.Prelude.{◌≡◌, ◌^◌, ◌<◌, ◌≤◌, true, length, IfOk, IfErr, IfSome, IsSomeAnd, MatchResult};
+ghost use Rattle.std.specs.Prelude.{◌≡◌, ◌^◌, ◌<◌, ◌≤◌, true, length, IfOk, OnOk, IfErr, IfSome, IsSomeAnd, MatchResult};
 ghost use Rattle.rt_tree.specs.Bare.{IsBare};
 ghost use Rattle.rt_tree.specs.Kept.{IsKeptWith};
 ghost use Rattle.rt_tree_pack.specs.Packing.{AreEntered, IsFaultOf};
@@ -14,7 +14,7 @@ ghost use Rattle.rt_map.specs.Packing.{ids};
 ghost use Rattle.rt_map.specs.Levels.{Restores};
 ghost use Rattle.rt_map.specs.LevelSteps.{FitsRoot};
 ghost use Rattle.rt_map.specs.Meant.{top_level, rows_in, IsMeant, IsListed, IsMade};
-ghost use Rattle.rt_tree_node.specs.Whole.{HasRoom};
+ghost use Rattle.rt_tree_node.specs.Whole.{HasRoom, most_rows_of_a_tree};
 ghost use Rattle.rt_tree_rules.specs.Nested.{Tree};
 ghost use Rattle.rt_tree_obeys.specs.View.{tree_in};
 
@@ -99,6 +99,7 @@ pub(crate) fn shaped_arena<const D: usize>(
     requires some { 1 ≤ D }
     requires few { D ≤ 3 }
     ensures arena { IfOk result (λ found. IfSome found (λ arena. IsKeptWith arena 0)) }
+    ensures most { OnOk result (length rows.now ≤ most_rows_of_a_tree) }
     ensures fault { IfErr result (λ fault. IsFaultOf (ids rows.now) fault) }
     ensures meant { (meant : Tree) → IsListed capacity shapes.now rows.now meant →
         MatchResult result (λ found. IsSomeAnd found (λ arena. IsMade arena capacity meant)) (λ fault. fault ≡ Memory) }

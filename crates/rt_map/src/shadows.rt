@@ -1,15 +1,17 @@
 //! A tree that is made of a shadow.
 //!
-//! The rows are packed into leaves as the shadow has them, and so on upwards. If the tree from outside isn't the shadow then,
-//! since the shadow's nodes stand in another order or it isn't sound, the rows are packed as those of any list.
+//! The rows are packed into leaves as the shadow has them, and so on upwards. A sound shadow whose nodes stand in preorder shows
+//! one nested tree, so this makes it again. If the tree from outside isn't the shadow, the rows are packed as those of any list.
 
-ghost use Rattle.std.specs.Prelude.{◌≡◌, ◌≢◌, ◌≤◌, ◌++◌, true, map, IfOk, IfErr, IfSome, IfNone, OnOk};
+ghost use Rattle.std.specs.Prelude.{◌≡◌, ◌≢◌, ◌≤◌, ◌++◌, true, map, All, IsSome, IfOk, IfErr, IfSome, IfNone, OnOk};
 ghost use Rattle.rt_check.specs.Conditions.{is_ordered};
 ghost use Rattle.rt_tree_pack.specs.Packing.{IsFaultOf};
 ghost use Rattle.rt_map.specs.Packing.{ids};
-ghost use Rattle.rt_tree.specs.Lists.{row_in, rows_of};
+ghost use Rattle.rt_tree.specs.Lists.{IsInShape, row_in, rows_of};
 ghost use Rattle.rt_map.specs.Restoring.{IsRestoredOf, IsRestoreFaultOf};
-ghost use Rattle.rt_map.specs.RestoringInside.{LacksRowsIn, LacksRows, IsArenaSeenAs, IsArenaRestoredOf};
+ghost use Rattle.rt_map.specs.ReadingInside.{shape_in};
+ghost use Rattle.rt_map.specs.RestoringInside.{HaveAxes, LacksRowsIn, LacksRows, IsArenaSeenAs, IsArenaRestoredOf};
+ghost use Rattle.rt_tree_outside.specs.Outside.{outside};
 
 use crate::packing::pack_rows;
 use crate::restore::shaped_arena;
@@ -18,7 +20,7 @@ use crate::shape::Shape;
 use rt_box::Rect;
 use rt_check::{NodeRow, RawCell, Shadow};
 use rt_tree::Tree;
-use rt_tree_node::Arena;
+use rt_tree_node::{Arena, leaves_facts};
 use rt_tree_outside::is_seen_as;
 use rt_tree_pack::PackFault;
 use rt_tree_walk::Row;
@@ -87,10 +89,23 @@ fn shadow_rows<const D: usize>(
     Ok(rows)
 }
 
+/// A law: each cell of the node has a lo and a hi on each axis. The call does nothing.
+fn have_axes<const D: usize>(node: &NodeRow<D>)
+    ensures { HaveAxes node.now }
+{
+    for cell in node.cells.as_slice() {
+        cell.axes();
+    }
+}
+
 /// The shapes of the shadow's nodes, in their order.
-fn shapes_of<const D: usize>(alloc: Global, shadow: &Shadow<D>) -> Result<Vec<Shape>, AllocError> {
+fn shapes_of<const D: usize>(alloc: Global, shadow: &Shadow<D>) -> Result<Vec<Shape>, AllocError>
+    ensures shapes { IfOk result (λ shapes. shapes.items ≡ map shape_in shadow.now.nodes) }
+    ensures axes { OnOk result (All HaveAxes shadow.now.nodes) }
+{
     let mut shapes = Vec::with_capacity(alloc, shadow.nodes().len())?;
     for node in shadow.nodes() {
+        have_axes(node);
         shapes.push(Shape {
             level: node.level,
             cells: node.cells.len(),
@@ -110,11 +125,15 @@ fn same_arena<const D: usize>(
     requires few { D ≤ 3 }
     ensures arena { IfOk result (λ found. IfSome found (λ arena. IsArenaSeenAs arena shadow.now)) }
     ensures fault { IfErr result (λ fault. IsFaultOf (ids rows.now) fault) }
+    ensures again { IsInShape shadow.now → rows.now ≡ rows_of shadow.now → IfOk result (λ found. IsSome found) }
 {
+    let capacity = shadow.capacity();
+    capacity.facts();
     let shapes = shapes_of(alloc, shadow)?;
-    let Some(arena) = shaped_arena(alloc, keys, shadow.capacity(), &shapes, rows)? else {
+    let Some(arena) = shaped_arena(alloc, keys, capacity, &shapes, rows)? else {
         return Ok(None);
     };
+    leaves_facts(&arena.leaves);
     let seen = is_seen_as(alloc, &arena, shadow)?;
     if !seen {
         return Ok(None);
@@ -131,6 +150,7 @@ pub(crate) fn shadow_arena<const D: usize>(
     requires some { 1 ≤ D }
     requires few { D ≤ 3 }
     ensures arena { IfOk result (λ arena. IsArenaRestoredOf arena shadow.now) }
+    ensures again { IsInShape shadow.now → IfOk result (λ arena. outside arena ≡ shadow.now) }
     ensures fault { IfErr result (λ fault. IsRestoreFaultOf shadow.now fault) }
 {
     let rows = shadow_rows(alloc, shadow)?;
@@ -141,8 +161,8 @@ pub(crate) fn shadow_arena<const D: usize>(
     }
 }
 
-/// A tree of the shadow's rows. If the shadow is sound and its nodes stand in preorder, as `shadow` lists them, it is that
-/// very tree, which tests show; else the rows are packed. Look-ups by id hash by `keys`, which are to be random if others
+/// A tree of the shadow's rows. If the shadow is sound, with its nodes in preorder and its row entries by rising id, as `shadow`
+/// lists them, it is that very tree. Else the rows may be packed. Look-ups by id hash by `keys`, which are to be random if others
 /// choose the ids.
 ///
 /// # Errors
@@ -157,6 +177,7 @@ pub fn from_shadow<const D: usize>(
     requires some { 1 ≤ D }
     requires few { D ≤ 3 }
     ensures tree { IfOk result (λ tree. IsRestoredOf tree.lists shadow.now) }
+    ensures again { IsInShape shadow.now → IfOk result (λ tree. tree.lists ≡ shadow.now) }
     ensures spare { IfOk result (λ tree. tree.spare ≡ 0) }
     ensures fault { IfErr result (λ fault. IsRestoreFaultOf shadow.now fault) }
 {

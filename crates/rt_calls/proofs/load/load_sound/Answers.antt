@@ -9,6 +9,7 @@ returns-in-Ok g c = (
   record {
     rows = same-rows c.in-Ok.tree.lists c.args.shadow.now c.in-Ok.ensures.tree;
     restored = c.in-Ok.ensures.tree;
+    again = c.in-Ok.ensures.again;
     most_cells = same-capacity c.in-Ok.tree.lists c.args.shadow.now c.in-Ok.ensures.tree;
     capacity = c.capacity.ensures;
   },

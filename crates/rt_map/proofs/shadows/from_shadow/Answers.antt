@@ -6,3 +6,6 @@ returns-in_err-arena-clause-tree g c = IfOk-from_err _ _ c.from_residual.ensures
 
 pub returns-in_err-arena-clause-spare : goal.returns-in_err-arena-clause-spare
 returns-in_err-arena-clause-spare g c = IfOk-from_err _ _ c.from_residual.ensures.0
+
+pub returns-in_err-arena-clause-again : goal.returns-in_err-arena-clause-again
+returns-in_err-arena-clause-again g c = λ shape. IfOk-from_err _ _ c.from_residual.ensures.0
