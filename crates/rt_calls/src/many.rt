@@ -21,6 +21,9 @@ use rt_tree::Tree;
 use rt_tree_many::{FoundMany, count_many, nearest_many, order_by_region, search_many};
 use std::alloc::{AllocError, Global};
 
+/// The nodes of a tree with fewer rows stay in a processor's cache: an order would take more time than it saves.
+const FEW_ROWS: usize = 1 << 18;
+
 /// The window of the boxes that lie so to the box at that place of a list.
 fn window_at<const D: usize>(relation: Relation, numbers: &[i32], place: usize) -> Window<D>
     requires some { 1 ≤ D }
@@ -105,7 +108,8 @@ fn corners_from<const D: usize>(
     Ok(corners)
 }
 
-/// An order in which to ask about boxes: those that begin in one region of the tree follow each other.
+/// An order in which to ask about boxes: those that begin in one region of the tree follow each other. It is empty if the tree
+/// has few rows.
 fn order_of<const D: usize>(
     alloc: Global,
     tree: &Tree<D>,
@@ -116,6 +120,9 @@ fn order_of<const D: usize>(
     requires few { D ≤ 3 }
     requires matched { length numbers.now ≡ count * (2 * D) }
 {
+    if tree.len() < FEW_ROWS {
+        return Ok(Vec::new(alloc));
+    }
     let corners = corners_from(alloc, numbers, count)?;
     order_by_region(alloc, &tree.bounds(), &corners)
 }

@@ -81,6 +81,27 @@ fn list_in_order<const D: usize>(
     Ok(found)
 }
 
+/// Lists what the windows find. They are searched for in their order, so where each answer stands needn't be noted.
+fn search_in_turn<const D: usize>(
+    tree: &Tree<D>,
+    alloc: Global,
+    windows: &[Window<D>],
+) -> Result<FoundMany, AllocError>
+    ensures { IfOk result (λ found. FindsMany tree.now.lists windows.now found.ids.items found.starts.items) }
+{
+    let mut lists = Lists {
+        rows: Vec::new(alloc),
+        reached: Vec::new(alloc),
+    };
+    let mut found = FoundMany::with_room(alloc, windows.len())?;
+    for window in windows {
+        lists.rows.clear();
+        let _ = tree.search_into(window, &mut lists.rows, &mut lists.reached)?;
+        found.add(&lists.rows)?;
+    }
+    Ok(found)
+}
+
 /// Finds the ids of the rows whose boxes each window admits: for each window the same as `Tree::search`. The windows are
 /// searched for in the order of the places in `order`, and then those that it doesn't name; what is found stands in the order
 /// of the windows.
@@ -96,6 +117,9 @@ pub fn search_many<const D: usize>(
 ) -> Result<FoundMany, AllocError>
     ensures { IfOk result (λ found. FindsMany tree.now.lists windows.now found.ids.items found.starts.items) }
 {
+    if order.is_empty() {
+        return search_in_turn(tree, alloc, windows);
+    }
     let mut ids = Vec::new(alloc);
     let mut spans = vec![in alloc; None; windows.len()]?;
     let mut lists = Lists {
