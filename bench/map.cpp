@@ -372,19 +372,37 @@ static void joins(const Tree &tree, uint64_t rows)
 #endif
 }
 
-static Box moved(Box box) { return box.min[0] += 30, box.max[0] += 30, box; }
+// A row that goes to another place, and its old box.
+struct Move {
+    int64_t id;
+    Box there, back;
+};
 
-// A tenth of the rows go there and back, so that each kind of work meets the same tree.
+// Moves of a tenth of the rows. They stand in a list, as they come to a program, so that no side waits for the list that rows are
+// drawn from.
+static std::vector<Move> moves_of(const Rows &all)
+{
+    const uint64_t rows = all.ids.size();
+    std::vector<Move> moves;
+    for (uint64_t turn = 0; turn < rows / 10; turn++) {
+        const uint64_t row = turn * 7919 % rows;
+        Box there = all.boxes[row];
+        there.min[0] += 30, there.max[0] += 30;
+        moves.push_back({all.ids[row], there, all.boxes[row]});
+    }
+    return moves;
+}
+
+// The rows go there and back, so that each kind of work meets the same tree.
 static void moves(Tree &tree, const Rows &all)
 {
-    const uint64_t rows = all.ids.size(), some = rows / 10;
-    auto at_row = [&](uint64_t turn) { return turn * 7919 % rows; };
-    auto replace = [&](uint64_t row, const Box &old, const Box &box) { return tree.remove(all.ids[row], old), tree.insert(all.ids[row], box), 0; };
-    timed("replace", some, [&](uint64_t at) { uint64_t row = at_row(at); return replace(row, all.boxes[row], moved(all.boxes[row])); });
-    timed("back", some, [&](uint64_t at) { uint64_t row = at_row(at); return replace(row, moved(all.boxes[row]), all.boxes[row]); });
+    const std::vector<Move> fed = moves_of(all);
+    auto replace = [&](int64_t id, const Box &old, const Box &box) { return tree.remove(id, old), tree.insert(id, box), 0; };
+    timed("replace", fed.size(), [&](uint64_t at) { return replace(fed[at].id, fed[at].back, fed[at].there); });
+    timed("back", fed.size(), [&](uint64_t at) { return replace(fed[at].id, fed[at].there, fed[at].back); });
 #if !defined(PEER_BOOST)
-    timed("move", some, [&](uint64_t at) { uint64_t row = at_row(at); return tree.move(all.ids[row], moved(all.boxes[row])), 0; });
-    timed("move_back", some, [&](uint64_t at) { uint64_t row = at_row(at); return tree.move(all.ids[row], all.boxes[row]), 0; });
+    timed("move", fed.size(), [&](uint64_t at) { return tree.move(fed[at].id, fed[at].there), 0; });
+    timed("move_back", fed.size(), [&](uint64_t at) { return tree.move(fed[at].id, fed[at].back), 0; });
 #endif
 }
 
@@ -402,22 +420,11 @@ template <class Any> class Told {
     const uint64_t rows = all.ids.size();
     Any live{all};
     uint64_t watched = 0;
-    // The moves stand in a list, as they come to a program. So neither side waits for the list that rows are drawn from.
-    struct Move {
-        int64_t id;
-        Box there, back;
-    };
-    std::vector<Move> fed;
+    const std::vector<Move> fed = moves_of(all);
     template <class Call> void timed(const char *name, uint64_t calls, Call call) { ::timed((kind + name).c_str(), calls, call); }
 
 public:
-    Told(const Rows &all, const char *kind) : all(all), kind(kind)
-    {
-        for (uint64_t turn = 0; turn < rows / 10; turn++) {
-            const uint64_t row = turn * 7919 % rows;
-            fed.push_back({all.ids[row], moved(all.boxes[row]), all.boxes[row]});
-        }
-    }
+    Told(const Rows &all, const char *kind) : all(all), kind(kind) {}
     // At least so many windows are there; then rows move and go back.
     void moves(uint64_t windows, const char *move, const char *back)
     {
