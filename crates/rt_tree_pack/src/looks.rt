@@ -23,7 +23,17 @@ impl Looks {
         Looks { seen: 0 }
     }
 
-    /// Looks at the places in which ids that count up have their entries.
+    /// Looks at the entry at this index, if there is one.
+    #[inline]
+    fn look_at_entry(&mut self, leaves: &IndexMap<i64, Key, RandomState>, index: usize) {
+        if let Some((id, leaf)) = leaves.get_index(index) {
+            // Ids and leaves are two arrays.
+            let seen = id.unsigned_abs().wrapping_add(leaf.index() as u64);
+            self.seen = self.seen.wrapping_add(seen);
+        }
+    }
+
+    /// Looks at the places in which ids have their entries if they count up from 1, or from 0.
     #[inline(never)]
     pub(crate) fn look_at<const D: usize>(
         &mut self,
@@ -31,12 +41,9 @@ impl Looks {
         cells: &[Cell<D>],
     ) {
         for cell in cells {
-            let place = cell.number.unsigned_abs() as usize;
-            if let Some((id, leaf)) = leaves.get_index(place) {
-                // Ids and leaves are two arrays.
-                let seen = id.unsigned_abs().wrapping_add(leaf.index() as u64);
-                self.seen = self.seen.wrapping_add(seen);
-            }
+            let number = cell.number.unsigned_abs() as usize;
+            self.look_at_entry(leaves, number.wrapping_sub(1));
+            self.look_at_entry(leaves, number);
         }
     }
 
