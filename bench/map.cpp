@@ -378,13 +378,13 @@ struct Move {
     Box there, back;
 };
 
-// Moves of a tenth of the rows. They stand in a list, as they come to a program, so that no side waits for the list that rows are
-// drawn from.
-static std::vector<Move> moves_of(const Rows &all)
+// Moves of a tenth of the rows, other rows for each number. They stand in a list, as they come to a program, so that no side waits for
+// the list that rows are drawn from.
+static std::vector<Move> moves_of(const Rows &all, uint64_t tenth)
 {
-    const uint64_t rows = all.ids.size();
+    const uint64_t rows = all.ids.size(), some = rows / 10;
     std::vector<Move> moves;
-    for (uint64_t turn = 0; turn < rows / 10; turn++) {
+    for (uint64_t turn = tenth % 10 * some; moves.size() < some; turn++) {
         const uint64_t row = turn * 7919 % rows;
         Box there = all.boxes[row];
         there.min[0] += 30, there.max[0] += 30;
@@ -393,17 +393,21 @@ static std::vector<Move> moves_of(const Rows &all)
     return moves;
 }
 
-// The rows go there and back, so that each kind of work meets the same tree.
-static void moves(Tree &tree, const Rows &all)
+// Rows are moved, and others are removed and inserted, and all go back, so that each turn meets the same tree. A turn takes rows that
+// none before it took: the ids of rows that were removed and inserted stand one after another at the end of a map, which is faster
+// than where they were.
+static void moves(Tree &tree, const Rows &all, uint64_t turn)
 {
-    const std::vector<Move> fed = moves_of(all);
+    const std::vector<Move> fed = moves_of(all, 2 * turn), others = moves_of(all, 2 * turn + 1);
     auto replace = [&](int64_t id, const Box &old, const Box &box) { return tree.remove(id, old), tree.insert(id, box), 0; };
-    timed("replace", fed.size(), [&](uint64_t at) { return replace(fed[at].id, fed[at].back, fed[at].there); });
-    timed("back", fed.size(), [&](uint64_t at) { return replace(fed[at].id, fed[at].there, fed[at].back); });
 #if !defined(PEER_BOOST)
     timed("move", fed.size(), [&](uint64_t at) { return tree.move(fed[at].id, fed[at].there), 0; });
+#endif
+    timed("replace", others.size(), [&](uint64_t at) { return replace(others[at].id, others[at].back, others[at].there); });
+#if !defined(PEER_BOOST)
     timed("move_back", fed.size(), [&](uint64_t at) { return tree.move(fed[at].id, fed[at].back), 0; });
 #endif
+    timed("replace_back", others.size(), [&](uint64_t at) { return replace(others[at].id, others[at].there, others[at].back); });
 }
 
 // A screen that shows a hundred rows, a few steps on.
@@ -420,7 +424,7 @@ template <class Any> class Told {
     const uint64_t rows = all.ids.size();
     Any live{all};
     uint64_t watched = 0;
-    const std::vector<Move> fed = moves_of(all);
+    const std::vector<Move> fed = moves_of(all, 0);
     template <class Call> void timed(const char *name, uint64_t calls, Call call) { ::timed((kind + name).c_str(), calls, call); }
 
 public:
@@ -522,6 +526,7 @@ class Program {
     Rows all;
     const uint64_t rows;
     std::unique_ptr<Tree> packed, inserted;
+    uint64_t turns = 0; // of moves
 #if defined(PEER_BOOST)
     std::unique_ptr<Small> small;
     std::unique_ptr<Told<SmallLive>> small_told;
@@ -592,7 +597,7 @@ public:
         if (name == "nearest")
             return nearest();
         if (name == "moves")
-            return moves(*inserted, all);
+            return moves(*inserted, all, turns++);
         if (name == "crowds" || name == "told_10000" || name == "told_100000" || name == "pans")
             return live(name);
 #if !defined(PEER_BOOST)

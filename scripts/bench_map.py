@@ -39,6 +39,11 @@ def least(boost: Times, work: str) -> float:
     return min(boost[work], boost["small_" + work])
 
 
+def there_and_back(own: Times, work: str) -> float:
+    """The time of a change, and of the one that takes it back."""
+    return own[work] + own[work + "_back"]
+
+
 # Own times and Boost's. A bound whose times are missing isn't printed.
 BOUNDS = [
     Bound("rows at once, over Boost's packing", 1.3, lambda own, boost: own["load"] / boost["load"]),
@@ -55,7 +60,7 @@ BOUNDS = [
     Bound("nearest ten, the same", 0.9, lambda own, boost: own["nearest_10"] / boost["nearest_10"]),
     Bound("nearest row, over Boost's rstar<16>", 1, lambda own, boost: own["nearest_1"] / boost["small_1"]),
     Bound("nearest ten, the same", 1, lambda own, boost: own["nearest_10"] / boost["small_10"]),
-    Bound("move, over remove and insert", 0.8, lambda own, boost: own["move"] / own["replace"]),
+    Bound("move, over remove and insert", 0.8, lambda own, boost: there_and_back(own, "move") / there_and_back(own, "replace")),
     Bound("join, over a search for each row", 0.4, lambda own, boost: own["join"] / own["asked"]),
     Bound("join, over Boost's search for each row", 0.4, lambda own, boost: own["join"] / boost["asked"]),
     Bound("many windows in a call, over calls", 0.9, lambda own, boost: own["many"] / own["calls"]),
