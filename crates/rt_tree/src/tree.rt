@@ -25,7 +25,7 @@ use crate::learning::{learn, learn_all};
 use crate::rowless::bare_arena;
 use rt_box::{Capacity, Rect, Window};
 use rt_check::Shadow;
-use rt_tree_node::{Arena, Nodes, Work, leaves_facts};
+use rt_tree_node::{Arena, Nodes, Work, find_leaf, leaves_facts};
 use rt_tree_outside::shadow_of;
 use rt_tree_place::{insert_row, levels_are_few, nodes_are_few};
 use rt_tree_remove::{find_row, remove_found, replace_found};
@@ -252,7 +252,7 @@ impl<const D: usize> Tree<D> {
     pub fn contains(&self, id: &i64) -> bool
         ensures { result ≡ is_some (box_of self.now.lists id.now) }
     {
-        self.arena.leaves.contains_key(id)
+        find_leaf(&self.arena.leaves, id).is_some()
     }
 
     /// The box of the row with that id, or `None` if there is none.
