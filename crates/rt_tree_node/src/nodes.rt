@@ -3,10 +3,10 @@
 //! Contracts see the slab of the nodes alone. The numbers of rows are sums: that of a leaf is the number of its cells, and
 //! that of another node the sum of its children's. A write of a node doesn't touch them: it notes the node's key as stale.
 
-ghost use Rattle.std.specs.Prelude.{◌≡◌, ℕ, ◌≤◌, [], length, Some, IfSome, IfOk, option_copied};
+ghost use Rattle.std.specs.Prelude.{◌≡◌, ℕ, ◌≤◌, [], length, Some, IfOk, option_copied};
 ghost use Rattle.slab.specs.Slab.{get, slab_len, HasRoomFor};
 ghost use Rattle.rt_tree_node.specs.Places.{level_at};
-ghost use Rattle.rt_tree_node.specs.Below.{HangTogether, rows_below};
+ghost use Rattle.rt_tree_node.specs.Below.{HangTogether, CountsBelow};
 ghost use Rattle.rt_tree_node.specs.Sums.{sum_at};
 
 use crate::key::Key;
@@ -139,7 +139,7 @@ impl<const D: usize> Nodes<D> {
     #[inline]
     pub fn rows_below(&self, key: Key) -> Option<usize>
         requires { HangTogether self.now }
-        ensures { (l : ℕ) → level_at self.now key ≡ Some l → IfSome result (λ n. n ≡ length (rows_below self.now l key)) }
+        ensures { CountsBelow self.now key result }
     {
         if !are_right(self.stale.as_slice(), self.is_lost) {
             return None;

@@ -74,6 +74,10 @@ module _ {D : ℕ} where
   abbrev pub noted_node : List ℕ → Slab (NodeCells D) → ℕ → NodeRow D
   noted_node numbers a key = node_row (noted numbers) key (get a key)
 
+  -- the nodes at the keys are the listed ones, by noted numbers
+  abbrev pub AreNoted : List ℕ → Slab (NodeCells D) → List ℕ → List (NodeRow D) → Type 0
+  AreNoted numbers a order listed = map (noted_node numbers a) order ≡ listed
+
   -- the shadow with more nodes, or with more rows
   abbrev pub with_nodes : ShadowLists D → List (NodeRow D) → ShadowLists D
   with_nodes s nodes = record s { nodes = s.nodes ++ nodes }

@@ -6,7 +6,7 @@ ghost use Rattle.std.specs.Ordering.{int_eq};
 ghost use Rattle.slab.specs.Slab.{get};
 ghost use Rattle.indexmap.specs.IndexMap.{get as leaf_of};
 ghost use Rattle.rt_tree_node.specs.Whole.{IsWhole};
-ghost use Rattle.rt_tree_outside.specs.Outside.{outside, noted_entry, noted_node, AreKnown};
+ghost use Rattle.rt_tree_outside.specs.Outside.{outside, noted_entry, noted_node, AreNoted, AreKnown};
 
 use crate::outside::{node_row, rising_ids, row_entry};
 use crate::preorder::{number_keys, preorder};
@@ -93,8 +93,8 @@ fn are_seen_at<const D: usize>(
     requires few { D ≤ 3 }
     requires known { All (λ key. IsSomeAnd (get tree.now.nodes key) (AreKnown (length numbers.now) key)) order.now }
     requires small { All (λ n. n < 2 ^ 63) numbers.now }
-    ensures same { IfOk result (λ are. are ≡ true → map (noted_node numbers.now tree.now.nodes) order.now ≡ listed.now) }
-    ensures all { IfOk result (λ are. map (noted_node numbers.now tree.now.nodes) order.now ≡ listed.now → are ≡ true) }
+    ensures same { IfOk result (λ are. are ≡ true → AreNoted numbers.now tree.now.nodes order.now listed.now) }
+    ensures all { IfOk result (λ are. AreNoted numbers.now tree.now.nodes order.now listed.now → are ≡ true) }
 {
     if order.len() != listed.len() {
         return Ok(false);
