@@ -1,5 +1,5 @@
 -- How a tree is made of a shadow. No public clause cites this module.
-use Rattle.std.specs.Prelude.{◌≡◌, ℕ, List, length, All}
+use Rattle.std.specs.Prelude.{◌≡◌, ℕ, List}
 use Rattle.rt_check.specs.Shadow.{ShadowLists}
 use Rattle.rt_tree_node.specs.declared.arena.Arena.{Arena}
 use Rattle.rt_tree_outside.specs.Outside.{outside}
@@ -20,10 +20,6 @@ module _ {D : ℕ} where
   pub record IsArenaRestoredOf (t : Arena D) (s : ShadowLists D) : Type 0 where
     pub kept : IsKeptWith t 0
     pub restored : IsRestoredOf (outside t) s
-
-  -- each cell of the node has a lo and a hi on each axis
-  abbrev pub HaveAxes : NodeRow D → Type 0
-  HaveAxes node = All (λ c. (length c.lo ≡ D) × (length c.hi ≡ D)) node.cells
 
   -- why a leaf, or the leaves of a shadow, don't give their rows
   abbrev pub LacksRowsIn : NodeRow D → RestoreFault → Type 0

@@ -10,7 +10,8 @@ ghost use Rattle.rt_map.specs.Packing.{ids};
 ghost use Rattle.rt_tree.specs.Lists.{IsInShape, row_in, rows_of};
 ghost use Rattle.rt_map.specs.Restoring.{IsRestoredOf, IsRestoreFaultOf};
 ghost use Rattle.rt_map.specs.ReadingInside.{shape_in};
-ghost use Rattle.rt_map.specs.RestoringInside.{HaveAxes, LacksRowsIn, LacksRows, IsArenaSeenAs, IsArenaRestoredOf};
+ghost use Rattle.rt_tree_one.specs.Laws.{HaveAxes};
+ghost use Rattle.rt_map.specs.RestoringInside.{LacksRowsIn, LacksRows, IsArenaSeenAs, IsArenaRestoredOf};
 ghost use Rattle.rt_tree_outside.specs.Outside.{outside};
 
 use crate::packing::pack_rows;

@@ -4,6 +4,7 @@ use Rattle.std.specs.Prelude.{◌≡◌, ℕ, ℤ, List, length}
 use Rattle.std.specs.List.{All}
 use Rattle.rt_box.specs.declared.interval.Interval.{Interval}
 use Rattle.rt_box.specs.Capacity.{IsCapacity}
+use Rattle.rt_check.specs.declared.node.NodeRow.{NodeRow}
 use Rattle.rt_check.specs.Shadow.{ShadowLists}
 use Rattle.rt_check.specs.Conditions.{IsSound}
 use Rattle.rt_tree_node.specs.declared.arena.Work.{Work}
@@ -37,9 +38,12 @@ abbrev pub ReplacementIsDetermined : Type 0
 ReplacementIsDetermined = (axes : ℕ) (old one other : ShadowLists axes) (id : ℤ) (rect : List Interval) →
     IsInShape one → IsInShape other → IsReplacement old one id rect → IsReplacement old other id rect → one ≡ other
 
--- each cell has a lo and a hi on each axis, as its type says
+-- each cell of a node, or of all nodes, has a lo and a hi on each axis, as its type says
+abbrev pub HaveAxes : {axes : ℕ} → NodeRow axes → Type 0
+HaveAxes {axes} node = All (λ c. (length c.lo ≡ axes) × (length c.hi ≡ axes)) node.cells
+
 abbrev pub CellsHaveAxes : {axes : ℕ} → ShadowLists axes → Type 0
-CellsHaveAxes {axes} s = All (λ n. All (λ c. (length c.lo ≡ axes) × (length c.hi ≡ axes)) n.cells) s.nodes
+CellsHaveAxes s = All HaveAxes s.nodes
 
 -- a sound tree in preorder shows a nested tree, and only one
 abbrev pub SoundTreesAreNested : Type 0

@@ -5,7 +5,7 @@ use Rattle.std.proofs.lemmas.List.Elements.{All-push}
 use Rattle.rt_check.specs.declared.node.NodeRow.{NodeRow}
 use Rattle.rt_map.specs.declared.shape.Shape.{Shape}
 use Rattle.rt_map.specs.ReadingInside.{shape_in}
-use Rattle.rt_map.specs.RestoringInside.{HaveAxes}
+use Rattle.rt_tree_one.specs.Laws.{HaveAxes}
 use Rattle.rt_map.proofs.shadows.shapes_of.Goals as goal
 
 pub loop-node-preserved : goal.loop-node-preserved
