@@ -1,5 +1,6 @@
 pub mod Faults
 pub mod Pieces
+pub mod Permuted
 pub mod AnyBytes
 pub mod Listed
 pub mod FromRows

@@ -5,15 +5,17 @@
 //! preorder in their order, so of its shapes and rows that tree comes again. If some number doesn't fit, no tree is made. Whether
 //! shapes and rows at hand are those of a tree, the caller tests: it compares what was made with what it was made of.
 
-ghost use Rattle.std.specs.Prelude.{◌≡◌, ◌^◌, ◌<◌, ◌≤◌, true, length, IfOk, OnOk, IfErr, IfSome, IsSomeAnd, MatchResult};
+ghost use Rattle.std.specs.Prelude.{◌≡◌, ◌^◌, ◌<◌, ◌≤◌, true, length, IfOk, OnOk, IfErr, IfSome, IsSomeAnd, MatchResult, IsPermutation};
 ghost use Rattle.rt_tree.specs.Bare.{IsBare};
 ghost use Rattle.rt_tree.specs.Kept.{IsKeptWith};
 ghost use Rattle.rt_tree_pack.specs.Packing.{AreEntered, IsFaultOf};
 ghost use Rattle.rt_tree_pack.specs.declared.fault.PackFault.TheVariants.{Memory};
 ghost use Rattle.rt_map.specs.Packing.{ids};
+ghost use Rattle.rt_map.specs.PackingInside.{IsReadyFor};
 ghost use Rattle.rt_map.specs.Levels.{Restores};
 ghost use Rattle.rt_map.specs.LevelSteps.{FitsRoot};
 ghost use Rattle.rt_map.specs.Meant.{top_level, rows_in, IsMeant, IsListed, IsMade};
+ghost use Rattle.rt_tree_node.specs.Places.{numbers};
 ghost use Rattle.rt_tree_node.specs.Whole.{HasRoom, most_rows_of_a_tree};
 ghost use Rattle.rt_tree_rules.specs.Nested.{Tree};
 ghost use Rattle.rt_tree_obeys.specs.View.{tree_in};
@@ -88,6 +90,47 @@ fn restore<const D: usize>(
     Ok(true)
 }
 
+/// Whether no id is negative or above the number of rows, as ids that count up from 0 or 1.
+fn count_up<const D: usize>(rows: &[Cell<D>]) -> bool {
+    rows.iter().all(|row| 0 <= row.number && row.number as u64 <= rows.len() as u64)
+}
+
+/// The rows by rising id.
+fn rising<const D: usize>(alloc: Global, rows: &[Cell<D>]) -> Result<Vec<Cell<D>>, AllocError>
+    ensures { IfOk result (λ sorted. IsPermutation rows.now sorted.items) }
+{
+    let mut sorted = Vec::with_capacity(alloc, rows.len())?;
+    sorted.extend_from_slice(rows)?;
+    sorted.sort_unstable_by_key(|row: &Cell<D>| -> i64 { row.number });
+    Ok(sorted)
+}
+
+/// The nodes of a tree without rows that is ready for these. Ids that count up get their entries by rising id: a look-up tries
+/// the place of such an id first, and hashes no id that it finds there.
+fn arena_by_id<const D: usize>(
+    alloc: Global,
+    keys: RandomState,
+    capacity: Capacity,
+    rows: &[Cell<D>],
+) -> Result<Arena<D>, PackFault>
+    requires some { 1 ≤ D }
+    requires few { D ≤ 3 }
+    requires most { length rows.now ≤ most_rows_of_a_tree }
+    ensures arena { IfOk result (λ arena. IsReadyFor arena capacity rows.now) }
+    ensures fault { IfErr result (λ fault. IsFaultOf (numbers rows.now) fault) }
+{
+    if count_up(rows) {
+        let sorted = rising(alloc, rows)?;
+        match ready_arena(alloc, keys, capacity, &sorted) {
+            Ok(arena) => return Ok(arena),
+            Err(PackFault::Memory) => return Err(PackFault::Memory),
+            // Which row is told depends on their order.
+            Err(_) => {}
+        }
+    }
+    ready_arena(alloc, keys, capacity, rows)
+}
+
 /// The nodes of a tree with these rows, in nodes of these shapes; none if the rows don't fit.
 pub(crate) fn shaped_arena<const D: usize>(
     alloc: Global,
@@ -108,7 +151,7 @@ pub(crate) fn shaped_arena<const D: usize>(
         return Err(PackFault::TooMany);
     }
     let cells = row_cells(alloc, rows)?;
-    let mut arena = ready_arena(alloc, keys, capacity, &cells)?;
+    let mut arena = arena_by_id(alloc, keys, capacity, &cells)?;
     let done = restore(alloc, &mut arena, shapes, cells)?;
     if !done {
         return Ok(None);
