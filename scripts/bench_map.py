@@ -12,6 +12,7 @@ import os
 import subprocess
 import sys
 import tempfile
+from itertools import chain
 from typing import Callable, Dict, NamedTuple, Optional
 
 TOP = os.path.join(os.path.dirname(os.path.abspath(__file__)), "..")
@@ -19,9 +20,10 @@ FOLDER = os.path.abspath(sys.argv[1] if len(sys.argv) > 1 else os.path.join(TOP,
 ROWS = [int(rows) for rows in os.environ.get("ROWS", "100000 1000000 10000000").split()]
 TURNS = int(os.environ.get("TURNS", "3"))
 MOST_INSERTED = 1_000_000
-# Kinds of work that a packed tree is enough for, and those that need one into which each row was inserted.
+# Kinds of work that a packed tree is enough for, and those that need one into which each row was inserted. Kinds that are compared with
+# each other take their turns together, since a machine's pace changes.
 PACKED = ["load", "packed", "joins", "many", "threads"]
-INSERTED = ["kept", "insert", "inserted", "nearest", "moves", "crowds", "told_10000", "told_100000", "pans"]
+INSERTED = ["kept", "insert", "packed inserted", "nearest", "moves", "crowds", "told_10000", "told_100000", "pans"]
 
 Times = Dict[str, float]
 
@@ -109,7 +111,7 @@ def measure(programs, rows):
     for work in PACKED + (INSERTED if rows <= MOST_INSERTED else []):
         for _ in range(TURNS):
             for name, process in running.items():
-                for part, time, answer in ask(process, work):
+                for part, time, answer in chain.from_iterable(ask(process, kind) for kind in work.split()):
                     best[name][part] = min(time, best[name].get(part, time))
                     if found.setdefault(part, answer) != answer:
                         sys.exit(f"{name} answers {part} otherwise than another program or turn")
